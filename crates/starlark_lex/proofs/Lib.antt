@@ -1,0 +1,4 @@
+mod Rows
+pub mod Ascii
+pub mod Front
+pub mod Words

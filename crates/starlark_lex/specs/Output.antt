@@ -1,0 +1,94 @@
+-- What is printed of a text.
+use Rattle.std.specs.Prelude.{ℕ, List, [], ◌∷◌, ◌++◌, map, codes, Option, Some, None, Result, Ok, Err}
+use Rattle.std.specs.List.{flat_map}
+use Rattle.std.specs.Fmt.{decimal}
+use Rattle.starlark_lex.specs.Words.{Text}
+use Rattle.starlark_lex.specs.Lexemes.{Lexeme, FaultAt, Outcome}
+use Rattle.starlark_lex.specs.Outcome.{outcome}
+use Rattle.starlark_lex.specs.Places.{place_at, span_text}
+use Rattle.starlark_lex.specs.declared.lexer.Class.{Class}
+use Rattle.starlark_lex.specs.declared.lexer.Class.TheVariants.{Blank, Newline, Reserved, Identifier, Int, And, Break, Continue, Def, Elif, Else, For, If, In, Lambda, Load, Not, Or, Pass, Return, Comma, Semicolon, Colon, Equal, LessThan, GreaterThan, Minus, Plus, Star, Percent, Slash, Dot, Ampersand, Pipe, Caret, Tilde, OpeningSquare, OpeningCurly, OpeningRound, ClosingSquare, ClosingCurly, ClosingRound}
+use Rattle.starlark_lex.specs.declared.lexer.Fault.{Fault}
+use Rattle.starlark_lex.specs.declared.lexer.Fault.TheVariants.{InvalidInput, ReservedKeyword, StartsZero}
+
+-- the name of a kind; blanks and reserved words are no lexemes and have none
+unfoldable pub kind_of : Class → Text
+kind_of Blank = []
+kind_of Newline = codes "Newline"
+kind_of Reserved = []
+kind_of Identifier = codes "Identifier"
+kind_of Int = codes "Int"
+kind_of And = codes "And"
+kind_of Break = codes "Break"
+kind_of Continue = codes "Continue"
+kind_of Def = codes "Def"
+kind_of Elif = codes "Elif"
+kind_of Else = codes "Else"
+kind_of For = codes "For"
+kind_of If = codes "If"
+kind_of In = codes "In"
+kind_of Lambda = codes "Lambda"
+kind_of Load = codes "Load"
+kind_of Not = codes "Not"
+kind_of Or = codes "Or"
+kind_of Pass = codes "Pass"
+kind_of Return = codes "Return"
+kind_of Comma = codes "Comma"
+kind_of Semicolon = codes "Semicolon"
+kind_of Colon = codes "Colon"
+kind_of Equal = codes "Equal"
+kind_of LessThan = codes "LessThan"
+kind_of GreaterThan = codes "GreaterThan"
+kind_of Minus = codes "Minus"
+kind_of Plus = codes "Plus"
+kind_of Star = codes "Star"
+kind_of Percent = codes "Percent"
+kind_of Slash = codes "Slash"
+kind_of Dot = codes "Dot"
+kind_of Ampersand = codes "Ampersand"
+kind_of Pipe = codes "Pipe"
+kind_of Caret = codes "Caret"
+kind_of Tilde = codes "Tilde"
+kind_of OpeningSquare = codes "OpeningSquare"
+kind_of OpeningCurly = codes "OpeningCurly"
+kind_of OpeningRound = codes "OpeningRound"
+kind_of ClosingSquare = codes "ClosingSquare"
+kind_of ClosingCurly = codes "ClosingCurly"
+kind_of ClosingRound = codes "ClosingRound"
+
+-- a value is printed behind a space
+abbrev pub value_text : Option Text → Text
+value_text None = []
+value_text (Some value) = codes " " ++ value
+
+-- the place of a span of bytes of a text
+abbrev pub span_at : Text → ℕ → ℕ → Text
+span_at text begin end = span_text (place_at text begin) (place_at text end)
+
+-- `begin-end place Kind`, and the value
+abbrev pub lexeme_line : Text → Lexeme → Text
+lexeme_line text l =
+    decimal l.begin ++ codes "-" ++ decimal l.end ++ codes " " ++ span_at text l.begin l.end ++ codes " " ++ kind_of l.class ++ value_text l.value ++ codes "\n"
+
+-- what a fault says before the text that it names
+unfoldable pub message_of : Fault → Text
+message_of InvalidInput = codes "Parse error: invalid input `"
+message_of ReservedKeyword = codes "Parse error: cannot use reserved keyword `"
+message_of StartsZero = codes "Parse error: integer cannot have leading 0, got `"
+
+-- `fault begin-end name:place message`
+abbrev pub fault_line : Text → Text → FaultAt → Text
+fault_line name text f =
+    codes "fault " ++ decimal f.begin ++ codes "-" ++ decimal f.end ++ codes " " ++ name ++ codes ":" ++ span_at text f.begin f.end ++ codes " " ++ message_of f.fault ++ f.text ++ codes "`\n"
+
+abbrev pub fault_text : Text → Text → Option FaultAt → Text
+fault_text name text None = []
+fault_text name text (Some f) = fault_line name text f
+
+-- the lines of an outcome of a text that has this name
+abbrev pub lines_of : Text → Text → Outcome → Text
+lines_of name text o = flat_map (lexeme_line text) o.lexemes ++ fault_text name text o.fault
+
+-- The whole output for a text: a line for each lexeme, and one for the fault where there is one.
+unfoldable pub output : Text → Text → Text
+output name text = lines_of name text (outcome text)
