@@ -11,8 +11,9 @@ use Rattle.std.specs.Str.{bytes_eq}
 use Rattle.starlark_lex.specs.Front.{longest_front}
 use Rattle.starlark_lex.specs.Words.{Text, symbols, names, patterns, begins_name, is_in_name, is_identifier, name_class, class_of}
 use Rattle.starlark_lex.specs.declared.lexer.Class.{Class}
-use Rattle.starlark_lex.specs.declared.lexer.Class.TheVariants.{Blank, Int, Identifier}
-use Rattle.starlark_lex.proofs.Front.{front_single, front_run}
+use Rattle.starlark_lex.specs.declared.lexer.Class.TheVariants.{Blank, Newline, Int, Identifier}
+use Rattle.starlark_lex.specs.View.{IsWord}
+use Rattle.starlark_lex.proofs.Front.{front_single, front_run, front_sound}
 
 -- the word is none of a table's
 abbrev pub IsUnlisted : Text → List (Text × Class) → Type 0
@@ -99,7 +100,9 @@ class_of_digit b word small h =
     rw (
       lookup_elsewhere b word symbols (no_symbol_is_digit b small h),
       lookup_elsewhere b word names (names_begin_so b small (digit_is_no_name b small h)),
-      h, digit_is_no_blank b small h, digit_is_no_name b small h,
+      h,
+      digit_is_no_blank b small h,
+      digit_is_no_name b small h,
     ) refl
 
 found_or : (found : Option Class) → option_or found (Some Identifier) ≡ Some (unwrap_or found Identifier)
@@ -114,13 +117,19 @@ class_of_name b word small h = go (list_all is_in_name word) refl
     go true e =
         rw (
           lookup_elsewhere b word symbols (no_symbol_is_name b small h),
-          name_is_no_blank b small h, name_is_no_digit b small h, h, e,
+          name_is_no_blank b small h,
+          name_is_no_digit b small h,
+          h,
+          e,
         ) (found_or _)
     go false e =
         rw (
           lookup_elsewhere b word symbols (no_symbol_is_name b small h),
           lookup_fails is_identifier (b ∷ word) names names_are_names (rw (h, e) refl),
-          name_is_no_blank b small h, name_is_no_digit b small h, h, e,
+          name_is_no_blank b small h,
+          name_is_no_digit b small h,
+          h,
+          e,
         ) refl
 
 -- a byte that is no blank, digit, letter or `_`
@@ -177,3 +186,14 @@ front_none (b ∷ rest) e = cc
 -- a byte of a name is below 128
 pub in_name_is_ascii : (b : ℕ) → is_in_name b ≡ true → b < 128
 in_name_is_ascii b h = grind (arith, nat_tests)
+
+-- a line feed is a word
+pub front_feed : (rest : Text) → longest_front class_of (10 ∷ rest) ≡ Some (Newline, 1)
+unfolding symbols
+front_feed rest = front_other (10 ∷ rest) 10 refl (omega arith) (refl, refl, refl)
+
+-- the longest front is a word at the front
+pub word_of_front : (text : Text) (class : Class) (len : ℕ) → longest_front class_of text ≡ Some (class, len) → IsWord text class len
+word_of_front text class len e =
+    let sound = front_sound class_of text class len e in
+    record { some = sound.0; within = sound.1; known = sound.2 }

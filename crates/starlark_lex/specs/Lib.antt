@@ -6,3 +6,5 @@ pub mod Outcome
 pub mod Places
 pub mod Output
 pub mod View
+pub mod Writing
+pub mod Runs

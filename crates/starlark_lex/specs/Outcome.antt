@@ -1,5 +1,5 @@
 -- The pieces of a text, and the outcome of reading them.
-use Rattle.std.specs.Prelude.{ℕ, zero, suc, ◌+◌, ◌-◌, Bool, false, ◌&&◌, ◌==◌, nat_lt, if◌then◌else◌, List, [], ◌∷◌, length, take, map, encode_utf8, Option, Some, None}
+use Rattle.std.specs.Prelude.{ℕ, zero, suc, ◌+◌, ◌-◌, Bool, true, false, ◌&&◌, ◌==◌, nat_lt, if◌then◌else◌, List, [], ◌∷◌, length, take, map, encode_utf8, Option, Some, None}
 use Rattle.std.specs.Str.{chars}
 use Rattle.starlark_lex.specs.Words.{Text, class_of}
 use Rattle.starlark_lex.specs.Front.{longest_front}
@@ -14,11 +14,15 @@ pub data Piece : Type 0 where
   Passes : (len : ℕ) (lexemes : List Lexeme) → Piece
   Stops : (fault : FaultAt) → Piece
 
--- the value of a lexeme: its word, where its kind has one
+-- whether lexemes of the kind have a value
+abbrev pub has_value : Class → Bool
+has_value Identifier = true
+has_value Int = true
+has_value class = false
+
+-- the value of a lexeme is its word
 abbrev pub value_of : Class → Text → Option Text
-value_of Identifier word = Some word
-value_of Int word = Some word
-value_of class word = None
+value_of class word = if has_value class then Some word else None
 
 -- a word that is one lexeme
 abbrev pub lexeme : Class → Text → Piece

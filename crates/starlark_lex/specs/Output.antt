@@ -61,33 +61,37 @@ abbrev pub value_text : Option Text → Text
 value_text None = []
 value_text (Some value) = codes " " ++ value
 
--- the place of a span of bytes of a text
-abbrev pub span_at : Text → ℕ → ℕ → Text
-span_at text begin end = span_text (place_at text begin) (place_at text end)
-
--- `begin-end place Kind`, and the value
-abbrev pub lexeme_line : Text → Lexeme → Text
-lexeme_line text l =
-    decimal l.begin ++ codes "-" ++ decimal l.end ++ codes " " ++ span_at text l.begin l.end ++ codes " " ++ kind_of l.class ++ value_text l.value ++ codes "\n"
-
 -- what a fault says before the text that it names
 unfoldable pub message_of : Fault → Text
 message_of InvalidInput = codes "Parse error: invalid input `"
 message_of ReservedKeyword = codes "Parse error: cannot use reserved keyword `"
 message_of StartsZero = codes "Parse error: integer cannot have leading 0, got `"
 
--- `fault begin-end name:place message`
-abbrev pub fault_line : Text → Text → FaultAt → Text
-fault_line name text f =
-    codes "fault " ++ decimal f.begin ++ codes "-" ++ decimal f.end ++ codes " " ++ name ++ codes ":" ++ span_at text f.begin f.end ++ codes " " ++ message_of f.fault ++ f.text ++ codes "`\n"
+-- `begin-end place Kind`, and the value
+unfoldable pub lexeme_text : (begin end : ℕ) → (place : Text) → Class → Option Text → Text
+lexeme_text begin end place class value =
+    decimal begin ++ codes "-" ++ decimal end ++ codes " " ++ place ++ codes " " ++ kind_of class ++ value_text value ++ codes "\n"
 
-abbrev pub fault_text : Text → Text → Option FaultAt → Text
-fault_text name text None = []
-fault_text name text (Some f) = fault_line name text f
+-- `fault begin-end name:place message`
+unfoldable pub fault_text : (begin end : ℕ) → (name place : Text) → Fault → Text → Text
+fault_text begin end name place fault text =
+    codes "fault " ++ decimal begin ++ codes "-" ++ decimal end ++ codes " " ++ name ++ codes ":" ++ place ++ codes " " ++ message_of fault ++ text ++ codes "`\n"
+
+-- the place of a span of bytes of a text
+abbrev pub place_of_span : Text → ℕ → ℕ → Text
+place_of_span text begin end = span_text (place_at text begin) (place_at text end)
+
+-- the line of a lexeme, and that of a fault
+abbrev pub lexeme_line : Text → Lexeme → Text
+lexeme_line text l = lexeme_text l.begin l.end (place_of_span text l.begin l.end) l.class l.value
+
+abbrev pub fault_line : Text → Text → Option FaultAt → Text
+fault_line name text None = []
+fault_line name text (Some f) = fault_text f.begin f.end name (place_of_span text f.begin f.end) f.fault f.text
 
 -- the lines of an outcome of a text that has this name
-abbrev pub lines_of : Text → Text → Outcome → Text
-lines_of name text o = flat_map (lexeme_line text) o.lexemes ++ fault_text name text o.fault
+unfoldable pub lines_of : Text → Text → Outcome → Text
+lines_of name text o = flat_map (lexeme_line text) o.lexemes ++ fault_line name text o.fault
 
 -- The whole output for a text: a line for each lexeme, and one for the fault where there is one.
 unfoldable pub output : Text → Text → Text

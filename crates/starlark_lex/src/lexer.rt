@@ -1,15 +1,18 @@
 //! Cuts the piece at the front of a text: a word, or the fault there.
 
-ghost use Rattle.std.specs.Prelude.{◌≡◌, ◌≤◌, ◌<◌, ◌==◌, ◌∷◌, [], length, take, nat_eq, IfSome};
+ghost use Rattle.std.specs.Prelude.{◌≡◌, ◌≤◌, ◌<◌, ◌+◌, ◌^◌, ◌==◌, ◌∷◌, [], length, take, nat_eq};
 ghost use Rattle.std.specs.Char.{is_ascii_digit};
 ghost use Rattle.std.specs.List.{prefix_len};
 ghost use Rattle.std.specs.Map.{lookup};
 ghost use Rattle.std.specs.Str.{bytes_eq, chars};
 ghost use Rattle.starlark_lex.specs.Front.{longest_front};
 ghost use Rattle.starlark_lex.specs.Outcome as grammar;
+ghost use Rattle.starlark_lex.specs.Outcome.{has_value};
 ghost use Rattle.starlark_lex.specs.Output.{kind_of, message_of};
-ghost use Rattle.starlark_lex.specs.View.{piece_view};
+ghost use Rattle.starlark_lex.specs.View.{IsWord, IsPieceOf, piece_view, piece_len, behind};
 ghost use Rattle.starlark_lex.specs.Words as spec;
+
+use crate::place::Place;
 
 /// What a word is. Each class but `Blank` and `Reserved` is the kind of a lexeme.
 #[derive(Clone, Copy, Debug, PartialEq, Eq)]
@@ -107,6 +110,13 @@ impl Class {
             Class::ClosingCurly => "ClosingCurly",
             Class::ClosingRound => "ClosingRound",
         }
+    }
+
+    /// Whether the word of such a lexeme is printed as its value.
+    pub fn has_value(self) -> bool
+        ensures { result ≡ has_value self }
+    {
+        matches!(self, Class::Identifier | Class::Int)
     }
 }
 
@@ -246,8 +256,7 @@ fn symbol_class(byte: u8) -> Option<Class>
 
 /// The class and the length of the longest word at the front of a text, if a word stands there.
 fn first_word(text: &str) -> Option<(Class, usize)>
-    ensures front { result ≡ longest_front spec.class_of text.now }
-    ensures within { IfSome result (λ word. word.1 ≤ length text.now) }
+    ensures { result ≡ longest_front spec.class_of text.now }
 {
     let bytes = text.as_bytes();
     let first = *bytes.first()?;
@@ -273,8 +282,9 @@ fn starts_zero(word: &[u8]) -> bool
 
 /// The piece that a word of a class is, the word being so many bytes at the front of a text.
 fn word_piece(class: Class, len: usize, text: &str) -> Piece
-    requires { len ≤ length text.now }
-    ensures { piece_view text.now result ≡ grammar.piece_of class (take len text.now) }
+    requires { IsWord text.now class len }
+    ensures view { piece_view text.now result ≡ grammar.piece_of class (take len text.now) }
+    ensures bytes { IsPieceOf text.now result }
 {
     match class {
         Class::Blank => Piece::Blank(len),
@@ -286,7 +296,8 @@ fn word_piece(class: Class, len: usize, text: &str) -> Piece
 
 /// The length in bytes of the first character of a text.
 fn first_len(text: &str) -> usize
-    ensures { take result text.now ≡ grammar.first_of (chars text.now) }
+    ensures first { take result text.now ≡ grammar.first_of (chars text.now) }
+    ensures whole { result ≡ length (grammar.first_of (chars text.now)) }
 {
     match text.chars().next() {
         Some(character) => character.len_utf8(),
@@ -297,10 +308,32 @@ fn first_len(text: &str) -> usize
 #[tactic(auto, unfolding(crate::specs::Outcome::piece_at))]
 /// What stands at the front of a text.
 pub fn first_piece(text: &str) -> Piece
-    ensures { piece_view text.now result ≡ grammar.piece_at text.now }
+    ensures view { piece_view text.now result ≡ grammar.piece_at text.now }
+    ensures bytes { IsPieceOf text.now result }
 {
     match first_word(text) {
         Some((class, len)) => word_piece(class, len, text),
         None => Piece::Fault(Fault::InvalidInput, first_len(text)),
+    }
+}
+
+/// The place behind a piece that stands at a place.
+pub fn place_behind(place: Place, piece: Piece) -> Place
+    requires some { 1 ≤ piece_len piece }
+    requires fits { place.at + piece_len piece < 2 ^ 32 }
+    requires line { place.line ≤ place.at }
+    requires column { place.column ≤ place.at }
+    ensures { result ≡ behind place piece }
+{
+    match piece {
+        Piece::Lexeme(Class::Newline, len) => Place {
+            at: place.at + len,
+            line: place.line + 1,
+            column: 0,
+        },
+        Piece::Fault(Fault::InvalidInput, len) => place.along(len, 1),
+        Piece::Blank(len) | Piece::Lexeme(_, len) | Piece::Fault(_, len) => {
+            place.along(len, len as u32)
+        }
     }
 }

@@ -1,0 +1,28 @@
+use Rattle.std.proofs.Common.{◌≡◌, ◌++◌, [], length, vec_len, rules, sym, ap, ◌∙◌, arith}
+use Rattle.std.proofs.lemmas.Bool.{eqb-true}
+use Rattle.std.proofs.lemmas.List.{nil_from_length}
+use Rattle.std.proofs.lemmas.Result.{err_from_is_err_and}
+use Rattle.starlark_lex.proofs.Writing.{writes_more, writes_stopped, writes_memory, writes_held, writes_sound}
+use Rattle.starlark_lex.proofs.buffer.Buffer.put.Goals as goal
+
+pub returns-in_err-make_room : goal.returns-in_err-make_room
+returns-in_err-make_room g c =
+    let p = err_from_is_err_and c.from_residual.result c.from_residual.ensures.1 in
+    rw (p.1, p.2) (writes_stopped _ _ _ _ _ _ _ _ _ _ c.in_err-make_room.ensures)
+
+pub returns-then-text-ge-BUFFER_LEN : goal.returns-then-text-ge-BUFFER_LEN
+returns-then-text-ge-BUFFER_LEN g c =
+    let none : c.make_room.new.self ≡ [] = sym c.self.view_is ∙ nil_from_length _ (sym c.self.inside.waiting.ok.0 ∙ eqb-true _ 0 (sym c.if-is_empty.ensures)) in
+    let rest = c.write_all.ensures in
+    rw none (writes_more _ _ _ _ _ _ _ _ _ _ (rw none at c.in_ok-make_room.ensures) rest)
+
+pub returns-in_err-extend_from_slice : goal.returns-in_err-extend_from_slice
+returns-in_err-extend_from_slice g c =
+    let p = err_from_is_err_and c.from_residual-in_err-extend_from_slice.result c.from_residual-in_err-extend_from_slice.ensures.1 in
+    rw (p.1, p.2) (writes_memory _ _ _ _ _ _ _ _ _ _ c.in_ok-make_room.ensures)
+
+pub returns : goal.returns
+returns g c = rw (c.in_ok-extend_from_slice.ensures.items, c.self.view_is) (writes_held _ _ _ _ _ _ _ _ c.in_ok-make_room.ensures)
+
+pub write_all-requires : goal.write_all-requires
+write_all-requires g c = writes_sound _ _ _ _ _ _ c.in_ok-make_room.ensures
