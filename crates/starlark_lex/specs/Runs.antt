@@ -63,3 +63,9 @@ IsRun contents name came reader old new (Err Write) =
 IsRun contents name came reader old new (Err Memory) =
     (reader.failed ≡ false) × (new.failed ≡ false)
     × (TookAll contents old new [] ⊎ (IsWhole reader came × IsUtf8 came × TakesBeginning contents old new (output name came)))
+
+-- 0 for a text without fault, 1 for one with a fault, and 2 where the run gave up
+abbrev pub exit_status : Result RunStatus RunFault → ℕ
+exit_status (Ok Clean) = 0
+exit_status (Ok Fault) = 1
+exit_status (Err fault) = 2

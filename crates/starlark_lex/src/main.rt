@@ -1,4 +1,9 @@
-//! Prints the lexemes of a Starlark text.
+//! `starlark_lex [NAME]` reads a Starlark text from standard input, and prints a line for each
+//! lexeme and one for the first fault. NAME stands before the place of a fault, and is `<stdin>`
+//! where it isn't given.
+//!
+//! The exit status is 0 for a text without fault, 1 for a fault, and 2 where the arguments are
+//! wrong or the run gave up: then standard error says why.
 #![tactic(auto)]
 
 mod buffer;
@@ -6,6 +11,55 @@ mod lexer;
 mod place;
 mod printer;
 mod run;
+#[cfg(test)]
+mod tests;
 mod watched;
 
-fn main() {}
+ghost use Rattle.std.specs.Prelude.{◌≡◌};
+ghost use Rattle.starlark_lex.specs.Runs.{exit_status as exit_status_of};
+
+use crate::run::{RunFault, RunStatus, run};
+use crate::watched::Watched;
+use std::env;
+use std::process::ExitCode;
+use std::rt::Env;
+
+/// The exit status for wrong arguments, and where a run gave up.
+const TROUBLE: u8 = 2;
+
+/// The argument NAME; `None` where there are more, or where they can't be read as text.
+fn name_argument<R: Env + AllocGlobal>(rt: &R) -> Option<Option<String>> {
+    let mut arguments = env::args(rt).ok()?;
+    let _program = arguments.next();
+    let name = arguments.next();
+    if arguments.next().is_some() {
+        return None;
+    }
+    Some(name)
+}
+
+/// The exit status that tells how a run ended.
+fn exit_status(outcome: &Result<RunStatus, RunFault>) -> u8
+    ensures { result ≡ exit_status_of outcome.now }
+{
+    match outcome {
+        Ok(RunStatus::Clean) => 0,
+        Ok(RunStatus::Fault) => 1,
+        Err(_) => TROUBLE,
+    }
+}
+
+fn main(rt: HostRuntime) -> ExitCode {
+    let Some(name) = name_argument(&rt) else {
+        let _ = eprintln!(rt; "usage: starlark_lex [NAME]");
+        return ExitCode::from(TROUBLE);
+    };
+    let name = name.as_ref().map_or("<stdin>", |name| name.as_str());
+    let mut reader = Watched::new(rt.stdin());
+    let mut writer = Watched::new(rt.stdout());
+    let outcome = run(rt.alloc(), name, &mut reader, &mut writer);
+    if let Err(fault) = &outcome {
+        let _ = eprintln!(rt; "{fault}");
+    }
+    ExitCode::from(exit_status(&outcome))
+}
