@@ -1,17 +1,17 @@
 -- The place behind a piece.
-use Rattle.std.proofs.Common.{◌≡◌, ℕ, zero, suc, ◌+◌, ◌-◌, ◌<◌, ◌≤◌, Bool, true, false, cond, not, ◌&&◌, ◌==◌, nat_lt, List, [], ◌∷◌, ◌++◌, length, take, drop, get_or, refl, ap, sym, subst, ◌∙◌, Option, Some, None, arith, take-add, length-take, length-drop, length-append, append-nil, add-one}
-use Rattle.std.proofs.lemmas.Bool.{and_parts, and_from, false≢true, ne_eqb}
+use Rattle.std.proofs.Common.{◌≡◌, ℕ, zero, suc, ◌+◌, ◌<◌, ◌≤◌, true, false, not, ◌==◌, nat_lt, List, [], ◌∷◌, ◌++◌, length, take, drop, get_or, refl, ap, sym, subst, ◌∙◌, None, arith, take-add, length-drop, length-append, append-nil, add-one}
+use Rattle.std.proofs.lemmas.Bool.{and_parts, and_from, ne_eqb}
 use Rattle.std.proofs.lemmas.Bool.Decides.{nat_tests}
 use Rattle.std.proofs.lemmas.List.{length-take-le, get_or-take}
 use Rattle.std.proofs.lemmas.Slice.Eq.{bytes_eq-Decides}
-use Rattle.std.proofs.lemmas.Str.{IsUtf8-take, IsUtf8-drop, IsUtf8-nil, IsUtf8-from_ascii, IsCharBoundary-start, IsCharBoundary-after_ascii, IsCharBoundary-from_rest, IsCharBoundary-past_char, chars-IsAscii, encodes-chars, scalars-chars, chars-encodes, length-encode, len_utf8_bounds, IsCharBoundary-at_seam, encode_ascii, inside_one}
+use Rattle.std.proofs.lemmas.Str.{IsUtf8-take, IsUtf8-drop, IsCharBoundary-start, IsCharBoundary-after_ascii, IsCharBoundary-from_rest, chars-IsAscii, encodes-chars, scalars-chars, chars-encodes, length-encode, len_utf8_bounds, IsCharBoundary-at_seam, encode_ascii, inside_one}
 use Rattle.std.proofs.Math.Utf8.{encode, encodes, scalar, scalars}
 use Rattle.std.specs.List.{list_all}
 use Rattle.std.specs.Str.{chars, IsUtf8, IsAscii, IsCharBoundary}
 use Rattle.starlark_lex.specs.Words.{Text, class_of}
 use Rattle.starlark_lex.specs.Front.{longest_front}
 use Rattle.starlark_lex.specs.Outcome.{first_of}
-use Rattle.starlark_lex.specs.Places.{Position, is_line_feed, place_after, place_at, position_of, IsPlace}
+use Rattle.starlark_lex.specs.Places.{Position, IsPlace}
 use Rattle.starlark_lex.specs.View.{IsWord, IsStray, IsPieceOf, piece_len, behind, Stands}
 use Rattle.starlark_lex.specs.declared.lexer.Class.{Class}
 use Rattle.starlark_lex.specs.declared.lexer.Class.TheVariants as class
@@ -19,7 +19,7 @@ use Rattle.starlark_lex.specs.declared.lexer.Fault.TheVariants.{InvalidInput, Re
 use Rattle.starlark_lex.specs.declared.lexer.Piece.{Piece}
 use Rattle.starlark_lex.specs.declared.lexer.Piece.TheVariants.{Blank, Lexeme, Fault}
 use Rattle.starlark_lex.specs.declared.place.Place.{Place}
-use Rattle.starlark_lex.proofs.Pieces.{is_plain, is_newline, suits, class_suits}
+use Rattle.starlark_lex.proofs.Pieces.{is_plain, is_newline, class_suits}
 use Rattle.starlark_lex.proofs.Words.{front_feed}
 use Rattle.starlark_lex.proofs.Places.{is_one_line, place_along, place_feed, line_bound, column_bound}
 

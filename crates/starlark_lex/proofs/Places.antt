@@ -1,14 +1,13 @@
 -- Lines and columns along a text.
-use Rattle.std.proofs.Common.{◌≡◌, ◌≢◌, ℕ, zero, suc, ◌+◌, ◌-◌, ◌<◌, ◌≤◌, Bool, true, false, cond, not, ◌&&◌, ◌==◌, List, [], ◌∷◌, ◌++◌, length, take, drop, get_or, reverse, refl, ap, sym, subst, ◌∙◌, arith, append_assoc, append-nil, length-append, length-drop, count_by, inl, inr, ◌⊎◌}
+use Rattle.std.proofs.Common.{◌≡◌, ℕ, ◌+◌, ◌-◌, ◌<◌, ◌≤◌, Bool, true, false, cond, not, [], ◌∷◌, ◌++◌, length, drop, get_or, reverse, refl, ap, sym, ◌∙◌, arith, append_assoc, append-nil, length-append, length-drop, count_by, inl, inr, ◌⊎◌}
 use Rattle.std.proofs.lemmas.Bool.{and_parts, not-true, not-false, eqb-true, cases_lt}
 use Rattle.std.proofs.lemmas.List.{reverse-append, drop-append-le, drop_all, length-reverse, get_or-reverse}
 use Rattle.std.proofs.lemmas.List.Sums.{sum_by-append, count_by-le-length, suffix_len-le-length, prefix_len_stops}
-use Rattle.std.proofs.lemmas.Str.{chars-append, chars-IsAscii, IsUtf8-drop, IsUtf8-nil, IsUtf8-from_ascii, length-le-encodes, encodes-chars, IsCharBoundary-start, IsCharBoundary-after_ascii}
-use Rattle.std.specs.List.{list_all, after_last, suffix_len, prefix_len}
-use Rattle.std.specs.Str.{chars, IsUtf8, IsAscii, IsCharBoundary}
+use Rattle.std.proofs.lemmas.Str.{chars-append, IsUtf8-drop, length-le-encodes, encodes-chars, IsCharBoundary-after_ascii}
+use Rattle.std.specs.List.{list_all, after_last, suffix_len}
+use Rattle.std.specs.Str.{chars, IsUtf8}
 use Rattle.starlark_lex.specs.Words.{Text}
-use Rattle.starlark_lex.specs.Places.{Position, is_line_feed, place_after}
-use Rattle.starlark_lex.proofs.Pieces.{is_plain}
+use Rattle.starlark_lex.specs.Places.{is_line_feed, place_after}
 
 -- no line feed stands in the text
 abbrev pub is_one_line : Text → Bool

@@ -1,5 +1,5 @@
 -- The outcome of a text, piece by piece, and its lines.
-use Rattle.std.proofs.Common.{◌≡◌, ℕ, zero, suc, ◌+◌, ◌-◌, ◌<◌, ◌≤◌, Bool, true, false, if◌then◌else◌, List, [], ◌∷◌, ◌++◌, length, take, drop, map, refl, ap, sym, subst, ◌∙◌, Option, Some, None, arith, append_assoc, append-nil, add-zero, length-drop}
+use Rattle.std.proofs.Common.{◌≡◌, ℕ, zero, suc, ◌+◌, ◌<◌, ◌≤◌, Bool, true, false, if◌then◌else◌, List, [], ◌∷◌, ◌++◌, length, take, drop, map, refl, ap, sym, subst, ◌∙◌, Some, None, arith, append_assoc, append-nil, add-zero, length-drop}
 use Rattle.std.proofs.lemmas.List.{drop-drop, length-take-le, drop_all}
 use Rattle.std.specs.List.{flat_map}
 use Rattle.std.proofs.lemmas.Grind.{flat_map-append}
@@ -8,11 +8,11 @@ use Rattle.std.specs.Str.{chars, IsUtf8}
 use Rattle.starlark_lex.specs.Words.{Text}
 use Rattle.starlark_lex.specs.Lexemes as lexemes
 use Rattle.starlark_lex.specs.Outcome as grammar
-use Rattle.starlark_lex.specs.Output.{lexeme_text, fault_text, lexeme_line, fault_line, lines_of}
+use Rattle.starlark_lex.specs.Output.{lexeme_text, lexeme_line, fault_line, lines_of}
 use Rattle.starlark_lex.specs.Runs.{status_of}
 use Rattle.starlark_lex.specs.declared.run.RunStatus.TheVariants as status
-use Rattle.starlark_lex.specs.Places.{place_after, place_at, position_of, span_text, IsPlace}
-use Rattle.starlark_lex.specs.View.{piece_view, piece_len, piece_text, behind, Stands}
+use Rattle.starlark_lex.specs.Places.{place_after, position_of, span_text, IsPlace}
+use Rattle.starlark_lex.specs.View.{piece_view, piece_text, behind, Stands}
 use Rattle.starlark_lex.specs.declared.lexer.Class.TheVariants.{Newline}
 use Rattle.starlark_lex.specs.declared.lexer.Piece.{Piece}
 use Rattle.starlark_lex.specs.declared.lexer.Piece.TheVariants.{Blank, Lexeme, Fault}

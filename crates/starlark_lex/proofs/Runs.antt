@@ -1,5 +1,5 @@
 -- How a run ends, from how reading and printing end.
-use Rattle.std.proofs.Common.{◌≡◌, ◌↔◌, ◌++◌, [], true, false, refl, sym, subst, ◌∙◌, append-nil, inl, inr, Result, Ok, Err, Option, IsErrOf, IfOk}
+use Rattle.std.proofs.Common.{◌≡◌, ◌↔◌, [], true, refl, sym, subst, ◌∙◌, append-nil, inr, Result, Ok, Err, Option, IsErrOf, IfOk}
 use Rattle.std.specs.Io.KnownBytes.{Appends}
 use Rattle.std.specs.Str.{IsUtf8}
 use Rattle.starlark_lex.specs.Words.{Text}

@@ -1,5 +1,5 @@
 -- Words and the tables that they stand in.
-use Rattle.std.proofs.Common.{◌≡◌, ◌≢◌, ℕ, suc, ◌+◌, ◌<◌, Bool, true, false, cond, not, ◌&&◌, ◌||◌, ◌==◌, nat_eq, List, [], ◌∷◌, length, take, slice_get, refl, ap, ◌∙◌, Option, unwrap_or, Some, None, arith, one-add}
+use Rattle.std.proofs.Common.{◌≡◌, ◌≢◌, ℕ, suc, ◌<◌, Bool, true, false, cond, not, ◌||◌, ◌==◌, nat_eq, List, [], ◌∷◌, length, take, slice_get, refl, ap, ◌∙◌, Option, unwrap_or, Some, None, arith, one-add}
 use Rattle.std.proofs.lemmas.Bool.{false_from_ne_true, agree_below, agree_below_at, and_parts, both_ways, eq-eqb, ne_eqb, not-true}
 use Rattle.std.proofs.lemmas.Bool.Decides.{nat_tests}
 use Rattle.std.proofs.lemmas.Slice.Eq.{bytes_eq-Decides}

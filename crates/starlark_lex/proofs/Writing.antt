@@ -1,13 +1,26 @@
 -- What steps write one after another.
-use Rattle.std.proofs.Common.{◌<◌, length, true, arith, ◌≡◌, ◌++◌, [], false, refl, sym, ap, ◌∙◌, append_assoc, append-nil, List, ℕ, Option, Result, Ok, Err}
+use Rattle.std.proofs.Common.{◌<◌, length, true, arith, ◌≡◌, ◌++◌, [], false, refl, sym, ap, ◌∙◌, append_assoc, append-nil, ℕ, Option, Result, Ok, Err, OnOk, ◌≢◌, ◌⊎◌, inl, inr, ◌+◌, ◌≤◌, length-append}
 use Rattle.std.proofs.KnownBytes.{Appends-nil, Appends-trans}
 use Rattle.std.proofs.lemmas.Bool.{eq-eqb, ne_eqb}
-use Rattle.std.specs.Io.KnownBytes.{Appends}
 use Rattle.starlark_lex.specs.Words.{Text}
 use Rattle.starlark_lex.specs.Watch.{Watch, is_nothing}
 use Rattle.starlark_lex.specs.Writing.{Takes, TakesBeginning, Writes}
 use Rattle.starlark_lex.specs.declared.run.RunFault.{RunFault}
 use Rattle.starlark_lex.specs.declared.run.RunFault.TheVariants.{NotUtf8, TooLong, Read, Write, Memory}
+
+-- what holds anyhow holds where there is a value
+pub on_ok : {T E : Type 0} {P : Type 0} (r : Result T E) → P → OnOk r P
+on_ok (Ok x) p = p
+on_ok (Err e) p = tt
+
+-- the buffer's bytes and a text fit, where the bytes are none or there is room
+pub fits_empty : (waiting text : Text) (most : ℕ) → (waiting ≡ []) ⊎ (length waiting + length text ≤ most) → length text < most → length (waiting ++ text) ≤ most
+fits_empty waiting text most (inl none) short = rw none (omega (arith, short))
+fits_empty waiting text most (inr fit) short = rw (length-append waiting text) fit
+
+pub fits_room : (waiting text : Text) (most : ℕ) → (waiting ≡ []) ⊎ (length waiting + length text ≤ most) → (waiting ≢ []) → length (waiting ++ text) ≤ most
+fits_room waiting text most (inl none) some = absurd (some none)
+fits_room waiting text most (inr fit) some = rw (length-append waiting text) fit
 
 module _ {W : Type 0} (contents : W → Option Text) where
   -- nothing was taken

@@ -1,5 +1,5 @@
 -- The longest front of a text that is a word.
-use Rattle.std.specs.Prelude.{◌≡◌, ℕ, suc, ◌+◌, ◌<◌, ◌≤◌, List, [], ◌∷◌, length, take, Option, Some, None}
+use Rattle.std.specs.Prelude.{◌≡◌, ℕ, ◌+◌, ◌<◌, ◌≤◌, [], ◌∷◌, length, take, Option, Some, None}
 use Rattle.std.specs.Option.{option_map}
 use Rattle.starlark_lex.specs.Words.{Text}
 

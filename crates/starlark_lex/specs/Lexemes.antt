@@ -1,5 +1,5 @@
 -- Lexemes, faults and outcomes as the grammar sees them.
-use Rattle.std.specs.Prelude.{ℕ, ◌+◌, List, [], ◌∷◌, ◌++◌, Option, Some, None}
+use Rattle.std.specs.Prelude.{ℕ, ◌+◌, List, ◌++◌, Option}
 use Rattle.starlark_lex.specs.Words.{Text}
 use Rattle.starlark_lex.specs.declared.lexer.Class.{Class}
 use Rattle.starlark_lex.specs.declared.lexer.Fault.{Fault}

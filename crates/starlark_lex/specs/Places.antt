@@ -1,5 +1,5 @@
 -- Lines and columns, and how they are printed. Both count from 0 and are printed from 1.
-use Rattle.std.specs.Prelude.{◌≡◌, ◌≤◌, ℕ, ◌+◌, Bool, ◌&&◌, ◌==◌, if◌then◌else◌, List, ◌++◌, length, take, count_by, codes}
+use Rattle.std.specs.Prelude.{◌≡◌, ◌≤◌, ℕ, ◌+◌, Bool, ◌==◌, if◌then◌else◌, ◌++◌, length, take, count_by, codes}
 use Rattle.std.specs.List.{after_last}
 use Rattle.std.specs.Str.{chars, IsCharBoundary}
 use Rattle.std.specs.Fmt.{decimal}

@@ -1,6 +1,6 @@
 //! A buffer in front of a writer.
 
-ghost use Rattle.std.specs.Prelude.{◌≡◌, ◌++◌, [], false, IfOk, OnOk};
+ghost use Rattle.std.specs.Prelude.{◌≡◌, ◌≤◌, ◌+◌, ◌⊎◌, ◌++◌, [], false, length, IfOk, OnOk};
 ghost use Rattle.starlark_lex.specs.Writing.{Writes};
 
 use crate::run::RunFault;
@@ -68,9 +68,10 @@ impl Buffer {
     /// Makes room for so many bytes, or as much as there can be.
     fn make_room<W: Write>(&mut self, writer: &mut Watched<W>, len: usize) -> Result<(), RunFault>
         requires { writer.old.failed ≡ false }
-        ensures { Writes W.contents writer.old writer.new self.old self.new result }
+        ensures room { OnOk result ((self.new ≡ []) ⊎ (length self.new + len ≤ BUFFER_LEN)) }
+        ensures writes { Writes W.contents writer.old writer.new self.old self.new result }
     {
-        if len > BUFFER_LEN.saturating_sub(self.waiting.len()) {
+        if len >= BUFFER_LEN || self.waiting.len() > BUFFER_LEN - len {
             return self.send(writer);
         }
         Ok(())
@@ -79,7 +80,8 @@ impl Buffer {
     /// Adds a text to what waits. A text that is as long as the buffer is written as it is.
     pub fn put<W: Write>(&mut self, writer: &mut Watched<W>, text: &[u8]) -> Result<(), RunFault>
         requires { writer.old.failed ≡ false }
-        ensures { Writes W.contents writer.old writer.new (self.old ++ text.now) self.new result }
+        ensures held { OnOk result (length self.new ≤ BUFFER_LEN) }
+        ensures writes { Writes W.contents writer.old writer.new (self.old ++ text.now) self.new result }
     {
         self.make_room(writer, text.len())?;
         if self.waiting.is_empty() && text.len() >= BUFFER_LEN {

@@ -1,6 +1,5 @@
-use Rattle.std.proofs.Common.{◌≡◌, ◌<◌, ◌≤◌, ◌++◌, true, false, not, take, drop, length, refl, sym, ap, ◌∙◌, take-append-drop, take-add, append-nil, length-drop, arith, rules}
+use Rattle.std.proofs.Common.{◌≡◌, take, drop, refl, ◌∙◌, take-append-drop, take-add, append-nil, length-drop, arith, rules}
 use Rattle.std.proofs.KnownBytes.{Appends-kept, Appends-trans}
-use Rattle.std.proofs.lemmas.Bool.{ne_eqb}
 use Rattle.std.proofs.lemmas.List.{take_rest}
 use Rattle.starlark_lex.specs.Writing.{Writes}
 use Rattle.starlark_lex.proofs.Writing.{is_nothing-some, is_nothing-none}

@@ -1,4 +1,4 @@
-use Rattle.std.proofs.Common.{sym, ◌∙◌}
+use Rattle.std.proofs.Common.{sym}
 use Rattle.starlark_lex.proofs.Words.{word_of_front}
 use Rattle.starlark_lex.proofs.lexer.first_piece.Goals as goal
 

@@ -1,12 +1,10 @@
 -- The first byte decides which words may stand there.
-use Rattle.std.proofs.Common.{◌≡◌, ◌<◌, ℕ, true, false, nat_eq, slice_get, refl, sym, ◌∙◌, ap, arith, rules, Some, None}
+use Rattle.std.proofs.Common.{◌≡◌, ◌<◌, true, slice_get, refl, sym, arith, rules, Some, None}
 use Rattle.std.proofs.Math.Nat.{sub-zero}
 use Rattle.std.proofs.lemmas.Bool.{ne_eqb}
 use Rattle.std.proofs.lemmas.Option.{get_or_from_slice_get}
 use Rattle.std.specs.Char.{is_ascii_digit}
-use Rattle.starlark_lex.specs.Words.{class_of, symbols, name_class, begins_name}
-use Rattle.starlark_lex.specs.Front.{longest_front}
-use Rattle.starlark_lex.specs.declared.lexer.Class.TheVariants.{Blank, Int}
+use Rattle.starlark_lex.specs.Words.{begins_name}
 use Rattle.starlark_lex.proofs.Ascii.{boundary_after_run}
 use Rattle.starlark_lex.proofs.Words.{front_blank, front_digit, front_name, front_other, front_none, in_name_is_ascii, IsOther}
 use Rattle.starlark_lex.proofs.lexer.first_word.Goals as goal

@@ -1,4 +1,4 @@
-use Rattle.std.proofs.Common.{◌≡◌, ◌<◌, ◌++◌, false, length, take, drop, refl, sym, ◌∙◌, append-nil, take-add, length-drop, length-take, arith}
+use Rattle.std.proofs.Common.{◌≡◌, ◌<◌, length, take, drop, refl, ◌∙◌, append-nil, take-add, length-drop, length-take, arith}
 use Rattle.std.proofs.KnownBytes.{Consumes-trans}
 use Rattle.starlark_lex.proofs.Writing.{is_nothing-some, is_nothing-none}
 use Rattle.starlark_lex.proofs.run.read_bytes.Goals as goal

@@ -1,6 +1,5 @@
 use Rattle.std.proofs.Common.{◌≡◌, ◌++◌, [], ◌∷◌, append_assoc, ◌∙◌, ℕ, List, refl, sym, string_bytes, arith}
 use Rattle.std.proofs.lemmas.Result.{err_from_is_err_and}
-use Rattle.starlark_lex.specs.Outcome.{value_of}
 use Rattle.starlark_lex.specs.Output.{lexeme_text}
 use Rattle.starlark_lex.proofs.Writing.{writes_refused}
 use Rattle.starlark_lex.proofs.printer.Printer.lexeme.Goals as goal

@@ -1,10 +1,10 @@
-use Rattle.std.proofs.Common.{◌≡◌, ◌++◌, [], drop, length, false, true, sym, ap, ◌∙◌, refl, subst, append-nil, arith}
+use Rattle.std.proofs.Common.{◌≡◌, [], drop, false, sym, ap, ◌∙◌, refl, subst, append-nil}
 use Rattle.std.proofs.lemmas.Result.{err_from_is_err_and}
-use Rattle.starlark_lex.specs.Outcome.{value_of, piece_at, outcome_from, outcome}
-use Rattle.starlark_lex.specs.Output.{lexeme_text, lines_of, output}
+use Rattle.starlark_lex.specs.Outcome.{value_of, outcome}
+use Rattle.starlark_lex.specs.Output.{lexeme_text, output}
 use Rattle.starlark_lex.specs.Places.{IsPlace, position_of, span_text}
 use Rattle.starlark_lex.specs.Runs.{status_of}
-use Rattle.starlark_lex.specs.View.{piece_view, piece_text, Stands, behind}
+use Rattle.starlark_lex.specs.View.{piece_text}
 use Rattle.starlark_lex.specs.declared.lexer.Class.TheVariants.{Newline}
 use Rattle.starlark_lex.specs.declared.run.RunStatus.TheVariants as RunStatus
 use Rattle.starlark_lex.proofs.Reading.{is_fault, lines_left, lines_onward, fault_onward, fault_here, lines_end, clean_end, not_fault, place_start}
