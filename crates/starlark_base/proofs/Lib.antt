@@ -1,2 +1,3 @@
 pub mod LineFeeds
 pub mod LineEnds
+pub mod HeldSpans

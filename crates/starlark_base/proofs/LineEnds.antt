@@ -1,5 +1,5 @@
 -- A span without its last byte.
-use Rattle.std.proofs.Common.{◌≡◌, ◌≢◌, ℕ, ◌+◌, ◌-◌, ◌<◌, ◌≤◌, Bool, true, false, cond, ◌&&◌, eqb, [], ◌∷◌, length, take, drop, get_or, refl, ap, sym, ◌∙◌, arith, slice_range, length-drop, reverse, inl, inr, ◌⊎◌}
+use Rattle.std.proofs.Common.{◌≡◌, ◌≢◌, ℕ, ◌+◌, ◌-◌, ◌<◌, ◌≤◌, Bool, true, false, ◌&&◌, eqb, [], ◌∷◌, length, drop, get_or, refl, ap, sym, ◌∙◌, arith, length-drop, reverse, inl, inr, ◌⊎◌}
 use Rattle.std.specs.List.{ends_with, suffix_len}
 use Rattle.std.specs.Str.{IsCharBoundary}
 use Rattle.std.specs.Prelude.{nat_eq}

@@ -1,5 +1,5 @@
 -- Where lines begin, and how many line feeds stand before a place.
-use Rattle.std.proofs.Common.{◌≡◌, ℕ, zero, suc, ◌+◌, ◌-◌, ◌<◌, ◌≤◌, Bool, true, false, cond, not, [], ◌∷◌, ◌++◌, length, take, drop, get_or, refl, ap, sym, ◌∙◌, arith, count_by, inl, inr, ◌⊎◌, leb}
+use Rattle.std.proofs.Common.{◌≡◌, ℕ, zero, suc, ◌+◌, ◌-◌, ◌<◌, ◌≤◌, true, false, cond, not, [], ◌∷◌, length, take, drop, get_or, refl, ap, sym, ◌∙◌, arith, count_by, inl, inr, ◌⊎◌, leb}
 use Rattle.std.proofs.lemmas.Bool.{eqb-true, cases_lt}
 use Rattle.std.proofs.lemmas.Bool.Decides.{nat_tests}
 use Rattle.std.proofs.lemmas.List.{length-take-le, get_or-take, get_or_default, drop-take}
@@ -57,7 +57,7 @@ feeds_before text zero h = refl
 feeds_before [] (suc line) h = absurd (omega arith)
 feeds_before (b ∷ rest) (suc line) h =
     elim (is_line_feed b) as (λ f. suc line ≤ cond f (1 + feeds rest) (feeds rest)
-        → cond f (1 + feeds (take (cond f (line_begin rest line) (line_begin rest (suc line))) rest)) (feeds (take (cond f (line_begin rest line) (line_begin rest (suc line))) rest)) ≡ suc line) [
+    → cond f (1 + feeds (take (cond f (line_begin rest line) (line_begin rest (suc line))) rest)) (feeds (take (cond f (line_begin rest line) (line_begin rest (suc line))) rest)) ≡ suc line) [
       | true ↦ λ h. let e = feeds_before rest line (omega arith) in omega arith
       | false ↦ λ h. feeds_before rest (suc line) h
     ] h
@@ -109,13 +109,13 @@ pub begin_after_feed : (text : Text) (line : ℕ) → line < feeds text → (m :
 begin_after_feed [] line h = absurd (omega arith)
 begin_after_feed (b ∷ rest) zero h =
     elim (is_line_feed b) as (λ f. is_line_feed b ≡ f → zero < cond f (1 + feeds rest) (feeds rest)
-        → (m : ℕ) × (suc (cond f (line_begin rest zero) (line_begin rest (suc zero))) ≡ suc m) × (m < suc (length rest)) × (get_or (b ∷ rest) m 0 ≡ 10)) [
+    → (m : ℕ) × (suc (cond f (line_begin rest zero) (line_begin rest (suc zero))) ≡ suc m) × (m < suc (length rest)) × (get_or (b ∷ rest) m 0 ≡ 10)) [
       | true ↦ λ e h. (0, refl, omega arith, eqb-true b 10 e)
       | false ↦ λ e h. let r = begin_after_feed rest zero h in (suc r.0, ap suc r.1, omega (arith, r.2), r.3)
     ] refl h
 begin_after_feed (b ∷ rest) (suc line) h =
     elim (is_line_feed b) as (λ f. suc line < cond f (1 + feeds rest) (feeds rest)
-        → (m : ℕ) × (suc (cond f (line_begin rest (suc line)) (line_begin rest (suc (suc line)))) ≡ suc m) × (m < suc (length rest)) × (get_or (b ∷ rest) m 0 ≡ 10)) [
+    → (m : ℕ) × (suc (cond f (line_begin rest (suc line)) (line_begin rest (suc (suc line)))) ≡ suc m) × (m < suc (length rest)) × (get_or (b ∷ rest) m 0 ≡ 10)) [
       | true ↦ λ h. let r = begin_after_feed rest line (omega arith) in (suc r.0, ap suc r.1, omega (arith, r.2), r.3)
       | false ↦ λ h. let r = begin_after_feed rest (suc line) h in (suc r.0, ap suc r.1, omega (arith, r.2), r.3)
     ] h
@@ -148,13 +148,13 @@ starts_from_at : (at : ℕ) (text : Text) (k : ℕ) → k < feeds text → get_o
 starts_from_at at [] k h = absurd (omega arith)
 starts_from_at at (b ∷ rest) zero h =
     elim (is_line_feed b) as (λ f. zero < cond f (1 + feeds rest) (feeds rest)
-        → get_or (cond f ((at + 1) ∷ starts_from (at + 1) rest) (starts_from (at + 1) rest)) zero 0 ≡ at + suc (cond f (line_begin rest zero) (line_begin rest (suc zero)))) [
+    → get_or (cond f ((at + 1) ∷ starts_from (at + 1) rest) (starts_from (at + 1) rest)) zero 0 ≡ at + suc (cond f (line_begin rest zero) (line_begin rest (suc zero)))) [
       | true ↦ λ h. refl
       | false ↦ λ h. starts_from_at (at + 1) rest zero h ∙ omega arith
     ] h
 starts_from_at at (b ∷ rest) (suc k) h =
     elim (is_line_feed b) as (λ f. suc k < cond f (1 + feeds rest) (feeds rest)
-        → get_or (cond f ((at + 1) ∷ starts_from (at + 1) rest) (starts_from (at + 1) rest)) (suc k) 0 ≡ at + suc (cond f (line_begin rest (suc k)) (line_begin rest (suc (suc k))))) [
+    → get_or (cond f ((at + 1) ∷ starts_from (at + 1) rest) (starts_from (at + 1) rest)) (suc k) 0 ≡ at + suc (cond f (line_begin rest (suc k)) (line_begin rest (suc (suc k))))) [
       | true ↦ λ h. starts_from_at (at + 1) rest k (omega arith) ∙ omega arith
       | false ↦ λ h. starts_from_at (at + 1) rest (suc k) h ∙ omega arith
     ] h
@@ -189,9 +189,9 @@ last_line text at within =
     let size : length front ≡ at = length-take-le at text within in
     let before : begin ≤ at = begin_before text (feeds front) at (omega arith) in
     let first : 0 < begin → not (is_line_feed (get_or front (begin - 1) 0)) ≡ false =
-        λ some. ap (λ b. not (is_line_feed b)) (get_or-take at text (begin - 1) 0 (omega arith) ∙ before_line text (feeds front) (feeds_within text at) some) in
+    λ some. ap (λ b. not (is_line_feed b)) (get_or-take at text (begin - 1) 0 (omega arith) ∙ before_line text (feeds front) (feeds_within text at) some) in
     let same : suffix_len (λ x. not (is_line_feed x)) front ≡ length front - begin =
-        suffix_len_is (λ x. not (is_line_feed x)) front begin 0 (omega arith) (λ k from inside. ap not (ap is_line_feed (get_or-take at text k 0 (omega arith)) ∙ no_feed_on_line text at k within from (omega arith))) first in
+    suffix_len_is (λ x. not (is_line_feed x)) front begin 0 (omega arith) (λ k from inside. ap not (ap is_line_feed (get_or-take at text k 0 (omega arith)) ∙ no_feed_on_line text at k within from (omega arith))) first in
     ap (λ n. drop n front) (omega arith)
 
 -- no line begins before an earlier one

@@ -6,7 +6,7 @@ ghost use Rattle.std.specs.Str.{chars, IsCharBoundary, IsUtf8};
 ghost use Rattle.starlark_base.specs.Lines.{is_line_end, line_begin, line_count, line_span, line_text, text_of, trimmed_line_span, without_last, without_line_ends};
 ghost use Rattle.starlark_base.specs.Places.{place_at, resolved};
 ghost use Rattle.starlark_base.specs.Refusals.{IsRefused};
-ghost use Rattle.starlark_base.specs.Sources.{Holds};
+ghost use Rattle.starlark_base.specs.Sources.{holds, Holds};
 ghost use Rattle.starlark_base.specs.Starts.{line_starts};
 
 use crate::codemap::{FileSpan, OrMemory, Pos, ResolvedPos, ResolvedSpan, SourceTooLong, Span};
@@ -224,7 +224,8 @@ impl CodeMap {
 
     /// Whether a span is in the source, with both ends between two characters.
     pub fn holds(&self, span: Span) -> bool
-        ensures { IsTrue result ↔ Holds self.now.source span }
+        ensures held { IsTrue result ↔ Holds self.now.source span }
+        ensures test { result ≡ holds self.now.source span }
     {
         let source = self.source();
         source.is_char_boundary(span.begin().get() as usize)

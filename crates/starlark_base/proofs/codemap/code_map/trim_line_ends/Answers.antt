@@ -1,4 +1,3 @@
-use Rattle.std.proofs.Common.{◌≡◌, ◌≤◌, length, arith}
 use Rattle.starlark_base.proofs.LineEnds.{line_ends_within, boundary_before_line_ends}
 use Rattle.starlark_base.proofs.codemap.code_map.trim_line_ends.Goals as goal
 

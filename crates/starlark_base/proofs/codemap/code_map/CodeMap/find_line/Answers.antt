@@ -1,7 +1,7 @@
-use Rattle.std.proofs.Common.{◌≡◌, ℕ, ◌+◌, ◌-◌, ◌<◌, ◌≤◌, suc, length, take, leb, List, true, false, rules, tests, arith, ap, sym, subst, ◌∙◌}
+use Rattle.std.proofs.Common.{◌≡◌, ℕ, ◌≤◌, suc, length, take, leb, List, true, false, rules, tests, arith}
 use Rattle.std.proofs.lemmas.List.Sorted.{IsPartitionPoint-from_clause}
 use Rattle.std.specs.List.Sorted.{IsPartitionedBy, IsPartitionPoint}
-use Rattle.starlark_base.specs.Places.{place_at, place_after}
+use Rattle.starlark_base.specs.Places.{place_after}
 use Rattle.starlark_base.specs.Starts.{line_starts}
 use Rattle.starlark_base.proofs.LineFeeds.{feeds, feeds_count, feeds_within, found_line, starts_partitioned}
 use Rattle.starlark_base.proofs.codemap.code_map.CodeMap.find_line.Goals as goal

@@ -1,8 +1,6 @@
-use Rattle.std.proofs.Common.{◌≡◌, length, sym, ap, ◌∙◌}
+use Rattle.std.proofs.Common.{◌≡◌, length, ap}
 use Rattle.std.specs.Str.{IsUtf8}
 use Rattle.std.proofs.lemmas.Str.{IsCharBoundary-start, IsCharBoundary-end}
-use Rattle.starlark_base.specs.Spans.{ByteSpan}
-use Rattle.starlark_base.specs.Sources.{Holds}
 use Rattle.starlark_base.proofs.codemap.code_map.CodeMap.full_span.Goals as goal
 
 pub returns-clause-held : goal.returns-clause-held

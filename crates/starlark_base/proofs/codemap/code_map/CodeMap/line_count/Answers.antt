@@ -1,4 +1,4 @@
-use Rattle.std.proofs.Common.{◌≡◌, ◌+◌, length, ap, ◌∙◌}
+use Rattle.std.proofs.Common.{◌+◌, length, ap, ◌∙◌}
 use Rattle.starlark_base.proofs.LineFeeds.{feeds_count, length-line_starts}
 use Rattle.starlark_base.proofs.codemap.code_map.CodeMap.line_count.Goals as goal
 

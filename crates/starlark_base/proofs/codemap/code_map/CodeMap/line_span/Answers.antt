@@ -1,4 +1,4 @@
-use Rattle.std.proofs.Common.{◌≡◌, ◌≤◌, ◌+◌, length, arith, sym, ap, ◌∙◌}
+use Rattle.std.proofs.Common.{◌≡◌, ◌+◌, arith, ap, ◌∙◌}
 use Rattle.starlark_base.specs.Spans.{ByteSpan}
 use Rattle.starlark_base.specs.Lines.{line_begin}
 use Rattle.starlark_base.proofs.LineFeeds.{begins_rise, last_line_end}

@@ -1,7 +1,6 @@
-use Rattle.std.proofs.Common.{◌≡◌, ◌+◌, ◌<◌, length, get_or, arith, rules, sym, ap, ◌∙◌}
+use Rattle.std.proofs.Common.{◌≡◌, ◌<◌, length, get_or, rules, ap, ◌∙◌}
 use Rattle.starlark_base.specs.Lines.{line_begin}
 use Rattle.starlark_base.proofs.LineFeeds.{line_within_index, starts_at, boundary_of_line}
-use Rattle.starlark_base.specs.Starts.{line_starts}
 use Rattle.starlark_base.proofs.codemap.code_map.CodeMap.line_start.Goals as goal
 
 pub bounds-starts-line : goal.bounds-starts-line

@@ -1,6 +1,6 @@
-use Rattle.std.proofs.Common.{◌≡◌, ◌≤◌, ◌-◌, length, take, drop, arith, slice_range, refl, ap, ◌∙◌}
+use Rattle.std.proofs.Common.{◌≡◌, ◌-◌, length, take, drop, arith, slice_range, refl, ap, ◌∙◌}
 use Rattle.std.specs.Str.{chars}
-use Rattle.starlark_base.specs.Places.{place_at, place_after}
+use Rattle.starlark_base.specs.Places.{place_after}
 use Rattle.starlark_base.proofs.LineFeeds.{line_before_place, front_of_line}
 use Rattle.starlark_base.proofs.codemap.code_map.CodeMap.resolve_pos.Goals as goal
 
