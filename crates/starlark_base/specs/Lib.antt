@@ -2,5 +2,6 @@ pub mod Spans
 pub mod Places
 pub mod Lines
 pub mod Sources
+pub mod SourceFiles
 pub mod Refusals
 pub mod Starts

@@ -1,6 +1,7 @@
 //! Positions and spans in a source text, and what they are there: lines, columns, texts.
 
 mod code_map;
+mod code_maps;
 mod file_span;
 mod positions;
 mod refusals;
@@ -9,6 +10,7 @@ mod spanned_nodes;
 mod spans;
 
 pub use code_map::{CodeMap, CodeMapId};
+pub use code_maps::CodeMaps;
 pub use file_span::{FileSpan, FileSpanRef};
 pub use positions::Pos;
 pub use refusals::{OrMemory, SourceTooLong};

@@ -1,0 +1,128 @@
+//! Code maps by their numbers.
+
+ghost use Rattle.std.specs.Prelude.{◌≡◌, ◌<◌, ◌≤◌, ◌+◌, ℕ, Some, None, IfOk, IsOk, OnOk, OnErr, IfErr, filter, not, length, is_some, nat_eq, if◌then◌else◌, ◌==◌};
+ghost use Rattle.std.specs.FinMap as map;
+ghost use Rattle.std.specs.HashMap.{get, IsUnchanged, spare};
+ghost use Rattle.std.specs.Map.{lookup};
+ghost use Rattle.std.specs.Option.{option_copied, option_or};
+ghost use Rattle.starlark_base.specs.SourceFiles.{joined, only};
+
+use crate::codemap::{CodeMap, CodeMapId};
+use std::alloc::{AllocError, Global};
+use std::collections::HashMap;
+use std::marker::Model;
+
+/// Code maps by their numbers. In a contract it is the finite map from numbers to source files.
+#[derive(Drop)]
+pub struct CodeMaps {
+    alloc: Global,
+    codemaps: HashMap<CodeMapId, CodeMap>,
+}
+
+impl Model for CodeMaps {
+    ghost use Rattle.std.specs.FinMap as map;
+    ghost use Rattle.std.specs.Ordering.{nat_cmp};
+    ghost use Rattle.std.specs.Coded.{coded_ℕ};
+    ghost use Rattle.starlark_base.specs.Sources.{SourceFile};
+    ghost use Rattle.starlark_base.specs.SourceFiles.{source_file_code};
+
+    ghost Value = { map.FinMap nat_cmp SourceFile };
+
+    ghost coded = { map.code coded_ℕ source_file_code };
+
+    ghost view = { λ a. map.from_entries a.codemaps.entries };
+}
+
+/// The code maps whose numbers a map doesn't have, shared.
+fn shared_new(
+    alloc: Global,
+    codemaps: &HashMap<CodeMapId, CodeMap>,
+    others: &HashMap<CodeMapId, CodeMap>,
+) -> Result<Vec<(CodeMapId, CodeMap)>, AllocError>
+    ensures { IfOk result (λ new. new.items ≡ filter (λ e. not (is_some (get nat_eq codemaps.now e.0))) others.now.entries) }
+{
+    let mut new = Vec::new(alloc);
+    for (id, codemap) in others {
+        if !codemaps.contains_key(id) {
+            new.push((*id, codemap.dupe()?))?;
+        }
+    }
+    Ok(new)
+}
+
+/// Puts a code map at its number, unless one is there.
+fn put_new(
+    codemaps: &mut HashMap<CodeMapId, CodeMap>,
+    id: CodeMapId,
+    codemap: CodeMap,
+) -> Result<(), AllocError>
+    ensures ok { OnOk result ((q : ℕ) → get nat_eq codemaps.new q ≡ option_or (get nat_eq codemaps.old q) (if q == id then Some codemap else None)) }
+    ensures err { OnErr result (IsUnchanged codemaps.old codemaps.new) }
+    ensures succeeds { 0 < spare codemaps.old → IsOk result }
+    ensures spare { spare codemaps.old ≤ spare codemaps.new + 1 }
+{
+    if !codemaps.contains_key(&id) {
+        codemaps.insert(id, codemap)?;
+    }
+    Ok(())
+}
+
+/// Puts code maps at their numbers, but for those where one is.
+fn put_all_new(
+    codemaps: &mut HashMap<CodeMapId, CodeMap>,
+    new: Vec<(CodeMapId, CodeMap)>,
+) -> Result<(), AllocError>
+    requires { length new.items ≤ spare codemaps.old }
+    ensures puts { (q : ℕ) → get nat_eq codemaps.new q ≡ option_or (get nat_eq codemaps.old q) (lookup (nat_eq q) new.items) }
+    ensures succeeds { IsOk result }
+{
+    for (id, codemap) in new {
+        put_new(codemaps, id, codemap)?;
+    }
+    Ok(())
+}
+
+impl CodeMaps {
+    /// No code maps.
+    pub fn new(alloc: Global) -> Self
+        ensures { result ≡ map.empty }
+    {
+        CodeMaps {
+            alloc,
+            codemaps: HashMap::new(alloc),
+        }
+    }
+
+    /// The code map of a number.
+    pub fn get(&self, id: CodeMapId) -> Option<&CodeMap>
+        ensures { option_copied result ≡ map.get self.now id }
+    {
+        self.codemaps.get(&id)
+    }
+
+    /// Adds a code map, which shares its text, unless there is one of its number. A refused call changes
+    /// nothing.
+    pub fn add(&mut self, codemap: &CodeMap) -> Result<(), AllocError>
+        ensures ok { OnOk result (self.new ≡ joined self.old (only codemap.now)) }
+        ensures err { OnErr result (self.new ≡ self.old) }
+    {
+        let id = codemap.id();
+        if self.codemaps.contains_key(&id) {
+            return Ok(());
+        }
+        self.codemaps.reserve(1)?;
+        let shared = codemap.dupe()?;
+        put_new(&mut self.codemaps, id, shared)
+    }
+
+    /// Adds code maps, which share their texts, but for those whose numbers are there. A refused call
+    /// changes nothing.
+    pub fn add_all(&mut self, codemaps: &CodeMaps) -> Result<(), AllocError>
+        ensures ok { OnOk result (self.new ≡ joined self.old codemaps.now) }
+        ensures err { OnErr result (self.new ≡ self.old) }
+    {
+        let new = shared_new(self.alloc, &self.codemaps, &codemaps.codemaps)?;
+        self.codemaps.reserve(new.len())?;
+        put_all_new(&mut self.codemaps, new)
+    }
+}
