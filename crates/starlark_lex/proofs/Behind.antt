@@ -11,7 +11,8 @@ use Rattle.std.specs.Str.{chars, IsUtf8, IsAscii, IsCharBoundary}
 use Rattle.starlark_lex.specs.Words.{Text, class_of}
 use Rattle.starlark_lex.specs.Front.{longest_front}
 use Rattle.starlark_lex.specs.Outcome.{first_of}
-use Rattle.starlark_lex.specs.Places.{Position, IsPlace}
+use Rattle.starlark_base.specs.declared.codemap.resolved.ResolvedPos.{ResolvedPos}
+use Rattle.starlark_lex.specs.Places.{IsPlace}
 use Rattle.starlark_lex.specs.View.{IsWord, IsStray, IsPieceOf, piece_len, behind, Stands}
 use Rattle.starlark_lex.specs.declared.lexer.Class.{Class}
 use Rattle.starlark_lex.specs.declared.lexer.Class.TheVariants as class
@@ -161,6 +162,6 @@ module _ (text : Text) (place : Place) (utf8 : IsUtf8 text) (here : IsPlace text
   bounds =
       let front = take place.at text in
       let size : length front ≡ place.at = length-take-le place.at text here.within in
-      let line = ap (λ (p : Position). p.line) here.position in
-      let column = ap (λ (p : Position). p.column) here.position in
+      let line = ap (λ (p : ResolvedPos). p.line) here.position in
+      let column = ap (λ (p : ResolvedPos). p.column) here.position in
       (omega (arith, line_bound front), omega (arith, column_bound front (IsUtf8-take text place.at utf8 here.boundary)))

@@ -7,7 +7,7 @@ use Rattle.std.proofs.lemmas.Str.{chars-append, IsUtf8-drop, length-le-encodes, 
 use Rattle.std.specs.List.{list_all, after_last, suffix_len}
 use Rattle.std.specs.Str.{chars, IsUtf8}
 use Rattle.starlark_lex.specs.Words.{Text}
-use Rattle.starlark_lex.specs.Places.{is_line_feed, place_after}
+use Rattle.starlark_base.specs.Places.{is_line_feed, place_after}
 
 -- no line feed stands in the text
 abbrev pub is_one_line : Text → Bool

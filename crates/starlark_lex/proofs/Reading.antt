@@ -11,7 +11,8 @@ use Rattle.starlark_lex.specs.Outcome as grammar
 use Rattle.starlark_lex.specs.Output.{lexeme_text, lexeme_line, fault_line, lines_of}
 use Rattle.starlark_lex.specs.Runs.{status_of}
 use Rattle.starlark_lex.specs.declared.run.RunStatus.TheVariants as status
-use Rattle.starlark_lex.specs.Places.{place_after, position_of, span_text, IsPlace}
+use Rattle.starlark_base.specs.Places.{place_after, span_text}
+use Rattle.starlark_lex.specs.Places.{position_of, IsPlace}
 use Rattle.starlark_lex.specs.View.{piece_view, piece_text, behind, Stands}
 use Rattle.starlark_lex.specs.declared.lexer.Class.TheVariants.{Newline}
 use Rattle.starlark_lex.specs.declared.lexer.Piece.{Piece}

@@ -7,7 +7,7 @@ use Rattle.std.specs.Fmt.{digits}
 use Rattle.starlark_lex.specs.Words.{Text, symbols, names, patterns, class_of}
 use Rattle.starlark_lex.specs.Front.{longest_front}
 use Rattle.starlark_lex.specs.Outcome.{piece_at, outcome_from, outcome}
-use Rattle.starlark_lex.specs.Places.{place_after, span_text}
+use Rattle.starlark_base.specs.Places.{place_after, span_text}
 use Rattle.starlark_lex.specs.Output.{kind_of, message_of, lexeme_text, fault_text, lines_of, output}
 
 -- what is printed of a text

@@ -5,7 +5,7 @@ use Rattle.std.specs.Fmt.{decimal}
 use Rattle.starlark_lex.specs.Words.{Text}
 use Rattle.starlark_lex.specs.Lexemes.{Lexeme, FaultAt, Outcome}
 use Rattle.starlark_lex.specs.Outcome.{outcome}
-use Rattle.starlark_lex.specs.Places.{place_at, span_text}
+use Rattle.starlark_base.specs.Places.{place_at, span_text}
 use Rattle.starlark_lex.specs.declared.lexer.Class.{Class}
 use Rattle.starlark_lex.specs.declared.lexer.Class.TheVariants.{Blank, Newline, Reserved, Identifier, Int, And, Break, Continue, Def, Elif, Else, For, If, In, Lambda, Load, Not, Or, Pass, Return, Comma, Semicolon, Colon, Equal, LessThan, GreaterThan, Minus, Plus, Star, Percent, Slash, Dot, Ampersand, Pipe, Caret, Tilde, OpeningSquare, OpeningCurly, OpeningRound, ClosingSquare, ClosingCurly, ClosingRound}
 use Rattle.starlark_lex.specs.declared.lexer.Fault.{Fault}

@@ -5,7 +5,8 @@ use Rattle.starlark_lex.specs.Words.{Text, class_of}
 use Rattle.starlark_lex.specs.Front.{longest_front}
 use Rattle.starlark_lex.specs.Outcome as grammar
 use Rattle.starlark_lex.specs.Output.{lexeme_text, fault_text}
-use Rattle.starlark_lex.specs.Places.{position_of, span_text, IsPlace}
+use Rattle.starlark_base.specs.Places.{span_text}
+use Rattle.starlark_lex.specs.Places.{position_of, IsPlace}
 use Rattle.starlark_lex.specs.declared.lexer.Class.{Class}
 use Rattle.starlark_lex.specs.declared.lexer.Class.TheVariants as class
 use Rattle.starlark_lex.specs.declared.lexer.Fault.TheVariants.{InvalidInput, ReservedKeyword, StartsZero}

@@ -1,8 +1,9 @@
-//! Places in a text, and how they are printed.
+//! Places in a text, as lexing moves along it.
 
 ghost use Rattle.std.specs.Prelude.{◌≡◌, ◌+◌, ◌<◌, ◌^◌};
+ghost use Rattle.starlark_lex.specs.Places.{ends_of, position_of};
 
-use std::fmt;
+use starlark_base::codemap::{ResolvedPos, ResolvedSpan};
 
 /// A place in a text: its byte, its line and its column, each from 0.
 #[derive(Clone, Copy, Debug, PartialEq, Eq)]
@@ -32,21 +33,15 @@ impl Place {
             column: self.column + characters,
         }
     }
-}
 
-impl fmt::Display for Place {
-    ghost use Rattle.std.specs.Prelude.{Some};
-    ghost use Rattle.starlark_lex.specs.Places.{position_of, place_text};
-
-    ghost output = { λ place. Some (place_text (position_of place)) };
-
-    fn fmt<W: fmt::Write>(&self, f: &mut fmt::Formatter<W>) -> fmt::Result {
-        write!(
-            f,
-            "{}:{}",
-            u64::from(self.line) + 1,
-            u64::from(self.column) + 1
-        )
+    /// The line and the column.
+    fn resolved(self) -> ResolvedPos
+        ensures { result ≡ position_of self }
+    {
+        ResolvedPos {
+            line: self.line as usize,
+            column: self.column as usize,
+        }
     }
 }
 
@@ -57,20 +52,14 @@ pub struct Span {
     pub end: Place,
 }
 
-#[tactic(auto, unfolding(crate::specs::Places::span_text))]
-impl fmt::Display for Span {
-    ghost use Rattle.std.specs.Prelude.{Some};
-    ghost use Rattle.starlark_lex.specs.Places.{position_of, span_text};
-
-    ghost output = { λ span. Some (span_text (position_of span.begin) (position_of span.end)) };
-
-    fn fmt<W: fmt::Write>(&self, f: &mut fmt::Formatter<W>) -> fmt::Result {
-        if self.begin.line != self.end.line {
-            return write!(f, "{}-{}", self.begin, self.end);
+impl Span {
+    /// The lines and columns of both ends, as they are printed.
+    pub fn resolved(self) -> ResolvedSpan
+        ensures { result ≡ ends_of self }
+    {
+        ResolvedSpan {
+            begin: self.begin.resolved(),
+            end: self.end.resolved(),
         }
-        if self.begin.column != self.end.column {
-            return write!(f, "{}-{}", self.begin, u64::from(self.end.column) + 1);
-        }
-        write!(f, "{}", self.begin)
     }
 }

@@ -5,7 +5,8 @@ ghost use Rattle.std.specs.Fmt.{decimal};
 ghost use Rattle.std.specs.Str.{IsCharBoundary};
 ghost use Rattle.starlark_lex.specs.Outcome.{value_of, piece_at, outcome};
 ghost use Rattle.starlark_lex.specs.Output.{kind_of, message_of, lexeme_text, fault_text, output};
-ghost use Rattle.starlark_lex.specs.Places.{position_of, span_text, IsPlace};
+ghost use Rattle.starlark_base.specs.Places.{span_text};
+ghost use Rattle.starlark_lex.specs.Places.{position_of, IsPlace};
 ghost use Rattle.starlark_lex.specs.Runs.{status_of};
 ghost use Rattle.starlark_lex.specs.View.{piece_view, piece_len, piece_text, behind, Stands};
 ghost use Rattle.starlark_lex.specs.declared.run.TheConstants.{GREATEST_LEN};
@@ -60,8 +61,13 @@ impl Printer {
         ensures buffer { self.new.buffer ≡ self.old.buffer }
     {
         let kind = class.kind();
+        let place = span.resolved();
         self.head.clear();
-        write!(self.head, "{}-{} {span} {kind}", span.begin.at, span.end.at)
+        write!(
+            self.head,
+            "{}-{} {place} {kind}",
+            span.begin.at, span.end.at
+        )
     }
 
     /// Begins the line of a fault: all but the text that the fault names.
@@ -71,9 +77,10 @@ impl Printer {
         ensures buffer { self.new.buffer ≡ self.old.buffer }
     {
         let message = fault.message();
+        let place = span.resolved();
         self.head.clear();
         write!(self.head, "fault {}-{} ", span.begin.at, span.end.at)?;
-        write!(self.head, "{name}:{span} {message}")
+        write!(self.head, "{name}:{place} {message}")
     }
 
     /// Puts the line of a lexeme, whose word is the given one.

@@ -2,7 +2,8 @@ use Rattle.std.proofs.Common.{◌≡◌, [], drop, false, sym, ap, ◌∙◌, re
 use Rattle.std.proofs.lemmas.Result.{err_from_is_err_and}
 use Rattle.starlark_lex.specs.Outcome.{value_of, outcome}
 use Rattle.starlark_lex.specs.Output.{lexeme_text, output}
-use Rattle.starlark_lex.specs.Places.{IsPlace, position_of, span_text}
+use Rattle.starlark_base.specs.Places.{span_text}
+use Rattle.starlark_lex.specs.Places.{IsPlace, position_of}
 use Rattle.starlark_lex.specs.Runs.{status_of}
 use Rattle.starlark_lex.specs.View.{piece_text}
 use Rattle.starlark_lex.specs.declared.lexer.Class.TheVariants.{Newline}
