@@ -1,0 +1,5 @@
+//! What string methods, slices and `str.format` of a Starlark evaluator stand on: indices, texts by
+//! their characters, cursors, format strings and dialects. Nothing here takes memory.
+#![tactic(auto)]
+
+pub mod fast_string;
