@@ -2,4 +2,7 @@
 //! their characters, cursors, format strings and dialects. Nothing here takes memory.
 #![tactic(auto)]
 
+pub mod convert_indices;
+pub mod dialect;
 pub mod fast_string;
+pub mod laws;
