@@ -1,1 +1,4 @@
 pub mod Ascii
+pub mod Characters
+pub mod Matches
+pub mod Parts

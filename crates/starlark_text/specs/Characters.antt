@@ -1,5 +1,5 @@
 -- Texts by their characters. A text is its bytes in UTF-8, and `chars` of std is the list of its characters.
-use Rattle.std.specs.Prelude.{◌≡◌, ℕ, zero, suc, ◌+◌, ◌-◌, Bool, true, false, if◌then◌else◌, nat_lt, nat_le, nat_eq, List, [], ◌∷◌, ◌++◌, length, take, drop, slice_range, ℤ, pos, negsuc, Option, None, Some, encode_utf8_all}
+use Rattle.std.specs.Prelude.{◌≡◌, ◌≤◌, ℕ, zero, suc, ◌+◌, ◌-◌, Bool, false, if◌then◌else◌, nat_lt, nat_le, nat_eq, List, [], ◌∷◌, ◌++◌, length, take, drop, slice_range, ℤ, pos, negsuc, Option, None, Some, encode_utf8_all}
 use Rattle.std.specs.List.{starts_with}
 use Rattle.std.specs.Str.{chars}
 use Rattle.starlark_text.specs.Indices.{start_place, end_place}
@@ -11,6 +11,11 @@ char_count text = length (chars text)
 -- the byte at which the character of an index begins; the text's end, where it has no more characters
 unfoldable pub byte_place : List ℕ → ℕ → ℕ
 byte_place text index = length (encode_utf8_all (take index (chars text)))
+
+-- rest is the text from the character of an index on
+pub record IsFrom (text : List ℕ) (index : ℕ) (rest : List ℕ) : Type 0 where
+  pub within : index ≤ char_count text
+  pub bytes : rest ≡ drop (byte_place text index) text
 
 -- the text cut before the character of an index, if there are so many
 abbrev pub cut : List ℕ → ℕ → Option (List ℕ × List ℕ)

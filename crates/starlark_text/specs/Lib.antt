@@ -1,3 +1,4 @@
 pub mod Characters
 pub mod Dialects
 pub mod Indices
+pub mod Parts

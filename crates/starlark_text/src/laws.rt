@@ -10,5 +10,4 @@ pub fn dialects()
     ensures standard { Dialect.Standard ≡ standard }
     ensures extended { Dialect.Extended ≡ extended }
     ensures all_options { Dialect.AllOptionsInternal ≡ all_options }
-{
-}
+{}
