@@ -2,3 +2,4 @@ pub mod Ascii
 pub mod Characters
 pub mod Matches
 pub mod Parts
+pub mod Steps

@@ -3,6 +3,8 @@
 #![tactic(auto)]
 
 pub mod convert_indices;
+pub mod cursors;
 pub mod dialect;
+pub mod dot_format_parser;
 pub mod fast_string;
 pub mod laws;
