@@ -5,3 +5,4 @@ pub mod Formats
 pub mod Indices
 pub mod Parsing
 pub mod Parts
+pub mod Scanning

@@ -1,10 +1,10 @@
 -- What a parser of a format string answers at its place.
-use Rattle.std.specs.Prelude.{◌≡◌, ℕ, ◌+◌, List, [], ◌++◌, length, drop, codes, Option, None, Some, Result, Ok, Err}
+use Rattle.std.specs.Prelude.{◌≡◌, ℕ, ◌+◌, List, [], length, drop, Option, None, Some, Result, Ok, Err}
 use Rattle.starlark_text.specs.declared.dot_format_parser.FormatErrorKind.{FormatErrorKind}
 use Rattle.starlark_text.specs.declared.dot_format_parser.FormatToken.{FormatToken}
 use Rattle.starlark_text.specs.declared.dot_format_parser.FormatToken.TheVariants.{Text, Capture, Escape}
 use Rattle.starlark_text.specs.declared.dot_format_parser.FormatError.{FormatError}
-use Rattle.starlark_text.specs.Formats.{Piece, written, IsName, StandsAt, Refuses, Token, verbatim, captured, escaped, token_of}
+use Rattle.starlark_text.specs.Formats.{Piece, written, StandsAt, Refuses, Token, verbatim, captured, escaped, token_of}
 
 -- the whole format string, the place in it, and the fault that was found
 pub record Parser : Type 0 where
@@ -28,10 +28,6 @@ IsToken at text token len = (piece : Piece) × StandsAt piece text (drop len tex
 -- the parser takes the piece that begins the rest of its text
 abbrev pub Takes : Parser → FormatToken → Parser → Type 0
 Takes old token new = (len : ℕ) × IsToken old.at (rest_of old) token len × (new ≡ record old { at = old.at + len })
-
--- the name of a capture ends with a bang at a byte of the text
-abbrev pub IsBangAt : List ℕ → ℕ → Type 0
-IsBangAt text bang = (name : List ℕ) × (rest : List ℕ) × IsName name × (text ≡ codes "{" ++ (name ++ (codes "!" ++ rest))) × (bang ≡ length name + 1)
 
 -- the fault that was found before, else the one that stands at the place
 abbrev pub IsFault : Option FormatErrorKind → FormatErrorKind → List ℕ → Type 0

@@ -1,11 +1,12 @@
 //! Format strings, as `str.format` takes them: text, captures `{name}`, `{name!s}` and `{name!r}`, and
 //! the escapes `{{` and `}}`.
 
-ghost use Rattle.std.specs.Prelude.{◌≡◌, ◌+◌, ◌<◌, ◌≤◌, ◌^◌, ℕ, not, length, drop, MatchResult};
-ghost use Rattle.std.specs.List.{prefix_len};
+ghost use Rattle.std.specs.Prelude.{◌≡◌, ◌+◌, ◌<◌, ◌≤◌, ◌^◌, ℕ, length};
 ghost use Rattle.starlark_text.specs.Formats as spec;
-ghost use Rattle.starlark_text.specs.Formats.{BeginsWith, Refuses};
-ghost use Rattle.starlark_text.specs.Parsing.{Answers, IsToken, IsBangAt};
+ghost use Rattle.starlark_text.specs.Formats.{BeginsWith};
+ghost use Rattle.starlark_text.specs.Parsing.{Answers};
+ghost use Rattle.starlark_text.specs.Scanning as scan;
+ghost use Rattle.starlark_text.specs.Scanning.{plain_width, name_width, ending_view, token_found, found_view};
 
 use std::fmt;
 use std::marker::Model;
@@ -179,7 +180,7 @@ impl<'a> FormatParser<'a> {
 
 /// How many bytes stand before the first brace.
 fn plain_len(text: &[u8]) -> usize
-    ensures value { result ≡ prefix_len (λ b. not (spec.is_brace b)) text.now }
+    ensures value { result ≡ plain_width text.now }
     ensures within { result ≤ length text.now }
 {
     text.iter()
@@ -189,7 +190,7 @@ fn plain_len(text: &[u8]) -> usize
 
 /// How many bytes stand before the first brace or bang.
 fn name_len(text: &[u8]) -> usize
-    ensures value { result ≡ prefix_len (λ b. not (spec.ends_name b)) text.now }
+    ensures value { result ≡ name_width text.now }
     ensures within { result ≤ length text.now }
 {
     text.iter()
@@ -197,12 +198,66 @@ fn name_len(text: &[u8]) -> usize
         .count()
 }
 
-/// The token at the front of a text that begins at a place of the format string, and its length in
+/// Whether a text begins with the same byte twice.
+fn is_doubled(text: &[u8]) -> bool
+    ensures { result ≡ scan.is_doubled text.now }
+{
+    matches!(text, [first, second, ..] if first == second)
+}
+
+/// How a capture goes on behind its name: the conversion, and how many bytes the conversion and the
+/// closing brace take.
+fn ending(tail: &[u8]) -> Result<(FormatConv, usize), FormatErrorKind>
+    ensures { result ≡ ending_view (scan.ending tail.now) }
+{
+    match tail {
+        [b'}', ..] => Ok((FormatConv::Str, 1)),
+        [b'!', b's', b'}', ..] => Ok((FormatConv::Str, 3)),
+        [b'!', b'r', b'}', ..] => Ok((FormatConv::Repr, 3)),
+        [b'!', b's' | b'r', ..] => Err(FormatErrorKind::UnmatchedOpen),
+        [b'!', b'}', ..] => Err(FormatErrorKind::MissingConversion),
+        [b'!', ..] => Err(FormatErrorKind::InvalidConversion),
+        _ => Err(FormatErrorKind::UnmatchedOpen),
+    }
+}
+
+/// The token that begins with an opening brace, with its length in bytes.
+fn open_token(text: &str, at: usize) -> Result<(FormatToken<'_>, usize), FormatErrorKind>
+    requires brace { BeginsWith spec.is_open text.now }
+    requires fits { at + length text.now < 2 ^ 64 }
+    ensures { found_view result ≡ token_found at (scan.open_piece text.now) }
+{
+    let bytes = text.as_bytes();
+    if is_doubled(bytes) {
+        return Ok((FormatToken::Escape(EscapeCurlyBrace::Open), 2));
+    }
+    let end = 1 + name_len(&bytes[1..]);
+    let (conv, more) = ending(&bytes[end..])?;
+    let capture = FormatToken::Capture {
+        capture: &text[1..end],
+        pos: at + 1,
+        conv,
+    };
+    Ok((capture, end + more))
+}
+
+/// The token that begins with a closing brace, with its length in bytes.
+fn close_token(text: &str) -> Result<(FormatToken<'_>, usize), FormatErrorKind>
+    ensures { (at : ℕ) → found_view result ≡ token_found at (scan.close_piece text.now) }
+{
+    if is_doubled(text.as_bytes()) {
+        Ok((FormatToken::Escape(EscapeCurlyBrace::Close), 2))
+    } else {
+        Err(FormatErrorKind::StandaloneClose)
+    }
+}
+
+/// The token at the front of a text that begins at a place of the format string, with its length in
 /// bytes.
 fn token_at(text: &str, at: usize) -> Result<(FormatToken<'_>, usize), FormatErrorKind>
     requires some { 0 < length text.now }
     requires fits { at + length text.now < 2 ^ 64 }
-    ensures { MatchResult result (λ found. IsToken at text.now found.0 found.1) (λ kind. Refuses kind text.now) }
+    ensures { found_view result ≡ token_found at (scan.piece_at text.now) }
 {
     let first = text.as_bytes()[0];
     if first == b'{' {
@@ -213,66 +268,4 @@ fn token_at(text: &str, at: usize) -> Result<(FormatToken<'_>, usize), FormatErr
     }
     let len = plain_len(text.as_bytes());
     Ok((FormatToken::Text(&text[..len]), len))
-}
-
-/// The token that begins with a closing brace.
-fn close_token(text: &str) -> Result<(FormatToken<'_>, usize), FormatErrorKind>
-    requires { BeginsWith spec.is_close text.now }
-    ensures { (at : ℕ) → MatchResult result (λ found. IsToken at text.now found.0 found.1) (λ kind. Refuses kind text.now) }
-{
-    match text.as_bytes().get(1) {
-        Some(b'}') => Ok((FormatToken::Escape(EscapeCurlyBrace::Close), 2)),
-        _ => Err(FormatErrorKind::StandaloneClose),
-    }
-}
-
-/// The token that begins with an opening brace.
-fn open_token(text: &str, at: usize) -> Result<(FormatToken<'_>, usize), FormatErrorKind>
-    requires brace { BeginsWith spec.is_open text.now }
-    requires fits { at + length text.now < 2 ^ 64 }
-    ensures { MatchResult result (λ found. IsToken at text.now found.0 found.1) (λ kind. Refuses kind text.now) }
-{
-    let end = 1 + name_len(&text.as_bytes()[1..]);
-    match text.as_bytes().get(end) {
-        Some(b'}') => Ok((
-            FormatToken::Capture {
-                capture: &text[1..end],
-                pos: at + 1,
-                conv: FormatConv::Str,
-            },
-            end + 1,
-        )),
-        Some(b'!') => converted_token(text, at, end),
-        Some(b'{') if end == 1 => Ok((FormatToken::Escape(EscapeCurlyBrace::Open), 2)),
-        _ => Err(FormatErrorKind::UnmatchedOpen),
-    }
-}
-
-/// The capture whose name ends with a bang at a byte of the text.
-fn converted_token(
-    text: &str,
-    at: usize,
-    bang: usize,
-) -> Result<(FormatToken<'_>, usize), FormatErrorKind>
-    requires bang { IsBangAt text.now bang }
-    requires fits { at + length text.now < 2 ^ 64 }
-    ensures { MatchResult result (λ found. IsToken at text.now found.0 found.1) (λ kind. Refuses kind text.now) }
-{
-    let conv = match text.as_bytes().get(bang + 1) {
-        Some(b's') => FormatConv::Str,
-        Some(b'r') => FormatConv::Repr,
-        Some(b'}') => return Err(FormatErrorKind::MissingConversion),
-        _ => return Err(FormatErrorKind::InvalidConversion),
-    };
-    match text.as_bytes().get(bang + 2) {
-        Some(b'}') => Ok((
-            FormatToken::Capture {
-                capture: &text[1..bang],
-                pos: at + 1,
-                conv,
-            },
-            bang + 3,
-        )),
-        _ => Err(FormatErrorKind::UnmatchedOpen),
-    }
 }
