@@ -3,5 +3,6 @@ pub mod Characters
 pub mod Matches
 pub mod Parts
 pub mod Pieces
+pub mod Readings
 pub mod Steps
 pub mod Tokens

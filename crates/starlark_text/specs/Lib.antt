@@ -1,6 +1,7 @@
 pub mod Characters
 pub mod Cursors
 pub mod Dialects
+pub mod FormatLaws
 pub mod Formats
 pub mod Indices
 pub mod Parsing

@@ -1,5 +1,5 @@
 -- What a parser of a format string answers at its place.
-use Rattle.std.specs.Prelude.{◌≡◌, ℕ, ◌+◌, List, [], length, drop, Option, None, Some, Result, Ok, Err}
+use Rattle.std.specs.Prelude.{◌≡◌, ℕ, ◌+◌, List, [], ◌∷◌, length, drop, Option, None, Some, Result, Ok, Err}
 use Rattle.starlark_text.specs.declared.dot_format_parser.FormatErrorKind.{FormatErrorKind}
 use Rattle.starlark_text.specs.declared.dot_format_parser.FormatToken.{FormatToken}
 use Rattle.starlark_text.specs.declared.dot_format_parser.FormatToken.TheVariants.{Text, Capture, Escape}
@@ -39,3 +39,20 @@ abbrev pub Answers : Parser → Result (Option FormatToken) FormatError → Pars
 Answers old (Ok None) new = (old.fault ≡ None) × (rest_of old ≡ []) × (new ≡ old)
 Answers old (Ok (Some token)) new = (old.fault ≡ None) × Takes old token new
 Answers old (Err error) new = IsFault old.fault error.kind (rest_of old) × (error.original.now ≡ old.text) × (new ≡ record old { fault = Some error.kind })
+
+-- ---- calls one after another
+
+-- the parser of a whole format string
+abbrev pub start_of : List ℕ → Parser
+start_of text = record { text = text; at = 0; fault = None }
+
+-- calls that answered these tokens
+abbrev pub AnswersAll : Parser → List FormatToken → Parser → Type 0
+AnswersAll old [] new = new ≡ old
+AnswersAll old (token ∷ tokens) new = (next : Parser) × Answers old (Ok (Some token)) next × AnswersAll next tokens new
+
+-- an answer that is no token: the end, or a fault
+abbrev pub IsEnding : Result (Option FormatToken) FormatError → Option FormatErrorKind → Type 0
+IsEnding (Ok None) fault = fault ≡ None
+IsEnding (Ok (Some token)) fault = ⊥
+IsEnding (Err error) fault = fault ≡ Some error.kind
