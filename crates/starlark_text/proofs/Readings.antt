@@ -1,15 +1,14 @@
 -- Readings of whole format strings.
-use Rattle.std.proofs.Common.{◌≡◌, ℕ, zero, suc, ◌+◌, ◌-◌, ◌<◌, ◌≤◌, Bool, true, false, cond, List, [], ◌∷◌, ◌++◌, length, take, drop, map, ◌⊎◌, inl, inr, Option, Some, None, Result, Ok, Err, refl, ap, sym, subst, ◌∙◌, arith, append_assoc, length-append, length-drop, drop-drop}
+use Rattle.std.proofs.Common.{◌≡◌, ℕ, zero, suc, ◌+◌, ◌<◌, ◌≤◌, Bool, true, false, cond, List, [], ◌∷◌, ◌++◌, length, drop, map, not, ◌⊎◌, inl, inr, Option, Some, None, Result, Ok, Err, refl, ap, sym, subst, ◌∙◌, arith, length-append, drop-drop}
 use Rattle.std.proofs.lemmas.Bool.{eqb-true, and_parts}
 use Rattle.std.proofs.lemmas.List.{drop_at}
-use Rattle.std.specs.List.{flat_map, list_all}
-use Rattle.starlark_text.specs.declared.dot_format_parser.EscapeCurlyBrace.{EscapeCurlyBrace}
+use Rattle.std.specs.List.{list_all}
 use Rattle.starlark_text.specs.declared.dot_format_parser.EscapeCurlyBrace.TheVariants.{Open, Close}
 use Rattle.starlark_text.specs.declared.dot_format_parser.FormatError.{FormatError}
 use Rattle.starlark_text.specs.declared.dot_format_parser.FormatErrorKind.{FormatErrorKind}
 use Rattle.starlark_text.specs.declared.dot_format_parser.FormatErrorKind.TheVariants.{StandaloneClose, UnmatchedOpen, MissingConversion, InvalidConversion}
 use Rattle.starlark_text.specs.declared.dot_format_parser.FormatToken.{FormatToken}
-use Rattle.starlark_text.specs.Formats.{Text, is_open, is_close, is_brace, IsPlain, IsName, BeginsWith, EndsOrBeginsWith, Suffix, bare, bang_s, bang_r, suffix_text, conversion, conversion_text, Piece, plain, capture, escape, written, IsPiece, IsLongest, StandsAt, NoPiece, Refuses, IsOutcome, IsReading, Token, verbatim, captured, escaped, token_of, tokens_from, ParsesTo, token_text, written_back, without_place}
+use Rattle.starlark_text.specs.Formats.{Text, is_open, is_close, is_brace, IsPlain, BeginsWith, EndsOrBeginsWith, Suffix, bare, bang_s, bang_r, Piece, plain, capture, escape, written, IsPiece, IsLongest, StandsAt, NoPiece, Refuses, IsOutcome, IsReading, token_of, tokens_from, token_text, written_back, without_place}
 use Rattle.starlark_text.specs.FormatLaws.{SomethingStands, NeverBoth, OnePiece, OneFault, SomeOutcome, OneOutcome, OneReading, AnswersOutcome, ParsesBack}
 use Rattle.starlark_text.specs.Parsing.{Parser, rest_of, start_of, token_view, IsToken, Answers, AnswersAll, IsFault, IsEnding}
 use Rattle.starlark_text.specs.Scanning.{is_doubled, close_piece, piece_at}
@@ -137,8 +136,7 @@ taken old next token tokens pieces fault len is moved outcome views =
     let rest : rest_of next ≡ drop len (rest_of old) = ap rest_of moved ∙ sym (drop-drop len old.at old.text) in
     let place : next.at ≡ old.at + length (written is.0) = ap (λ (p : Parser). p.at) moved ∙ ap (λ n. old.at + n) is.3 in
     let head = is.2 in
-    let tail = views ∙ ap (λ n. tokens_from n pieces) place in
-    (
+    let tail = views ∙ ap (λ n. tokens_from n pieces) place in (
       is.0 ∷ pieces,
       (drop len (rest_of old), is.1, subst (IsOutcome pieces fault) rest outcome),
       ap (λ t. t ∷ map token_view tokens) head ∙ ap (λ ts. token_of old.at is.0 ∷ ts) tail,
@@ -166,7 +164,7 @@ answers_outcome text tokens end after last fault all ends is = answers_rest toke
 
 -- ---- written back
 
-again_suffix : Suffix → Suffix
+abbrev again_suffix : Suffix → Suffix
 again_suffix bare = bare
 again_suffix bang_s = bare
 again_suffix bang_r = bang_r
@@ -176,6 +174,76 @@ again (plain bytes) = plain bytes
 again (capture name suffix) = capture name (again_suffix suffix)
 again (escape brace) = escape brace
 
-rewritten : List Piece → Text
+abbrev rewritten : List Piece → Text
 rewritten [] = []
 rewritten (piece ∷ pieces) = written (again piece) ++ rewritten pieces
+
+token_written : (at : ℕ) (piece : Piece) → token_text (token_of at piece) ≡ written (again piece)
+token_written at (plain bytes) = refl
+token_written at (capture name bare) = refl
+token_written at (capture name bang_s) = refl
+token_written at (capture name bang_r) = refl
+token_written at (escape brace) = refl
+
+back_written : (at : ℕ) (pieces : List Piece) → written_back (tokens_from at pieces) ≡ rewritten pieces
+back_written at [] = refl
+back_written at (piece ∷ pieces) =
+    ap (λ t. t ++ written_back (tokens_from (at + length (written piece)) pieces)) (token_written at piece)
+    ∙ ap (λ t. written (again piece) ++ t) (back_written (at + length (written piece)) pieces)
+
+again_good : (piece : Piece) → IsPiece piece → IsPiece (again piece)
+again_good (plain bytes) good = good
+again_good (capture name suffix) good = good
+again_good (escape brace) good = good
+
+-- text without braces begins with none
+plain_first : (bytes rest : Text) → 0 < length bytes → IsPlain bytes → EndsOrBeginsWith is_brace (bytes ++ rest) → ⊥
+plain_first [] rest some plain_text brace = absurd (omega arith)
+plain_first (b ∷ bytes) rest some plain_text brace = let first = (and_parts (not (is_brace b)) (list_all (λ c. not (is_brace c)) bytes) plain_text).0 in let no = rw brace at first in cc
+
+-- where plain text ended, it ends again
+brace_again : (pieces : List Piece) (rest : Text) → IsReading pieces rest → EndsOrBeginsWith is_brace rest → EndsOrBeginsWith is_brace (rewritten pieces)
+brace_again [] rest reading brace = tt
+brace_again (plain bytes ∷ pieces) rest reading brace =
+    let stands = reading.1 in
+    absurd (plain_first bytes reading.0 stands.good.0 stands.good.1 (subst (EndsOrBeginsWith is_brace) stands.joins brace))
+brace_again (capture name suffix ∷ pieces) rest reading brace = refl
+brace_again (escape Open ∷ pieces) rest reading brace = refl
+brace_again (escape Close ∷ pieces) rest reading brace = refl
+
+longest_again : (piece : Piece) (rest : Text) (pieces : List Piece) → IsReading pieces rest → IsLongest piece rest → IsLongest (again piece) (rewritten pieces)
+longest_again (plain bytes) rest pieces reading longest = brace_again pieces rest reading longest
+longest_again (capture name suffix) rest pieces reading longest = tt
+longest_again (escape brace) rest pieces reading longest = tt
+
+reads_again : (pieces : List Piece) (text : Text) → IsReading pieces text → IsReading (map again pieces) (rewritten pieces)
+reads_again [] text reading = refl
+reads_again (piece ∷ pieces) text reading =
+    let stands = reading.1 in (
+      rewritten pieces,
+      record { good = again_good piece stands.good; joins = refl; longest = longest_again piece reading.0 pieces reading.2 stands.longest },
+      reads_again pieces reading.0 reading.2,
+    )
+
+same_token : (at other : ℕ) (piece : Piece) → without_place (token_of at (again piece)) ≡ without_place (token_of other piece)
+same_token at other (plain bytes) = refl
+same_token at other (capture name bare) = refl
+same_token at other (capture name bang_s) = refl
+same_token at other (capture name bang_r) = refl
+same_token at other (escape brace) = refl
+
+same_tokens : (at other : ℕ) (pieces : List Piece) → map without_place (tokens_from at (map again pieces)) ≡ map without_place (tokens_from other pieces)
+same_tokens at other [] = refl
+same_tokens at other (piece ∷ pieces) =
+    let head = same_token at other piece in
+    let tail = same_tokens (at + length (written (again piece))) (other + length (written piece)) pieces in
+    ap (λ t. t ∷ map without_place (tokens_from (at + length (written (again piece))) (map again pieces))) head ∙ ap (λ ts. without_place (token_of other piece) ∷ ts) tail
+
+pub parses_back : ParsesBack
+parses_back text tokens parses =
+    let pieces = parses.0 in
+    let back : rewritten pieces ≡ written_back tokens = sym (ap written_back parses.2 ∙ back_written 0 pieces) in (
+      tokens_from 0 (map again pieces),
+      (map again pieces, subst (IsReading (map again pieces)) back (reads_again pieces text parses.1), refl),
+      same_tokens 0 0 pieces ∙ sym (ap (map without_place) parses.2),
+    )

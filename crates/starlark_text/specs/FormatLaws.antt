@@ -1,5 +1,5 @@
 -- What the grammar of format strings implies.
-use Rattle.std.specs.Prelude.{◌≡◌, ℕ, ◌<◌, ◌⊎◌, List, [], map, length, Option, Result}
+use Rattle.std.specs.Prelude.{◌≡◌, ◌<◌, ◌⊎◌, List, map, length, Option, Result}
 use Rattle.starlark_text.specs.declared.dot_format_parser.FormatError.{FormatError}
 use Rattle.starlark_text.specs.declared.dot_format_parser.FormatErrorKind.{FormatErrorKind}
 use Rattle.starlark_text.specs.declared.dot_format_parser.FormatToken.{FormatToken}
