@@ -1,0 +1,8 @@
+pub mod Ascii
+pub mod Characters
+pub mod Matches
+pub mod Parts
+pub mod Pieces
+pub mod Readings
+pub mod Steps
+pub mod Tokens
