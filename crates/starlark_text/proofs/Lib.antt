@@ -1,0 +1,6 @@
+pub mod Ascii
+pub mod Characters
+pub mod Matches
+pub mod Parts
+pub mod Pieces
+pub mod Steps

@@ -1,0 +1,179 @@
+-- Format strings: their pieces, what the pieces mean, and what is refused.
+use Rattle.std.specs.Prelude.{◌≡◌, ℕ, ◌+◌, ◌<◌, Bool, true, false, ◌||◌, not, ◌==◌, List, [], ◌∷◌, ◌++◌, length, map, codes, Option, None, Some, IsTrue, ⊤}
+use Rattle.std.specs.Bool.{IsFalse}
+use Rattle.std.specs.List.{list_all, flat_map}
+use Rattle.starlark_text.specs.declared.dot_format_parser.EscapeCurlyBrace.{EscapeCurlyBrace}
+use Rattle.starlark_text.specs.declared.dot_format_parser.EscapeCurlyBrace.TheVariants.{Open, Close}
+use Rattle.starlark_text.specs.declared.dot_format_parser.FormatConv.{FormatConv}
+use Rattle.starlark_text.specs.declared.dot_format_parser.FormatConv.TheVariants.{Str, Repr}
+use Rattle.starlark_text.specs.declared.dot_format_parser.FormatErrorKind.{FormatErrorKind}
+use Rattle.starlark_text.specs.declared.dot_format_parser.FormatErrorKind.TheVariants.{StandaloneClose, UnmatchedOpen, MissingConversion, InvalidConversion}
+
+abbrev pub Text : Type 0
+Text = List ℕ
+
+-- ---- characters that mean something
+
+abbrev pub is_open : ℕ → Bool
+is_open b = b == 123
+
+abbrev pub is_close : ℕ → Bool
+is_close b = b == 125
+
+abbrev pub is_brace : ℕ → Bool
+is_brace b = is_open b || is_close b
+
+-- what can't stand in the name of a capture: braces, and the bang before a conversion
+abbrev pub ends_name : ℕ → Bool
+ends_name b = is_brace b || b == 33
+
+abbrev pub IsPlain : Text → Type 0
+IsPlain text = IsTrue (list_all (λ b. not (is_brace b)) text)
+
+abbrev pub IsName : Text → Type 0
+IsName name = IsTrue (list_all (λ b. not (ends_name b)) name)
+
+-- the text begins with a byte that passes; nothing is there, or a byte that does
+abbrev pub BeginsWith : (ℕ → Bool) → Text → Type 0
+BeginsWith test [] = ⊥
+BeginsWith test (b ∷ text) = IsTrue (test b)
+
+abbrev pub EndsOrBeginsWith : (ℕ → Bool) → Text → Type 0
+EndsOrBeginsWith test [] = ⊤
+EndsOrBeginsWith test (b ∷ text) = IsTrue (test b)
+
+-- ---- pieces, and how they are written
+
+-- how the conversion of a capture is written: not at all, `!s` or `!r`
+pub data Suffix : Type 0 where
+  bare : Suffix
+  bang_s : Suffix
+  bang_r : Suffix
+
+abbrev pub suffix_text : Suffix → Text
+suffix_text bare = []
+suffix_text bang_s = codes "!s"
+suffix_text bang_r = codes "!r"
+
+abbrev pub conversion : Suffix → FormatConv
+conversion bare = Str
+conversion bang_s = Str
+conversion bang_r = Repr
+
+-- text as it stands, a capture `{name}`, and an escape
+pub data Piece : Type 0 where
+  plain : Text → Piece
+  capture : Text → Suffix → Piece
+  escape : EscapeCurlyBrace → Piece
+
+abbrev pub brace_text : EscapeCurlyBrace → Text
+brace_text Open = codes "{"
+brace_text Close = codes "}"
+
+abbrev pub escape_text : EscapeCurlyBrace → Text
+escape_text Open = codes "{{"
+escape_text Close = codes "}}"
+
+abbrev pub written : Piece → Text
+written (plain text) = text
+written (capture name suffix) = codes "{" ++ (name ++ (suffix_text suffix ++ codes "}"))
+written (escape brace) = escape_text brace
+
+abbrev pub IsPiece : Piece → Type 0
+IsPiece (plain text) = (0 < length text) × IsPlain text
+IsPiece (capture name suffix) = IsName name
+IsPiece (escape brace) = ⊤
+
+-- plain text goes on up to a brace or the end
+abbrev pub IsLongest : Piece → Text → Type 0
+IsLongest (plain text) rest = EndsOrBeginsWith is_brace rest
+IsLongest (capture name suffix) rest = ⊤
+IsLongest (escape brace) rest = ⊤
+
+-- the piece begins the text, and the rest follows it
+pub record StandsAt (piece : Piece) (text rest : Text) : Type 0 where
+  pub good : IsPiece piece
+  pub joins : text ≡ written piece ++ rest
+  pub longest : IsLongest piece rest
+
+-- ---- what is refused, where no piece stands
+
+abbrev pub NoPiece : Text → Type 0
+NoPiece text = (piece : Piece) (rest : Text) → ¬ StandsAt piece text rest
+
+-- `{name!}`
+abbrev pub LacksConversion : Text → Type 0
+LacksConversion text = (name : Text) × (rest : Text) × IsName name × (text ≡ codes "{" ++ (name ++ (codes "!}" ++ rest)))
+
+-- `{name!` and then neither `s`, `r` nor `}`
+abbrev pub begins_conversion : ℕ → Bool
+begins_conversion b = b == 115 || b == 114 || b == 125
+
+abbrev pub HasOtherConversion : Text → Type 0
+HasOtherConversion text = (name : Text) × (rest : Text) × IsName name × EndsOrBeginsWith (λ b. not (begins_conversion b)) rest × (text ≡ codes "{" ++ (name ++ (codes "!" ++ rest)))
+
+-- every other brace stands alone
+abbrev pub Refuses : FormatErrorKind → Text → Type 0
+Refuses StandaloneClose text = BeginsWith is_close text × NoPiece text
+Refuses UnmatchedOpen text = BeginsWith is_open text × NoPiece text × ¬ LacksConversion text × ¬ HasOtherConversion text
+Refuses MissingConversion text = LacksConversion text
+Refuses InvalidConversion text = HasOtherConversion text
+
+-- ---- a whole format string
+
+-- the pieces of a front of the text, and the fault behind them, if there is one
+abbrev pub IsOutcome : List Piece → Option FormatErrorKind → Text → Type 0
+IsOutcome [] None text = text ≡ []
+IsOutcome [] (Some kind) text = Refuses kind text
+IsOutcome (piece ∷ pieces) fault text = (rest : Text) × StandsAt piece text rest × IsOutcome pieces fault rest
+
+-- the pieces join to the text
+abbrev pub IsReading : List Piece → Text → Type 0
+IsReading pieces text = IsOutcome pieces None text
+
+-- ---- tokens
+
+-- what a piece means at its place
+pub data Token : Type 0 where
+  verbatim : Text → Token
+  captured : Text → ℕ → FormatConv → Token
+  escaped : EscapeCurlyBrace → Token
+
+-- the place of a capture is that of its name
+abbrev pub token_of : ℕ → Piece → Token
+token_of at (plain text) = verbatim text
+token_of at (capture name suffix) = captured name (at + 1) (conversion suffix)
+token_of at (escape brace) = escaped brace
+
+abbrev pub tokens_from : ℕ → List Piece → List Token
+tokens_from at [] = []
+tokens_from at (piece ∷ pieces) = token_of at piece ∷ tokens_from (at + length (written piece)) pieces
+
+abbrev pub ParsesTo : Text → List Token → Type 0
+ParsesTo text tokens = (pieces : List Piece) × IsReading pieces text × (tokens ≡ tokens_from 0 pieces)
+
+-- a token written as a piece again, and without its place
+abbrev pub conversion_text : FormatConv → Text
+conversion_text Str = []
+conversion_text Repr = codes "!r"
+
+abbrev pub token_text : Token → Text
+token_text (verbatim text) = text
+token_text (captured name at conv) = codes "{" ++ (name ++ (conversion_text conv ++ codes "}"))
+token_text (escaped brace) = escape_text brace
+
+abbrev pub written_back : List Token → Text
+written_back tokens = flat_map token_text tokens
+
+abbrev pub without_place : Token → Token
+without_place (verbatim text) = verbatim text
+without_place (captured name at conv) = captured name 0 conv
+without_place (escaped brace) = escaped brace
+
+-- ---- printed faults
+
+abbrev pub fault_text : FormatErrorKind → Text
+fault_text StandaloneClose = codes "Standalone '}' in format string `"
+fault_text UnmatchedOpen = codes "Unmatched '{' in format string `"
+fault_text MissingConversion = codes "Missing conversion character in format string `"
+fault_text InvalidConversion = codes "Invalid conversion in format string `"

@@ -1,0 +1,41 @@
+-- What a parser of a format string answers at its place.
+use Rattle.std.specs.Prelude.{◌≡◌, ℕ, ◌+◌, List, [], length, drop, Option, None, Some, Result, Ok, Err}
+use Rattle.starlark_text.specs.declared.dot_format_parser.FormatErrorKind.{FormatErrorKind}
+use Rattle.starlark_text.specs.declared.dot_format_parser.FormatToken.{FormatToken}
+use Rattle.starlark_text.specs.declared.dot_format_parser.FormatToken.TheVariants.{Text, Capture, Escape}
+use Rattle.starlark_text.specs.declared.dot_format_parser.FormatError.{FormatError}
+use Rattle.starlark_text.specs.Formats.{Piece, written, StandsAt, Refuses, Token, verbatim, captured, escaped, token_of}
+
+-- the whole format string, the place in it, and the fault that was found
+pub record Parser : Type 0 where
+  pub text : List ℕ
+  pub at : ℕ
+  pub fault : Option FormatErrorKind
+
+-- a token without where its parts lie in memory
+abbrev pub token_view : FormatToken → Token
+token_view (Text text) = verbatim text.now
+token_view (Capture name at conv) = captured name.now at conv
+token_view (Escape brace) = escaped brace
+
+abbrev pub rest_of : Parser → List ℕ
+rest_of parser = drop parser.at parser.text
+
+-- a piece of so many bytes begins a text that stands at a place, and means the token
+abbrev pub IsToken : ℕ → List ℕ → FormatToken → ℕ → Type 0
+IsToken at text token len = (piece : Piece) × StandsAt piece text (drop len text) × (token_view token ≡ token_of at piece) × (len ≡ length (written piece))
+
+-- the parser takes the piece that begins the rest of its text
+abbrev pub Takes : Parser → FormatToken → Parser → Type 0
+Takes old token new = (len : ℕ) × IsToken old.at (rest_of old) token len × (new ≡ record old { at = old.at + len })
+
+-- the fault that was found before, else the one that stands at the place
+abbrev pub IsFault : Option FormatErrorKind → FormatErrorKind → List ℕ → Type 0
+IsFault None kind rest = Refuses kind rest
+IsFault (Some found) kind rest = kind ≡ found
+
+-- what a call answers, and what it leaves: nothing comes behind the end, and behind a fault the same fault
+abbrev pub Answers : Parser → Result (Option FormatToken) FormatError → Parser → Type 0
+Answers old (Ok None) new = (old.fault ≡ None) × (rest_of old ≡ []) × (new ≡ old)
+Answers old (Ok (Some token)) new = (old.fault ≡ None) × Takes old token new
+Answers old (Err error) new = IsFault old.fault error.kind (rest_of old) × (error.original.now ≡ old.text) × (new ≡ record old { fault = Some error.kind })
