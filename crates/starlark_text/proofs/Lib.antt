@@ -4,3 +4,4 @@ pub mod Matches
 pub mod Parts
 pub mod Pieces
 pub mod Steps
+pub mod Tokens

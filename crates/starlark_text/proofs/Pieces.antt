@@ -1,16 +1,13 @@
 -- What the parser finds at the front of a text is a piece of the grammar, or one of its faults.
-use Rattle.std.proofs.Common.{◌≡◌, ℕ, zero, suc, ◌+◌, ◌-◌, ◌<◌, ◌≤◌, ◌==◌, Bool, true, false, cond, not, ◌&&◌, ◌||◌, List, [], ◌∷◌, ◌++◌, length, take, drop, get_or, IsTrue, Result, Ok, Err, refl, ap, sym, subst, ◌∙◌, ◌⊎◌, inl, inr, arith, append_assoc, length-append, length-drop, length-take-le, one-add, add-one}
-use Rattle.std.proofs.lemmas.Bool.{and_parts, and_from, cases_Bool, eqb-true}
-use Rattle.std.proofs.lemmas.List.{take-append-drop, drop_at, drop-drop}
-use Rattle.std.proofs.lemmas.List.Sums.{prefix_len-le-length}
-use Rattle.std.proofs.lemmas.Str.{IsCharBoundary-after_ascii, IsCharBoundary-before_ascii, IsCharBoundary-end}
+use Rattle.std.proofs.Common.{◌≡◌, ℕ, ◌<◌, ◌==◌, Bool, true, false, cond, not, ◌&&◌, ◌||◌, [], ◌∷◌, ◌++◌, length, take, drop, IsTrue, Result, Ok, Err, refl, ap, sym, subst, ◌∙◌, arith, append_assoc, one-add}
+use Rattle.std.proofs.lemmas.Bool.{and_parts, eqb-true}
+use Rattle.std.proofs.lemmas.List.{take-append-drop, drop_at}
 use Rattle.std.specs.List.{list_all, prefix_len}
-use Rattle.std.specs.Str.{IsUtf8, IsCharBoundary}
 use Rattle.starlark_text.specs.declared.dot_format_parser.EscapeCurlyBrace.TheVariants.{Open, Close}
 use Rattle.starlark_text.specs.declared.dot_format_parser.FormatErrorKind.{FormatErrorKind}
 use Rattle.starlark_text.specs.declared.dot_format_parser.FormatErrorKind.TheVariants.{StandaloneClose, UnmatchedOpen, MissingConversion, InvalidConversion}
-use Rattle.starlark_text.specs.Formats.{Text, is_open, is_close, is_brace, ends_name, begins_conversion, IsPlain, IsName, BeginsWith, EndsOrBeginsWith, Suffix, bare, bang_s, bang_r, suffix_text, conversion, Piece, plain, capture, escape, written, IsPiece, IsLongest, StandsAt, NoPiece, LacksConversion, HasOtherConversion, Refuses, Token, captured, token_of}
-use Rattle.starlark_text.specs.Scanning.{closed, converted, ending, ending_view, is_doubled, with_name, name_width, plain_width, open_piece, close_piece, piece_at, token_found}
+use Rattle.starlark_text.specs.Formats.{Text, is_open, is_close, is_brace, ends_name, begins_conversion, IsPlain, IsName, EndsOrBeginsWith, Suffix, bare, bang_s, bang_r, suffix_text, Piece, plain, capture, escape, written, StandsAt, NoPiece, LacksConversion, HasOtherConversion, Refuses}
+use Rattle.starlark_text.specs.Scanning.{closed, converted, ending, is_doubled, with_name, name_width, plain_width, open_piece, close_piece, piece_at}
 
 -- ---- a run of bytes up to one that stops it
 
@@ -246,8 +243,7 @@ stands_so piece text rest stands = subst (StandsAt piece text) (rest_behind piec
 capture_stands : (rest : Text) (suffix : Suffix) → ending (drop (name_width rest) rest) ≡ Ok suffix → (more : Text) × StandsAt (capture (take (name_width rest) rest) suffix) (123 ∷ rest) more
 capture_stands rest suffix found =
     let width = name_width rest in
-    let behind = ending_ok (drop width rest) suffix found in
-    (
+    let behind = ending_ok (drop width rest) suffix found in (
       behind.0,
       record {
         good = run_passes ends_name rest;
@@ -308,7 +304,7 @@ found_stands_so (b ∷ rest) piece found = go (is_open b) refl (is_close b) refl
         subst (λ (d : ℕ). Stands piece (d ∷ rest)) (sym is) (close_stands rest piece (is_doubled (125 ∷ rest)) refl (subst (λ (d : ℕ). close_piece (d ∷ rest) ≡ Ok piece) is (rw (e, f) at found)))
     go false e false f =
         let whole = b ∷ rest in
-        let text = Ok {E = FormatErrorKind} (plain (take (plain_width whole) whole)) in
+        let text : Result Piece FormatErrorKind = Ok (plain (take (plain_width whole) whole)) in
         let plain_found = sym (ap (λ o. cond o (open_piece whole) (cond (is_close b) (close_piece whole) text)) e ∙ ap (λ c. cond c (close_piece whole) text) f) ∙ found in
         let is : plain (take (plain_width (b ∷ rest)) (b ∷ rest)) ≡ piece = cc in
         subst (λ (p : Piece). Stands p (b ∷ rest)) is (drop (plain_width (b ∷ rest)) (b ∷ rest), plain_stands b rest e f)

@@ -1,5 +1,5 @@
 -- Steps of a cursor over a character.
-use Rattle.std.proofs.Common.{◌≡◌, ℕ, ◌+◌, ◌-◌, ◌<◌, ◌≤◌, List, ◌++◌, length, take, drop, IfSome, Option, Some, None, refl, ap, sym, subst, ◌∙◌, arith, length-drop, length-take-le, drop-drop}
+use Rattle.std.proofs.Common.{◌≡◌, ℕ, ◌+◌, ◌-◌, ◌≤◌, List, ◌++◌, length, take, drop, IfSome, Option, Some, None, ap, sym, subst, ◌∙◌, arith, drop-drop}
 use Rattle.std.proofs.lemmas.List.{take-append-drop, take_at, length-take}
 use Rattle.std.proofs.lemmas.Str.{length-encode, IsUtf8-encode, IsUtf8-append, IsUtf8-drop, IsCharBoundary-past_char, IsCharBoundary-from_drop}
 use Rattle.std.specs.Char.{IsScalar, len_utf8}

@@ -1,6 +1,5 @@
 -- Format strings: their pieces, what the pieces mean, and what is refused.
-use Rattle.std.specs.Prelude.{◌≡◌, ℕ, ◌+◌, ◌<◌, Bool, true, false, ◌||◌, not, ◌==◌, List, [], ◌∷◌, ◌++◌, length, map, codes, Option, None, Some, IsTrue, ⊤}
-use Rattle.std.specs.Bool.{IsFalse}
+use Rattle.std.specs.Prelude.{◌≡◌, ℕ, ◌+◌, ◌<◌, Bool, ◌||◌, not, ◌==◌, List, [], ◌∷◌, ◌++◌, length, codes, Option, None, Some, IsTrue, ⊤}
 use Rattle.std.specs.List.{list_all, flat_map}
 use Rattle.starlark_text.specs.declared.dot_format_parser.EscapeCurlyBrace.{EscapeCurlyBrace}
 use Rattle.starlark_text.specs.declared.dot_format_parser.EscapeCurlyBrace.TheVariants.{Open, Close}

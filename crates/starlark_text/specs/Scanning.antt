@@ -1,5 +1,5 @@
 -- The piece at the front of a text, as the private functions of the parser look for it. No public contract cites this: those cite the grammar, which it meets.
-use Rattle.std.proofs.Common.{◌≡◌, ℕ, suc, ◌+◌, Bool, true, false, cond, not, ◌==◌, List, [], ◌∷◌, length, take, drop, Result, Ok, Err}
+use Rattle.std.proofs.Common.{ℕ, ◌+◌, Bool, false, cond, not, ◌==◌, [], ◌∷◌, length, take, drop, Result, Ok, Err}
 use Rattle.std.specs.List.{prefix_len}
 use Rattle.starlark_text.specs.declared.dot_format_parser.EscapeCurlyBrace.TheVariants.{Open, Close}
 use Rattle.starlark_text.specs.declared.dot_format_parser.FormatConv.{FormatConv}

@@ -1,5 +1,5 @@
 use Rattle.std.specs.Str.{IsCharBoundary}
-use Rattle.std.proofs.Common.{subst, sym, ap, ◌-◌, ℕ}
+use Rattle.std.proofs.Common.{subst, sym, ◌-◌, ℕ}
 use Rattle.starlark_text.proofs.Steps.{boundary_before}
 use Rattle.starlark_text.proofs.cursors.place_before.Goals as goal
 
