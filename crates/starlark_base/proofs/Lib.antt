@@ -2,3 +2,4 @@ pub mod LineFeeds
 pub mod LineEnds
 pub mod HeldSpans
 pub mod Numbered
+pub mod Resolving

@@ -1,5 +1,5 @@
 -- Source files by their numbers, as lists of entries and as maps.
-use Rattle.std.proofs.Common.{◌≡◌, ℕ, Bool, true, false, cond, not, eqb, is_some, Option, Some, None, List, [], ◌∷◌, ◌++◌, filter, refl, ap, sym, ◌∙◌, subst, arith}
+use Rattle.std.proofs.Common.{◌≡◌, ℕ, Bool, true, false, cond, not, eqb, is_some, Option, Some, None, List, [], ◌∷◌, ◌++◌, filter, refl, ap, sym, ◌∙◌, arith}
 use Rattle.std.proofs.lemmas.Bool.{eqb-true, false≢true}
 use Rattle.std.proofs.lemmas.Bool.Decides.{nat_tests}
 use Rattle.std.proofs.lemmas.Map.Entries.{lookup-filter-keys}
@@ -86,5 +86,5 @@ or_new (Some x) p = refl
 pub added_all : (es rs ns os new : List (ℕ × SourceFile)) → ((q : ℕ) → lookup (eqb q) rs ≡ lookup (eqb q) es) → new ≡ filter (λ e. not (is_some (lookup (eqb e.0) es))) os → ((q : ℕ) → lookup (eqb q) ns ≡ option_or (lookup (eqb q) rs) (lookup (eqb q) new)) → map.from_entries {R = nat_cmp} ns ≡ joined (map.from_entries es) (map.from_entries os)
 added_all es rs ns os new reserved is puts =
     joins es ns (map.from_entries os) (λ q. puts q ∙ ap (λ o. option_or o (lookup (eqb q) new)) (reserved q)
-      ∙ ap (option_or (lookup (eqb q) es)) (ap (lookup (eqb q)) is ∙ lookup-filter-keys (eqb q) (λ k. not (is_some (lookup (eqb k) es))) (not (is_some (lookup (eqb q) es))) (λ k tie. ap (λ n. not (is_some (lookup (eqb n) es))) (sym (eqb-true q k tie))) os)
-      ∙ or_new (lookup (eqb q) es) (lookup (eqb q) os) ∙ ap (option_or (lookup (eqb q) es)) (sym (seen q os)))
+    ∙ ap (option_or (lookup (eqb q) es)) (ap (lookup (eqb q)) is ∙ lookup-filter-keys (eqb q) (λ k. not (is_some (lookup (eqb k) es))) (not (is_some (lookup (eqb q) es))) (λ k tie. ap (λ n. not (is_some (lookup (eqb n) es))) (sym (eqb-true q k tie))) os)
+    ∙ or_new (lookup (eqb q) es) (lookup (eqb q) os) ∙ ap (option_or (lookup (eqb q) es)) (sym (seen q os)))

@@ -1,6 +1,6 @@
 -- The lines of a text: each ends behind a line feed, and the last at the text's end.
-use Rattle.std.specs.Prelude.{ℕ, zero, suc, ◌+◌, ◌-◌, Bool, ◌==◌, ◌||◌, if◌then◌else◌, [], ◌∷◌, nat_eq, length, take, count_by, slice_range}
-use Rattle.std.specs.List.{suffix_len, ends_with}
+use Rattle.std.specs.Prelude.{ℕ, zero, suc, ◌+◌, ◌-◌, Bool, ◌==◌, ◌||◌, if◌then◌else◌, List, [], ◌∷◌, map, nat_eq, length, take, count_by, slice_range}
+use Rattle.std.specs.List.{suffix_len, ends_with, range_with_len}
 use Rattle.starlark_base.specs.Spans.{ByteSpan}
 use Rattle.starlark_base.specs.Places.{Text, is_line_feed}
 
@@ -21,6 +21,10 @@ line_span text line = record { begin = line_begin text line; end = line_begin te
 -- the text of a span
 abbrev pub text_of : Text → ByteSpan → Text
 text_of text span = slice_range text span.begin span.end
+
+-- the texts of the lines, in order
+abbrev pub line_texts : Text → List Text
+line_texts text = map (λ line. text_of text (line_span text line)) (range_with_len 0 (line_count text))
 
 -- the span without its last byte, if that is the given one
 abbrev pub without_last : ℕ → Text → ByteSpan → ByteSpan

@@ -1,5 +1,5 @@
 -- Source files by their numbers.
-use Rattle.std.specs.Prelude.{◌≡◌, ℕ, List, ◌++◌, Option, refl}
+use Rattle.std.specs.Prelude.{ℕ, List, ◌++◌, refl}
 use Rattle.std.specs.Coded.{Coded, code_by, coded×, coded_list, coded_ℕ}
 use Rattle.std.specs.FinMap.{FinMap, entries, empty, insert, from_entries}
 use Rattle.std.specs.Ordering.{nat_cmp}

@@ -2,7 +2,7 @@
 
 ghost use Rattle.std.specs.Prelude.{◌≡◌, ◌+◌, ◌<◌, ◌≤◌, ◌^◌, ◌↔◌, IsTrue, IfOk, OnOk, length, take, string_bytes, slice_index, SomeIff, IfSome};
 ghost use Rattle.std.specs.List.{suffix_len};
-ghost use Rattle.std.specs.Str.{chars, IsCharBoundary, IsUtf8};
+ghost use Rattle.std.specs.Str.{IsCharBoundary, IsUtf8};
 ghost use Rattle.starlark_base.specs.Lines.{is_line_end, line_begin, line_count, line_span, line_text, text_of, trimmed_line_span, without_last, without_line_ends};
 ghost use Rattle.starlark_base.specs.Places.{place_at, resolved};
 ghost use Rattle.starlark_base.specs.Refusals.{IsRefused};
@@ -10,6 +10,7 @@ ghost use Rattle.starlark_base.specs.Sources.{holds, Holds};
 ghost use Rattle.starlark_base.specs.Starts.{line_starts};
 
 use crate::codemap::{FileSpan, OrMemory, Pos, ResolvedPos, ResolvedSpan, SourceTooLong, Span};
+use crate::fast_string;
 use std::alloc::{AllocError, Global};
 use std::fmt;
 use std::hash::{Hash, Hasher};
@@ -83,7 +84,7 @@ fn starts_of_lines(alloc: Global, source: &str) -> Result<Vec<Pos>, AllocError>
     requires { length source.now < 2 ^ 32 }
     ensures { IfOk result (λ starts. starts.items ≡ line_starts source.now) }
 {
-    let line_feeds = source.as_bytes().iter().filter(|b| **b == b'\n').count();
+    let line_feeds = fast_string::count_matches_byte(source, b'\n');
     let mut starts = Vec::with_capacity(alloc, line_feeds + 1)?;
     starts.push(Pos::new(0))?;
     for (at, byte) in source.as_bytes().iter().enumerate() {
@@ -92,13 +93,6 @@ fn starts_of_lines(alloc: Global, source: &str) -> Result<Vec<Pos>, AllocError>
         }
     }
     Ok(starts)
-}
-
-/// How many characters a text has.
-fn count_characters(text: &str) -> usize
-    ensures { result ≡ length (chars text.now) }
-{
-    text.chars().count()
 }
 
 /// How many line feeds and carriage returns a text ends with.
@@ -267,7 +261,7 @@ impl CodeMap {
         let front = &self.source()[begin..pos.get() as usize];
         ResolvedPos {
             line,
-            column: count_characters(front),
+            column: fast_string::len(front).0,
         }
     }
 

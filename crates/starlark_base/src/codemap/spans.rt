@@ -1,7 +1,8 @@
 //! Spans of a source text.
 
-ghost use Rattle.std.specs.Prelude.{◌≡◌, ◌≤◌, ◌↔◌, IsTrue};
-ghost use Rattle.starlark_base.specs.Spans.{merged, Meets};
+ghost use Rattle.std.specs.Prelude.{◌≡◌, ◌≤◌, ◌↔◌, IsTrue, List};
+ghost use Rattle.std.specs.Iterator.{Drains, IsFinite};
+ghost use Rattle.starlark_base.specs.Spans.{ByteSpan, merged, merged_all, Meets};
 
 use crate::codemap::Pos;
 use std::marker::Model;
@@ -57,6 +58,21 @@ impl Span {
             begin: self.begin.min(other.begin),
             end: self.end.max(other.end),
         }
+    }
+
+    /// The least span that holds all that an iterator gives, which ends; 0..0 where it gives none.
+    pub fn merge_all<I: Iterator<Item = Span> + Drop>(mut spans: I) -> Span
+        requires can { I.can_next spans }
+        requires ends { IsFinite (I.remaining spans) }
+        ensures { (given : List ByteSpan) × Drains I.next_gives spans given × (result ≡ merged_all given) }
+    {
+        let Some(mut merged) = spans.next() else {
+            return Span::default();
+        };
+        for span in spans {
+            merged = merged.merge(span);
+        }
+        merged
     }
 
     /// The empty span at the end of this one.

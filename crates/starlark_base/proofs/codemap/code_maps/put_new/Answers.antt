@@ -1,4 +1,4 @@
-use Rattle.std.proofs.Common.{◌≡◌, ℕ, true, false, eqb, cond, is_some, List, sym, ap, ◌∙◌, Option, Some, None, rules}
+use Rattle.std.proofs.Common.{◌≡◌, ℕ, false, eqb, cond, is_some, List, ap, ◌∙◌, Some, None, rules}
 use Rattle.std.specs.Map.{lookup}
 use Rattle.std.specs.Option.{option_or}
 use Rattle.starlark_base.specs.Sources.{SourceFile}

@@ -16,5 +16,5 @@ returns c =
     let line = c.find_line-line.ensures.line in
     let front = front_of_line text c.find_line-line.result c.line_start.result c.args.pos c.requires.0 line c.line_start.ensures.start in
     let same : slice_range c.source.result.now c.get-begin.result c.get.result ≡ take (c.args.pos - c.line_start.result) (drop c.line_start.result text) = rw (c.source.ensures.source, c.get.ensures, c.get-begin.ensures) refl in
-    let column = c.count_characters.ensures ∙ ap (λ t. length (chars t)) (c.range-front.ensures.value ∙ same ∙ front) in
+    let column = c.len.ensures.count ∙ ap (λ t. length (chars t)) (c.range-front.ensures.value ∙ same ∙ front) in
     cc (line, column)

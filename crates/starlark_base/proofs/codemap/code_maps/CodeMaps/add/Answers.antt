@@ -1,6 +1,5 @@
 use Rattle.std.proofs.Common.{◌≡◌, true, eqb, is_some, sym, ap, ◌∙◌, rules}
 use Rattle.std.proofs.lemmas.Result.{on_ok_weaker}
-use Rattle.std.specs.FinMap as map
 use Rattle.std.specs.Map.{lookup}
 use Rattle.starlark_base.specs.SourceFiles.{joined, only}
 use Rattle.starlark_base.proofs.Numbered.{same_entries, added_present, added_new}
@@ -22,5 +21,5 @@ returns-clause-ok c =
     let es = c.self.inside.codemaps.entries in
     let file = c.args.codemap.now in
     on_ok_weaker c.put_new.result
-      (λ puts. added_new es c.reserve.new.self.entries c.put_new.new.codemaps.entries file c.in_ok-shared.shared c.id-id.result c.reserve.ensures.entries.2 c.in_ok-shared.ensures c.id-id.ensures puts ∙ ap (λ m. joined m (only file)) c.self.view_is)
-      c.put_new.ensures.ok
+    (λ puts. added_new es c.reserve.new.self.entries c.put_new.new.codemaps.entries file c.in_ok-shared.shared c.id-id.result c.reserve.ensures.entries.2 c.in_ok-shared.ensures c.id-id.ensures puts ∙ ap (λ m. joined m (only file)) c.self.view_is)
+    c.put_new.ensures.ok

@@ -1,4 +1,4 @@
-use Rattle.std.proofs.Common.{◌≡◌, sym, ap, ◌∙◌, rules}
+use Rattle.std.proofs.Common.{ap, ◌∙◌, rules}
 use Rattle.std.specs.FinMap as map
 use Rattle.starlark_base.specs.SourceFiles.{joined}
 use Rattle.starlark_base.proofs.Numbered.{added_all}

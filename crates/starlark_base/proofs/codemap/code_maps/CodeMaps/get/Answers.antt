@@ -1,4 +1,4 @@
-use Rattle.std.proofs.Common.{◌≡◌, sym, ap, ◌∙◌}
+use Rattle.std.proofs.Common.{sym, ap, ◌∙◌}
 use Rattle.std.specs.FinMap as map
 use Rattle.starlark_base.proofs.Numbered.{seen}
 use Rattle.starlark_base.proofs.codemap.code_maps.CodeMaps.get.Goals as goal
