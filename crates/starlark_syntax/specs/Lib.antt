@@ -1,0 +1,5 @@
+pub mod Words
+pub mod Front
+pub mod Numbers
+pub mod Tokens
+pub mod Scanned

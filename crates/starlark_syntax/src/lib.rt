@@ -1,4 +1,5 @@
-//! The lexer of Starlark: from a text to its lexemes, or to those before the first fault and that fault.
+//! Lexes Starlark. So far: the written grammar of its lexemes, and the laws of that grammar.
 #![tactic(auto)]
 
+pub mod laws;
 mod lexer;

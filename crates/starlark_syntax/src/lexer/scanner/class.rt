@@ -7,7 +7,7 @@ pub enum Quote {
     Double,
 }
 
-/// What a literal is.
+/// What a literal denotes: characters, bytes, or text with expressions in it.
 #[derive(Clone, Copy, Debug, PartialEq, Eq)]
 pub enum LiteralKind {
     Text,
@@ -15,29 +15,9 @@ pub enum LiteralKind {
     FString,
 }
 
-/// How a literal begins: a quote, with the prefix before it.
+/// A word that is a token of its own: a keyword or a symbol.
 #[derive(Clone, Copy, Debug, PartialEq, Eq)]
-pub struct Opener {
-    pub kind: LiteralKind,
-    pub raw: bool,
-    pub quote: Quote,
-}
-
-/// What a word is. `Skipped` is blanks and escaped line ends.
-#[derive(Clone, Copy, Debug, PartialEq, Eq)]
-pub enum Class {
-    Skipped,
-    Comment,
-    Tabs,
-    Newline,
-    Opener(Opener),
-    Reserved,
-    Identifier,
-    RawDecInt,
-    RawHexInt,
-    RawBinInt,
-    RawOctInt,
-    Float,
+pub enum Terminal {
     And,
     Break,
     Continue,
@@ -98,7 +78,30 @@ pub enum Class {
     ClosingRound,
 }
 
-/// A word at the front of a text, with its length in bytes.
+/// What a word is. `Skipped` is blanks and escaped line ends; an opener is what a literal begins
+/// with, `Reserved` a word that no text may use.
+#[derive(Clone, Copy, Debug, PartialEq, Eq)]
+pub enum Class {
+    Skipped,
+    Comment,
+    Tabs,
+    LineEnd,
+    Opener {
+        kind: LiteralKind,
+        is_raw: bool,
+        quote: Quote,
+    },
+    Reserved,
+    Identifier,
+    Decimal,
+    Hexadecimal,
+    Octal,
+    Binary,
+    Float,
+    Fixed(Terminal),
+}
+
+/// A word at the front of a text: its class, and its length in bytes.
 #[derive(Clone, Copy, Debug, PartialEq, Eq)]
 pub struct Word {
     pub class: Class,

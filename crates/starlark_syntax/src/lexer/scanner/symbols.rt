@@ -1,95 +1,112 @@
-//! Words of one to three bytes that are no letters or digits.
+//! Symbols: words of one to three bytes that are no letters or digits.
 
-use super::class::{Class, LiteralKind, Opener, Quote, Word};
+ghost use Rattle.std.specs.Prelude.{◌≡◌, ◌∷◌, []};
+ghost use Rattle.std.specs.Option.{option_map};
+ghost use Rattle.starlark_syntax.specs.Front.{longest_front};
+ghost use Rattle.starlark_syntax.specs.Scanned.{fixed_view, word_view};
+ghost use Rattle.starlark_syntax.specs.Words.{class_in, listed, symbols};
 
-/// The class of a word of one byte: a symbol, or a quote that opens a literal.
-fn single_class(byte: u8) -> Option<Class> {
+use super::class::{Class, Terminal, Word};
+
+#[tactic(auto, unfolding(crate::specs::Words::class_in, crate::specs::Words::symbols))]
+/// The symbol of one byte.
+fn single(byte: u8) -> Option<Terminal>
+    ensures { option_map fixed_view result ≡ class_in (listed symbols) (byte ∷ []) }
+{
     match byte {
-        b'\'' => Some(Class::Opener(Opener {
-            kind: LiteralKind::Text,
-            raw: false,
-            quote: Quote::Single,
-        })),
-        b'"' => Some(Class::Opener(Opener {
-            kind: LiteralKind::Text,
-            raw: false,
-            quote: Quote::Double,
-        })),
-        b',' => Some(Class::Comma),
-        b';' => Some(Class::Semicolon),
-        b':' => Some(Class::Colon),
-        b'=' => Some(Class::Equal),
-        b'<' => Some(Class::LessThan),
-        b'>' => Some(Class::GreaterThan),
-        b'-' => Some(Class::Minus),
-        b'+' => Some(Class::Plus),
-        b'*' => Some(Class::Star),
-        b'%' => Some(Class::Percent),
-        b'/' => Some(Class::Slash),
-        b'.' => Some(Class::Dot),
-        b'&' => Some(Class::Ampersand),
-        b'|' => Some(Class::Pipe),
-        b'^' => Some(Class::Caret),
-        b'~' => Some(Class::Tilde),
-        b'[' => Some(Class::OpeningSquare),
-        b'{' => Some(Class::OpeningCurly),
-        b'(' => Some(Class::OpeningRound),
-        b']' => Some(Class::ClosingSquare),
-        b'}' => Some(Class::ClosingCurly),
-        b')' => Some(Class::ClosingRound),
+        b',' => Some(Terminal::Comma),
+        b';' => Some(Terminal::Semicolon),
+        b':' => Some(Terminal::Colon),
+        b'=' => Some(Terminal::Equal),
+        b'<' => Some(Terminal::LessThan),
+        b'>' => Some(Terminal::GreaterThan),
+        b'-' => Some(Terminal::Minus),
+        b'+' => Some(Terminal::Plus),
+        b'*' => Some(Terminal::Star),
+        b'%' => Some(Terminal::Percent),
+        b'/' => Some(Terminal::Slash),
+        b'.' => Some(Terminal::Dot),
+        b'&' => Some(Terminal::Ampersand),
+        b'|' => Some(Terminal::Pipe),
+        b'^' => Some(Terminal::Caret),
+        b'~' => Some(Terminal::Tilde),
+        b'[' => Some(Terminal::OpeningSquare),
+        b'{' => Some(Terminal::OpeningCurly),
+        b'(' => Some(Terminal::OpeningRound),
+        b']' => Some(Terminal::ClosingSquare),
+        b'}' => Some(Terminal::ClosingCurly),
+        b')' => Some(Terminal::ClosingRound),
         _ => None,
     }
 }
 
-/// The class of a symbol of two bytes.
-fn double_class(first: u8, second: u8) -> Option<Class> {
+#[tactic(auto, unfolding(crate::specs::Words::class_in, crate::specs::Words::symbols))]
+/// The symbol of two bytes.
+fn double(first: u8, second: u8) -> Option<Terminal>
+    ensures { option_map fixed_view result ≡ class_in (listed symbols) (first ∷ second ∷ []) }
+{
     match (first, second) {
-        (b'+', b'=') => Some(Class::PlusEqual),
-        (b'-', b'=') => Some(Class::MinusEqual),
-        (b'*', b'=') => Some(Class::StarEqual),
-        (b'/', b'=') => Some(Class::SlashEqual),
-        (b'%', b'=') => Some(Class::PercentEqual),
-        (b'=', b'=') => Some(Class::EqualEqual),
-        (b'!', b'=') => Some(Class::BangEqual),
-        (b'<', b'=') => Some(Class::LessEqual),
-        (b'>', b'=') => Some(Class::GreaterEqual),
-        (b'&', b'=') => Some(Class::AmpersandEqual),
-        (b'|', b'=') => Some(Class::PipeEqual),
-        (b'^', b'=') => Some(Class::CaretEqual),
-        (b'*', b'*') => Some(Class::StarStar),
-        (b'/', b'/') => Some(Class::SlashSlash),
-        (b'<', b'<') => Some(Class::LessLess),
-        (b'>', b'>') => Some(Class::GreaterGreater),
-        (b'-', b'>') => Some(Class::MinusGreater),
+        (b'+', b'=') => Some(Terminal::PlusEqual),
+        (b'-', b'=') => Some(Terminal::MinusEqual),
+        (b'*', b'=') => Some(Terminal::StarEqual),
+        (b'/', b'=') => Some(Terminal::SlashEqual),
+        (b'%', b'=') => Some(Terminal::PercentEqual),
+        (b'=', b'=') => Some(Terminal::EqualEqual),
+        (b'!', b'=') => Some(Terminal::BangEqual),
+        (b'<', b'=') => Some(Terminal::LessEqual),
+        (b'>', b'=') => Some(Terminal::GreaterEqual),
+        (b'&', b'=') => Some(Terminal::AmpersandEqual),
+        (b'|', b'=') => Some(Terminal::PipeEqual),
+        (b'^', b'=') => Some(Terminal::CaretEqual),
+        (b'*', b'*') => Some(Terminal::StarStar),
+        (b'/', b'/') => Some(Terminal::SlashSlash),
+        (b'<', b'<') => Some(Terminal::LessLess),
+        (b'>', b'>') => Some(Terminal::GreaterGreater),
+        (b'-', b'>') => Some(Terminal::MinusGreater),
         _ => None,
     }
 }
 
-/// The class of a symbol of three bytes.
-fn triple_class(first: u8, second: u8, third: u8) -> Option<Class> {
+#[tactic(auto, unfolding(crate::specs::Words::class_in, crate::specs::Words::symbols))]
+/// The symbol of three bytes.
+fn triple(first: u8, second: u8, third: u8) -> Option<Terminal>
+    ensures { option_map fixed_view result ≡ class_in (listed symbols) (first ∷ second ∷ third ∷ []) }
+{
     match (first, second, third) {
-        (b'/', b'/', b'=') => Some(Class::SlashSlashEqual),
-        (b'<', b'<', b'=') => Some(Class::LessLessEqual),
-        (b'>', b'>', b'=') => Some(Class::GreaterGreaterEqual),
-        (b'.', b'.', b'.') => Some(Class::Ellipsis),
+        (b'/', b'/', b'=') => Some(Terminal::SlashSlashEqual),
+        (b'<', b'<', b'=') => Some(Terminal::LessLessEqual),
+        (b'>', b'>', b'=') => Some(Terminal::GreaterGreaterEqual),
+        (b'.', b'.', b'.') => Some(Terminal::Ellipsis),
         _ => None,
     }
 }
 
-/// The longest symbol or quote at the front of a text.
-pub fn symbol_from(text: &[u8]) -> Option<Word> {
+/// The word of so many bytes that a symbol is.
+fn symbol_word(symbol: Terminal, len: usize) -> Word
+    ensures { word_view result ≡ (fixed_view symbol, len) }
+{
+    Word {
+        class: Class::Fixed(symbol),
+        len,
+    }
+}
+
+/// The longest symbol at the front of a text, or `None` where no symbol stands there.
+pub fn symbol_from(text: &[u8]) -> Option<Word>
+    ensures { option_map word_view result ≡ longest_front (class_in (listed symbols)) text.now }
+{
     if let [first, second, third, ..] = text {
-        if let Some(class) = triple_class(*first, *second, *third) {
-            return Some(Word { class, len: 3 });
+        if let Some(symbol) = triple(*first, *second, *third) {
+            return Some(symbol_word(symbol, 3));
         }
     }
     if let [first, second, ..] = text {
-        if let Some(class) = double_class(*first, *second) {
-            return Some(Word { class, len: 2 });
+        if let Some(symbol) = double(*first, *second) {
+            return Some(symbol_word(symbol, 2));
         }
     }
     match text {
-        [first, ..] => single_class(*first).map(|class| Word { class, len: 1 }),
+        [first, ..] => single(*first).map(|symbol| symbol_word(symbol, 1)),
         [] => None,
     }
 }

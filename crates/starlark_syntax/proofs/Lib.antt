@@ -1,0 +1,4 @@
+pub mod Front
+pub mod Words
+mod RowsOfWords
+pub mod Scanning
