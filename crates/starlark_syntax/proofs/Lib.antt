@@ -2,3 +2,4 @@ pub mod Front
 pub mod Words
 mod RowsOfWords
 pub mod Scanning
+pub mod Listed

@@ -34,9 +34,11 @@ pub fn opener_class(word: &str) -> Option<Class>
         "f\"" => Some(opener(LiteralKind::FString, false, Quote::Double)),
         "fr\"" => Some(opener(LiteralKind::FString, true, Quote::Double)),
         "b'" => Some(opener(LiteralKind::Bytes, false, Quote::Single)),
-        "br'" | "rb'" => Some(opener(LiteralKind::Bytes, true, Quote::Single)),
+        "br'" => Some(opener(LiteralKind::Bytes, true, Quote::Single)),
+        "rb'" => Some(opener(LiteralKind::Bytes, true, Quote::Single)),
         "b\"" => Some(opener(LiteralKind::Bytes, false, Quote::Double)),
-        "br\"" | "rb\"" => Some(opener(LiteralKind::Bytes, true, Quote::Double)),
+        "br\"" => Some(opener(LiteralKind::Bytes, true, Quote::Double)),
+        "rb\"" => Some(opener(LiteralKind::Bytes, true, Quote::Double)),
         _ => None,
     }
 }
