@@ -91,22 +91,44 @@ fn symbol_word(symbol: Terminal, len: usize) -> Word
     }
 }
 
+/// The symbol of one byte, as a word.
+fn longest_of_one(first: u8) -> Option<Word>
+    ensures { option_map word_view result ≡ longest_front (class_in (listed symbols)) (first ∷ []) }
+{
+    match single(first) {
+        Some(symbol) => Some(symbol_word(symbol, 1)),
+        None => None,
+    }
+}
+
+/// The longest symbol at the front of two bytes.
+fn longest_of_two(first: u8, second: u8) -> Option<Word>
+    ensures { option_map word_view result ≡ longest_front (class_in (listed symbols)) (first ∷ second ∷ []) }
+{
+    match double(first, second) {
+        Some(symbol) => Some(symbol_word(symbol, 2)),
+        None => longest_of_one(first),
+    }
+}
+
+/// The longest symbol at the front of three bytes.
+fn longest_of_three(first: u8, second: u8, third: u8) -> Option<Word>
+    ensures { option_map word_view result ≡ longest_front (class_in (listed symbols)) (first ∷ second ∷ third ∷ []) }
+{
+    match triple(first, second, third) {
+        Some(symbol) => Some(symbol_word(symbol, 3)),
+        None => longest_of_two(first, second),
+    }
+}
+
 /// The longest symbol at the front of a text, or `None` where no symbol stands there.
 pub fn symbol_from(text: &[u8]) -> Option<Word>
     ensures { option_map word_view result ≡ longest_front (class_in (listed symbols)) text.now }
 {
-    if let [first, second, third, ..] = text {
-        if let Some(symbol) = triple(*first, *second, *third) {
-            return Some(symbol_word(symbol, 3));
-        }
-    }
-    if let [first, second, ..] = text {
-        if let Some(symbol) = double(*first, *second) {
-            return Some(symbol_word(symbol, 2));
-        }
-    }
     match text {
-        [first, ..] => single(*first).map(|symbol| symbol_word(symbol, 1)),
         [] => None,
+        [first] => longest_of_one(*first),
+        [first, second] => longest_of_two(*first, *second),
+        [first, second, third, ..] => longest_of_three(*first, *second, *third),
     }
 }
