@@ -5,3 +5,4 @@ pub mod Scanning
 pub mod Listed
 pub mod Symbols
 pub mod ByFirst
+pub mod Ascii
