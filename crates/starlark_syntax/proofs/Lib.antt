@@ -6,3 +6,4 @@ pub mod Listed
 pub mod Symbols
 pub mod ByFirst
 pub mod Ascii
+pub mod Openers

@@ -109,6 +109,10 @@ abbrev pub begins_with : (ℕ → Bool) → grammar.Text → Bool
 begins_with test [] = false
 begins_with test (b ∷ rest) = test b
 
+-- a single or a double quote
+abbrev pub is_quote : ℕ → Bool
+is_quote b = b == 39 || b == 34
+
 -- a digit, or a point and a digit, stands at the front
 abbrev pub begins_number : grammar.Text → Bool
 begins_number [] = false
