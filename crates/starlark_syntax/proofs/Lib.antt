@@ -3,7 +3,7 @@ pub mod Words
 mod RowsOfWords
 pub mod Scanning
 pub mod Listed
-pub mod Symbols
+pub mod Marks
 pub mod ByFirst
 pub mod Ascii
 pub mod Openers

@@ -1,6 +1,6 @@
 use Rattle.std.proofs.Common.{sym, ◌∙◌}
-use Rattle.starlark_syntax.proofs.Symbols.{front_long, front_empty}
-use Rattle.starlark_syntax.proofs.lexer.scanner.symbols.symbol_from.Goals as goal
+use Rattle.starlark_syntax.proofs.Marks.{front_long, front_empty}
+use Rattle.starlark_syntax.proofs.lexer.scanner.marks.mark_from.Goals as goal
 
 pub returns-in-empty : goal.returns-in-empty
 returns-in-empty c = sym (front_empty c.args.text.now c.in-empty.len_below)
