@@ -1,17 +1,18 @@
 -- The longest front of a text, by the text's first byte.
-use Rattle.std.proofs.Common.{◌≡◌, ℕ, suc, ◌+◌, ◌<◌, Bool, true, false, cond, not, ◌&&◌, ◌||◌, ◌==◌, nat_eq, [], ◌∷◌, ◌++◌, length, take, drop, get_or, refl, ap, sym, ◌∙◌, Option, unwrap_or, Some, None, arith, one-add, add-one}
-use Rattle.std.proofs.lemmas.Bool.{and_parts, not-true}
+use Rattle.std.proofs.Common.{◌≡◌, ◌≢◌, ℕ, suc, ◌+◌, ◌<◌, Bool, true, false, cond, not, ◌&&◌, ◌||◌, ◌==◌, nat_eq, [], ◌∷◌, ◌++◌, length, take, drop, get_or, refl, ap, sym, subst, ◌∙◌, Option, unwrap_or, Some, None, arith, one-add, add-one}
+use Rattle.std.proofs.lemmas.Bool.{and_parts, not-true, ne_eqb}
 use Rattle.std.proofs.lemmas.Bool.Decides.{nat_tests}
-use Rattle.std.specs.Char.{is_ascii_digit}
-use Rattle.std.specs.List.{list_all, prefix_len}
+use Rattle.std.specs.Char.{is_ascii_digit, is_ascii_hexdigit}
+use Rattle.std.specs.List.{list_all, prefix_len, slice_get}
 use Rattle.std.specs.Map.{lookup}
 use Rattle.std.specs.Option.{option_map, option_or}
 use Rattle.std.specs.Str.{bytes_eq}
-use Rattle.starlark_syntax.specs.Words.{Text, Class, Skipped, Comment, Tabs, LineEnd, Identifier, class_in, listed, openers, line_ends, symbols, names, patterns, language, begins_name, is_in_name, is_in_line, is_based, is_float, is_pointed, begins_with_digit, is_identifier}
+use Rattle.starlark_syntax.specs.Words.{Text, Class, Skipped, Comment, Tabs, LineEnd, Opener, OfText, SingleQuote, DoubleQuote, Identifier, class_in, listed, openers, line_ends, symbols, names, patterns, language, begins_name, is_in_name, is_in_line, is_based, is_float, is_fraction, is_pointed, begins_with_digit, is_identifier, is_comment, is_run, is_octal_digit, is_binary_digit}
 use Rattle.starlark_syntax.specs.Front.{longer, longest_front, language_front}
-use Rattle.starlark_syntax.specs.Scanned.{begins_with}
+use Rattle.starlark_syntax.specs.Scanned.{begins_with, begins_number, is_quote, marks}
 use Rattle.starlark_syntax.proofs.Front.{front_single, front_run}
 use Rattle.starlark_syntax.proofs.Listed.{class_of_name, opener_of, all_pass, begins_otherwise, lookup_fails, lookup_elsewhere, each_byte, implied}
+use Rattle.starlark_syntax.proofs.Marks.{mark_is}
 use Rattle.starlark_syntax.proofs.Scanning.{front_ended, run_and, take_behind}
 use Rattle.starlark_syntax.proofs.Words.{class_in-listed, class_in-language}
 
@@ -40,10 +41,34 @@ not_based : (lower upper : ℕ) (test : ℕ → Bool) (b : ℕ) (word : Text) �
 not_based lower upper test b [] h = refl
 not_based lower upper test b (c ∷ word) h = rw h refl
 
+not_float : (b : ℕ) (word : Text) → is_ascii_digit b ≡ false → is_float (b ∷ word) ≡ false
+not_float b word h = rw h refl
+
+not_pointed : (b : ℕ) (word : Text) → (b == 46) ≡ false → is_pointed (b ∷ word) ≡ false
+not_pointed b word h = rw h refl
+
+and_false : (x y : Bool) → y ≡ false → (x && y) ≡ false
+and_false true y h = h
+and_false false y h = refl
+
+no_digit : (word : Text) → begins_with is_ascii_digit word ≡ false → begins_with_digit word ≡ false
+no_digit [] h = refl
+no_digit (b ∷ word) h = rw h refl
+
+-- a point with no digit behind it begins no number
+point_alone : (word : Text) → begins_with is_ascii_digit word ≡ false → is_pointed (46 ∷ word) ≡ false
+point_alone word h = and_false (is_fraction (46 ∷ word)) (begins_with_digit word) (no_digit word h)
+
+-- the numbers among the patterns, for words that begin with no number's byte
+no_number : (b : ℕ) (word : Text) → is_ascii_digit b ≡ false → (b == 48) ≡ false → is_pointed (b ∷ word) ≡ false
+    → class_in patterns (b ∷ word) ≡ cond (is_run (nat_eq 32) (b ∷ word)) (Some Skipped) (cond (is_comment (b ∷ word)) (Some Comment) (cond (is_run (nat_eq 9) (b ∷ word)) (Some Tabs) (cond (is_identifier (b ∷ word)) (Some Identifier) None)))
+unfolding class_in patterns
+no_number b word digit zero point =
+    rw (digit, not_based 120 88 is_ascii_hexdigit b word zero, not_based 111 79 is_octal_digit b word zero, not_based 98 66 is_binary_digit b word zero, point) refl
+
 -- the patterns, for words that begin with a plain byte
 patterns_plain : (b : ℕ) (word : Text) → Plain b → class_in patterns (b ∷ word) ≡ cond (begins_name b && list_all is_in_name word) (Some Identifier) None
-unfolding class_in patterns
-patterns_plain b word h = rw (h.blank, h.hash, h.tab, h.digit, not_based _ _ _ b word h.zero, not_based _ _ _ b word h.zero, not_based _ _ _ b word h.zero, h.point) refl
+patterns_plain b word h = no_number b word h.digit h.zero (not_pointed b word h.point) ∙ rw (h.blank, h.hash, h.tab) refl
 
 -- names
 
@@ -148,3 +173,191 @@ front_named (b ∷ rest) n small h e =
 -- a byte of a name is below 128
 pub in_name_is_ascii : (b : ℕ) → is_in_name b ≡ true → b < 128
 in_name_is_ascii b h = grind (arith, nat_tests)
+
+-- whether no word of the lists begins with a byte
+is_unlisted : ℕ → Bool
+is_unlisted b = all_pass (begins_otherwise b) openers && (all_pass (begins_otherwise b) line_ends && (all_pass (begins_otherwise b) symbols && all_pass (begins_otherwise b) names))
+
+class_of_unlisted : (b : ℕ) (word : Text) → is_unlisted b ≡ true → class_in language (b ∷ word) ≡ class_in patterns (b ∷ word)
+unfolding is_unlisted
+class_of_unlisted b word h =
+    let one = and_parts _ _ h in
+    let two = and_parts _ _ one.1 in
+    let three = and_parts _ _ two.1 in
+    class_in-language (b ∷ word)
+    ∙ rw (
+      lookup_elsewhere b word openers one.0,
+      lookup_elsewhere b word line_ends two.0,
+      lookup_elsewhere b word symbols three.0,
+      lookup_elsewhere b word names three.1,
+    ) refl
+
+class_of_blank : (word : Text) → class_in language (32 ∷ word) ≡ cond (list_all (nat_eq 32) word) (Some Skipped) None
+unfolding is_unlisted openers line_ends symbols names
+class_of_blank word = class_of_unlisted 32 word refl ∙ no_number 32 word refl refl (not_pointed 32 word refl)
+
+class_of_tab : (word : Text) → class_in language (9 ∷ word) ≡ cond (list_all (nat_eq 9) word) (Some Tabs) None
+unfolding is_unlisted openers line_ends symbols names
+class_of_tab word = class_of_unlisted 9 word refl ∙ no_number 9 word refl refl (not_pointed 9 word refl)
+
+class_of_hash : (word : Text) → class_in language (35 ∷ word) ≡ cond (list_all is_in_line word) (Some Comment) None
+unfolding is_unlisted openers line_ends symbols names
+class_of_hash word = class_of_unlisted 35 word refl ∙ no_number 35 word refl refl (not_pointed 35 word refl)
+
+-- a text that begins with a blank, with a tab, or with `#`
+pub front_blank : (text : Text) → slice_get text 0 ≡ Some 32 → language_front text ≡ Some (Skipped, prefix_len (nat_eq 32) text)
+unfolding language_front
+front_blank [] e = cc
+front_blank (b ∷ rest) e =
+    let is_blank : b ≡ 32 = cc in
+    rw (is_blank, front_run (nat_eq 32) (class_in language) (λ _. Skipped) 32 rest class_of_blank) (ap (λ n. Some (Skipped, n)) (omega arith))
+
+pub front_tab : (text : Text) → slice_get text 0 ≡ Some 9 → language_front text ≡ Some (Tabs, prefix_len (nat_eq 9) text)
+unfolding language_front
+front_tab [] e = cc
+front_tab (b ∷ rest) e =
+    let is_tab : b ≡ 9 = cc in
+    rw (is_tab, front_run (nat_eq 9) (class_in language) (λ _. Tabs) 9 rest class_of_tab) (ap (λ n. Some (Tabs, n)) (omega arith))
+
+pub front_hash : (text : Text) → slice_get text 0 ≡ Some 35 → language_front text ≡ Some (Comment, prefix_len is_in_line text)
+unfolding language_front
+front_hash [] e = cc
+front_hash (b ∷ rest) e =
+    let is_hash : b ≡ 35 = cc in
+    rw (is_hash, front_run is_in_line (class_in language) (λ _. Comment) 35 rest class_of_hash) (ap (λ n. Some (Comment, n)) (omega arith))
+
+pub front_empty : (text : Text) → slice_get text 0 ≡ None → language_front text ≡ None
+unfolding language_front longest_front
+front_empty [] e = refl
+front_empty (b ∷ rest) e = cc
+
+-- quotes
+
+is_no_long_quote : Text → Bool
+is_no_long_quote [] = true
+is_no_long_quote (b ∷ word) = cond (is_quote b) (is_empty word) true
+
+openers_are_no_long_quotes : all_pass is_no_long_quote openers ≡ true
+unfolding openers is_no_long_quote is_empty
+openers_are_no_long_quotes = refl
+
+quote_is_plain : (b : ℕ) → b < 256 → is_quote b ≡ true → Plain b
+quote_is_plain b small h = plain b (implied _ _ (each_byte (λ b. not (is_quote b) || is_plain b) b refl small) h)
+
+-- what begins with a quote is an opener or no word
+class_of_quote : (b : ℕ) (word : Text) → b < 256 → is_quote b ≡ true → class_in language (b ∷ word) ≡ opener_of (b ∷ word)
+unfolding line_ends symbols names
+class_of_quote b word small h =
+    class_in-language (b ∷ word)
+    ∙ rw (
+      lookup_elsewhere b word line_ends (implied _ _ (each_byte (λ b. not (is_quote b) || all_pass (begins_otherwise b) line_ends) b refl small) h),
+      lookup_elsewhere b word symbols (implied _ _ (each_byte (λ b. not (is_quote b) || all_pass (begins_otherwise b) symbols) b refl small) h),
+      lookup_elsewhere b word names (implied _ _ (each_byte (λ b. not (is_quote b) || all_pass (begins_otherwise b) names) b refl small) h),
+      patterns_plain b word (quote_is_plain b small h),
+      not-true _ (implied _ _ (each_byte (λ b. not (is_quote b) || not (begins_name b)) b refl small) h),
+    ) (or_none _)
+  where
+    or_none : (found : Option Class) → option_or found None ≡ found
+    or_none None = refl
+    or_none (Some class) = refl
+
+front_of_quote : (b : ℕ) (rest : Text) → b < 256 → is_quote b ≡ true → language_front (b ∷ rest) ≡ option_map (λ class. (class, 1)) (opener_of (b ∷ []))
+unfolding language_front is_no_long_quote is_empty
+front_of_quote b rest small h =
+    front_single (class_in language) b rest (λ c word. class_of_quote b (c ∷ word) small h ∙ lookup_fails is_no_long_quote (b ∷ c ∷ word) openers openers_are_no_long_quotes (rw h refl))
+    ∙ ap (option_map (λ class. (class, 1))) (class_of_quote b [] small h)
+
+pub front_single_quote : (text : Text) → slice_get text 0 ≡ Some 39 → language_front text ≡ Some (Opener OfText false SingleQuote, 1)
+unfolding openers
+front_single_quote [] e = cc
+front_single_quote (b ∷ rest) e =
+    let quote : b ≡ 39 = cc in
+    rw quote (front_of_quote 39 rest (omega arith) refl)
+
+pub front_double_quote : (text : Text) → slice_get text 0 ≡ Some 34 → language_front text ≡ Some (Opener OfText false DoubleQuote, 1)
+unfolding openers
+front_double_quote [] e = cc
+front_double_quote (b ∷ rest) e =
+    let quote : b ≡ 34 = cc in
+    rw quote (front_of_quote 34 rest (omega arith) refl)
+
+-- marks
+
+or_none : (found : Option Class) → option_or found None ≡ found
+or_none None = refl
+or_none (Some class) = refl
+
+class_of_mark : (b : ℕ) (word : Text) → all_pass (begins_otherwise b) openers ≡ true → all_pass (begins_otherwise b) names ≡ true → class_in patterns (b ∷ word) ≡ None → class_in language (b ∷ word) ≡ class_in marks (b ∷ word)
+class_of_mark b word opener name pattern =
+    class_in-language (b ∷ word)
+    ∙ rw (lookup_elsewhere b word openers opener, lookup_elsewhere b word names name, pattern) (ap (option_or (lookup (bytes_eq (b ∷ word)) line_ends)) (or_none _))
+    ∙ sym (mark_is (b ∷ word))
+
+-- a byte that begins none of the words but marks
+is_mark_byte : ℕ → Bool
+is_mark_byte b = is_plain b && (all_pass (begins_otherwise b) openers && all_pass (begins_otherwise b) names)
+
+class_of_mark_byte : (b : ℕ) (word : Text) → is_mark_byte b ≡ true → begins_name b ≡ false → class_in language (b ∷ word) ≡ class_in marks (b ∷ word)
+unfolding is_mark_byte
+class_of_mark_byte b word h name =
+    let one = and_parts _ _ h in
+    let two = and_parts _ _ one.1 in
+    class_of_mark b word two.0 two.1 (patterns_plain b word (plain b one.0) ∙ rw name refl)
+
+class_of_point : (word : Text) → begins_with is_ascii_digit word ≡ false → class_in language (46 ∷ word) ≡ class_in marks (46 ∷ word)
+unfolding openers names
+class_of_point word h = class_of_mark 46 word refl refl (no_number 46 word refl refl (point_alone word h))
+
+front_point : (rest : Text) → begins_with is_ascii_digit rest ≡ false → longest_front (class_in language) (46 ∷ rest) ≡ longest_front (class_in marks) (46 ∷ rest)
+unfolding longest_front
+front_point [] h = ap (option_map (λ class. (class, 1))) (class_of_point [] refl)
+front_point (c ∷ rest) h = λ i. longer (longer (longest_front (λ word. class_of_point (c ∷ word) h i) rest) (class_of_point (c ∷ []) h i)) (class_of_point [] refl i)
+
+front_mark_byte : (b : ℕ) (rest : Text) → is_mark_byte b ≡ true → begins_name b ≡ false → longest_front (class_in language) (b ∷ rest) ≡ longest_front (class_in marks) (b ∷ rest)
+unfolding longest_front
+front_mark_byte b rest h name = λ i. longer (longest_front (λ word. class_of_mark_byte b word h name i) rest) (class_of_mark_byte b [] h name i)
+
+-- a byte with a branch of its own
+is_branch : ℕ → Bool
+is_branch b = b == 32 || (b == 9 || (b == 35 || (b == 39 || (b == 34 || (begins_name b || is_ascii_digit b)))))
+
+or_right : (x y : Bool) → (x || y) ≡ true → x ≡ false → y ≡ true
+or_right true y h e = cc
+or_right false y h e = h
+
+or_left_false : (x y : Bool) → (x || y) ≡ false → x ≡ false
+or_left_false true y h = h
+or_left_false false y h = refl
+
+is_point : (b : ℕ) → (b == 46) ≡ true → b ≡ 46
+is_point b h = grind (arith, nat_tests)
+
+mark_or_point : (b : ℕ) → b < 256 → is_branch b ≡ false → (b == 46 || is_mark_byte b) ≡ true
+unfolding is_branch is_mark_byte openers names
+mark_or_point b small h = or_right _ _ (each_byte (λ b. is_branch b || (b == 46 || is_mark_byte b)) b refl small) h
+
+no_branch : (b : ℕ) → b ≢ 32 → b ≢ 9 → b ≢ 35 → b ≢ 39 → b ≢ 34 → begins_name b ≡ false → is_ascii_digit b ≡ false → is_branch b ≡ false
+unfolding is_branch
+no_branch b blank tab hash single double name digit = rw (ne_eqb b 32 blank, ne_eqb b 9 tab, ne_eqb b 35 hash, ne_eqb b 39 single, ne_eqb b 34 double, name, digit) refl
+
+-- a text that begins with any other byte
+pub front_mark : (text : Text) (b : ℕ) → slice_get text 0 ≡ Some b → b < 256 → b ≢ 32 → b ≢ 9 → b ≢ 35 → b ≢ 39 → b ≢ 34 → begins_name b ≡ false → begins_number text ≡ false → language_front text ≡ longest_front (class_in marks) text
+unfolding language_front
+front_mark [] b e small blank tab hash single double name number = cc
+front_mark (x ∷ rest) b e small blank tab hash single double name number =
+    let same : x ≡ b = cc in
+    rw same (go (b == 46) refl (subst (λ (y : ℕ). begins_number (y ∷ rest) ≡ false) same number))
+  where
+    digit_parts : (rest : Text) → begins_number (b ∷ rest) ≡ false → is_ascii_digit b ≡ false
+    digit_parts [] h = h
+    digit_parts (c ∷ rest) h = or_left_false _ _ h
+
+    behind_point : (rest : Text) → b ≡ 46 → begins_number (b ∷ rest) ≡ false → begins_with is_ascii_digit rest ≡ false
+    behind_point [] point h = refl
+    behind_point (c ∷ rest) point h = rw point at h
+
+    go : (point : Bool) → (b == 46) ≡ point → begins_number (b ∷ rest) ≡ false → longest_front (class_in language) (b ∷ rest) ≡ longest_front (class_in marks) (b ∷ rest)
+    go true point h =
+        let is : b ≡ 46 = is_point b point in
+        rw is (front_point rest (behind_point rest is h))
+    go false point h = front_mark_byte b rest (or_right _ _ (mark_or_point b small (no_branch b blank tab hash single double name (digit_parts rest h))) point) name
