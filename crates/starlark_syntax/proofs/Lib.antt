@@ -3,3 +3,5 @@ pub mod Words
 mod RowsOfWords
 pub mod Scanning
 pub mod Listed
+pub mod Residuals
+pub mod NumberLemmas
