@@ -5,3 +5,7 @@ pub mod Scanning
 pub mod Listed
 pub mod Residuals
 pub mod NumberLemmas
+pub mod Marks
+pub mod ByFirst
+pub mod Ascii
+pub mod Openers

@@ -1,5 +1,5 @@
 -- What the code's classes of words say, as the grammar sees them.
-use Rattle.std.specs.Prelude.{ℕ, Bool, false, ◌&&◌, ◌||◌, ◌==◌, [], ◌∷◌}
+use Rattle.std.specs.Prelude.{ℕ, Bool, false, ◌&&◌, ◌||◌, ◌==◌, [], ◌∷◌, ◌++◌}
 use Rattle.std.specs.Char.{is_ascii_digit}
 use Rattle.starlark_syntax.specs.Words as grammar
 use Rattle.starlark_syntax.specs.declared.lexer.scanner.class.Quote.{Quote}
@@ -96,18 +96,22 @@ class_view class.Binary = grammar.Binary
 class_view class.Float = grammar.Float
 class_view (class.Fixed word) = grammar.Fixed (terminal_view word)
 
--- a keyword or a symbol
-abbrev pub fixed_view : Terminal → grammar.Class
-fixed_view terminal = grammar.Fixed (terminal_view terminal)
-
 -- a word at the front of a text, by its class and its length
 abbrev pub word_view : Word → grammar.Class × ℕ
 word_view word = (class_view word.class, word.len)
+
+-- line ends, escaped or not, and symbols
+abbrev pub marks : grammar.Table
+marks = grammar.listed grammar.line_ends ++ grammar.listed grammar.symbols
 
 -- the first byte passes a test
 abbrev pub begins_with : (ℕ → Bool) → grammar.Text → Bool
 begins_with test [] = false
 begins_with test (b ∷ rest) = test b
+
+-- a single or a double quote
+abbrev pub is_quote : ℕ → Bool
+is_quote b = b == 39 || b == 34
 
 -- a digit, or a point and a digit, stands at the front
 abbrev pub begins_number : grammar.Text → Bool

@@ -1,18 +1,18 @@
 //! Finds the longest word at the front of a text.
 
-ghost use Rattle.std.specs.Prelude.{◌≡◌, ◌≤◌, ◌==◌, ◌∷◌, Some, length, nat_eq, take, true};
+ghost use Rattle.std.specs.Prelude.{◌≡◌, false, ◌≤◌, ◌==◌, ◌∷◌, Some, length, nat_eq, take, true};
 ghost use Rattle.std.specs.List.{prefix_len, slice_get};
 ghost use Rattle.std.specs.Option.{option_map};
 ghost use Rattle.std.specs.Str.{chars};
 ghost use Rattle.starlark_syntax.specs.Front.{language_front};
-ghost use Rattle.starlark_syntax.specs.Scanned.{word_view, begins_number};
+ghost use Rattle.starlark_syntax.specs.Scanned.{begins_number, quote_view, word_view};
 ghost use Rattle.starlark_syntax.specs.Words as grammar;
 
 mod class;
+mod marks;
 mod names;
 mod numbers;
 mod openers;
-mod symbols;
 #[cfg(test)]
 mod tests;
 
@@ -52,30 +52,46 @@ fn line_len(text: &[u8]) -> usize
         .count()
 }
 
-/// The line end at the front of a text, if one stands there.
-fn line_end(text: &[u8]) -> Option<Word> {
-    let len = match text {
-        [b'\n', ..] => 1,
-        [b'\r', b'\n', ..] => 2,
-        _ => return None,
-    };
-    Some(Word {
-        class: Class::LineEnd,
-        len,
-    })
-}
-
-/// The escaped line end at the front of a text, if one stands there.
-fn escaped_line_end(text: &[u8]) -> Option<Word> {
-    let len = match text {
-        [b'\\', b'\n', ..] => 2,
-        [b'\\', b'\r', b'\n', ..] => 3,
-        _ => return None,
-    };
-    Some(Word {
+/// Blanks.
+fn skipped(len: usize) -> Word
+    ensures { word_view result ≡ (grammar.Skipped, len) }
+{
+    Word {
         class: Class::Skipped,
         len,
-    })
+    }
+}
+
+fn tabs(len: usize) -> Word
+    ensures { word_view result ≡ (grammar.Tabs, len) }
+{
+    Word {
+        class: Class::Tabs,
+        len,
+    }
+}
+
+fn comment(len: usize) -> Word
+    ensures { word_view result ≡ (grammar.Comment, len) }
+{
+    Word {
+        class: Class::Comment,
+        len,
+    }
+}
+
+/// A quote that opens a text literal.
+fn quote_word(quote: Quote) -> Word
+    ensures { word_view result ≡ (grammar.Opener grammar.OfText false (quote_view quote), 1) }
+{
+    Word {
+        class: Class::Opener {
+            kind: LiteralKind::Text,
+            is_raw: false,
+            quote,
+        },
+        len: 1,
+    }
 }
 
 /// The longest word at the front of a text, or `None` where no word stands there.
@@ -91,22 +107,12 @@ pub fn first_word(text: &str) -> Option<Word>
         return Some(numbers::number_from(bytes));
     }
     match first {
-        b' ' => Some(Word {
-            class: Class::Skipped,
-            len: blanks_len(bytes),
-        }),
-        b'\t' => Some(Word {
-            class: Class::Tabs,
-            len: tabs_len(bytes),
-        }),
-        b'#' => Some(Word {
-            class: Class::Comment,
-            len: line_len(bytes),
-        }),
-        b'\n' | b'\r' => line_end(bytes),
-        b'\\' => escaped_line_end(bytes),
-        b'\'' | b'"' => openers::opener_class(&text[..1]).map(|class| Word { class, len: 1 }),
-        _ => symbols::symbol_from(bytes),
+        b' ' => Some(skipped(blanks_len(bytes))),
+        b'\t' => Some(tabs(tabs_len(bytes))),
+        b'#' => Some(comment(line_len(bytes))),
+        b'\'' => Some(quote_word(Quote::Single)),
+        b'"' => Some(quote_word(Quote::Double)),
+        _ => marks::mark_from(bytes),
     }
 }
 

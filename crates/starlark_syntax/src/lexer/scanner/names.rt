@@ -1,12 +1,12 @@
 //! Words that begin with a letter or `_`: keywords, reserved words, identifiers, and openers that have a prefix.
 
-ghost use Rattle.std.specs.Prelude.{◌≡◌, ◌≤◌, ◌<◌, ◌+◌, IfSome, Some, length, take, true, unwrap_or};
+ghost use Rattle.std.specs.Prelude.{◌≡◌, ◌≤◌, ◌<◌, ◌+◌, IfSome, get_or, Some, length, take, true, unwrap_or};
 ghost use Rattle.std.specs.List.{prefix_len};
 ghost use Rattle.std.specs.Map.{lookup};
 ghost use Rattle.std.specs.Option.{option_map};
 ghost use Rattle.std.specs.Str.{bytes_eq};
 ghost use Rattle.starlark_syntax.specs.Front.{language_front};
-ghost use Rattle.starlark_syntax.specs.Scanned.{begins_with, class_view, word_view};
+ghost use Rattle.starlark_syntax.specs.Scanned.{begins_with, class_view, is_quote, word_view};
 ghost use Rattle.starlark_syntax.specs.Words as grammar;
 
 use super::class::{Class, Terminal, Word};
@@ -74,6 +74,16 @@ fn name_class(name: &str) -> Class
     }
 }
 
+/// Whether a quote stands at a place of a text.
+fn is_quote_at(text: &[u8], at: usize) -> bool
+    ensures { result ≡ is_quote (get_or text.now at 0) }
+{
+    match text.get(at) {
+        Some(byte) => *byte == b'\'' || *byte == b'"',
+        None => false,
+    }
+}
+
 /// What opens a literal at the front of a text that begins with a name of the given length: that
 /// name as a prefix, and a quote.
 fn prefixed_opener(text: &str, len: usize) -> Option<Class>
@@ -84,10 +94,10 @@ fn prefixed_opener(text: &str, len: usize) -> Option<Class>
     if len > PREFIX_LEN {
         return None;
     }
-    match text.as_bytes().get(len) {
-        Some(b'\'' | b'"') => opener_class(&text[..len + 1]),
-        _ => None,
+    if !is_quote_at(text.as_bytes(), len) {
+        return None;
     }
+    opener_class(&text[..len + 1])
 }
 
 /// The longest word at the front of a text that begins with a letter or `_`.
