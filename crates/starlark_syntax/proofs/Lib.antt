@@ -3,6 +3,8 @@ pub mod Words
 mod RowsOfWords
 pub mod Scanning
 pub mod Listed
+pub mod Residuals
+pub mod NumberLemmas
 pub mod Marks
 pub mod ByFirst
 pub mod Ascii
