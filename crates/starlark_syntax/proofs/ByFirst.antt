@@ -7,9 +7,9 @@ use Rattle.std.specs.List.{list_all, prefix_len, slice_get}
 use Rattle.std.specs.Map.{lookup}
 use Rattle.std.specs.Option.{option_map, option_or}
 use Rattle.std.specs.Str.{bytes_eq}
-use Rattle.starlark_syntax.specs.Words.{Text, Class, Skipped, Comment, Tabs, LineEnd, Opener, OfText, SingleQuote, DoubleQuote, Identifier, class_in, listed, openers, line_ends, symbols, names, patterns, language, begins_name, is_in_name, is_in_line, is_based, is_float, is_fraction, is_pointed, begins_with_digit, is_identifier, is_comment, is_run, is_octal_digit, is_binary_digit}
+use Rattle.starlark_syntax.specs.Words.{Text, Class, Skipped, Comment, Tabs, LineEnd, Opener, OfText, SingleQuote, DoubleQuote, Identifier, class_in, listed, openers, line_ends, symbols, names, patterns, language, begins_name, is_in_name, is_in_line, is_based, is_float, is_fraction, is_pointed, begins, begins_with_digit, is_identifier, is_comment, is_run, is_octal_digit, is_binary_digit}
 use Rattle.starlark_syntax.specs.Front.{longer, longest_front, language_front}
-use Rattle.starlark_syntax.specs.Scanned.{begins_with, begins_number, is_quote, marks}
+use Rattle.starlark_syntax.specs.Scanned.{begins_number, is_quote, marks}
 use Rattle.starlark_syntax.proofs.Front.{front_single, front_run}
 use Rattle.starlark_syntax.proofs.Listed.{class_of_name, opener_of, all_pass, begins_otherwise, lookup_fails, lookup_elsewhere, each_byte, implied}
 use Rattle.starlark_syntax.proofs.Marks.{mark_is}
@@ -18,13 +18,13 @@ use Rattle.starlark_syntax.proofs.Words.{class_in-listed, class_in-language}
 
 -- a byte that begins neither blanks, tabs, a comment nor a number
 abbrev pub is_plain : ℕ → Bool
-is_plain b = not (nat_eq 32 b) && (not (nat_eq 9 b) && (not (b == 35) && (not (b == 46) && (not (b == 48) && not (is_ascii_digit b)))))
+is_plain b = not (nat_eq 32 b) && (not (nat_eq 9 b) && (not (b == 35) && (not (nat_eq 46 b) && (not (b == 48) && not (is_ascii_digit b)))))
 
 pub record Plain (b : ℕ) : Type 0 where
   pub blank : nat_eq 32 b ≡ false
   pub tab : nat_eq 9 b ≡ false
   pub hash : (b == 35) ≡ false
-  pub point : (b == 46) ≡ false
+  pub point : nat_eq 46 b ≡ false
   pub zero : (b == 48) ≡ false
   pub digit : is_ascii_digit b ≡ false
 
@@ -44,19 +44,19 @@ not_based lower upper test b (c ∷ word) h = rw h refl
 not_float : (b : ℕ) (word : Text) → is_ascii_digit b ≡ false → is_float (b ∷ word) ≡ false
 not_float b word h = rw h refl
 
-not_pointed : (b : ℕ) (word : Text) → (b == 46) ≡ false → is_pointed (b ∷ word) ≡ false
+not_pointed : (b : ℕ) (word : Text) → nat_eq 46 b ≡ false → is_pointed (b ∷ word) ≡ false
 not_pointed b word h = rw h refl
 
 and_false : (x y : Bool) → y ≡ false → (x && y) ≡ false
 and_false true y h = h
 and_false false y h = refl
 
-no_digit : (word : Text) → begins_with is_ascii_digit word ≡ false → begins_with_digit word ≡ false
+no_digit : (word : Text) → begins is_ascii_digit word ≡ false → begins_with_digit word ≡ false
 no_digit [] h = refl
 no_digit (b ∷ word) h = rw h refl
 
 -- a point with no digit behind it begins no number
-point_alone : (word : Text) → begins_with is_ascii_digit word ≡ false → is_pointed (46 ∷ word) ≡ false
+point_alone : (word : Text) → begins is_ascii_digit word ≡ false → is_pointed (46 ∷ word) ≡ false
 point_alone word h = and_false (is_fraction (46 ∷ word)) (begins_with_digit word) (no_digit word h)
 
 -- the numbers among the patterns, for words that begin with no number's byte
@@ -153,7 +153,7 @@ named (Some opener) name n = Some (opener, n + 1)
 named None name n = Some (name, n)
 
 -- a text that begins with a name's byte
-pub front_named : (text : Text) (n : ℕ) → ((i : ℕ) → get_or text i 0 < 256) → begins_with begins_name text ≡ true → n ≡ prefix_len is_in_name text → language_front text ≡ named (opener_of (take (n + 1) text)) (class_of_name (take n text)) n
+pub front_named : (text : Text) (n : ℕ) → ((i : ℕ) → get_or text i 0 < 256) → begins begins_name text ≡ true → n ≡ prefix_len is_in_name text → language_front text ≡ named (opener_of (take (n + 1) text)) (class_of_name (take n text)) n
 unfolding language_front
 front_named [] n small h e = cc
 front_named (b ∷ rest) n small h e =
@@ -304,11 +304,11 @@ class_of_mark_byte b word h name =
     let two = and_parts _ _ one.1 in
     class_of_mark b word two.0 two.1 (patterns_plain b word (plain b one.0) ∙ rw name refl)
 
-class_of_point : (word : Text) → begins_with is_ascii_digit word ≡ false → class_in language (46 ∷ word) ≡ class_in marks (46 ∷ word)
+class_of_point : (word : Text) → begins is_ascii_digit word ≡ false → class_in language (46 ∷ word) ≡ class_in marks (46 ∷ word)
 unfolding openers names
 class_of_point word h = class_of_mark 46 word refl refl (no_number 46 word refl refl (point_alone word h))
 
-front_point : (rest : Text) → begins_with is_ascii_digit rest ≡ false → longest_front (class_in language) (46 ∷ rest) ≡ longest_front (class_in marks) (46 ∷ rest)
+front_point : (rest : Text) → begins is_ascii_digit rest ≡ false → longest_front (class_in language) (46 ∷ rest) ≡ longest_front (class_in marks) (46 ∷ rest)
 unfolding longest_front
 front_point [] h = ap (option_map (λ class. (class, 1))) (class_of_point [] refl)
 front_point (c ∷ rest) h = λ i. longer (longer (longest_front (λ word. class_of_point (c ∷ word) h i) rest) (class_of_point (c ∷ []) h i)) (class_of_point [] refl i)
@@ -352,7 +352,7 @@ front_mark (x ∷ rest) b e small blank tab hash single double name number =
     digit_parts [] h = h
     digit_parts (c ∷ rest) h = or_left_false _ _ h
 
-    behind_point : (rest : Text) → b ≡ 46 → begins_number (b ∷ rest) ≡ false → begins_with is_ascii_digit rest ≡ false
+    behind_point : (rest : Text) → b ≡ 46 → begins_number (b ∷ rest) ≡ false → begins is_ascii_digit rest ≡ false
     behind_point [] point h = refl
     behind_point (c ∷ rest) point h = rw point at h
 

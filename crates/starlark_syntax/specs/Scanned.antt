@@ -104,11 +104,6 @@ word_view word = (class_view word.class, word.len)
 abbrev pub marks : grammar.Table
 marks = grammar.listed grammar.line_ends ++ grammar.listed grammar.symbols
 
--- the first byte passes a test
-abbrev pub begins_with : (ℕ → Bool) → grammar.Text → Bool
-begins_with test [] = false
-begins_with test (b ∷ rest) = test b
-
 -- a single or a double quote
 abbrev pub is_quote : ℕ → Bool
 is_quote b = b == 39 || b == 34

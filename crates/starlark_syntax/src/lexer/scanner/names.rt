@@ -6,7 +6,7 @@ ghost use Rattle.std.specs.Map.{lookup};
 ghost use Rattle.std.specs.Option.{option_map};
 ghost use Rattle.std.specs.Str.{bytes_eq};
 ghost use Rattle.starlark_syntax.specs.Front.{language_front};
-ghost use Rattle.starlark_syntax.specs.Scanned.{begins_with, class_view, is_quote, word_view};
+ghost use Rattle.starlark_syntax.specs.Scanned.{class_view, is_quote, word_view};
 ghost use Rattle.starlark_syntax.specs.Words as grammar;
 
 use super::class::{Class, Terminal, Word};
@@ -102,7 +102,7 @@ fn prefixed_opener(text: &str, len: usize) -> Option<Class>
 
 /// The longest word at the front of a text that begins with a letter or `_`.
 pub fn name_from(text: &str) -> Word
-    requires { begins_with grammar.begins_name text.now ≡ true }
+    requires { grammar.begins grammar.begins_name text.now ≡ true }
     ensures { Some (word_view result) ≡ language_front text.now }
 {
     let len = name_len(text.as_bytes());
