@@ -1,3 +1,4 @@
 pub mod Front
 pub mod Words
 mod RowsOfWords
+mod RowsOfTexts

@@ -2,3 +2,8 @@ pub mod Words
 pub mod Front
 pub mod Numbers
 pub mod Tokens
+pub mod Items
+pub mod Depths
+pub mod Margins
+pub mod Pieces
+pub mod Reading
