@@ -1,4 +1,4 @@
 pub mod Front
 pub mod Words
+mod Rows
 mod RowsOfWords
-mod RowsOfTexts

@@ -7,3 +7,4 @@ pub mod Depths
 pub mod Margins
 pub mod Pieces
 pub mod Reading
+pub mod Cuts
