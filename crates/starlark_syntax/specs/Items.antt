@@ -1,5 +1,5 @@
 -- The items of a literal's body, and where the body stops.
-use Rattle.std.specs.Prelude.{ℕ, zero, suc, ◌+◌, ◌-◌, max, Bool, true, false, ◌&&◌, ◌||◌, not, ◌==◌, if◌then◌else◌, nat_eq, nat_lt, nat_le, List, [], ◌∷◌, ◌++◌, length, take, drop, sum_by, flat_map, encode_utf8, Option, Some, None}
+use Rattle.std.specs.Prelude.{ℕ, zero, suc, ◌+◌, ◌-◌, Bool, true, false, ◌&&◌, ◌||◌, not, ◌==◌, if◌then◌else◌, nat_eq, nat_lt, nat_le, List, [], ◌∷◌, ◌++◌, length, take, drop, sum_by, flat_map, encode_utf8, Option, Some, None}
 use Rattle.std.specs.Char.{is_ascii_hexdigit}
 use Rattle.std.specs.List.{prefix_len, starts_with}
 use Rattle.std.specs.Map.{lookup}
@@ -54,8 +54,12 @@ closing_quotes opening = if opening.is_triple then quotes 3 else quotes 1
 
 -- An escape whose first `good` bytes are in order goes no further: the character behind them is the last that is
 -- read, and at the text's end it is the last of the bytes themselves.
+abbrev pub broken_by : ℕ → Text → Found
+broken_by good [] = Stops (BadEscape good 1)
+broken_by good (b ∷ bs) = Stops (BadEscape (good + length (b ∷ bs)) (length (b ∷ bs)))
+
 abbrev pub broken : ℕ → Text → Found
-broken good behind = Stops (BadEscape (good + length (first_character behind)) (max 1 (length (first_character behind))))
+broken good behind = broken_by good (first_character behind)
 
 -- the number of a character: no surrogate, and not too great
 abbrev pub is_character : ℕ → Bool
