@@ -3,5 +3,6 @@ pub mod Front
 pub mod Words
 pub mod Bodies
 pub mod Steps
+pub mod Readings
 mod Rows
 mod RowsOfWords

@@ -8,3 +8,4 @@ pub mod Margins
 pub mod Pieces
 pub mod Reading
 pub mod Cuts
+pub mod Laws
