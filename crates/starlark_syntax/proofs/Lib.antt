@@ -1,5 +1,10 @@
+pub mod Lists
 pub mod Front
 pub mod Words
+pub mod Bodies
+pub mod Steps
+pub mod Readings
+mod Rows
 mod RowsOfWords
 pub mod Scanning
 pub mod Listed
