@@ -14,3 +14,4 @@ pub mod Marks
 pub mod ByFirst
 pub mod Ascii
 pub mod Openers
+pub mod FirstCharacter

@@ -3,8 +3,9 @@
 ghost use Rattle.std.specs.Prelude.{◌≡◌, false, ◌≤◌, ◌==◌, ◌∷◌, Some, length, nat_eq, take, true};
 ghost use Rattle.std.specs.List.{prefix_len, slice_get};
 ghost use Rattle.std.specs.Option.{option_map};
-ghost use Rattle.std.specs.Str.{chars};
+ghost use Rattle.std.specs.Str.{IsCharBoundary};
 ghost use Rattle.starlark_syntax.specs.Front.{language_front};
+ghost use Rattle.starlark_syntax.specs.Items.{first_character};
 ghost use Rattle.starlark_syntax.specs.Scanned.{begins_number, quote_view, word_view};
 ghost use Rattle.starlark_syntax.specs.Words as grammar;
 
@@ -117,8 +118,13 @@ pub fn first_word(text: &str) -> Option<Word>
 }
 
 /// The length in bytes of the first character of a text; 0 where the text is empty.
-pub fn first_character_len(text: &str) -> usize {
-    text.chars()
-        .next()
-        .map_or(0, |character| character.len_utf8())
+pub fn first_character_len(text: &str) -> usize
+    ensures character { take result text.now ≡ first_character text.now }
+    ensures whole { result ≡ length (first_character text.now) }
+    ensures boundary { IsCharBoundary text.now result }
+{
+    match text.chars().next() {
+        Some(character) => character.len_utf8(),
+        None => 0,
+    }
 }
