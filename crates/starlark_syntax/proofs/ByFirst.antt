@@ -127,7 +127,7 @@ class_of_named b word small h = class_in-language (b ∷ word) ∙ go (list_all 
 
     go : (all : Bool) → list_all is_in_name word ≡ all
         → option_or (opener_of (b ∷ word)) (option_or (lookup (bytes_eq (b ∷ word)) line_ends) (option_or (lookup (bytes_eq (b ∷ word)) symbols) (option_or (lookup (bytes_eq (b ∷ word)) names) (class_in patterns (b ∷ word)))))
-            ≡ cond all (Some (class_of_name (b ∷ word))) (opener_of (b ∷ word))
+        ≡ cond all (Some (class_of_name (b ∷ word))) (opener_of (b ∷ word))
     go true e =
         rw (
           lookup_fails (λ word. not (list_all is_in_name word)) (b ∷ word) openers openers_are_no_names (rw (in_name b h, e) refl),
@@ -158,9 +158,9 @@ unfolding language_front
 front_named [] n small h e = cc
 front_named (b ∷ rest) n small h e =
     front_ended is_in_name (class_in language) (λ word. class_of_name (b ∷ word)) (λ word. opener_of (b ∷ word)) b rest
-      (λ word. class_of_named b word (small 0) h)
-      (λ word all. lookup_fails (λ word. not (list_all is_in_name word)) (b ∷ word) openers openers_are_no_names (rw (in_name b h, all) refl))
-      (λ front c d word all fails. lookup_fails ends_at_other (b ∷ (front ++ c ∷ d ∷ word)) openers openers_end_so (rw (in_name b h) (goes_on front c d word all fails)))
+    (λ word. class_of_named b word (small 0) h)
+    (λ word all. lookup_fails (λ word. not (list_all is_in_name word)) (b ∷ word) openers openers_are_no_names (rw (in_name b h, all) refl))
+    (λ front c d word all fails. lookup_fails ends_at_other (b ∷ (front ++ c ∷ d ∷ word)) openers openers_end_so (rw (in_name b h) (goes_on front c d word all fails)))
     ∙ shape n (prefix_len is_in_name rest) (e ∙ rw (in_name b h) (omega arith))
   where
     one_more : (found : Option Class) (name : Class) (m : ℕ) → run_and found name m ≡ named found name (suc m)

@@ -30,7 +30,7 @@ front_alike class_of other b rest h = rw (front_first class_of b rest, front_fir
 pub len_alike : (test other : Text → Bool) (b : ℕ) (rest : Text) → ((word : Text) → test (b ∷ word) ≡ other (b ∷ word)) → longest_len test (b ∷ rest) ≡ longest_len other (b ∷ rest)
 len_alike test other b rest h =
     len_of_test {C = ℕ} 0 test (b ∷ rest) (longest_len other (b ∷ rest))
-        (front_alike (when {C = ℕ} 0 test) (when {C = ℕ} 0 other) b rest (λ word. rw (h word) refl) ∙ front_of_test {C = ℕ} 0 other (b ∷ rest))
+    (front_alike (when {C = ℕ} 0 test) (when {C = ℕ} 0 other) b rest (λ word. rw (h word) refl) ∙ front_of_test {C = ℕ} 0 other (b ∷ rest))
 
 -- no exponent without its letter
 pub exponent_none : (text : Text) → begins is_exponent_letter text ≡ false → longest_len is_exponent text ≡ 0
@@ -60,14 +60,14 @@ power_front (b ∷ rest) = go (is_sign b) refl
     go true e = rw (front_into power digits b rest (λ word. rw e refl) refl, front_of_some {C = ℕ} is_ascii_digit 0 rest, e) refl
     go false e =
         rw (front_on_longest power (b ∷ rest), front_alike power digits b rest (λ word. rw e refl), ← front_on_longest digits (b ∷ rest), front_of_some {C = ℕ} is_ascii_digit 0 (b ∷ rest), e)
-            (sym (longer_by_none (if_some {C = ℕ} 0 (prefix_len is_ascii_digit (b ∷ rest)))))
+        (sym (longer_by_none (if_some {C = ℕ} 0 (prefix_len is_ascii_digit (b ∷ rest)))))
 
 pub exponent_some : (text : Text) → begins is_exponent_letter text ≡ true → longest_len is_exponent text ≡ exponent_of (sign_len (drop 1 text)) (prefix_len is_ascii_digit (unsigned (drop 1 text)))
 exponent_some [] h = cc
 exponent_some (b ∷ rest) h =
     len_of_test {C = ℕ} 0 is_exponent (b ∷ rest) (exponent_of (sign_len rest) (prefix_len is_ascii_digit (unsigned rest)))
-        (rw (front_first (when {C = ℕ} 0 is_exponent) b rest, front_same (λ word. when {C = ℕ} 0 is_exponent (b ∷ word)) (when {C = ℕ} 0 (λ word. is_run is_ascii_digit (unsigned word))) rest (λ word. rw h refl), power_front rest)
-            (go (sign_len rest) (prefix_len is_ascii_digit (unsigned rest))))
+    (rw (front_first (when {C = ℕ} 0 is_exponent) b rest, front_same (λ word. when {C = ℕ} 0 is_exponent (b ∷ word)) (when {C = ℕ} 0 (λ word. is_run is_ascii_digit (unsigned word))) rest (λ word. rw h refl), power_front rest)
+    (go (sign_len rest) (prefix_len is_ascii_digit (unsigned rest))))
   where
     plain : ℕ → Option (ℕ × ℕ)
     plain n = Some (0, n)
@@ -114,7 +114,7 @@ module _ {C : Type 0} (alone with_end : C) (ends : Text → Bool) where
       at_end [] e = rw (front_end digits_and_end, len_nothing ends) refl
       at_end (b ∷ rest) e =
           rw (front_on_longest digits_and_end (b ∷ rest), front_alike digits_and_end (when with_end ends) b rest (λ word. rw e refl), front_of_test with_end ends (b ∷ rest))
-              (chosen (longest_len ends (b ∷ rest)))
+          (chosen (longest_len ends (b ∷ rest)))
 
 -- no fraction without its point
 pub fraction_none : (text : Text) → begins (nat_eq 46) text ≡ false → longest_len is_fraction text ≡ 0
@@ -131,8 +131,8 @@ pub fraction_some : (text : Text) → begins (nat_eq 46) text ≡ true
 fraction_some [] h = cc
 fraction_some (b ∷ rest) h =
     len_of_test {C = ℕ} 0 is_fraction (b ∷ rest) (suc (prefix_len is_ascii_digit rest + longest_len is_exponent (behind_digits rest)))
-        (rw (front_first (when {C = ℕ} 0 is_fraction) b rest, front_same (λ word. when {C = ℕ} 0 is_fraction (b ∷ word)) fraction rest same, front_behind_digits {C = ℕ} 0 0 is_exponent rest, ended_plain (longest_len is_exponent (behind_digits rest)))
-            (ap plain (omega arith)))
+    (rw (front_first (when {C = ℕ} 0 is_fraction) b rest, front_same (λ word. when {C = ℕ} 0 is_fraction (b ∷ word)) fraction rest same, front_behind_digits {C = ℕ} 0 0 is_exponent rest, ended_plain (longest_len is_exponent (behind_digits rest)))
+    (ap plain (omega arith)))
   where
     fraction : Text → Option ℕ
     fraction word = cond (list_all is_ascii_digit word) (Some 0) (when {C = ℕ} 0 is_exponent (behind_digits word))
@@ -254,13 +254,22 @@ module _ (class : Class) (test : ℕ → Bool) (letter : ℕ) (known : (word : T
     (known_base : (word : Text) → class_in based (48 ∷ letter ∷ word) ≡ when class (is_run test) word) (no_digit : is_ascii_digit letter ≡ false) where
   number_based : (rest : Text) → longest_len makes_float (letter ∷ rest) ≡ 0 → longest_front (class_in numbers) (48 ∷ letter ∷ rest) ≡ number_front (48 ∷ letter ∷ rest)
   number_based rest no_float =
-      rw (front_first (class_in numbers) 48 (letter ∷ rest), front_first (class_in based) 48 (letter ∷ rest),
-          front_on_longest (λ word. class_in numbers (48 ∷ word)) (letter ∷ rest), front_on_longest (λ word. class_in based (48 ∷ word)) (letter ∷ rest),
-          front_first (λ word. class_in numbers (48 ∷ word)) letter rest, front_first (λ word. class_in based (48 ∷ word)) letter rest,
-          front_same (λ word. class_in numbers (48 ∷ letter ∷ word)) (when class (is_run test)) rest known,
-          front_same (λ word. class_in based (48 ∷ letter ∷ word)) (when class (is_run test)) rest known_base,
-          front_of_some test class rest, no_digit, digits_alone 48 refl refl, base_alone 48 refl refl, no_float)
-          (go (prefix_len test rest))
+      rw (
+        front_first (class_in numbers) 48 (letter ∷ rest),
+        front_first (class_in based) 48 (letter ∷ rest),
+        front_on_longest (λ word. class_in numbers (48 ∷ word)) (letter ∷ rest),
+        front_on_longest (λ word. class_in based (48 ∷ word)) (letter ∷ rest),
+        front_first (λ word. class_in numbers (48 ∷ word)) letter rest,
+        front_first (λ word. class_in based (48 ∷ word)) letter rest,
+        front_same (λ word. class_in numbers (48 ∷ letter ∷ word)) (when class (is_run test)) rest known,
+        front_same (λ word. class_in based (48 ∷ letter ∷ word)) (when class (is_run test)) rest known_base,
+        front_of_some test class rest,
+        no_digit,
+        digits_alone 48 refl refl,
+        base_alone 48 refl refl,
+        no_float,
+      )
+      (go (prefix_len test rest))
     where
       go : (n : ℕ) → longer_by 1 (option_or (longer_by 1 (if_some class n)) (Some (Decimal, 0))) ≡ option_or (longer_by 1 (option_or (longer_by 1 (if_some class n)) None)) (Some (Decimal, 1))
       go zero = refl
@@ -318,7 +327,7 @@ unfolding class_in patterns openers line_ends symbols names is_no_pointed
 pointed_class d word digit =
     class_in-language (46 ∷ d ∷ word)
     ∙ rw (lookup_elsewhere 46 (d ∷ word) openers refl, lookup_elsewhere 46 (d ∷ word) line_ends refl, lookup_fails is_no_pointed (46 ∷ d ∷ word) symbols refl (ap not digit), lookup_elsewhere 46 (d ∷ word) names refl, digit)
-        (go _)
+    (go _)
   where
     go : (x : Bool) → cond (x && true) (Some Float) None ≡ cond x (Some Float) None
     go true = refl
@@ -348,8 +357,16 @@ digit_class : (b : ℕ) (word : Text) → b < 256 → is_ascii_digit b ≡ true 
 unfolding class_in patterns openers line_ends symbols names
 digit_class b word small digit =
     class_in-language (b ∷ word)
-    ∙ rw (lookup_elsewhere b word openers (no_row openers refl), lookup_elsewhere b word line_ends (no_row line_ends refl), lookup_elsewhere b word symbols (no_row symbols refl), lookup_elsewhere b word names (no_row names refl),
-        no_byte (λ b. nat_eq 32 b) refl, no_byte (λ b. b == 35) refl, no_byte (λ b. nat_eq 9 b) refl, no_byte begins_name refl) refl
+    ∙ rw (
+      lookup_elsewhere b word openers (no_row openers refl),
+      lookup_elsewhere b word line_ends (no_row line_ends refl),
+      lookup_elsewhere b word symbols (no_row symbols refl),
+      lookup_elsewhere b word names (no_row names refl),
+      no_byte (λ b. nat_eq 32 b) refl,
+      no_byte (λ b. b == 35) refl,
+      no_byte (λ b. nat_eq 9 b) refl,
+      no_byte begins_name refl,
+    ) refl
   where
     no_row : (rows : List (Text × Class)) → agree_below (λ b. not (is_ascii_digit b) || all_pass (begins_otherwise b) rows) (λ _. true) 256 ≡ true → all_pass (begins_otherwise b) rows ≡ true
     no_row rows h = implied _ _ (each_byte (λ b. not (is_ascii_digit b) || all_pass (begins_otherwise b) rows) b h small) digit
@@ -369,8 +386,13 @@ digit_front b rest small digit =
 point_front : (d : ℕ) (rest : Text) → is_ascii_digit d ≡ true → language_front (46 ∷ d ∷ rest) ≡ number_front (46 ∷ d ∷ rest)
 unfolding class_in
 point_front d rest digit =
-    rw (pointed_front d rest digit, front_first (class_in based) 46 (d ∷ rest), front_never (λ word. class_in based (46 ∷ word)) (d ∷ rest) (λ word. no_base word),
-        float_end (46 ∷ d ∷ rest), fraction_some (46 ∷ d ∷ rest) refl) (ap (λ n. Some (Float, n)) (omega arith))
+    rw (
+      pointed_front d rest digit,
+      front_first (class_in based) 46 (d ∷ rest),
+      front_never (λ word. class_in based (46 ∷ word)) (d ∷ rest) (λ word. no_base word),
+      float_end (46 ∷ d ∷ rest),
+      fraction_some (46 ∷ d ∷ rest) refl,
+    ) (ap (λ n. Some (Float, n)) (omega arith))
   where
     no_base : (word : Text) → class_in based (46 ∷ word) ≡ None
     no_base [] = refl
@@ -394,9 +416,15 @@ if_based class (suc digits) = Some (class, suc digits + 2)
 module _ (class : Class) (test : ℕ → Bool) (letter : ℕ) (known : (word : Text) → class_in based (48 ∷ letter ∷ word) ≡ when class (is_run test) word) where
   base_digits : (rest : Text) → longest_front (class_in based) (48 ∷ letter ∷ rest) ≡ if_based class (prefix_len test rest)
   base_digits rest =
-      rw (front_first (class_in based) 48 (letter ∷ rest), front_on_longest (λ word. class_in based (48 ∷ word)) (letter ∷ rest), front_first (λ word. class_in based (48 ∷ word)) letter rest,
-          front_same (λ word. class_in based (48 ∷ letter ∷ word)) (when class (is_run test)) rest known, front_of_some test class rest, base_alone 48 refl refl)
-          (go (prefix_len test rest))
+      rw (
+        front_first (class_in based) 48 (letter ∷ rest),
+        front_on_longest (λ word. class_in based (48 ∷ word)) (letter ∷ rest),
+        front_first (λ word. class_in based (48 ∷ word)) letter rest,
+        front_same (λ word. class_in based (48 ∷ letter ∷ word)) (when class (is_run test)) rest known,
+        front_of_some test class rest,
+        base_alone 48 refl refl,
+      )
+      (go (prefix_len test rest))
     where
       go : (n : ℕ) → longer_by 1 (option_or (longer_by 1 (if_some class n)) None) ≡ if_based class n
       go zero = refl

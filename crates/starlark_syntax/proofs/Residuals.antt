@@ -167,7 +167,7 @@ unfolding longest_front longest_len
 front_of_test class test [] = refl
 front_of_test {C} class test (b ∷ rest) =
     go (longest_len (λ word. test (b ∷ word)) rest) (longest_front (when class (λ word. test (b ∷ word))) rest) (longest_front (when {C = ℕ} 0 (λ word. test (b ∷ word))) rest)
-        (test (b ∷ [])) (front_of_test class (λ word. test (b ∷ word)) rest) (front_of_test {C = ℕ} 0 (λ word. test (b ∷ word)) rest)
+    (test (b ∷ [])) (front_of_test class (λ word. test (b ∷ word)) rest) (front_of_test {C = ℕ} 0 (λ word. test (b ∷ word)) rest)
   where
     go : (n : ℕ) (more : Option (C × ℕ)) (plain : Option (ℕ × ℕ)) (alone : Bool) → more ≡ if_some class n → plain ≡ if_some {C = ℕ} 0 n
         → longer more (cond alone (Some class) None) ≡ if_some class (unwrap_or (option_map (λ (front : ℕ × ℕ). front.1) (longer plain (cond alone (Some 0) None))) 0)

@@ -44,9 +44,9 @@ front_ended {C} test class_of g h b (c ∷ rest) known passing ending = go (test
 
     go : (passes : Bool) → test c ≡ passes
         → (((word : Text) → class_of (b ∷ c ∷ word) ≡ cond (list_all test word) (Some (g (c ∷ word))) (h (c ∷ word)))
-            → ((word : Text) → list_all test word ≡ true → h (c ∷ word) ≡ None)
-            → ((front : Text) (x y : ℕ) (word : Text) → list_all test front ≡ true → test x ≡ false → h (c ∷ (front ++ x ∷ y ∷ word)) ≡ None)
-            → longest_front (λ word. class_of (b ∷ word)) (c ∷ rest) ≡ run_and (h (c ∷ take (prefix_len test rest + 1) rest)) (g (c ∷ take (prefix_len test rest) rest)) (prefix_len test rest))
+        → ((word : Text) → list_all test word ≡ true → h (c ∷ word) ≡ None)
+        → ((front : Text) (x y : ℕ) (word : Text) → list_all test front ≡ true → test x ≡ false → h (c ∷ (front ++ x ∷ y ∷ word)) ≡ None)
+        → longest_front (λ word. class_of (b ∷ word)) (c ∷ rest) ≡ run_and (h (c ∷ take (prefix_len test rest + 1) rest)) (g (c ∷ take (prefix_len test rest) rest)) (prefix_len test rest))
         → longest_front class_of (b ∷ c ∷ rest) ≡ run_and (h (take (prefix_len test (c ∷ rest) + 1) (c ∷ rest))) (g (take (prefix_len test (c ∷ rest)) (c ∷ rest))) (prefix_len test (c ∷ rest))
     go true e more =
         let inner = more (λ word. rw (known (c ∷ word), e) refl) (λ word all. passing (c ∷ word) (rw (e) all)) (λ front x y word all fails. ending (c ∷ front) x y word (rw e all) fails) in

@@ -84,7 +84,7 @@ margin_step_fits : (least len : ℕ) (before : List Lexeme) (levels : List ℕ) 
 unfolding margin_step
 margin_step_fits least len before levels margin text some inside =
     let layout : (lexemes : List Lexeme) (width : Option ℕ) → PieceFits least text (record { len = len + margin_len margin; lexemes = lexemes; width = width; sort = Layout }) =
-      λ lexemes width. record { some = omega arith; inside = inside; sort = refl } in
+    λ lexemes width. record { some = omega arith; inside = inside; sort = refl } in
     either (StepFits least text) (not (is_content margin.behind)) _ _ (layout _ _)
     (either (StepFits least text) (has_tab margin) _ _ (record { order = omega arith; inside = omega arith })
     (either (StepFits least text) (fits (width_of margin) levels) _ _ (layout _ _) (record { order = omega arith; inside = inside })))
@@ -111,7 +111,7 @@ literal_by_fits place kind opening len behind text body (BadEscape read last) so
     let within = stop.2 in
     let taken = take_fits read (drop (body_len body) behind) in
     escape_fault_fits (len + body_len body) (drop 1 (take read (drop (body_len body) behind))) text
-      (omega (arith, length-drop (body_len body) behind, length-drop 1 (take read (drop (body_len body) behind)), taken.0, taken.1))
+    (omega (arith, length-drop (body_len body) behind, length-drop 1 (take read (drop (body_len body) behind)), taken.0, taken.1))
 literal_by_fits place kind opening len behind text body Line some inside fits stop = record { order = omega arith; inside = omega arith }
 literal_by_fits place kind opening len behind text body Ended some inside fits stop = record { order = omega arith; inside = inside }
 literal_by_fits place kind opening len behind text body OpeningBrace some inside fits stop = record { order = omega arith; inside = inside }

@@ -7,19 +7,16 @@ ghost use Rattle.starlark_syntax.specs.Laws.{FrontIsLongest, LongestFrontIsOne, 
 pub fn one_longest_front()
     ensures is_longest { FrontIsLongest }
     ensures only { LongestFrontIsOne }
-{
-}
+{}
 
 /// Of two readings of fronts of one text one begins the other, and both lie inside of the text.
 pub fn one_reading()
     ensures agree { ReadingsAgree }
     ensures inside { ReadingsFit }
-{
-}
+{}
 
 /// Each text has exactly one outcome: that of its longest reading.
 pub fn one_outcome()
     ensures is_outcome { OutcomeIs }
     ensures only { OutcomeIsOne }
-{
-}
+{}

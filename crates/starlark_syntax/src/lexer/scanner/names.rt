@@ -107,7 +107,10 @@ pub fn name_from(text: &str) -> Word
 {
     let len = name_len(text.as_bytes());
     match prefixed_opener(text, len) {
-        Some(class) => Word { class, len: len + 1 },
+        Some(class) => Word {
+            class,
+            len: len + 1,
+        },
         None => Word {
             class: name_class(&text[..len]),
             len,

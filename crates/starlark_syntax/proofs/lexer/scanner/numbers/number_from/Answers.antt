@@ -17,6 +17,6 @@ returns c =
     let based = rw c.in_default.is at c.based_front.ensures in
     let more = rw (take_rest, c.digits_len-digits.ensures.value) at c.float_end_len-more.ensures.value in
     elim c.if-more-eq0.branch [
-        then-more-eq0 w ↦ sym (whole ∙ rw (← based, ← more, ← c.digits_len-digits.ensures.value, w.class-is) (digits_only _ _ w.if-more-eq0.true))
-        | else-more-eq0 w ↦ sym (whole ∙ rw (← based, ← more, ← c.digits_len-digits.ensures.value, w.class-is) (digits_and_more _ _ w.if-more-eq0.false))
+      | then-more-eq0 w ↦ sym (whole ∙ rw (← based, ← more, ← c.digits_len-digits.ensures.value, w.class-is) (digits_only _ _ w.if-more-eq0.true))
+      | else-more-eq0 w ↦ sym (whole ∙ rw (← based, ← more, ← c.digits_len-digits.ensures.value, w.class-is) (digits_and_more _ _ w.if-more-eq0.false))
     ]
