@@ -5,7 +5,7 @@ use Rattle.std.proofs.lemmas.Bool.{eqb-true, not-true, and_parts, agree_below}
 use Rattle.std.specs.Char.{is_ascii_digit, is_ascii_hexdigit}
 use Rattle.std.specs.List.{prefix_len, list_all}
 use Rattle.std.specs.Option.{option_map, option_or}
-use Rattle.starlark_syntax.specs.Words.{Text, Class, Decimal, Hexadecimal, Octal, Binary, Float, class_in, language, openers, line_ends, symbols, names, patterns, begins_name, numbers, based, has_base, is_octal_digit, is_binary_digit, begins, is_run, sign_len, is_sign, unsigned, is_exponent_letter, is_exponent, behind_digits, ends_float, is_fraction, makes_float}
+use Rattle.starlark_syntax.specs.Words.{Text, Class, Decimal, Hexadecimal, Octal, Binary, Float, class_in, language, openers, line_ends, symbols, names, patterns, begins_name, numbers, based, has_base, is_octal_digit, is_binary_digit, begins, is_run, sign_len, is_sign, unsigned, is_exponent_letter, is_exponent, behind_digits, ends_float, is_point, is_fraction, makes_float}
 use Rattle.starlark_syntax.specs.Front.{longest_front, language_front}
 use Rattle.starlark_syntax.specs.Lengths.{longest_len}
 use Rattle.starlark_syntax.specs.Scanned.{begins_number, word_view, class_view}
@@ -117,7 +117,7 @@ module _ {C : Type 0} (alone with_end : C) (ends : Text → Bool) where
           (chosen (longest_len ends (b ∷ rest)))
 
 -- no fraction without its point
-pub fraction_none : (text : Text) → begins (nat_eq 46) text ≡ false → longest_len is_fraction text ≡ 0
+pub fraction_none : (text : Text) → begins is_point text ≡ false → longest_len is_fraction text ≡ 0
 fraction_none [] h = len_nothing is_fraction
 fraction_none (b ∷ rest) h = len_never is_fraction b rest (λ word. rw h refl)
 
@@ -126,7 +126,7 @@ ended_plain : (n : ℕ) → ended {C = ℕ} 0 0 is_exponent n ≡ Some (0, n)
 ended_plain zero = refl
 ended_plain (suc n) = refl
 
-pub fraction_some : (text : Text) → begins (nat_eq 46) text ≡ true
+pub fraction_some : (text : Text) → begins is_point text ≡ true
     → longest_len is_fraction text ≡ suc (prefix_len is_ascii_digit (drop 1 text) + longest_len is_exponent (behind_digits (drop 1 text)))
 fraction_some [] h = cc
 fraction_some (b ∷ rest) h =
@@ -162,7 +162,7 @@ first_some_some (suc m) n other = refl
 
 pub float_end : (text : Text) → longest_len makes_float text ≡ first_some (longest_len is_fraction text) (longest_len is_exponent text)
 float_end [] = rw (len_nothing makes_float, len_nothing is_fraction, len_nothing is_exponent) refl
-float_end (b ∷ rest) = go (46 == b) refl
+float_end (b ∷ rest) = go (b == 46) refl
   where
     or_false : (x : Bool) → (x || false) ≡ x
     or_false true = refl
@@ -172,11 +172,11 @@ float_end (b ∷ rest) = go (46 == b) refl
     same zero = refl
     same (suc n) = refl
 
-    go : (point : Bool) → (46 == b) ≡ point → longest_len makes_float (b ∷ rest) ≡ first_some (longest_len is_fraction (b ∷ rest)) (longest_len is_exponent (b ∷ rest))
+    go : (point : Bool) → (b == 46) ≡ point → longest_len makes_float (b ∷ rest) ≡ first_some (longest_len is_fraction (b ∷ rest)) (longest_len is_exponent (b ∷ rest))
     go true e =
-        let is_point : 46 ≡ b = eqb-true 46 b e in
-        let no_exponent : longest_len is_exponent (b ∷ rest) ≡ 0 = rw (← is_point) (exponent_none (46 ∷ rest) refl) in
-        let fraction : longest_len makes_float (b ∷ rest) ≡ longest_len is_fraction (b ∷ rest) = rw (← is_point) (len_alike makes_float is_fraction 46 rest (λ word. or_false (ends_float (behind_digits word)))) in
+        let same_byte : b ≡ 46 = eqb-true b 46 e in
+        let no_exponent : longest_len is_exponent (b ∷ rest) ≡ 0 = rw same_byte (exponent_none (46 ∷ rest) refl) in
+        let fraction : longest_len makes_float (b ∷ rest) ≡ longest_len is_fraction (b ∷ rest) = rw same_byte (len_alike makes_float is_fraction 46 rest (λ word. or_false (ends_float (behind_digits word)))) in
         rw (fraction, no_exponent) (same (longest_len is_fraction (b ∷ rest)))
     go false e = rw (fraction_none (b ∷ rest) e, len_alike makes_float is_exponent b rest (λ word. rw e refl)) refl
 
@@ -213,7 +213,7 @@ longer_digits digits (suc n) = ap (λ n. Some (Float, n)) (omega arith)
 IsPlain : Text → Type 0
 IsPlain text = (has_base 120 88 text ≡ false) × (has_base 111 79 text ≡ false) × (has_base 98 66 text ≡ false)
 
-module _ (b : ℕ) (digit : is_ascii_digit b ≡ true) (no_point : (46 == b) ≡ false) where
+module _ (b : ℕ) (digit : is_ascii_digit b ≡ true) (no_point : (b == 46) ≡ false) where
   digits_alone : class_in numbers (b ∷ []) ≡ Some Decimal
   unfolding class_in
   digits_alone = rw digit refl
@@ -301,7 +301,7 @@ binary_claim rest l (inl e) = rw (eqb-true l 98 e) (number_based Binary is_binar
 binary_claim rest l (inr e) = rw (eqb-true l 66 e) (number_based Binary is_binary_digit 66 (λ word. refl) (λ word. refl) refl rest (len_never makes_float 66 rest (λ word. refl)))
 
 -- Of the numbers that begin with a digit.
-pub number_from_digit : (b : ℕ) (rest : Text) → is_ascii_digit b ≡ true → (46 == b) ≡ false → longest_front (class_in numbers) (b ∷ rest) ≡ number_front (b ∷ rest)
+pub number_from_digit : (b : ℕ) (rest : Text) → is_ascii_digit b ≡ true → (b == 46) ≡ false → longest_front (class_in numbers) (b ∷ rest) ≡ number_front (b ∷ rest)
 unfolding IsPlain
 number_from_digit b [] digit no_point = number_single b digit no_point
 number_from_digit b (l ∷ rest) digit no_point = go (has_base 120 88 (b ∷ l ∷ rest)) (has_base 111 79 (b ∷ l ∷ rest)) (has_base 98 66 (b ∷ l ∷ rest)) refl refl refl
@@ -374,8 +374,8 @@ digit_class b word small digit =
     no_byte : (test : ℕ → Bool) → agree_below (λ b. not (is_ascii_digit b) || not (test b)) (λ _. true) 256 ≡ true → test b ≡ false
     no_byte test h = not-true _ (implied _ _ (each_byte (λ b. not (is_ascii_digit b) || not (test b)) b h small) digit)
 
-digit_is_no_point : (b : ℕ) → b < 256 → is_ascii_digit b ≡ true → (46 == b) ≡ false
-digit_is_no_point b small digit = not-true _ (implied _ _ (each_byte (λ b. not (is_ascii_digit b) || not (46 == b)) b refl small) digit)
+digit_is_no_point : (b : ℕ) → b < 256 → is_ascii_digit b ≡ true → (b == 46) ≡ false
+digit_is_no_point b small digit = not-true _ (implied _ _ (each_byte (λ b. not (is_ascii_digit b) || not (b == 46)) b refl small) digit)
 
 digit_front : (b : ℕ) (rest : Text) → b < 256 → is_ascii_digit b ≡ true → language_front (b ∷ rest) ≡ number_front (b ∷ rest)
 unfolding language_front

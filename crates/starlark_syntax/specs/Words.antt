@@ -238,9 +238,12 @@ abbrev pub ends_float : Text → Bool
 ends_float [] = true
 ends_float (b ∷ bs) = is_exponent (b ∷ bs)
 
+abbrev pub is_point : ℕ → Bool
+is_point b = b == 46
+
 -- a point, perhaps digits, and perhaps an exponent
 abbrev pub is_fraction : Text → Bool
-is_fraction text = begins (nat_eq 46) text && ends_float (behind_digits (drop 1 text))
+is_fraction text = begins is_point text && ends_float (behind_digits (drop 1 text))
 
 -- what makes digits before it a float: a fraction or an exponent
 abbrev pub makes_float : Text → Bool

@@ -1,6 +1,6 @@
 //! Numbers: which one stands at the front of a text, and how long it is.
 
-ghost use Rattle.std.specs.Prelude.{◌≡◌, ◌≤◌, ◌<◌, ◌+◌, ◌^◌, ◌==◌, if◌then◌else◌, Some, None, length, nat_eq, true};
+ghost use Rattle.std.specs.Prelude.{◌≡◌, ◌≤◌, ◌<◌, ◌+◌, ◌^◌, ◌==◌, if◌then◌else◌, Some, None, length, true};
 ghost use Rattle.std.specs.Char.{is_ascii_digit, is_ascii_hexdigit};
 ghost use Rattle.std.specs.List.{prefix_len};
 ghost use Rattle.std.specs.Option.{option_map};
@@ -60,7 +60,7 @@ fn begins_exponent(text: &[u8]) -> bool
 }
 
 fn begins_fraction(text: &[u8]) -> bool
-    ensures { result ≡ grammar.begins (nat_eq 46) text.now }
+    ensures { result ≡ grammar.begins grammar.is_point text.now }
 {
     matches!(text, [b'.', ..])
 }
