@@ -7,7 +7,7 @@ use Rattle.std.specs.List.{list_all, prefix_len, slice_get}
 use Rattle.std.specs.Map.{lookup}
 use Rattle.std.specs.Option.{option_map, option_or}
 use Rattle.std.specs.Str.{bytes_eq}
-use Rattle.starlark_syntax.specs.Words.{Text, Class, Skipped, Comment, Tabs, LineEnd, Opener, OfText, SingleQuote, DoubleQuote, Identifier, class_in, listed, openers, line_ends, symbols, names, patterns, language, begins_name, is_in_name, is_in_line, is_based, is_float, is_fraction, is_pointed, begins, begins_with_digit, is_identifier, is_comment, is_run, is_octal_digit, is_binary_digit}
+use Rattle.starlark_syntax.specs.Words.{Text, Class, Skipped, Comment, Tabs, LineEnd, Opener, OfText, SingleQuote, DoubleQuote, Identifier, class_in, listed, openers, line_ends, symbols, names, patterns, language, begins_name, is_in_name, is_in_line, is_based, is_float, is_fraction, is_pointed, begins, begins_with_digit, is_point, is_identifier, is_comment, is_run, is_octal_digit, is_binary_digit}
 use Rattle.starlark_syntax.specs.Front.{longer, longest_front, language_front}
 use Rattle.starlark_syntax.specs.Scanned.{begins_number, is_quote, marks}
 use Rattle.starlark_syntax.proofs.Front.{front_single, front_run}
@@ -18,13 +18,13 @@ use Rattle.starlark_syntax.proofs.Words.{class_in-listed, class_in-language}
 
 -- a byte that begins neither blanks, tabs, a comment nor a number
 abbrev pub is_plain : ℕ → Bool
-is_plain b = not (nat_eq 32 b) && (not (nat_eq 9 b) && (not (b == 35) && (not (nat_eq 46 b) && (not (b == 48) && not (is_ascii_digit b)))))
+is_plain b = not (nat_eq 32 b) && (not (nat_eq 9 b) && (not (b == 35) && (not (is_point b) && (not (b == 48) && not (is_ascii_digit b)))))
 
 pub record Plain (b : ℕ) : Type 0 where
   pub blank : nat_eq 32 b ≡ false
   pub tab : nat_eq 9 b ≡ false
   pub hash : (b == 35) ≡ false
-  pub point : nat_eq 46 b ≡ false
+  pub point : is_point b ≡ false
   pub zero : (b == 48) ≡ false
   pub digit : is_ascii_digit b ≡ false
 
@@ -44,7 +44,7 @@ not_based lower upper test b (c ∷ word) h = rw h refl
 not_float : (b : ℕ) (word : Text) → is_ascii_digit b ≡ false → is_float (b ∷ word) ≡ false
 not_float b word h = rw h refl
 
-not_pointed : (b : ℕ) (word : Text) → nat_eq 46 b ≡ false → is_pointed (b ∷ word) ≡ false
+not_pointed : (b : ℕ) (word : Text) → is_point b ≡ false → is_pointed (b ∷ word) ≡ false
 not_pointed b word h = rw h refl
 
 and_false : (x y : Bool) → y ≡ false → (x && y) ≡ false
@@ -329,8 +329,8 @@ or_left_false : (x y : Bool) → (x || y) ≡ false → x ≡ false
 or_left_false true y h = h
 or_left_false false y h = refl
 
-is_point : (b : ℕ) → (b == 46) ≡ true → b ≡ 46
-is_point b h = grind (arith, nat_tests)
+point_is : (b : ℕ) → (b == 46) ≡ true → b ≡ 46
+point_is b h = grind (arith, nat_tests)
 
 mark_or_point : (b : ℕ) → b < 256 → is_branch b ≡ false → (b == 46 || is_mark_byte b) ≡ true
 unfolding is_branch is_mark_byte openers names
@@ -358,6 +358,6 @@ front_mark (x ∷ rest) b e small blank tab hash single double name number =
 
     go : (point : Bool) → (b == 46) ≡ point → begins_number (b ∷ rest) ≡ false → longest_front (class_in language) (b ∷ rest) ≡ longest_front (class_in marks) (b ∷ rest)
     go true point h =
-        let is : b ≡ 46 = is_point b point in
+        let is : b ≡ 46 = point_is b point in
         rw is (front_point rest (behind_point rest is h))
     go false point h = front_mark_byte b rest (or_right _ _ (mark_or_point b small (no_branch b blank tab hash single double name (digit_parts rest h))) point) name
