@@ -1,0 +1,13 @@
+pub mod Words
+pub mod Front
+pub mod Lengths
+pub mod Numbers
+pub mod Tokens
+pub mod Scanned
+pub mod Items
+pub mod Depths
+pub mod Margins
+pub mod Pieces
+pub mod Reading
+pub mod Cuts
+pub mod Laws

@@ -1,0 +1,3 @@
+//! Cuts a text into lexemes.
+
+mod scanner;
