@@ -1,0 +1,2 @@
+pub mod BigIntegers
+pub mod TokenInts

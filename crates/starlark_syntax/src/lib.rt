@@ -1,0 +1,4 @@
+//! The words of Starlark: tokens, and the lexer that cuts a text into them.
+#![tactic(auto)]
+
+pub mod lexer;
