@@ -1,2 +1,6 @@
+pub mod Words
+pub mod Front
+pub mod Numbers
+pub mod Tokens
 pub mod BigIntegers
 pub mod TokenInts

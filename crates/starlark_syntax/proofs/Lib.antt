@@ -1,0 +1,3 @@
+pub mod Front
+pub mod Words
+mod RowsOfWords
