@@ -1,16 +1,18 @@
--- Whole numbers as they are written down, and how they are printed.
-use Rattle.std.specs.Prelude.{ℕ, Bool, List, [], ◌++◌, if◌then◌else◌, ◌==◌, codes}
+-- Integers as they are written down, and how they are printed.
+use Rattle.std.specs.Prelude.{ℕ, Bool, [], ◌++◌, if◌then◌else◌, ◌==◌, codes}
 use Rattle.std.specs.Fmt.{sign_text, decimal}
+use Rattle.starlark_syntax.specs.Words.{Text}
 
--- a number written down: its sign, its digits, and the base that they are written in
+-- an integer written down: its sign, its digits, and the base that they are written in
 pub record BigInteger : Type 0 where
   pub is_negative : Bool
-  pub digits : List ℕ
+  pub digits : Text
   pub radix : ℕ
 
--- the base is printed unless it is ten
-abbrev pub base_note : ℕ → List ℕ
-base_note radix = if radix == 10 then [] else codes " (base " ++ (decimal radix ++ codes ")")
+-- the base is named unless it is ten
+abbrev pub base_note : ℕ → Text
+base_note base = if base == 10 then [] else codes " (base " ++ (decimal base ++ codes ")")
 
-unfoldable pub big_integer_text : BigInteger → List ℕ
-big_integer_text n = sign_text n.is_negative ++ (n.digits ++ base_note n.radix)
+-- what is printed: the sign, where it is a minus, the digits, and the base
+unfoldable pub big_text : Bool → Text → ℕ → Text
+big_text is_negative digits base = sign_text is_negative ++ (digits ++ base_note base)

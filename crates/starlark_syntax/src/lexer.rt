@@ -2,6 +2,7 @@
 
 mod big_int;
 mod fstring_style;
+mod number_text;
 mod token_int;
 mod tokens;
 

@@ -97,12 +97,12 @@ impl Eq for BigInt {
     ghost laws = { Prim.search (comparing, rules) };
 }
 
-#[tactic(auto, unfolding(crate::specs::BigIntegers::big_integer_text))]
+#[tactic(auto, unfolding(crate::specs::BigIntegers::big_text))]
 impl fmt::Display for BigInt {
     ghost use Rattle.std.specs.Prelude.{Some};
-    ghost use Rattle.starlark_syntax.specs.BigIntegers.{big_integer_text};
+    ghost use Rattle.starlark_syntax.specs.BigIntegers.{big_text};
 
-    ghost output = { λ n. Some (big_integer_text n) };
+    ghost output = { λ n. Some (big_text n.is_negative n.digits n.radix) };
 
     fn fmt<W: fmt::Write>(&self, f: &mut fmt::Formatter<W>) -> fmt::Result {
         let sign = if self.negative { "-" } else { "" };

@@ -29,9 +29,9 @@ impl TokenInt {
 
 impl fmt::Display for TokenInt {
     ghost use Rattle.std.specs.Prelude.{Some};
-    ghost use Rattle.starlark_syntax.specs.TokenInts.{token_int_text};
+    ghost use Rattle.starlark_syntax.specs.TokenInts.{integer_text, integer_view};
 
-    ghost output = { λ number. Some (token_int_text number) };
+    ghost output = { λ number. Some (integer_text (integer_view number)) };
 
     fn fmt<W: fmt::Write>(&self, f: &mut fmt::Formatter<W>) -> fmt::Result {
         match self {
