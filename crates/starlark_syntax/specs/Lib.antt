@@ -4,3 +4,5 @@ pub mod Numbers
 pub mod Tokens
 pub mod BigIntegers
 pub mod TokenInts
+pub mod TokenViews
+pub mod TokenTexts
