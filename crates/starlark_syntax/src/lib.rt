@@ -1,0 +1,5 @@
+//! The lexer of Starlark: tokens, faults, and what reads them from a text.
+#![tactic(auto)]
+
+pub mod error;
+pub mod lexer;
