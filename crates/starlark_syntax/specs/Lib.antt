@@ -6,3 +6,5 @@ pub mod BigIntegers
 pub mod TokenInts
 pub mod TokenViews
 pub mod TokenTexts
+pub mod FaultTexts
+pub mod NumberRefusals

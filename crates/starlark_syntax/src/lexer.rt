@@ -1,12 +1,14 @@
-//! Tokens and what they hold.
+//! Tokens, and the faults of a text that has none.
 
 mod big_int;
 mod fstring_style;
+mod lexeme_error;
 mod number_text;
 mod token_int;
 mod tokens;
 
 pub use big_int::BigInt;
 pub use fstring_style::{FStringConv, FStringQuote};
+pub use lexeme_error::LexemeError;
 pub use token_int::TokenInt;
 pub use tokens::Token;

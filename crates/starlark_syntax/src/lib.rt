@@ -1,5 +1,6 @@
-//! The words of Starlark: tokens, and the lexer that cuts a text into them.
+//! The lexer of Starlark: tokens, faults, and what reads them from a text.
 #![tactic(auto)]
 
+pub mod error;
 pub mod laws;
 pub mod lexer;

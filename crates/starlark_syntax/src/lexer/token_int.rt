@@ -1,8 +1,14 @@
 //! The value of an integer literal.
 
-ghost use Rattle.std.specs.Prelude.{◌≡◌, IfOk};
+ghost use Rattle.std.specs.Prelude.{◌≡◌, ◌≤◌, IfOk, IfErr, Some};
+ghost use Rattle.starlark_syntax.specs.NumberRefusals.{RefusesNumber};
+ghost use Rattle.starlark_syntax.specs.Numbers.{integer_in};
+ghost use Rattle.starlark_syntax.specs.TokenInts.{integer_view};
 
 use crate::lexer::big_int::BigInt;
+use crate::lexer::lexeme_error::LexemeError;
+use crate::lexer::number_text::number_in;
+use starlark_base::codemap::OrMemory;
 use std::alloc::{AllocError, Global};
 use std::fmt;
 
@@ -16,6 +22,29 @@ pub enum TokenInt {
 }
 
 impl TokenInt {
+    /// Reads the number that a text writes in a base of 2 to 36: at most one sign, and then digits of the base, one or
+    /// more, letters in either case.
+    ///
+    /// `CannotParse` comes exactly where the text is no such number. A value of 32 bits takes no memory.
+    pub fn from_str_radix(
+        alloc: Global,
+        s: &str,
+        base: u32,
+    ) -> Result<TokenInt, OrMemory<LexemeError>>
+        requires least { 2 ≤ base }
+        requires most { base ≤ 36 }
+        ensures value { IfOk result (λ number. integer_in base s.now ≡ Some (integer_view number)) }
+        ensures refusal { IfErr result (λ refusal. RefusesNumber base s.now refusal) }
+    {
+        match number_in(alloc, s, base)? {
+            Some(number) => Ok(number),
+            None => {
+                let text = String::from_str(alloc, s)?;
+                Err(OrMemory::Error(LexemeError::CannotParse(text, base)))
+            }
+        }
+    }
+
     /// An equal value; a `BigInt` gets memory of its own, and an `I32` takes none.
     pub fn clone(&self, alloc: Global) -> Result<TokenInt, AllocError>
         ensures { IfOk result (λ copy. copy ≡ self.now) }

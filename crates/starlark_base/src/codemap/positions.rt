@@ -1,0 +1,70 @@
+//! Positions in a source text.
+
+ghost use Rattle.std.specs.Prelude.{◌≡◌, ◌+◌, ◌-◌, ◌<◌, ◌≤◌, ◌^◌};
+
+use std::marker::Model;
+use std::ops::{Add, AddAssign, Sub};
+
+/// A position in a source text: how many bytes stand before it. In a contract it is that number.
+#[derive(Clone, Copy, Debug, Default, PartialEq, Eq, PartialOrd, Ord, Hash)]
+pub struct Pos(u32);
+
+impl Model for Pos {
+    ghost use Rattle.std.specs.Prelude.{ℕ};
+
+    ghost Value = { ℕ };
+
+    ghost view = { λ p. p.0 };
+
+    ghost inverse = { λ n. record { 0 = n } };
+}
+
+impl Pos {
+    /// The position behind so many bytes.
+    pub fn new(x: u32) -> Self
+        ensures { result ≡ x }
+    {
+        Pos(x)
+    }
+
+    /// How many bytes stand before the position.
+    pub fn get(self) -> u32
+        ensures { result ≡ self }
+    {
+        self.0
+    }
+}
+
+impl Add<u32> for Pos {
+    type Output = Pos;
+
+    ghost can_add = { λ pos count. pos + count < 2 ^ 32 };
+
+    ghost add_gives = { λ pos count sum. sum ≡ pos + count };
+
+    fn add(self, other: u32) -> Pos {
+        Pos(self.0 + other)
+    }
+}
+
+impl Sub<u32> for Pos {
+    type Output = Pos;
+
+    ghost can_sub = { λ pos count. count ≤ pos };
+
+    ghost sub_gives = { λ pos count rest. rest ≡ pos - count };
+
+    fn sub(self, other: u32) -> Pos {
+        Pos(self.0 - other)
+    }
+}
+
+impl AddAssign<u32> for Pos {
+    ghost can_add_assign = { λ pos count. pos + count < 2 ^ 32 };
+
+    ghost add_assign_gives = { λ pos count sum. sum ≡ pos + count };
+
+    fn add_assign(&mut self, other: u32) {
+        self.0 += other;
+    }
+}

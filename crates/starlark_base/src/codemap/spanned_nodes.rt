@@ -1,0 +1,62 @@
+//! Values with the spans that they come from.
+
+ghost use Rattle.std.specs.Prelude.{◌≡◌};
+
+use crate::codemap::Span;
+use std::ops::{Deref, DerefMut};
+
+/// A value, as a node of a syntax tree, and where it stands in its source text.
+#[derive(Clone, Copy, Debug, Drop, PartialEq, Eq, Hash)]
+pub struct Spanned<T> {
+    pub node: T,
+    pub span: Span,
+}
+
+impl<T> Spanned<T> {
+    /// What a function makes of the node, with the same span.
+    pub fn map<U, F: FnOnce(T) -> U + Drop>(self, f: F) -> Spanned<U>
+        requires { F.pre f self.node }
+        ensures node { F.post f self.node result.node }
+        ensures span { result.span ≡ self.span }
+    {
+        Spanned {
+            node: f(self.node),
+            span: self.span,
+        }
+    }
+
+    /// The node behind a reference, with the same span.
+    pub fn as_ref(&self) -> Spanned<&T>
+        ensures node { result.node.now ≡ self.now.node }
+        ensures span { result.span ≡ self.now.span }
+    {
+        Spanned {
+            node: &self.node,
+            span: self.span,
+        }
+    }
+}
+
+impl<T> Deref for Spanned<T> {
+    type Target = T;
+
+    ghost deref_gives = { λ spanned node. node ≡ spanned.node };
+
+    fn deref(&self) -> &T {
+        &self.node
+    }
+}
+
+impl<T> DerefMut for Spanned<T> {
+    ghost use Rattle.std.specs.Borrow.{Lends, sem};
+    ghost use Rattle.starlark_base.specs.contracts.codemap.spanned_nodes.Spanned.{the_row};
+
+    ghost deref_mut_gives = { λ spanned node. node ≡ spanned.node };
+
+    fn deref_mut(&mut self) -> &mut T
+        ensures* writes_back { sem 𝓛 (Lends (the_row T.row) T.row self.entry result (λ w. record self.old { node = w })) }
+        ensures shows { result.now ≡ self.old.node }
+    {
+        &mut self.node
+    }
+}
