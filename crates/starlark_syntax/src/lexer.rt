@@ -4,6 +4,8 @@ mod big_int;
 mod fstring_style;
 mod lexeme_error;
 mod number_text;
+#[cfg(test)]
+mod tests;
 mod token_int;
 mod tokens;
 
