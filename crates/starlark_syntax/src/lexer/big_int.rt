@@ -81,12 +81,12 @@ impl PartialEq for BigInt {
     ghost use Rattle.std.specs.Ordering.{on, eq_of_both};
     ghost use Rattle.std.specs.Bool.{beq};
 
-    ghost eq = { eq_of_both (on (λ n. n.is_negative) beq) (eq_of_both (on (λ n. n.digits) (pointwise nat_eq)) (on (λ n. n.radix) nat_eq)) };
+    ghost eq = { eq_of_both (on (λ n. n.digits) (pointwise nat_eq)) (eq_of_both (on (λ n. n.is_negative) beq) (on (λ n. n.radix) nat_eq)) };
 
     ghost laws = { Prim.search (comparing, rules) };
 
     fn eq(&self, other: &BigInt) -> bool {
-        self.negative == other.negative && self.digits == other.digits && self.radix == other.radix
+        self.digits == other.digits && self.negative == other.negative && self.radix == other.radix
     }
 }
 

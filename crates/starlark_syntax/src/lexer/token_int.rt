@@ -1,9 +1,9 @@
 //! The value of an integer literal.
 
-ghost use Rattle.std.specs.Prelude.{◌≡◌, ◌≤◌, IfOk, IfErr, Some};
+ghost use Rattle.std.specs.Prelude.{◌≡◌, ◌≤◌, IfOk, IfErr, OnErr, Some};
 ghost use Rattle.starlark_syntax.specs.NumberRefusals.{RefusesNumber};
 ghost use Rattle.starlark_syntax.specs.Numbers.{integer_in};
-ghost use Rattle.starlark_syntax.specs.TokenInts.{integer_view};
+ghost use Rattle.starlark_syntax.specs.TokenInts.{IsBig, integer_view};
 
 use crate::lexer::big_int::BigInt;
 use crate::lexer::lexeme_error::LexemeError;
@@ -47,7 +47,8 @@ impl TokenInt {
 
     /// An equal value; a `BigInt` gets memory of its own, and an `I32` takes none.
     pub fn clone(&self, alloc: Global) -> Result<TokenInt, AllocError>
-        ensures { IfOk result (λ copy. copy ≡ self.now) }
+        ensures value { IfOk result (λ copy. copy ≡ self.now) }
+        ensures memory { OnErr result (IsBig (integer_view self.now)) }
     {
         match self {
             TokenInt::I32(value) => Ok(TokenInt::I32(*value)),
