@@ -1,6 +1,7 @@
 pub mod Words
 pub mod Front
 pub mod Numbers
+pub mod IntegerValues
 pub mod Tokens
 pub mod BigIntegers
 pub mod TokenInts
