@@ -7,7 +7,7 @@ use Rattle.std.proofs.Math.Nat.{zero-mul}
 use Rattle.std.proofs.lemmas.Bool.{ltb-true, ltb-false, eqb-true}
 use Rattle.starlark_syntax.specs.Words.{Text, unsigned}
 use Rattle.starlark_syntax.specs.Numbers.{Integer, Small, Big, is_negative, is_small, signed, plain_digits, integer_of}
-use Rattle.starlark_syntax.specs.IntegerValues.{value_of, ValueIsKept}
+use Rattle.starlark_syntax.specs.IntegerValues.{value_of, IntegersKeepTheirValue}
 
 -- the case of a letter
 value_in_lower_case : (c : ℕ) → digit_value (to_ascii_lowercase c) ≡ digit_value c
@@ -50,7 +50,7 @@ behind_zeros base (d ∷ ds) = by_digit (behind_zeros base ds) (nat_eq 48 d) ref
 plain_value : (base : ℕ) (digits : Text) → digits_value base (plain_digits digits) ≡ digits_value base digits
 plain_value base digits = rw (digits_in_lower_case base 0 (drop (prefix_len (nat_eq 48) digits) digits)) (behind_zeros base digits)
 
-pub value_is_kept : (base : ℕ) (text : Text) → ValueIsKept base text
+pub value_is_kept : IntegersKeepTheirValue
 unfolding integer_of
 value_is_kept base text = by_size (is_small (is_negative text) (digits_value base (unsigned text)))
   where

@@ -1,10 +1,10 @@
 -- The words of the keywords and the symbols are read as what they are the words of.
-use Rattle.std.proofs.Common.{◌≡◌, Some, refl}
+use Rattle.std.proofs.Common.{refl}
 use Rattle.starlark_syntax.specs.Words as terminal
-use Rattle.starlark_syntax.specs.Words.{Terminal, Fixed, class_in, openers, line_ends, symbols, names, patterns, language}
-use Rattle.starlark_syntax.specs.TokenTexts.{word_of}
+use Rattle.starlark_syntax.specs.Words.{class_in, openers, line_ends, symbols, names, patterns, language}
+use Rattle.starlark_syntax.specs.TokenTexts.{word_of, PrintedWordsReadBack}
 
-pub words_read_back : (terminal : Terminal) → class_in language (word_of terminal) ≡ Some (Fixed terminal)
+pub words_read_back : PrintedWordsReadBack
 unfolding class_in openers line_ends symbols names patterns language word_of
 words_read_back terminal.And = refl
 words_read_back terminal.Break = refl

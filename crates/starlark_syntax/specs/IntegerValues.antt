@@ -11,6 +11,6 @@ abbrev pub value_of : Integer → ℤ
 value_of (Small value) = value
 value_of (Big is_negative digits base) = signed is_negative (digits_value base digits)
 
--- a number's text has the value of the integer that it writes
-abbrev pub ValueIsKept : ℕ → Text → Type 0
-ValueIsKept base text = value_of (integer_of base text) ≡ signed (is_negative text) (digits_value base (unsigned text))
+-- The integer that a text writes has the value of the text's digits, with its sign.
+abbrev pub IntegersKeepTheirValue : Type 0
+IntegersKeepTheirValue = (base : ℕ) (text : Text) → value_of (integer_of base text) ≡ signed (is_negative text) (digits_value base (unsigned text))

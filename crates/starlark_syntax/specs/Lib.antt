@@ -1,5 +1,6 @@
 pub mod Words
 pub mod Front
+pub mod Lengths
 pub mod Numbers
 pub mod IntegerValues
 pub mod Tokens
@@ -9,3 +10,11 @@ pub mod TokenViews
 pub mod TokenTexts
 pub mod FaultTexts
 pub mod NumberRefusals
+pub mod Scanned
+pub mod Items
+pub mod Depths
+pub mod Margins
+pub mod Pieces
+pub mod Reading
+pub mod Cuts
+pub mod Laws

@@ -1,9 +1,9 @@
 -- The names of tokens, and what is printed of them.
-use Rattle.std.specs.Prelude.{Bool, [], ◌++◌, if◌then◌else◌, length, slice_index, Option, Some, codes}
+use Rattle.std.specs.Prelude.{◌≡◌, Bool, [], ◌++◌, if◌then◌else◌, length, slice_index, Option, Some, codes}
 use Rattle.std.specs.Char.{is_ascii_alphabetic}
 use Rattle.std.specs.Fmt.{decimal, debug_str, ◌++?◌}
 use Rattle.starlark_syntax.specs.Words as terminal
-use Rattle.starlark_syntax.specs.Words.{Text, Terminal, Quote, SingleQuote, DoubleQuote, Kind, OfText, OfBytes, OfFString}
+use Rattle.starlark_syntax.specs.Words.{Text, Terminal, Fixed, Quote, SingleQuote, DoubleQuote, Kind, OfText, OfBytes, OfFString, class_in, language}
 use Rattle.starlark_syntax.specs.Tokens as grammar
 use Rattle.starlark_syntax.specs.TokenInts.{integer_text}
 use Rattle.starlark_syntax.specs.TokenViews.{TokenView, Whole, Tabs, Reserved, Opener, Decimal, Hexadecimal, Binary, Octal}
@@ -68,6 +68,10 @@ word_of terminal.OpeningRound = codes "("
 word_of terminal.ClosingSquare = codes "]"
 word_of terminal.ClosingCurly = codes "}"
 word_of terminal.ClosingRound = codes ")"
+
+-- Each of them is read as the keyword or symbol whose word it is.
+abbrev pub PrintedWordsReadBack : Type 0
+PrintedWordsReadBack = (terminal : Terminal) → class_in language (word_of terminal) ≡ Some (Fixed terminal)
 
 -- The names of the keywords and the symbols.
 unfoldable pub terminal_kind : Terminal → Text

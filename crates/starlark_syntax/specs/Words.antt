@@ -164,6 +164,11 @@ abbrev pub is_run : (ℕ → Bool) → Text → Bool
 is_run test [] = false
 is_run test (b ∷ bs) = test b && list_all test bs
 
+-- whether the first byte passes
+abbrev pub begins : (ℕ → Bool) → Text → Bool
+begins test [] = false
+begins test (b ∷ bs) = test b
+
 -- a letter or `_`
 abbrev pub begins_name : ℕ → Bool
 begins_name b = is_ascii_alphabetic b || b == 95
@@ -186,10 +191,14 @@ abbrev pub is_comment : Text → Bool
 is_comment [] = false
 is_comment (b ∷ bs) = b == 35 && list_all is_in_line bs
 
+-- whether `0` and one of two letters stand at the front
+abbrev pub has_base : ℕ → ℕ → Text → Bool
+has_base lower upper (z ∷ letter ∷ rest) = z == 48 && (letter == lower || letter == upper)
+has_base lower upper text = false
+
 -- `0`, one of two letters, and one digit or more
 abbrev pub is_based : ℕ → ℕ → (ℕ → Bool) → Text → Bool
-is_based lower upper is_digit (z ∷ letter ∷ digits) = z == 48 && (letter == lower || letter == upper) && is_run is_digit digits
-is_based lower upper is_digit word = false
+is_based lower upper is_digit word = has_base lower upper word && is_run is_digit (drop 2 word)
 
 abbrev pub is_octal_digit : ℕ → Bool
 is_octal_digit b = is_digit b 8
@@ -202,24 +211,27 @@ abbrev pub behind_digits : Text → Text
 behind_digits text = drop (prefix_len is_ascii_digit text) text
 
 abbrev pub begins_with_digit : Text → Bool
-begins_with_digit text = nat_lt 0 (prefix_len is_ascii_digit text)
+begins_with_digit = begins is_ascii_digit
 
 -- a sign, plus or minus
 abbrev pub is_sign : ℕ → Bool
 is_sign b = b == 43 || b == 45
 
+-- the length of the sign at the front of a text
+abbrev pub sign_len : Text → ℕ
+sign_len [] = 0
+sign_len (b ∷ bs) = if is_sign b then 1 else 0
+
 -- a text without the sign at its front, where one stands there
 abbrev pub unsigned : Text → Text
-unsigned text = drop (length_of_sign text) text
-  where
-    length_of_sign : Text → ℕ
-    length_of_sign [] = 0
-    length_of_sign (b ∷ bs) = if is_sign b then 1 else 0
+unsigned text = drop (sign_len text) text
+
+abbrev pub is_exponent_letter : ℕ → Bool
+is_exponent_letter b = b == 101 || b == 69
 
 -- `e` or `E`, perhaps a sign, and one digit or more
 abbrev pub is_exponent : Text → Bool
-is_exponent [] = false
-is_exponent (b ∷ bs) = (b == 101 || b == 69) && is_run is_ascii_digit (unsigned bs)
+is_exponent text = begins is_exponent_letter text && is_run is_ascii_digit (unsigned (drop 1 text))
 
 -- nothing, or an exponent
 abbrev pub ends_float : Text → Bool
@@ -228,25 +240,35 @@ ends_float (b ∷ bs) = is_exponent (b ∷ bs)
 
 -- a point, perhaps digits, and perhaps an exponent
 abbrev pub is_fraction : Text → Bool
-is_fraction [] = false
-is_fraction (b ∷ bs) = b == 46 && ends_float (behind_digits bs)
+is_fraction text = begins (nat_eq 46) text && ends_float (behind_digits (drop 1 text))
+
+-- what makes digits before it a float: a fraction or an exponent
+abbrev pub makes_float : Text → Bool
+makes_float word = is_fraction word || is_exponent word
 
 -- digits, and then a fraction or an exponent
 abbrev pub is_float : Text → Bool
-is_float word = begins_with_digit word && (is_fraction (behind_digits word) || is_exponent (behind_digits word))
+is_float word = begins_with_digit word && makes_float (behind_digits word)
 
 -- a fraction that has a digit right behind its point
 abbrev pub is_pointed : Text → Bool
 is_pointed word = is_fraction word && begins_with_digit (drop 1 word)
 
+-- integers of another base than 10
+abbrev pub based : Table
+based =
+    (is_based 120 88 is_ascii_hexdigit, Hexadecimal) ∷ (is_based 111 79 is_octal_digit, Octal)
+    ∷ (is_based 98 66 is_binary_digit, Binary)
+    ∷ []
+
+abbrev pub numbers : Table
+numbers = (is_run is_ascii_digit, Decimal) ∷ based ++ (is_float, Float) ∷ (is_pointed, Float) ∷ []
+
 -- The classes of many words, each with its test.
 unfoldable pub patterns : Table
 patterns =
     (is_run (nat_eq 32), Skipped) ∷ (is_comment, Comment) ∷ (is_run (nat_eq 9), Tabs) ∷ (is_identifier, Identifier)
-    ∷ (is_run is_ascii_digit, Decimal) ∷ (is_based 120 88 is_ascii_hexdigit, Hexadecimal)
-    ∷ (is_based 111 79 is_octal_digit, Octal) ∷ (is_based 98 66 is_binary_digit, Binary)
-    ∷ (is_float, Float) ∷ (is_pointed, Float)
-    ∷ []
+    ∷ numbers
 
 -- The table of the language. That an earlier row goes before a later one is how a keyword wins over an identifier.
 unfoldable pub language : Table

@@ -4,6 +4,7 @@ mod big_int;
 mod fstring_style;
 mod lexeme_error;
 mod number_text;
+mod scanner;
 #[cfg(test)]
 mod tests;
 mod token_int;
