@@ -1,6 +1,11 @@
 pub mod Lists
 pub mod Front
 pub mod Words
+pub mod NumberTexts
+pub mod Integers
+pub mod IntegerValues
+pub mod PrintedWords
+mod RowsOfTokens
 pub mod Bodies
 pub mod Steps
 pub mod Readings

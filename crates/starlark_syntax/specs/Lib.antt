@@ -2,7 +2,14 @@ pub mod Words
 pub mod Front
 pub mod Lengths
 pub mod Numbers
+pub mod IntegerValues
 pub mod Tokens
+pub mod BigIntegers
+pub mod TokenInts
+pub mod TokenViews
+pub mod TokenTexts
+pub mod FaultTexts
+pub mod NumberRefusals
 pub mod Scanned
 pub mod Items
 pub mod Depths

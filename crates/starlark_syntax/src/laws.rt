@@ -1,7 +1,9 @@
 //! Laws of the written grammar, for all texts. Each function here has a law as its contract and nothing to do;
 //! programs don't call them.
 
-ghost use Rattle.starlark_syntax.specs.Laws.{FrontIsLongest, LongestFrontIsOne, ReadingsAgree, ReadingsFit, OutcomeIs, OutcomeIsOne};
+ghost use Rattle.starlark_syntax.specs.IntegerValues.{IntegersKeepTheirValue};
+ghost use Rattle.starlark_syntax.specs.Laws.{FrontIsLongest, LongestFrontIsOne, ReadingsAgree, ReadingsFit, OutcomeIs, OutcomeIsOne, DedentsFollow, BlocksClose, ItemsAreFew, LexemesInOrder, FaultlessInOrder};
+ghost use Rattle.starlark_syntax.specs.TokenTexts.{PrintedWordsReadBack};
 
 /// The longest front of a text that is a word is the longest, and there is only one.
 pub fn one_longest_front()
@@ -19,4 +21,30 @@ pub fn one_reading()
 pub fn one_outcome()
     ensures is_outcome { OutcomeIs }
     ensures only { OutcomeIsOne }
+{}
+
+/// In each beginning of the lexemes there are at most as many `Dedent` as `Indent`, and in those of a text without
+/// fault as many of each. Of n bytes there are at most 2n + 1 lexemes and faults.
+pub fn balanced_layout()
+    ensures front { DedentsFollow }
+    ensures whole { BlocksClose }
+    ensures few { ItemsAreFew }
+{}
+
+/// Lexemes are in order, with nothing but gaps before and between them, and where the text has no fault behind them
+/// too. They lie inside of the text.
+pub fn ordered_lexemes()
+    ensures order { LexemesInOrder }
+    ensures whole { FaultlessInOrder }
+{}
+
+/// The integer that a number's text writes has the text's value: neither zeros at the front nor the case of letters
+/// change it.
+pub fn integers_keep_their_value()
+    ensures { IntegersKeepTheirValue }
+{}
+
+/// The word that is printed of a keyword or a symbol is read as that keyword or symbol.
+pub fn printed_words_read_back()
+    ensures { PrintedWordsReadBack }
 {}

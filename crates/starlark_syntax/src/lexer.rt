@@ -1,3 +1,17 @@
-//! Cuts a text into lexemes.
+//! Tokens, and the faults of a text that has none.
 
+mod big_int;
+mod fstring_style;
+mod lexeme_error;
+mod number_text;
 mod scanner;
+#[cfg(test)]
+mod tests;
+mod token_int;
+mod tokens;
+
+pub use big_int::BigInt;
+pub use fstring_style::{FStringConv, FStringQuote};
+pub use lexeme_error::LexemeError;
+pub use token_int::TokenInt;
+pub use tokens::Token;

@@ -1,5 +1,6 @@
-//! Lexes Starlark. So far: the written grammar of its lexemes, and the laws of that grammar.
+//! The lexer of Starlark: tokens, faults, and what reads them from a text.
 #![tactic(auto)]
 
+pub mod error;
 pub mod laws;
-mod lexer;
+pub mod lexer;

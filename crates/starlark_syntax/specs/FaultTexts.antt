@@ -1,0 +1,35 @@
+-- What is said of each fault.
+use Rattle.std.specs.Prelude.{ℕ, List, ◌++◌, codes, string_bytes}
+use Rattle.std.specs.Fmt.{decimal}
+use Rattle.starlark_syntax.specs.declared.lexer.lexeme_error.LexemeError.{LexemeError}
+use Rattle.starlark_syntax.specs.declared.lexer.lexeme_error.LexemeError.TheVariants.{Indentation, InvalidInput, InvalidTab, UnfinishedStringLiteral, InvalidEscapeSequence, EmptyEscapeSequence, ReservedKeyword, StartsZero, IntParse, CommentSpanComputedIncorrectly, CannotParse, UnfinishedFStringExpression}
+use Rattle.starlark_syntax.specs.declared.error.ParserMessage.{ParserMessage}
+use Rattle.starlark_syntax.specs.declared.error.ParserMessage.TheVariants.{Lexeme, Text}
+use Rattle.starlark_syntax.specs.declared.error.ErrorKind.{ErrorKind}
+use Rattle.starlark_syntax.specs.declared.error.ErrorKind.TheVariants.{Parser, Other, Internal}
+
+-- the twelve texts
+unfoldable pub fault_text : LexemeError → List ℕ
+fault_text Indentation = codes "Parse error: incorrect indentation"
+fault_text (InvalidInput text) = codes "Parse error: invalid input `" ++ string_bytes text ++ codes "`"
+fault_text InvalidTab = codes "Parse error: tabs are not allowed"
+fault_text UnfinishedStringLiteral = codes "Parse error: unfinished string literal"
+fault_text (InvalidEscapeSequence text) = codes "Parse error: invalid string escape sequence `" ++ string_bytes text ++ codes "`"
+fault_text EmptyEscapeSequence = codes "Parse error: missing string escape sequence, only saw `\\`"
+fault_text (ReservedKeyword word) = codes "Parse error: cannot use reserved keyword `" ++ string_bytes word ++ codes "`"
+fault_text (StartsZero word) = codes "Parse error: integer cannot have leading 0, got `" ++ string_bytes word ++ codes "`"
+fault_text (IntParse text) = codes "Parse error: failed to parse integer: `" ++ string_bytes text ++ codes "`"
+fault_text CommentSpanComputedIncorrectly = codes "Comment span is computed incorrectly (internal error)"
+fault_text (CannotParse text base) = codes "Cannot parse `" ++ string_bytes text ++ (codes "` as an integer in base " ++ decimal base)
+fault_text UnfinishedFStringExpression = codes "Parse error: f-string expression is missing closing `}`"
+
+-- of a parser's message, the message alone
+unfoldable pub message_text : ParserMessage → List ℕ
+message_text (Lexeme fault) = fault_text fault
+message_text (Text text) = string_bytes text
+
+-- of an error's kind, the message alone
+unfoldable pub kind_text : ErrorKind → List ℕ
+kind_text (Parser message) = message_text message
+kind_text (Other text) = string_bytes text
+kind_text (Internal text) = string_bytes text
