@@ -5,5 +5,6 @@ pub mod Bodies
 pub mod Steps
 pub mod Readings
 pub mod Widths
+pub mod Balance
 mod Rows
 mod RowsOfWords
