@@ -24,7 +24,7 @@ use Rattle.starlark_syntax.proofs.Steps.{Each}
 use Rattle.starlark_syntax.proofs.Readings.{reading_fits, read_is}
 use Rattle.starlark_syntax.proofs.Widths.{indent_len, dedent_len}
 
-abbrev levels_len : List ℕ → ℕ
+abbrev pub levels_len : List ℕ → ℕ
 levels_len widths = length (open_widths widths)
 
 -- what a piece does to the open widths, and how many lexemes it has
@@ -52,7 +52,7 @@ token_quiet widths len node some none neither = quiet widths len _ Other (rw non
 
 -- Margins
 
-count-moved : (test : Token → Bool) (n : ℕ) (lexemes : List Lexeme) → count_by (λ (lexeme : Lexeme). test lexeme.node) (map (moved n) lexemes) ≡ count_by (λ (lexeme : Lexeme). test lexeme.node) lexemes
+pub count-moved : (test : Token → Bool) (n : ℕ) (lexemes : List Lexeme) → count_by (λ (lexeme : Lexeme). test lexeme.node) (map (moved n) lexemes) ≡ count_by (λ (lexeme : Lexeme). test lexeme.node) lexemes
 count-moved test n [] = refl
 count-moved test n (lexeme ∷ lexemes) =
     let left = sum_by-cons (λ (lexeme : Lexeme). cond (test lexeme.node) 1 0) (moved n lexeme) (map (moved n) lexemes) in
@@ -84,12 +84,12 @@ some_each (line ∷ more) = go (is_comment_only line) refl (some_each more)
         let whole = sum_by-cons (λ (line : Text). length line) line (take_while is_comment_only more) in
         rw one-add (omega (arith, some, whole, rest))
 
-record MarginIsQuiet (margin : Margin) : Type 0 where
-  none : dedents margin.comments ≡ 0
-  neither : indents margin.comments ≡ 0
-  inside : length margin.comments ≤ margin.at
+pub record MarginIsQuiet (margin : Margin) : Type 0 where
+  pub none : dedents margin.comments ≡ 0
+  pub neither : indents margin.comments ≡ 0
+  pub inside : length margin.comments ≤ margin.at
 
-margin_quiet : (text : Text) → MarginIsQuiet (margin_of text)
+pub margin_quiet : (text : Text) → MarginIsQuiet (margin_of text)
 unfolding margin_of
 margin_quiet text =
     let each = some_each (lines text) in
@@ -302,7 +302,7 @@ by_place_balances widths table s AtTop text e = in_code_balances widths table s 
 by_place_balances widths table s Deeper text e = in_code_balances widths table s text e
 
 -- before the first margin no width is open
-abbrev StartsSo : Before → List ℕ → Type 0
+abbrev pub StartsSo : Before → List ℕ → Type 0
 StartsSo Nothing widths = widths ≡ []
 StartsSo before widths = ⊤
 
@@ -314,6 +314,6 @@ by_before_balances widths table s Layout text e none = by_place_balances widths 
 by_before_balances widths table s Gap text e none = by_place_balances widths table s s.place text e
 by_before_balances widths table s Other text e none = by_place_balances widths table s s.place text e
 
-piece_balances : (table : Table) (history : History) (text : Text) (piece : Piece) → StartsSo history.before history.widths → next_step table history text ≡ Stands piece → Balances history.widths piece
+pub piece_balances : (table : Table) (history : History) (text : Text) (piece : Piece) → StartsSo history.before history.widths → next_step table history text ≡ Stands piece → Balances history.widths piece
 unfolding next_step situation step_at
 piece_balances table history text piece start e = subst (StepBalances history.widths) e (by_before_balances history.widths table (situation history) history.before text refl start)

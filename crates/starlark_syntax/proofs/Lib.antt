@@ -6,5 +6,6 @@ pub mod Steps
 pub mod Readings
 pub mod Widths
 pub mod Balance
+pub mod Totals
 mod Rows
 mod RowsOfWords

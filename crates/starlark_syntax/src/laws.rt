@@ -1,7 +1,7 @@
 //! Laws of the written grammar, for all texts. Each function here has a law as its contract and nothing to do;
 //! programs don't call them.
 
-ghost use Rattle.starlark_syntax.specs.Laws.{FrontIsLongest, LongestFrontIsOne, ReadingsAgree, ReadingsFit, OutcomeIs, OutcomeIsOne};
+ghost use Rattle.starlark_syntax.specs.Laws.{FrontIsLongest, LongestFrontIsOne, ReadingsAgree, ReadingsFit, OutcomeIs, OutcomeIsOne, DedentsFollow, BlocksClose, ItemsAreFew};
 
 /// The longest front of a text that is a word is the longest, and there is only one.
 pub fn one_longest_front()
@@ -21,5 +21,14 @@ pub fn one_reading()
 pub fn one_outcome()
     ensures is_outcome { OutcomeIs }
     ensures only { OutcomeIsOne }
+{
+}
+
+/// In each beginning of the lexemes there are at most as many `Dedent` as `Indent`, and in those of a text without
+/// fault as many of each. Of n bytes there are at most 2n + 1 lexemes and faults.
+pub fn balanced_layout()
+    ensures front { DedentsFollow }
+    ensures whole { BlocksClose }
+    ensures few { ItemsAreFew }
 {
 }
