@@ -7,5 +7,7 @@ pub mod Readings
 pub mod Widths
 pub mod Balance
 pub mod Totals
+pub mod Gaps
+pub mod WordBytes
 mod Rows
 mod RowsOfWords

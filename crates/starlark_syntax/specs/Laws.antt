@@ -4,7 +4,8 @@ use Rattle.starlark_syntax.specs.Words.{Text, Class, Table, class_in, language}
 use Rattle.starlark_syntax.specs.Front.{IsLongestFront, language_front}
 use Rattle.starlark_syntax.specs.Tokens.{Token, Indent, Dedent, Lexeme, Outcome}
 use Rattle.starlark_syntax.specs.Pieces.{Piece}
-use Rattle.starlark_syntax.specs.Reading.{History, IsReading, pieces_len, outcome_in, IsOutcome}
+use Rattle.starlark_syntax.specs.Reading.{History, IsReading, pieces_len, outcome_in, outcome, IsOutcome}
+use Rattle.starlark_syntax.specs.Cuts.{InOrder}
 
 -- What is computed as the longest front of a text is one, …
 abbrev pub FrontIsLongest : Type 0
@@ -33,6 +34,14 @@ OutcomeIs = (table : Table) (text : Text) → IsOutcome table text (outcome_in t
 -- … and there is no other.
 abbrev pub OutcomeIsOne : Type 0
 OutcomeIsOne = (table : Table) (text : Text) (found : Outcome) → IsOutcome table text found → found ≡ outcome_in table text
+
+-- The lexemes of a text are in order, with nothing but gaps before and between them, up to a place in it. …
+abbrev pub LexemesInOrder : Type 0
+LexemesInOrder = (text : Text) → (to : ℕ) × (to ≤ length text) × InOrder text 0 (outcome text).lexemes to
+
+-- … In a text without fault nothing but a gap stands behind them either.
+abbrev pub FaultlessInOrder : Type 0
+FaultlessInOrder = (text : Text) → (outcome text).fault ≡ None → InOrder text 0 (outcome text).lexemes (length text)
 
 abbrev pub is_indent : Token → Bool
 is_indent Indent = true
