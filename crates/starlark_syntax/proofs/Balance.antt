@@ -97,7 +97,8 @@ margin_quiet text =
     record {
       none = comments_quiet is_dedent (λ text. refl) 0 (comment_lines text);
       neither = comments_quiet is_indent (λ text. refl) 0 (comment_lines text);
-      inside = omega (arith, each, len) }
+      inside = omega (arith, each, len);
+    }
 
 -- the lexemes of a line end that counts, or none
 record EndIsQuiet (len : ℕ) (before : List Lexeme) : Type 0 where
@@ -112,12 +113,12 @@ layout_balances : (widths : List ℕ) (len : ℕ) (before : List Lexeme) (margin
     → Balances widths (record { len = len + margin_len margin; lexemes = before ++ map (moved len) (margin.comments ++ more); width = width; sort = Layout })
 layout_balances widths len before margin more width end quiet_margin few total bytes wide =
     let count : (test : Token → Bool) → count_by (λ (lexeme : Lexeme). test lexeme.node) (before ++ map (moved len) (margin.comments ++ more)) ≡ count_by (λ (lexeme : Lexeme). test lexeme.node) before + (count_by (λ (lexeme : Lexeme). test lexeme.node) margin.comments + count_by (λ (lexeme : Lexeme). test lexeme.node) more) =
-      λ test. sum_by-append (λ (lexeme : Lexeme). cond (test lexeme.node) 1 0) before (map (moved len) (margin.comments ++ more))
-        ∙ ap (λ k. count_by (λ (lexeme : Lexeme). test lexeme.node) before + k) (count-moved test len (margin.comments ++ more) ∙ sum_by-append (λ (lexeme : Lexeme). cond (test lexeme.node) 1 0) margin.comments more) in
+    λ test. sum_by-append (λ (lexeme : Lexeme). cond (test lexeme.node) 1 0) before (map (moved len) (margin.comments ++ more))
+    ∙ ap (λ k. count_by (λ (lexeme : Lexeme). test lexeme.node) before + k) (count-moved test len (margin.comments ++ more) ∙ sum_by-append (λ (lexeme : Lexeme). cond (test lexeme.node) 1 0) margin.comments more) in
     let all_dedents = count is_dedent in
     let all_indents = count is_indent in
     let all_len : length (before ++ map (moved len) (margin.comments ++ more)) ≡ length before + (length margin.comments + length more) =
-      length-append before (map (moved len) (margin.comments ++ more)) ∙ ap (λ k. length before + k) (length-map (margin.comments ++ more) (moved len) ∙ length-append margin.comments more) in
+    length-append before (map (moved len) (margin.comments ++ more)) ∙ ap (λ k. length before + k) (length-map (margin.comments ++ more) (moved len) ∙ length-append margin.comments more) in
     let none = end.none in
     let neither = end.neither in
     let end_inside = end.inside in
@@ -128,13 +129,14 @@ layout_balances widths len before margin more width end quiet_margin few total b
       few = omega (arith, all_dedents, none, no_dedents, few);
       total = omega (arith, all_dedents, all_indents, none, neither, no_dedents, no_indents, total);
       bytes = omega (arith, all_len, all_dedents, none, no_dedents, end_inside, margin_inside, bytes);
-      wide = omega (arith, all_indents, neither, no_indents, wide) }
+      wide = omega (arith, all_indents, neither, no_indents, wide);
+    }
 
 margin_step_balances : (widths : List ℕ) (len : ℕ) (before : List Lexeme) (margin : Margin) → EndIsQuiet len before → MarginIsQuiet margin → StepBalances widths (margin_step len before (open_widths widths) margin)
 unfolding margin_step indentation
 margin_step_balances widths len before margin end quiet_margin =
     either (StepBalances widths) (not (is_content margin.behind)) _ _
-      (let same : levels_len (widths ++ []) ≡ levels_len widths = ap (λ ws. levels_len ws) (append-nil widths) in layout_balances widths len before margin [] None end quiet_margin (omega arith) (omega (arith, same)) (omega arith) (omega arith))
+    (let same : levels_len (widths ++ []) ≡ levels_len widths = ap (λ ws. levels_len ws) (append-nil widths) in layout_balances widths len before margin [] None end quiet_margin (omega arith) (omega (arith, same)) (omega arith) (omega arith))
     (either (StepBalances widths) (has_tab margin) _ _ tt
     (fitting (fits (width_of margin) (open_widths widths)) refl (nat_lt 0 (width_of margin) && is_widest (width_of margin) (open_widths widths)) refl))
   where
@@ -205,8 +207,8 @@ word_step_balances widths s word.Comment front behind e some = token_quiet width
 word_step_balances widths s word.Tabs front behind e some = tt
 word_step_balances widths s word.LineEnd front behind e some =
     either (StepBalances widths) (counts s.place s.is_balanced) _ _
-      (subst (λ (levels : List ℕ). StepBalances widths (line_end (length front) levels behind)) (sym e) (margin_step_balances widths (length front) (record { begin = 0; node = Newline; end = length front } ∷ []) (margin_of behind) (end_quiet (length front) some) (margin_quiet behind)))
-      (quiet widths (length front) [] Other refl refl (omega arith))
+    (subst (λ (levels : List ℕ). StepBalances widths (line_end (length front) levels behind)) (sym e) (margin_step_balances widths (length front) (record { begin = 0; node = Newline; end = length front } ∷ []) (margin_of behind) (end_quiet (length front) some) (margin_quiet behind)))
+    (quiet widths (length front) [] Other refl refl (omega arith))
 word_step_balances widths s (word.Opener kind is_raw quote) front behind e some = opener_balances widths s.place kind (opening_of is_raw quote behind) (length front) behind some
 word_step_balances widths s word.Reserved front behind e some = tt
 word_step_balances widths s word.Identifier front behind e some = token_quiet widths (length front) _ some refl refl

@@ -94,7 +94,7 @@ brace_fits : (opening : Opening) (b : ℕ) (text whole : Text) → 1 + length te
 brace_fits opening b [] whole inside = either (StopFits opening whole) (b == byte "{") OpeningBrace ClosingBrace (omega arith) (omega arith)
 brace_fits opening b (c ∷ cs) whole inside =
     either (FoundFits opening whole) (b == c) (goes 2 (b ∷ [])) (Stops (if b == byte "{" then OpeningBrace else ClosingBrace)) (omega arith, omega arith)
-      (either (StopFits opening whole) (b == byte "{") OpeningBrace ClosingBrace (omega arith) (omega arith))
+    (either (StopFits opening whole) (b == byte "{") OpeningBrace ClosingBrace (omega arith) (omega arith))
 
 -- a text that begins with another isn't shorter
 pub starts_fits : (text needle : Text) → starts_with nat_eq text needle ≡ true → length needle ≤ length text
@@ -134,7 +134,7 @@ onward_fits literal item b bs rest some inside fits =
     let total : body_len (record { items = item ∷ rest.items; stop = rest.stop }) ≡ item.len + body_len rest = sum_by-cons (λ (item : Item). item.len) item rest.items in
     let first = fits.0 in
     let left : drop (body_len (record { items = item ∷ rest.items; stop = rest.stop })) (b ∷ bs) ≡ drop (body_len rest) (drop (item.len - 1) bs) =
-      ap (λ n. drop n (b ∷ bs)) total ∙ drop-sum item.len (body_len rest) (b ∷ bs) ∙ ap (drop (body_len rest)) (drop-behind item.len b bs some) in
+    ap (λ n. drop n (b ∷ bs)) total ∙ drop-sum item.len (body_len rest) (b ∷ bs) ∙ ap (drop (body_len rest)) (drop-behind item.len b bs some) in
     (omega (arith, total, length-drop (item.len - 1) bs), subst (λ (t : Text). StopFits literal.opening t rest.stop) (sym left) fits.1)
 
 body_from_fits : (literal : Literal) (passed : ℕ) (text : Text) → BodyFits literal (drop passed text) (body_from literal passed text)

@@ -9,5 +9,7 @@ pub mod Balance
 pub mod Totals
 pub mod Gaps
 pub mod WordBytes
+pub mod Silent
+pub mod Order
 mod Rows
 mod RowsOfWords

@@ -41,6 +41,11 @@ pub piece_fits : (table : Table) (history : History) (text : Text) (piece : Piec
 unfolding next_step situation
 piece_fits table history text piece e = subst (StepFits (least_len history.before) text) e (step_fits table (situation history) text)
 
+-- where the text is at its end
+pub ends_at_end : (table : Table) (history : History) (text : Text) → next_step table history text ≡ Ends → text ≡ []
+unfolding next_step situation
+ends_at_end table history text e = subst (StepFits (least_len history.before) text) e (step_fits table (situation history) text)
+
 pub reading_fits : (table : Table) (history : History) (text : Text) (pieces : List Piece) → IsReading table history text pieces → pieces_len pieces ≤ length text
 reading_fits table history text [] h = omega arith
 reading_fits table history text (first ∷ pieces) h =
@@ -85,7 +90,8 @@ longest_onward table history text piece pieces last e h =
     record {
       reads = (e, h.reads);
       stands_last = ap (next_step table (after_all (after history piece) pieces)) left ∙ h.stands_last;
-      no_piece = h.no_piece }
+      no_piece = h.no_piece;
+    }
 
 none_next : (table : Table) (history : History) (piece : Piece) → is_nothing history.before ≡ false → next_step table history [] ≡ Stands piece → ⊥
 unfolding next_step situation
@@ -133,7 +139,7 @@ longest_ends table history text (first ∷ pieces) (piece ∷ more) last h k =
     let total : pieces_len (first ∷ pieces) ≡ first.len + pieces_len pieces = sum_by-cons (λ (piece : Piece). piece.len) first pieces in
     let left : drop (pieces_len pieces) (drop first.len text) ≡ drop (pieces_len (first ∷ pieces)) text = sym (ap (λ n. drop n text) total ∙ drop-sum first.len (pieces_len pieces) text) in
     longest_ends table (after history first) (drop first.len text) pieces (piece ∷ more) last
-      (record { reads = h.reads.1; stands_last = ap (next_step table (after_all (after history first) pieces)) left ∙ h.stands_last; no_piece = h.no_piece }) k.1
+    (record { reads = h.reads.1; stands_last = ap (next_step table (after_all (after history first) pieces)) left ∙ h.stands_last; no_piece = h.no_piece }) k.1
 
 -- the longest reading is one
 pub one_longest : (table : Table) (history : History) (text : Text) (one other : List Piece) (last end : Step) → IsLongestReading table history text one last → IsLongestReading table history text other end → (one ≡ other) × (last ≡ end)

@@ -37,8 +37,11 @@ pub record FaultFits (text : Text) (fault : Spanned Fault) : Type 0 where
   pub order : fault.begin ≤ fault.end
   pub inside : fault.end ≤ length text
 
+-- where nothing stands and nothing fails the text is at its end
 abbrev pub StepFits : ℕ → Text → Step → Type 0
-StepFits least text = Each (PieceFits least text) (FaultFits text)
+StepFits least text (Stands piece) = PieceFits least text piece
+StepFits least text (Fails fault) = FaultFits text fault
+StepFits least text Ends = text ≡ []
 
 either : (P : Step → Type 0) (test : Bool) (x y : Step) → P x → P y → P (if test then x else y)
 either P true x y px py = px
@@ -84,7 +87,7 @@ margin_step_fits : (least len : ℕ) (before : List Lexeme) (levels : List ℕ) 
 unfolding margin_step
 margin_step_fits least len before levels margin text some inside =
     let layout : (lexemes : List Lexeme) (width : Option ℕ) → PieceFits least text (record { len = len + margin_len margin; lexemes = lexemes; width = width; sort = Layout }) =
-      λ lexemes width. record { some = omega arith; inside = inside; sort = refl } in
+    λ lexemes width. record { some = omega arith; inside = inside; sort = refl } in
     either (StepFits least text) (not (is_content margin.behind)) _ _ (layout _ _)
     (either (StepFits least text) (has_tab margin) _ _ (record { order = omega arith; inside = omega arith })
     (either (StepFits least text) (fits (width_of margin) levels) _ _ (layout _ _) (record { order = omega arith; inside = inside })))
@@ -111,7 +114,7 @@ literal_by_fits place kind opening len behind text body (BadEscape read last) so
     let within = stop.2 in
     let taken = take_fits read (drop (body_len body) behind) in
     escape_fault_fits (len + body_len body) (drop 1 (take read (drop (body_len body) behind))) text
-      (omega (arith, length-drop (body_len body) behind, length-drop 1 (take read (drop (body_len body) behind)), taken.0, taken.1))
+    (omega (arith, length-drop (body_len body) behind, length-drop 1 (take read (drop (body_len body) behind)), taken.0, taken.1))
 literal_by_fits place kind opening len behind text body Line some inside fits stop = record { order = omega arith; inside = omega arith }
 literal_by_fits place kind opening len behind text body Ended some inside fits stop = record { order = omega arith; inside = inside }
 literal_by_fits place kind opening len behind text body OpeningBrace some inside fits stop = record { order = omega arith; inside = inside }
@@ -184,7 +187,7 @@ front_step_fits table s text (Some front) e =
     word_step_fits s front.0 (take front.1 text) (drop front.1 text) text (omega arith) (omega (arith, length-drop front.1 text))
 
 in_code_fits : (table : Table) (s : Situation) (text : Text) → StepFits 1 text (in_code table s text)
-in_code_fits table s [] = tt
+in_code_fits table s [] = refl
 in_code_fits table s (b ∷ bs) =
     either (StepFits 1 (b ∷ bs)) (takes_bang s.place s.before && is_bang (b ∷ bs)) _ _ (token_fits 1 FStringBang (b ∷ bs) (omega arith) (omega arith)) (front_step_fits table s (b ∷ bs) _ refl)
 

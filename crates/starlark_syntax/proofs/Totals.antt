@@ -67,9 +67,9 @@ along_follows table history text (piece ∷ pieces) at tail start reads h =
     let dedents_same = count-moved is_dedent at piece.lexemes in
     let indents_same = count-moved is_indent at piece.lexemes in
     subst (Follows (levels_len history.widths)) (sym (append_assoc (map (moved at) piece.lexemes) (lexemes_along (at + piece.len) pieces) tail))
-      (follows_behind (levels_len history.widths) (levels_len (history.widths ++ option_to_list piece.width)) (map (moved at) piece.lexemes) (lexemes_along (at + piece.len) pieces ++ tail)
-        (omega (arith, few, dedents_same)) (omega (arith, total, dedents_same, indents_same))
-        (subst (λ (ws : List ℕ). Follows (levels_len ws) (lexemes_along (at + piece.len) pieces ++ tail)) (after_widths history piece) more))
+    (follows_behind (levels_len history.widths) (levels_len (history.widths ++ option_to_list piece.width)) (map (moved at) piece.lexemes) (lexemes_along (at + piece.len) pieces ++ tail)
+    (omega (arith, few, dedents_same)) (omega (arith, total, dedents_same, indents_same))
+    (subst (λ (ws : List ℕ). Follows (levels_len ws) (lexemes_along (at + piece.len) pieces ++ tail)) (after_widths history piece) more))
 
 record AlongBalances (history : History) (pieces : List Piece) (lexemes : List Lexeme) : Type 0 where
   total : dedents lexemes + levels_len (after_all history pieces).widths ≡ indents lexemes + levels_len history.widths
@@ -101,7 +101,8 @@ along_balances table history text (piece ∷ pieces) at start reads =
     record {
       total = omega (arith, total, more_total, widths, dedents_same, indents_same, dedents_all, indents_all);
       bytes = omega (arith, bytes, more_bytes, len, len_all, len_same, dedents_same, dedents_all);
-      wide = omega (arith, wide, more_wide, len, indents_same, indents_all) }
+      wide = omega (arith, wide, more_wide, len, indents_same, indents_all);
+    }
 
 -- what closes a text
 closing_dedents : (at : ℕ) (history : History) → (dedents (closing at history) ≡ levels_len history.widths) × (indents (closing at history) ≡ 0) × (length (closing at history) ≡ 1 + levels_len history.widths)

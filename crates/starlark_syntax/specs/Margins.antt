@@ -43,7 +43,8 @@ abbrev pub comment_of : ℕ → Text → Lexeme
 comment_of at line = record {
   begin = at + blanks_len line;
   node = Comment (drop (suc (blanks_len line)) (comment_part line));
-  end = at + length (comment_part line) }
+  end = at + length (comment_part line);
+}
 
 -- the comments of the lines from a place on
 abbrev pub comments_from : ℕ → List Text → List Lexeme
@@ -66,7 +67,8 @@ margin_from passed at line = record {
   comments = comments_from 0 passed;
   at = at;
   blanks = take (blanks_len line) line;
-  behind = drop (blanks_len line) line }
+  behind = drop (blanks_len line) line;
+}
 
 -- The margin at the front of a text: whole comment-only lines, as many as stand there, and the blanks behind them.
 unfoldable pub margin_of : Text → Margin

@@ -68,7 +68,8 @@ margin_step len line_end levels margin =
       len = len + margin_len margin;
       lexemes = line_end ++ map (moved len) (margin.comments ++ lexemes);
       width = width;
-      sort = Layout })
+      sort = Layout;
+    })
 
 abbrev pub first_margin : Text → Step
 first_margin text = margin_step 0 [] [] (margin_of text)
@@ -83,7 +84,8 @@ abbrev pub opening_of : Bool → Quote → Text → Opening
 opening_of is_raw quote behind = record {
   is_raw = is_raw;
   quote = quote;
-  is_triple = starts_with nat_eq behind (quote_byte quote ∷ quote_byte quote ∷ []) }
+  is_triple = starts_with nat_eq behind (quote_byte quote ∷ quote_byte quote ∷ []);
+}
 
 abbrev pub more_quotes : Opening → ℕ
 more_quotes opening = if opening.is_triple then 2 else 0

@@ -25,7 +25,8 @@ unfoldable pub after : History → Piece → History
 after history piece = record {
   tokens = tokens_onto history.tokens piece.lexemes;
   widths = history.widths ++ option_to_list piece.width;
-  before = piece.sort }
+  before = piece.sort;
+}
 
 abbrev pub after_all : History → List Piece → History
 after_all history [] = history
@@ -36,7 +37,8 @@ situation history = record {
   place = where_after history.tokens;
   is_balanced = is_balanced history.tokens;
   levels = open_widths history.widths;
-  before = history.before }
+  before = history.before;
+}
 
 -- what stands at the front of a text, by what was read before it
 unfoldable pub next_step : Table → History → Text → Step

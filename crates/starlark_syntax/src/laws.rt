@@ -1,28 +1,25 @@
 //! Laws of the written grammar, for all texts. Each function here has a law as its contract and nothing to do;
 //! programs don't call them.
 
-ghost use Rattle.starlark_syntax.specs.Laws.{FrontIsLongest, LongestFrontIsOne, ReadingsAgree, ReadingsFit, OutcomeIs, OutcomeIsOne, DedentsFollow, BlocksClose, ItemsAreFew};
+ghost use Rattle.starlark_syntax.specs.Laws.{FrontIsLongest, LongestFrontIsOne, ReadingsAgree, ReadingsFit, OutcomeIs, OutcomeIsOne, DedentsFollow, BlocksClose, ItemsAreFew, LexemesInOrder, FaultlessInOrder};
 
 /// The longest front of a text that is a word is the longest, and there is only one.
 pub fn one_longest_front()
     ensures is_longest { FrontIsLongest }
     ensures only { LongestFrontIsOne }
-{
-}
+{}
 
 /// Of two readings of fronts of one text one begins the other, and both lie inside of the text.
 pub fn one_reading()
     ensures agree { ReadingsAgree }
     ensures inside { ReadingsFit }
-{
-}
+{}
 
 /// Each text has exactly one outcome: that of its longest reading.
 pub fn one_outcome()
     ensures is_outcome { OutcomeIs }
     ensures only { OutcomeIsOne }
-{
-}
+{}
 
 /// In each beginning of the lexemes there are at most as many `Dedent` as `Indent`, and in those of a text without
 /// fault as many of each. Of n bytes there are at most 2n + 1 lexemes and faults.
@@ -30,5 +27,11 @@ pub fn balanced_layout()
     ensures front { DedentsFollow }
     ensures whole { BlocksClose }
     ensures few { ItemsAreFew }
-{
-}
+{}
+
+/// Lexemes are in order, with nothing but gaps before and between them, and where the text has no fault behind them
+/// too. They lie inside of the text.
+pub fn ordered_lexemes()
+    ensures order { LexemesInOrder }
+    ensures whole { FaultlessInOrder }
+{}

@@ -19,7 +19,6 @@ use Rattle.starlark_syntax.proofs.Rows.Shapes.{at}
 abbrev Joins : Text → Text → Type 0
 Joins first second = (outcome (first ++ second)).lexemes ≡ joined (length first) (outcome first).lexemes (outcome second).lexemes
 
-
 -- whether a text is a clean cut
 clean_cuts_1 :
     (is_clean_cut (codes "x") ≡ false)
