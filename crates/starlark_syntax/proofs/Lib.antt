@@ -9,6 +9,13 @@ mod RowsOfTokens
 pub mod Bodies
 pub mod Steps
 pub mod Readings
+pub mod Widths
+pub mod Balance
+pub mod Totals
+pub mod Gaps
+pub mod WordBytes
+pub mod Silent
+pub mod Order
 mod Rows
 mod RowsOfWords
 pub mod Scanning

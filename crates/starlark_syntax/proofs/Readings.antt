@@ -41,6 +41,11 @@ pub piece_fits : (table : Table) (history : History) (text : Text) (piece : Piec
 unfolding next_step situation
 piece_fits table history text piece e = subst (StepFits (least_len history.before) text) e (step_fits table (situation history) text)
 
+-- where the text is at its end
+pub ends_at_end : (table : Table) (history : History) (text : Text) → next_step table history text ≡ Ends → text ≡ []
+unfolding next_step situation
+ends_at_end table history text e = subst (StepFits (least_len history.before) text) e (step_fits table (situation history) text)
+
 pub reading_fits : (table : Table) (history : History) (text : Text) (pieces : List Piece) → IsReading table history text pieces → pieces_len pieces ≤ length text
 reading_fits table history text [] h = omega arith
 reading_fits table history text (first ∷ pieces) h =

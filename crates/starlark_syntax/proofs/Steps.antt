@@ -37,8 +37,11 @@ pub record FaultFits (text : Text) (fault : Spanned Fault) : Type 0 where
   pub order : fault.begin ≤ fault.end
   pub inside : fault.end ≤ length text
 
+-- where nothing stands and nothing fails the text is at its end
 abbrev pub StepFits : ℕ → Text → Step → Type 0
-StepFits least text = Each (PieceFits least text) (FaultFits text)
+StepFits least text (Stands piece) = PieceFits least text piece
+StepFits least text (Fails fault) = FaultFits text fault
+StepFits least text Ends = text ≡ []
 
 either : (P : Step → Type 0) (test : Bool) (x y : Step) → P x → P y → P (if test then x else y)
 either P true x y px py = px
@@ -184,7 +187,7 @@ front_step_fits table s text (Some front) e =
     word_step_fits s front.0 (take front.1 text) (drop front.1 text) text (omega arith) (omega (arith, length-drop front.1 text))
 
 in_code_fits : (table : Table) (s : Situation) (text : Text) → StepFits 1 text (in_code table s text)
-in_code_fits table s [] = tt
+in_code_fits table s [] = refl
 in_code_fits table s (b ∷ bs) =
     either (StepFits 1 (b ∷ bs)) (takes_bang s.place s.before && is_bang (b ∷ bs)) _ _ (token_fits 1 FStringBang (b ∷ bs) (omega arith) (omega arith)) (front_step_fits table s (b ∷ bs) _ refl)
 

@@ -1,5 +1,5 @@
 -- Clean cuts, joined texts, and what stands between lexemes.
-use Rattle.std.specs.Prelude.{ℕ, ◌-◌, Bool, true, false, ◌&&◌, ◌||◌, ◌==◌, if◌then◌else◌, nat_eq, nat_le, List, [], ◌∷◌, ◌++◌, map, length, take, codes, flat_map}
+use Rattle.std.specs.Prelude.{◌≡◌, ◌≤◌, ◌<◌, ℕ, ◌-◌, Bool, true, false, ◌&&◌, ◌||◌, ◌==◌, if◌then◌else◌, nat_eq, nat_le, List, [], ◌∷◌, ◌++◌, map, length, take, drop, codes, flat_map}
 use Rattle.std.specs.List.{ends_with, starts_with}
 use Rattle.std.specs.Str.{byte}
 use Rattle.starlark_syntax.specs.Words.{Text, Table, language}
@@ -50,10 +50,20 @@ is_kept_cut text at = nat_le at (pieces_len (read language text).pieces) && is_c
 abbrev pub begins_line : Text → Bool
 begins_line text = starts_with nat_eq text (codes "\n") || starts_with nat_eq text (codes "\r\n")
 
--- What may stand between lexemes: spaces, tabs, CR, LF, and backslashes right before a line end.
-unfoldable pub is_gap : Text → Bool
-is_gap [] = true
-is_gap (b ∷ bs) = (is_blank b || is_feed b || (b == byte "\\" && begins_line bs)) && is_gap bs
+-- What may stand between lexemes: a space, a tab, a CR, an LF, or a backslash right before a line end.
+unfoldable pub is_gap_byte : Text → Bool
+is_gap_byte [] = true
+is_gap_byte (b ∷ bs) = is_blank b || is_feed b || (b == byte "\\" && begins_line bs)
+
+-- nothing else stands from a place of a text to another
+abbrev pub IsGap : Text → ℕ → ℕ → Type 0
+IsGap text from to = (at : ℕ) → from ≤ at → at < to → is_gap_byte (drop at text) ≡ true
+
+-- Lexemes are in order from a place to another, and nothing but gaps stands before, between and behind them.
+abbrev pub InOrder : Text → ℕ → List Lexeme → ℕ → Type 0
+InOrder text from [] to = (from ≤ to) × IsGap text from to
+InOrder text from (lexeme ∷ lexemes) to =
+    (from ≤ lexeme.begin) × (lexeme.begin ≤ lexeme.end) × IsGap text from lexeme.begin × InOrder text lexeme.end lexemes to
 
 -- a text with each LF written as CR LF
 abbrev pub crlf_form : Text → Text

@@ -1,10 +1,11 @@
 -- What the laws of the grammar say.
-use Rattle.std.specs.Prelude.{◌≡◌, ◌≤◌, ℕ, ◌⊎◌, List, ◌++◌, length, Option, Some}
+use Rattle.std.specs.Prelude.{◌≡◌, ◌≤◌, ℕ, ◌+◌, ◌*◌, Bool, true, false, ◌⊎◌, List, ◌++◌, length, take, count_by, Option, Some, None, option_to_list}
 use Rattle.starlark_syntax.specs.Words.{Text, Class, Table, class_in, language}
 use Rattle.starlark_syntax.specs.Front.{IsLongestFront, language_front}
-use Rattle.starlark_syntax.specs.Tokens.{Outcome}
+use Rattle.starlark_syntax.specs.Tokens.{Token, Indent, Dedent, Lexeme, Outcome}
 use Rattle.starlark_syntax.specs.Pieces.{Piece}
-use Rattle.starlark_syntax.specs.Reading.{History, IsReading, pieces_len, outcome_in, IsOutcome}
+use Rattle.starlark_syntax.specs.Reading.{History, IsReading, pieces_len, outcome_in, outcome, IsOutcome}
+use Rattle.starlark_syntax.specs.Cuts.{InOrder}
 
 -- What is computed as the longest front of a text is one, …
 abbrev pub FrontIsLongest : Type 0
@@ -33,3 +34,37 @@ OutcomeIs = (table : Table) (text : Text) → IsOutcome table text (outcome_in t
 -- … and there is no other.
 abbrev pub OutcomeIsOne : Type 0
 OutcomeIsOne = (table : Table) (text : Text) (found : Outcome) → IsOutcome table text found → found ≡ outcome_in table text
+
+-- The lexemes of a text are in order, with nothing but gaps before and between them, up to a place in it. …
+abbrev pub LexemesInOrder : Type 0
+LexemesInOrder = (text : Text) → (to : ℕ) × (to ≤ length text) × InOrder text 0 (outcome text).lexemes to
+
+-- … In a text without fault nothing but a gap stands behind them either.
+abbrev pub FaultlessInOrder : Type 0
+FaultlessInOrder = (text : Text) → (outcome text).fault ≡ None → InOrder text 0 (outcome text).lexemes (length text)
+
+abbrev pub is_indent : Token → Bool
+is_indent Indent = true
+is_indent token = false
+
+abbrev pub is_dedent : Token → Bool
+is_dedent Dedent = true
+is_dedent token = false
+
+abbrev pub indents : List Lexeme → ℕ
+indents lexemes = count_by (λ (lexeme : Lexeme). is_indent lexeme.node) lexemes
+
+abbrev pub dedents : List Lexeme → ℕ
+dedents lexemes = count_by (λ (lexeme : Lexeme). is_dedent lexeme.node) lexemes
+
+-- In each beginning of the lexemes of a text there are at most as many `Dedent` as `Indent`.
+abbrev pub DedentsFollow : Type 0
+DedentsFollow = (table : Table) (text : Text) (n : ℕ) → dedents (take n (outcome_in table text).lexemes) ≤ indents (take n (outcome_in table text).lexemes)
+
+-- A text without fault has as many of each.
+abbrev pub BlocksClose : Type 0
+BlocksClose = (table : Table) (text : Text) → (outcome_in table text).fault ≡ None → dedents (outcome_in table text).lexemes ≡ indents (outcome_in table text).lexemes
+
+-- Of n bytes there are at most 2n + 1 lexemes and faults.
+abbrev pub ItemsAreFew : Type 0
+ItemsAreFew = (table : Table) (text : Text) → length (outcome_in table text).lexemes + length (option_to_list (outcome_in table text).fault) ≤ 2 * length text + 1

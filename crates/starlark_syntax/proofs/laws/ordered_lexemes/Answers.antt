@@ -1,0 +1,10 @@
+use Rattle.starlark_syntax.proofs.Order.{outcome_order}
+use Rattle.starlark_syntax.proofs.laws.ordered_lexemes.Goals as goal
+
+-- src/laws.rt:41:1
+pub returns-clause-order : goal.returns-clause-order
+returns-clause-order c = λ text. (outcome_order text).0
+
+-- src/laws.rt:41:1
+pub returns-clause-whole : goal.returns-clause-whole
+returns-clause-whole c = λ text. (outcome_order text).1
