@@ -1,1 +1,6 @@
 pub mod Spans
+pub mod Places
+pub mod Lines
+pub mod Sources
+pub mod Refusals
+pub mod Starts

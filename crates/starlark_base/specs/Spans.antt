@@ -1,20 +1,19 @@
 -- Spans, by the bytes before their begin and before their end.
-use Rattle.std.specs.Prelude.{◌≤◌, ℕ, min, max, List, [], ◌∷◌}
+use Rattle.std.specs.Prelude.{◌≤◌, ℕ, min, max, List, [], ◌∷◌, fold}
 
 -- what lies between two positions
 pub record ByteSpan : Type 0 where
   pub begin : ℕ
   pub end : ℕ
 
--- the span from the first begin to the last end
+-- the span from the lesser begin to the greater end
 abbrev pub merged : ByteSpan → ByteSpan → ByteSpan
 merged a b = record { begin = min a.begin b.begin; end = max a.end b.end }
 
--- The span from the least begin to the greatest end, and 0..0 where there is no span.
+-- the span from the least begin to the greatest end, and 0..0 where there are no spans
 abbrev pub merged_all : List ByteSpan → ByteSpan
 merged_all [] = record { begin = 0; end = 0 }
-merged_all (span ∷ []) = span
-merged_all (span ∷ next ∷ spans) = merged span (merged_all (next ∷ spans))
+merged_all (span ∷ spans) = fold merged span spans
 
 -- each begins at or before the end of the other
 pub record Meets (a b : ByteSpan) : Type 0 where

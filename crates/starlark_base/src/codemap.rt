@@ -1,11 +1,17 @@
 //! Positions and spans in a source text, and what they are there: lines, columns, texts.
 
+mod code_map;
+mod file_span;
 mod positions;
 mod refusals;
+mod resolved;
 mod spanned_nodes;
 mod spans;
 
+pub use code_map::{CodeMap, CodeMapId};
+pub use file_span::{FileSpan, FileSpanRef};
 pub use positions::Pos;
 pub use refusals::{OrMemory, SourceTooLong};
+pub use resolved::{ResolvedFileLine, ResolvedFileSpan, ResolvedPos, ResolvedSpan};
 pub use spanned_nodes::Spanned;
 pub use spans::Span;

@@ -1,0 +1,46 @@
+-- The lines of a text: each ends behind a line feed, and the last at the text's end.
+use Rattle.std.specs.Prelude.{ℕ, zero, suc, ◌+◌, ◌-◌, Bool, ◌==◌, ◌||◌, if◌then◌else◌, [], ◌∷◌, nat_eq, length, take, count_by, slice_range}
+use Rattle.std.specs.List.{suffix_len, ends_with}
+use Rattle.starlark_base.specs.Spans.{ByteSpan}
+use Rattle.starlark_base.specs.Places.{Text, is_line_feed}
+
+-- one more than there are line feeds
+abbrev pub line_count : Text → ℕ
+line_count text = count_by is_line_feed text + 1
+
+-- How many bytes stand before a line: all through as many line feeds, or the whole text where it has fewer.
+abbrev pub line_begin : Text → ℕ → ℕ
+line_begin text zero = 0
+line_begin [] (suc line) = 0
+line_begin (b ∷ rest) (suc line) = (if is_line_feed b then line_begin rest line else line_begin rest (suc line)) + 1
+
+-- a line with its line feed
+abbrev pub line_span : Text → ℕ → ByteSpan
+line_span text line = record { begin = line_begin text line; end = line_begin text (line + 1) }
+
+-- the text of a span
+abbrev pub text_of : Text → ByteSpan → Text
+text_of text span = slice_range text span.begin span.end
+
+-- the span without its last byte, if that is the given one
+abbrev pub without_last : ℕ → Text → ByteSpan → ByteSpan
+without_last b text span =
+    if ends_with nat_eq (text_of text span) (b ∷ [])
+    then record { begin = span.begin; end = span.end - 1 }
+    else span
+
+-- a line without its line feed, and then without one carriage return at its end
+abbrev pub trimmed_line_span : Text → ℕ → ByteSpan
+trimmed_line_span text line = without_last 13 text (without_last 10 text (line_span text line))
+
+-- a line feed or a carriage return
+abbrev pub is_line_end : ℕ → Bool
+is_line_end b = b == 10 || b == 13
+
+-- the text without all line feeds and carriage returns at its end
+abbrev pub without_line_ends : Text → Text
+without_line_ends text = take (length text - suffix_len is_line_end text) text
+
+-- the text of a line, without them
+abbrev pub line_text : Text → ℕ → Text
+line_text text line = without_line_ends (text_of text (line_span text line))

@@ -1,0 +1,43 @@
+-- Lines and columns, and how they are printed. Both count from 0 and are printed from 1.
+use Rattle.std.specs.Prelude.{◌≡◌, ◌<◌, ℕ, ◌+◌, Bool, ◌==◌, if◌then◌else◌, ◌⊎◌, List, ◌++◌, length, take, count_by, codes}
+use Rattle.std.specs.List.{after_last}
+use Rattle.std.specs.Str.{chars}
+use Rattle.std.specs.Fmt.{decimal}
+use Rattle.starlark_base.specs.Spans.{ByteSpan}
+use Rattle.starlark_base.specs.declared.codemap.resolved.ResolvedPos.{ResolvedPos}
+use Rattle.starlark_base.specs.declared.codemap.resolved.ResolvedSpan.{ResolvedSpan}
+
+-- the bytes of a text
+abbrev pub Text : Type 0
+Text = List ℕ
+
+abbrev pub is_line_feed : ℕ → Bool
+is_line_feed b = b == 10
+
+-- The place behind a front of a text: how many line feeds it has, and how many characters follow the last of them.
+unfoldable pub place_after : Text → ResolvedPos
+place_after front =
+    record { line = count_by is_line_feed front; column = length (chars (after_last is_line_feed front)) }
+
+-- the place at a byte of a text
+abbrev pub place_at : Text → ℕ → ResolvedPos
+place_at text at = place_after (take at text)
+
+-- the places at the ends of a span
+abbrev pub resolved : Text → ByteSpan → ResolvedSpan
+resolved text span = record { begin = place_at text span.begin; end = place_at text span.end }
+
+-- one place stands before another
+abbrev pub StandsBefore : ResolvedPos → ResolvedPos → Type 0
+StandsBefore a b = (a.line < b.line) ⊎ ((a.line ≡ b.line) × (a.column < b.column))
+
+-- `line:column`
+abbrev pub place_text : ResolvedPos → Text
+place_text p = decimal (p.line + 1) ++ codes ":" ++ decimal (p.column + 1)
+
+-- one place where both are the same, one line where both are on it, and else both places
+unfoldable pub span_text : ResolvedPos → ResolvedPos → Text
+span_text begin end =
+    if begin.line == end.line
+    then (if begin.column == end.column then place_text begin else place_text begin ++ codes "-" ++ decimal (end.column + 1))
+    else place_text begin ++ codes "-" ++ place_text end

@@ -1,0 +1,9 @@
+-- Whether a call was refused for another reason than want of memory.
+use Rattle.std.specs.Prelude.{⊤, Result, Ok, Err}
+use Rattle.starlark_base.specs.declared.codemap.refusals.OrMemory.{OrMemory}
+use Rattle.starlark_base.specs.declared.codemap.refusals.OrMemory.TheVariants.{Error, Memory}
+
+abbrev pub IsRefused : {A E : Type 0} → Result A (OrMemory E) → Type 0
+IsRefused (Ok value) = ⊥
+IsRefused (Err (Error refusal)) = ⊤
+IsRefused (Err Memory) = ⊥

@@ -1,0 +1,28 @@
+-- What a code map is to its user, which spans lie in it, and how they are printed.
+use Rattle.std.specs.Prelude.{◌≤◌, ℕ, Bool, ◌&&◌, nat_le, ◌++◌, length, take, codes, if◌then◌else◌}
+use Rattle.std.specs.Str.{is_utf8, IsCharBoundary}
+use Rattle.std.specs.Fmt.{decimal}
+use Rattle.starlark_base.specs.Spans.{ByteSpan}
+use Rattle.starlark_base.specs.Places.{Text, place_at, span_text}
+
+-- a source text with its number and its file's name
+pub record SourceFile : Type 0 where
+  pub id : ℕ
+  pub filename : Text
+  pub source : Text
+
+-- both ends of the span stand between two characters of the text
+pub record Holds (text : Text) (span : ByteSpan) : Type 0 where
+  pub begin : IsCharBoundary text span.begin
+  pub end : IsCharBoundary text span.end
+
+-- the same as a test: what stands before each end is whole characters
+unfoldable pub holds : Text → ByteSpan → Bool
+holds text span = nat_le span.begin (length text) && nat_le span.end (length text) && is_utf8 (take span.begin text) && is_utf8 (take span.end text)
+
+-- `name:` and the places of the span, or `name:@begin-end` in bytes where the text doesn't hold it
+unfoldable pub file_span_text : SourceFile → ByteSpan → Text
+file_span_text file span =
+    file.filename ++ codes ":" ++ (if holds file.source span
+        then span_text (place_at file.source span.begin) (place_at file.source span.end)
+        else codes "@" ++ decimal span.begin ++ codes "-" ++ decimal span.end)

@@ -1,0 +1,369 @@
+//! Source texts with their lines.
+
+ghost use Rattle.std.specs.Prelude.{◌≡◌, ◌+◌, ◌<◌, ◌≤◌, ◌^◌, ◌↔◌, IsTrue, IfOk, OnOk, length, take, string_bytes, slice_index, SomeIff};
+ghost use Rattle.std.specs.Str.{chars, IsCharBoundary};
+ghost use Rattle.starlark_base.specs.Lines.{line_begin, line_count, line_span, line_text, text_of, trimmed_line_span, without_last, without_line_ends};
+ghost use Rattle.starlark_base.specs.Places.{place_at, resolved};
+ghost use Rattle.starlark_base.specs.Refusals.{IsRefused};
+ghost use Rattle.starlark_base.specs.Sources.{Holds};
+ghost use Rattle.starlark_base.specs.Starts.{line_starts};
+
+use crate::codemap::{FileSpan, OrMemory, Pos, ResolvedPos, ResolvedSpan, SourceTooLong, Span};
+use std::alloc::{AllocError, Global};
+use std::fmt;
+use std::hash::{Hash, Hasher};
+use std::marker::Model;
+use std::rc::Rc;
+
+/// The number of a code map. In a contract it is that number.
+#[derive(Clone, Copy, Debug, PartialEq, Eq, Hash)]
+pub struct CodeMapId(u64);
+
+impl Model for CodeMapId {
+    ghost use Rattle.std.specs.Prelude.{ℕ};
+
+    ghost Value = { ℕ };
+
+    ghost view = { λ id. id.0 };
+
+    ghost inverse = { λ n. record { 0 = n } };
+}
+
+impl CodeMapId {
+    /// The number 0, for texts of no file.
+    pub const EMPTY: CodeMapId = CodeMapId(0);
+
+    /// The code map number of this value.
+    pub fn new(id: u64) -> Self
+        ensures { result ≡ id }
+    {
+        CodeMapId(id)
+    }
+
+    /// The number's value.
+    pub fn get(self) -> u64
+        ensures { result ≡ self }
+    {
+        self.0
+    }
+}
+
+/// A source text, its number and name, and where its lines begin.
+#[derive(Drop)]
+struct CodeMapData {
+    id: CodeMapId,
+    filename: String,
+    source: String,
+    starts: Vec<Pos>,
+    ghost fits: { length (string_bytes source) < 2 ^ 32 },
+    ghost indexed: { starts.items ≡ line_starts (string_bytes source) },
+}
+
+/// A source text with its file's name and a number that tells it from others. In a contract it is these
+/// three. Copies share the text.
+///
+/// It takes four bytes a line besides its texts.
+#[derive(Drop)]
+pub struct CodeMap {
+    data: Rc<CodeMapData>,
+}
+
+impl Model for CodeMap {
+    ghost use Rattle.std.specs.Prelude.{string_bytes};
+    ghost use Rattle.starlark_base.specs.Sources.{SourceFile};
+
+    ghost Value = { SourceFile };
+
+    ghost view = { λ map. record { id = map.data.value.id; filename = string_bytes map.data.value.filename; source = string_bytes map.data.value.source } };
+}
+
+/// Where the lines of a source begin.
+fn starts_of_lines(alloc: Global, source: &str) -> Result<Vec<Pos>, AllocError>
+    requires { length source.now < 2 ^ 32 }
+    ensures { IfOk result (λ starts. starts.items ≡ line_starts source.now) }
+{
+    let line_feeds = source.as_bytes().iter().filter(|b| **b == b'\n').count();
+    let mut starts = Vec::with_capacity(alloc, line_feeds + 1)?;
+    starts.push(Pos::new(0))?;
+    for (at, byte) in source.as_bytes().iter().enumerate() {
+        if *byte == b'\n' {
+            starts.push(Pos::new(at as u32 + 1))?;
+        }
+    }
+    Ok(starts)
+}
+
+/// How many characters a text has.
+fn count_characters(text: &str) -> usize
+    ensures { result ≡ length (chars text.now) }
+{
+    text.chars().count()
+}
+
+/// A text without the line feeds and carriage returns that it ends with.
+fn trim_line_ends(text: &str) -> &str
+    ensures { result.now ≡ without_line_ends text.now }
+{
+    let line_ends = text
+        .as_bytes()
+        .iter()
+        .rev()
+        .take_while(|b| **b == b'\n' || **b == b'\r')
+        .count();
+    &text[..text.len() - line_ends]
+}
+
+impl CodeMap {
+    /// A code map of a source text. A source of more than 4294967295 bytes is refused, before want of
+    /// memory is; what was given is dropped then.
+    pub fn new(
+        alloc: Global,
+        id: CodeMapId,
+        filename: String,
+        source: String,
+    ) -> Result<CodeMap, OrMemory<SourceTooLong>>
+        ensures ok { IfOk result (λ map. map ≡ record { id = id; filename = string_bytes filename; source = string_bytes source }) }
+        ensures too_long { IsRefused result ↔ (2 ^ 32 ≤ length (string_bytes source)) }
+    {
+        if source.len() > u32::MAX as usize {
+            return Err(OrMemory::Error(SourceTooLong));
+        }
+        let starts = starts_of_lines(alloc, source.as_str())?;
+        let data = Rc::new(
+            alloc,
+            CodeMapData {
+                id,
+                filename,
+                source,
+                starts,
+            },
+        )
+        .map_err(|_| OrMemory::Memory)?;
+        Ok(CodeMap { data })
+    }
+
+    /// The same code map, which shares the text.
+    pub fn dupe(&self) -> Result<CodeMap, AllocError>
+        ensures { IfOk result (λ copy. copy ≡ self.now) }
+    {
+        Ok(CodeMap {
+            data: self.data.clone()?,
+        })
+    }
+
+    /// The number.
+    pub fn id(&self) -> CodeMapId
+        ensures { result ≡ self.now.id }
+    {
+        self.data.id
+    }
+
+    /// The file's name.
+    pub fn filename(&self) -> &str
+        ensures { result.now ≡ self.now.filename }
+    {
+        self.data.filename.as_str()
+    }
+
+    /// The source text.
+    pub fn source(&self) -> &str
+        ensures source { result.now ≡ self.now.source }
+        ensures fits { length self.now.source < 2 ^ 32 }
+    {
+        self.data.source.as_str()
+    }
+
+    /// The span of the whole source.
+    pub fn full_span(&self) -> Span
+        ensures { result ≡ record { begin = 0; end = length self.now.source } }
+    {
+        Span::new(Pos::new(0), Pos::new(self.source().len() as u32))
+    }
+
+    /// A span with this code map, which shares the text.
+    pub fn file_span(&self, span: Span) -> Result<FileSpan, AllocError>
+        ensures file { IfOk result (λ it. it.file ≡ self.now) }
+        ensures span { IfOk result (λ it. it.span ≡ span) }
+    {
+        Ok(FileSpan {
+            file: self.dupe()?,
+            span,
+        })
+    }
+
+    /// Whether a position is in the source or at its end.
+    pub fn has_pos(&self, pos: Pos) -> bool
+        ensures { IsTrue result ↔ (pos ≤ length self.now.source) }
+    {
+        pos.get() as usize <= self.source().len()
+    }
+
+    /// Whether a span is in the source, with both ends between two characters.
+    pub fn holds(&self, span: Span) -> bool
+        ensures { IsTrue result ↔ Holds self.now.source span }
+    {
+        let source = self.source();
+        source.is_char_boundary(span.begin().get() as usize)
+            && source.is_char_boundary(span.end().get() as usize)
+    }
+
+    /// How many lines the source has: one more than line feeds.
+    pub fn line_count(&self) -> usize
+        ensures { result ≡ line_count self.now.source }
+    {
+        self.data.starts.len()
+    }
+
+    /// The byte at a position.
+    pub fn byte_at(&self, pos: Pos) -> u8
+        requires { pos < length self.now.source }
+        ensures { result ≡ slice_index self.now.source pos }
+    {
+        self.source().as_bytes()[pos.get() as usize]
+    }
+
+    /// The line of a position, from 0.
+    pub fn find_line(&self, pos: Pos) -> usize
+        requires { pos ≤ length self.now.source }
+        ensures { result ≡ (place_at self.now.source pos).line }
+    {
+        self.data.starts.partition_point(|start| *start <= pos) - 1
+    }
+
+    /// The line and the column of a position.
+    fn resolve_pos(&self, pos: Pos) -> ResolvedPos
+        requires { IsCharBoundary self.now.source pos }
+        ensures { result ≡ place_at self.now.source pos }
+    {
+        let line = self.find_line(pos);
+        let begin = self.data.starts[line].get() as usize;
+        let column = count_characters(&self.source()[begin..pos.get() as usize]);
+        ResolvedPos { line, column }
+    }
+
+    /// The text of a span.
+    pub fn source_span(&self, span: Span) -> &str
+        requires { Holds self.now.source span }
+        ensures { result.now ≡ text_of self.now.source span }
+    {
+        &self.source()[span.begin().get() as usize..span.end().get() as usize]
+    }
+
+    /// The lines and columns of a span.
+    pub fn resolve_span(&self, span: Span) -> ResolvedSpan
+        requires { Holds self.now.source span }
+        ensures { result ≡ resolved self.now.source span }
+    {
+        ResolvedSpan {
+            begin: self.resolve_pos(span.begin()),
+            end: self.resolve_pos(span.end()),
+        }
+    }
+
+    /// The span of a line, with its line feed.
+    pub fn line_span(&self, line: usize) -> Span
+        requires { line < line_count self.now.source }
+        ensures { result ≡ line_span self.now.source line }
+    {
+        let starts = self.data.starts.as_slice();
+        let end = if line + 1 < starts.len() {
+            starts[line + 1]
+        } else {
+            self.full_span().end()
+        };
+        Span::new(starts[line], end)
+    }
+
+    /// The span of a line, with its line feed; `None` where there is no such line.
+    pub fn line_span_opt(&self, line: usize) -> Option<Span>
+        ensures { SomeIff result (line < line_count self.now.source) (line_span self.now.source line) }
+    {
+        if line < self.line_count() {
+            Some(self.line_span(line))
+        } else {
+            None
+        }
+    }
+
+    /// A span without its last byte, if that is the given one.
+    fn without_last(&self, span: Span, byte: u8) -> Span
+        requires { span.end ≤ length self.now.source }
+        ensures { result ≡ without_last byte self.now.source span }
+    {
+        let begin = span.begin();
+        let end = span.end();
+        if begin < end && self.byte_at(end - 1) == byte {
+            Span::new(begin, end - 1)
+        } else {
+            span
+        }
+    }
+
+    /// The span of a line, without its line feed and then without one carriage return at its end.
+    pub fn line_span_trim_newline(&self, line: usize) -> Span
+        requires { line < line_count self.now.source }
+        ensures { result ≡ trimmed_line_span self.now.source line }
+    {
+        let span = self.without_last(self.line_span(line), b'\n');
+        self.without_last(span, b'\r')
+    }
+
+    /// The text of a line, without the line feeds and carriage returns at its end.
+    pub fn source_line(&self, line: usize) -> &str
+        requires { line < line_count self.now.source }
+        ensures { result.now ≡ line_text self.now.source line }
+    {
+        trim_line_ends(self.source_span(self.line_span(line)))
+    }
+
+    /// The text of the line of a position, without the line feeds and carriage returns at its end.
+    pub fn source_line_at_pos(&self, pos: Pos) -> &str
+        requires { pos ≤ length self.now.source }
+        ensures { result.now ≡ line_text self.now.source (place_at self.now.source pos).line }
+    {
+        self.source_line(self.find_line(pos))
+    }
+}
+
+impl fmt::Debug for CodeMap {
+    fn fmt<W: fmt::Write>(&self, f: &mut fmt::Formatter<W>) -> fmt::Result {
+        write!(f, "CodeMap({:?})", self.filename())
+    }
+}
+
+impl PartialEq for CodeMap {
+    ghost use Rattle.std.specs.Prelude.{◌==◌};
+    ghost use Rattle.std.specs.Ordering.{on, eq_of_both};
+    ghost use Rattle.std.specs.Cmp.Lexicographic.{pointwise};
+    ghost use Rattle.std.proofs.Common.{rules};
+    ghost use Rattle.std.specs.Cmp.Rules.{comparing};
+
+    ghost eq = { eq_of_both (on (λ map. map.id) ◌==◌) (on (λ map. map.filename) (pointwise ◌==◌)) };
+
+    ghost laws = { Prim.search (comparing, rules) };
+
+    fn eq(&self, other: &CodeMap) -> bool {
+        self.id() == other.id() && self.filename() == other.filename()
+    }
+}
+
+impl Eq for CodeMap {
+    ghost use Rattle.std.proofs.Common.{rules};
+    ghost use Rattle.std.specs.Cmp.Rules.{comparing};
+
+    ghost laws = { Prim.search (comparing, rules) };
+}
+
+impl Hash for CodeMap {
+    ghost use Rattle.std.proofs.Common.{rules};
+    ghost use Rattle.std.specs.Cmp.Rules.{comparing, hashing};
+    ghost use Rattle.std.specs.Hash as fed;
+
+    ghost hash_input = { λ map. fed.u64 map.id };
+
+    ghost respects_eq = { Prim.search (hashing, rules) };
+
+    fn hash<H: Hasher>(&self, state: &mut H) {
+        self.id().get().hash(state);
+    }
+}

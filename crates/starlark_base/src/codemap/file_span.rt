@@ -1,0 +1,201 @@
+//! Spans with the code maps that they lie in.
+
+ghost use Rattle.std.specs.Prelude.{◌≡◌, ◌≤◌, ◌^◌, ◌↔◌, IfOk, length, string_bytes};
+ghost use Rattle.starlark_base.specs.Lines.{text_of};
+ghost use Rattle.starlark_base.specs.Places.{resolved};
+ghost use Rattle.starlark_base.specs.Refusals.{IsRefused};
+ghost use Rattle.starlark_base.specs.Sources.{Holds};
+
+use crate::codemap::{CodeMap, CodeMapId, OrMemory, ResolvedFileSpan, ResolvedSpan, SourceTooLong, Span};
+use std::alloc::{AllocError, Global};
+use std::cmp::Ordering;
+use std::fmt;
+
+/// A span, and a reference to the code map that it is a span of.
+#[derive(Clone, Copy, Debug, PartialEq, Eq)]
+pub struct FileSpanRef<'a> {
+    pub file: &'a CodeMap,
+    pub span: Span,
+}
+
+impl<'a> FileSpanRef<'a> {
+    /// The file's name.
+    pub fn filename(&self) -> &str
+        ensures { result.now ≡ self.now.file.now.filename }
+    {
+        self.file.filename()
+    }
+
+    /// The span with a code map of its own, which shares the text.
+    pub fn to_file_span(self) -> Result<FileSpan, AllocError>
+        ensures file { IfOk result (λ it. it.file ≡ self.entry.file.now) }
+        ensures span { IfOk result (λ it. it.span ≡ self.entry.span) }
+    {
+        self.file.file_span(self.span)
+    }
+
+    /// The lines and columns of the span.
+    pub fn resolve_span(&self) -> ResolvedSpan
+        requires { Holds self.now.file.now.source self.now.span }
+        ensures { result ≡ resolved self.now.file.now.source self.now.span }
+    {
+        self.file.resolve_span(self.span)
+    }
+
+    /// The text of the span.
+    pub fn source_span(self) -> &'a str
+        requires { Holds self.file.now.source self.span }
+        ensures { result.now ≡ text_of self.entry.file.now.source self.entry.span }
+    {
+        self.file.source_span(self.span)
+    }
+}
+
+#[tactic(auto, unfolding(crate::specs::Sources::file_span_text))]
+impl fmt::Display for FileSpanRef<'_> {
+    ghost use Rattle.std.specs.Prelude.{Some};
+    ghost use Rattle.starlark_base.specs.Sources.{file_span_text};
+
+    ghost output = { λ it. Some (file_span_text it.file.now it.span) };
+
+    fn fmt<W: fmt::Write>(&self, f: &mut fmt::Formatter<W>) -> fmt::Result {
+        let name = self.filename();
+        if self.file.holds(self.span) {
+            return write!(f, "{name}:{}", self.resolve_span());
+        }
+        let begin = self.span.begin().get();
+        let end = self.span.end().get();
+        write!(f, "{name}:@{begin}-{end}")
+    }
+}
+
+/// A span, and the code map that it is a span of.
+#[derive(Debug, Drop, PartialEq, Eq, Hash)]
+pub struct FileSpan {
+    pub file: CodeMap,
+    pub span: Span,
+}
+
+impl FileSpan {
+    /// The span of the whole of a new code map. A source of more than 4294967295 bytes is refused, before
+    /// want of memory is; what was given is dropped then.
+    pub fn new(
+        alloc: Global,
+        id: CodeMapId,
+        filename: String,
+        source: String,
+    ) -> Result<FileSpan, OrMemory<SourceTooLong>>
+        ensures file { IfOk result (λ it. it.file ≡ record { id = id; filename = string_bytes filename; source = string_bytes source }) }
+        ensures span { IfOk result (λ it. it.span ≡ record { begin = 0; end = length (string_bytes source) }) }
+        ensures too_long { IsRefused result ↔ (2 ^ 32 ≤ length (string_bytes source)) }
+    {
+        let file = CodeMap::new(alloc, id, filename, source)?;
+        let span = file.full_span();
+        Ok(FileSpan { file, span })
+    }
+
+    /// The same span, which shares the text.
+    pub fn dupe(&self) -> Result<FileSpan, AllocError>
+        ensures { IfOk result (λ copy. copy ≡ self.now) }
+    {
+        self.file.file_span(self.span)
+    }
+
+    /// The file's name.
+    pub fn filename(&self) -> &str
+        ensures { result.now ≡ self.now.file.filename }
+    {
+        self.file.filename()
+    }
+
+    /// The text of the span.
+    pub fn source_span(&self) -> &str
+        requires { Holds self.now.file.source self.now.span }
+        ensures { result.now ≡ text_of self.now.file.source self.now.span }
+    {
+        self.file.source_span(self.span)
+    }
+
+    /// The span with a reference to its code map.
+    pub fn as_ref(&self) -> FileSpanRef<'_>
+        ensures file { result.file.now ≡ self.now.file }
+        ensures span { result.span ≡ self.now.span }
+    {
+        FileSpanRef {
+            file: &self.file,
+            span: self.span,
+        }
+    }
+
+    /// The lines and columns of the span.
+    pub fn resolve_span(&self) -> ResolvedSpan
+        requires { Holds self.now.file.source self.now.span }
+        ensures { result ≡ resolved self.now.file.source self.now.span }
+    {
+        self.file.resolve_span(self.span)
+    }
+
+    /// The file's name, and the lines and columns of the span.
+    pub fn resolve(&self, alloc: Global) -> Result<ResolvedFileSpan, AllocError>
+        requires { Holds self.now.file.source self.now.span }
+        ensures file { IfOk result (λ it. string_bytes it.file ≡ self.now.file.filename) }
+        ensures span { IfOk result (λ it. it.span ≡ resolved self.now.file.source self.now.span) }
+    {
+        Ok(ResolvedFileSpan {
+            file: String::from_str(alloc, self.filename())?,
+            span: self.resolve_span(),
+        })
+    }
+}
+
+impl fmt::Display for FileSpan {
+    ghost use Rattle.std.specs.Prelude.{Some};
+    ghost use Rattle.starlark_base.specs.Sources.{file_span_text};
+
+    ghost output = { λ it. Some (file_span_text it.file it.span) };
+
+    fn fmt<W: fmt::Write>(&self, f: &mut fmt::Formatter<W>) -> fmt::Result {
+        write!(f, "{}", self.as_ref())
+    }
+}
+
+impl Ord for FileSpan {
+    ghost use Rattle.std.specs.Ordering.{on, then_cmp, nat_cmp};
+    ghost use Rattle.std.specs.Cmp.Lexicographic.{slice_cmp};
+    ghost use Rattle.std.proofs.Common.{rules};
+    ghost use Rattle.std.specs.Cmp.Rules.{comparing};
+
+    ghost cmp = { then_cmp (on (λ it. it.file.filename) (slice_cmp nat_cmp))
+        (then_cmp (on (λ it. it.span.begin) nat_cmp) (then_cmp (on (λ it. it.span.end) nat_cmp) (on (λ it. it.file.id) nat_cmp))) };
+
+    ghost total = { Prim.search (comparing, rules) };
+
+    ghost matches_partial_cmp = { Prim.search (comparing, rules) };
+
+    ghost matches_eq = { Prim.search (comparing, rules) };
+
+    fn cmp(&self, other: &FileSpan) -> Ordering {
+        self.filename()
+            .cmp(other.filename())
+            .then(self.span.begin().get().cmp(&other.span.begin().get()))
+            .then(self.span.end().get().cmp(&other.span.end().get()))
+            .then(self.file.id().get().cmp(&other.file.id().get()))
+    }
+}
+
+impl PartialOrd for FileSpan {
+    ghost use Rattle.std.specs.Ordering.{on, then_cmp, nat_cmp, as_partial_cmp};
+    ghost use Rattle.std.specs.Cmp.Lexicographic.{slice_cmp};
+    ghost use Rattle.std.proofs.Common.{rules};
+    ghost use Rattle.std.specs.Cmp.{partial_order_from_own_ties};
+    ghost use Rattle.std.specs.Cmp.Rules.{comparing};
+
+    ghost partial_cmp = { as_partial_cmp (then_cmp (on (λ it. it.file.filename) (slice_cmp nat_cmp))
+        (then_cmp (on (λ it. it.span.begin) nat_cmp) (then_cmp (on (λ it. it.span.end) nat_cmp) (on (λ it. it.file.id) nat_cmp)))) };
+
+    ghost laws = { partial_order_from_own_ties (Prim.search (comparing, rules)) (Prim.search (comparing, rules)) };
+
+    fn partial_cmp(&self, other: &FileSpan) -> Option<Ordering> {
+        Some(self.cmp(other))
+    }
+}
