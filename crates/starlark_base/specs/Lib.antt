@@ -4,3 +4,4 @@ pub mod Lines
 pub mod Sources
 pub mod Refusals
 pub mod Starts
+pub mod Diagnostics

@@ -1,5 +1,7 @@
-//! Positions in source texts, code maps, and places as they are printed.
+//! Positions in source texts, code maps, places as they are printed, and values with their places.
 
 #![tactic(auto)]
 
+pub mod call_stack;
 pub mod codemap;
+pub mod diagnostic;

@@ -2,4 +2,7 @@
 #![tactic(auto)]
 
 pub mod error;
+pub mod eval_exception;
 pub mod lexer;
+
+pub use starlark_base::{call_stack, codemap, diagnostic};

@@ -1,0 +1,152 @@
+//! Errors that should have a place.
+
+ghost use Rattle.std.specs.Prelude.{◌≡◌, ◌≢◌, [], Some, None, IsOk, IsSome, IfOk, IfErr, OnErr};
+ghost use Rattle.starlark_base.specs.Diagnostics.{with_span};
+ghost use Rattle.starlark_syntax.specs.Errors.{IsFault, IsInternal};
+ghost use Rattle.starlark_syntax.specs.FaultTexts.{kind_text};
+
+use crate::error::{Error, ErrorKind};
+use starlark_base::call_stack::CallStack;
+use starlark_base::codemap::{CodeMap, Span};
+use starlark_base::diagnostic::WithDiagnostic;
+use std::alloc::{AllocError, Global};
+use std::fmt;
+use std::marker::Model;
+
+/// An error that was given a place, or said to have none. In a contract it is what the error is.
+#[derive(Drop)]
+pub struct EvalException {
+    error: Error,
+}
+
+impl Model for EvalException {
+    ghost use Rattle.starlark_base.specs.Diagnostics.{Diagnosed};
+    ghost use Rattle.starlark_syntax.specs.declared.error.kinds.ErrorKind.{ErrorKind};
+
+    ghost Value = { Diagnosed ErrorKind };
+
+    ghost view = { λ it. it.error };
+}
+
+impl EvalException {
+    /// An error at a place. A place and calls that it has already are kept. Want of memory hands the
+    /// error back; where a place is known no memory is taken.
+    pub fn new(error: Error, span: Span, codemap: &CodeMap) -> Result<Self, Error>
+        ensures ok { IfOk result (λ it. it ≡ with_span error (record { file = codemap.now; span = span })) }
+        ensures known { IsSome error.span → IsOk result }
+        ensures refused { IfErr result (λ given. given ≡ error) }
+    {
+        let mut error = error;
+        match error.set_span(span, codemap) {
+            Ok(()) => Ok(EvalException { error }),
+            Err(_) => Err(error),
+        }
+    }
+
+    /// An error whose place isn't known. It takes no memory.
+    pub fn new_unknown_span(error: Error) -> Self
+        ensures { result ≡ error }
+    {
+        EvalException { error }
+    }
+
+    /// An error at a place, with the calls that a function tells. A place and calls that it has already
+    /// are kept, and only where it has no calls is the function called. Want of memory hands the error
+    /// back, and the function wasn't called; where a place is known no memory is taken.
+    pub fn new_with_callstack<F: FnOnce() -> CallStack + Drop>(
+        error: Error,
+        span: Span,
+        codemap: &CodeMap,
+        call_stack: F,
+    ) -> Result<Self, Error>
+        requires { error.call_stack ≡ [] → F.pre call_stack }
+        ensures value { IfOk result (λ it. it.value ≡ error.value) }
+        ensures span { IfOk result (λ it. it.span ≡ (with_span error (record { file = codemap.now; span = span })).span) }
+        ensures told { IfOk result (λ it. error.call_stack ≡ [] → F.post call_stack it.call_stack) }
+        ensures known_calls { IfOk result (λ it. error.call_stack ≢ [] → it.call_stack ≡ error.call_stack) }
+        ensures known { IsSome error.span → IsOk result }
+        ensures refused { IfErr result (λ given. given ≡ error) }
+    {
+        let mut exception = EvalException::new(error, span, codemap)?;
+        exception.error.set_call_stack(call_stack);
+        Ok(exception)
+    }
+
+    /// An error of this code at a place, which says what a value prints.
+    pub fn internal_error<D: fmt::Display + Drop>(
+        alloc: Global,
+        error: D,
+        span: Span,
+        codemap: &CodeMap,
+    ) -> Result<Self, AllocError>
+        ensures kind { IfOk result (λ it. IsInternal it.value (D.output error)) }
+        ensures span { IfOk result (λ it. it.span ≡ Some (record { file = codemap.now; span = span })) }
+        ensures call_stack { IfOk result (λ it. it.call_stack ≡ []) }
+    {
+        let text = error.to_string(alloc)?;
+        let Ok(error) = Error::new_kind(alloc, ErrorKind::Internal(text)) else {
+            return Err(AllocError);
+        };
+        EvalException::new(error, span, codemap).map_err(|_| AllocError)
+    }
+
+    /// The error.
+    pub fn error(&self) -> &Error
+        ensures { result.now ≡ self.now }
+    {
+        &self.error
+    }
+
+    /// The error alone.
+    pub fn into_error(self) -> Error
+        ensures { result ≡ self }
+    {
+        self.error
+    }
+
+    /// The error as one of this code, with the same message, place and calls. Only for a fault of the
+    /// lexer is memory taken; want of it hands the error back.
+    pub fn into_internal_error(self, alloc: Global) -> Result<Self, Self>
+        ensures kind { IfOk result (λ it. IsInternal it.value (Some (kind_text self.value))) }
+        ensures span { IfOk result (λ it. it.span ≡ self.span) }
+        ensures call_stack { IfOk result (λ it. it.call_stack ≡ self.call_stack) }
+        ensures refused { IfErr result (λ it. it ≡ self) }
+        ensures memory { OnErr result (IsFault self.value) }
+    {
+        match self.error.into_internal_error(alloc) {
+            Ok(error) => Ok(EvalException { error }),
+            Err(error) => Err(EvalException { error }),
+        }
+    }
+}
+
+impl From<WithDiagnostic<Error>> for EvalException {
+    ghost from_gives = { λ d it. it ≡ record { value = d.value.value; span = d.span; call_stack = d.call_stack } };
+
+    /// The error inside, with the place and the calls of the outside. It takes no memory.
+    fn from(diagnostic: WithDiagnostic<Error>) -> EvalException {
+        EvalException {
+            error: Error::from(diagnostic),
+        }
+    }
+}
+
+impl fmt::Display for EvalException {
+    ghost use Rattle.starlark_syntax.specs.Errors.{error_text};
+
+    ghost output = { error_text };
+
+    fn fmt<W: fmt::Write>(&self, f: &mut fmt::Formatter<W>) -> fmt::Result {
+        write!(f, "{}", self.error)
+    }
+}
+
+impl fmt::Debug for EvalException {
+    ghost use Rattle.starlark_syntax.specs.Errors.{error_text};
+
+    ghost debug_output = { error_text };
+
+    fn fmt<W: fmt::Write>(&self, f: &mut fmt::Formatter<W>) -> fmt::Result {
+        write!(f, "{}", self.error)
+    }
+}
