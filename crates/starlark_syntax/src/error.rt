@@ -202,3 +202,111 @@ impl fmt::Debug for Error {
         write!(f, "{self}")
     }
 }
+
+#[cfg(test)]
+mod tests {
+    use super::*;
+    use starlark_base::codemap::{CodeMapId, Pos};
+    use std::test::Fail;
+
+    fn code_map(alloc: Global) -> Result<CodeMap, Fail> {
+        let name = "f".to_string(alloc)?;
+        let source = "ab".to_string(alloc)?;
+        Ok(CodeMap::new(alloc, CodeMapId::new(1), name, source)?)
+    }
+
+    fn first() -> Span {
+        Span::new(Pos::new(0), Pos::new(1))
+    }
+
+    fn second() -> Span {
+        Span::new(Pos::new(1), Pos::new(2))
+    }
+
+    fn one_call(alloc: Global) -> Result<CallStack, AllocError> {
+        let frame = "call".to_string(alloc)?;
+        Ok(CallStack::from_frames(vec![in alloc; frame]?))
+    }
+
+    #[test]
+    fn fault_without_a_place(rt: HostRuntime) -> Result<(), Fail> {
+        let alloc = rt.alloc();
+        let error = error_from_lexeme(alloc, LexemeError::InvalidTab)?;
+        assert_eq!(rt;
+            error.to_string(alloc)?.as_str(),
+            "Parse error: tabs are not allowed"
+        );
+        assert!(rt; error.span().is_none());
+        assert!(rt; error.call_stack().is_empty());
+        Ok(())
+    }
+
+    #[test]
+    fn first_place_and_calls_are_kept(rt: HostRuntime) -> Result<(), Fail> {
+        let alloc = rt.alloc();
+        let map = code_map(alloc)?;
+        let calls = one_call(alloc)?;
+        let mut error = Error::new_kind(alloc, ErrorKind::Other("oops".to_string(alloc)?))?;
+        error.set_span(first(), &map)?;
+        error.set_span(second(), &map)?;
+        error.set_call_stack(move || calls);
+        error.set_call_stack(CallStack::empty);
+        assert_eq!(rt; error.to_string(alloc)?.as_str(), "oops at f:1:1-2");
+        assert_eq!(rt; format!(in alloc; "{error:?}")?.as_str(), "oops at f:1:1-2");
+        assert_eq!(rt; error.call_stack().frames().len(), 1);
+        Ok(())
+    }
+
+    #[test]
+    fn internal_errors_keep_their_message(rt: HostRuntime) -> Result<(), Fail> {
+        let alloc = rt.alloc();
+        let fault = ErrorKind::Parser(ParserMessage::Lexeme(LexemeError::Indentation));
+        let message = ErrorKind::Parser(ParserMessage::Text("message".to_string(alloc)?));
+        let other = ErrorKind::Other("other".to_string(alloc)?);
+        let internal = ErrorKind::Internal("internal".to_string(alloc)?);
+        let texts = [
+            "Parse error: incorrect indentation",
+            "message",
+            "other",
+            "internal",
+        ];
+        let kinds = vec![in alloc; fault, message, other, internal]?;
+        for (kind, text) in kinds.into_iter().zip(texts) {
+            let error = Error::new_kind(alloc, kind)?.into_internal_error(alloc)?;
+            assert!(rt; matches!(error.kind(), ErrorKind::Internal(_)));
+            assert_eq!(rt; error.to_string(alloc)?.as_str(), text);
+        }
+        Ok(())
+    }
+
+    #[test]
+    fn outer_place_and_calls_are_taken(rt: HostRuntime) -> Result<(), Fail> {
+        let alloc = rt.alloc();
+        let map = code_map(alloc)?;
+        let calls = one_call(alloc)?;
+        let mut error = error_from_lexeme(alloc, LexemeError::InvalidTab)?;
+        error.set_span(first(), &map)?;
+        error.set_call_stack(move || calls);
+        let outer = WithDiagnostic::new_spanned(alloc, error, second(), &map)?;
+        let error = Error::from(outer);
+        assert_eq!(rt; error.span().map(|place| place.span), Some(second()));
+        assert!(rt; error.call_stack().is_empty());
+        Ok(())
+    }
+
+    #[test]
+    fn fault_with_a_place(rt: HostRuntime) -> Result<(), Fail> {
+        let alloc = rt.alloc();
+        let map = code_map(alloc)?;
+        let calls = one_call(alloc)?;
+        let mut fault = WithDiagnostic::new_spanned(alloc, LexemeError::InvalidTab, first(), &map)?;
+        fault.set_call_stack(move || calls);
+        let error = error_from_diagnostic(alloc, fault)?;
+        assert_eq!(rt;
+            error.to_string(alloc)?.as_str(),
+            "Parse error: tabs are not allowed at f:1:1-2"
+        );
+        assert_eq!(rt; error.call_stack().frames().len(), 1);
+        Ok(())
+    }
+}

@@ -1,13 +1,13 @@
 //! Errors that should have a place.
 
-ghost use Rattle.std.specs.Prelude.{◌≡◌, ◌≢◌, [], Some, None, IsOk, IsSome, IfOk, IfErr, OnErr};
+ghost use Rattle.std.specs.Prelude.{◌≡◌, ◌≢◌, [], Some, None, IsOk, IsSome, IfSome, IfNone, IfOk, IfErr, OnErr};
 ghost use Rattle.starlark_base.specs.Diagnostics.{with_span};
-ghost use Rattle.starlark_syntax.specs.Errors.{IsFault, IsInternal};
+ghost use Rattle.starlark_syntax.specs.Errors.{IsFault, IsInternal, IsLocation, HasNoLocation};
 ghost use Rattle.starlark_syntax.specs.FaultTexts.{kind_text};
 
 use crate::error::{Error, ErrorKind};
 use starlark_base::call_stack::CallStack;
-use starlark_base::codemap::{CodeMap, Span};
+use starlark_base::codemap::{CodeMap, ResolvedFileSpan, Span};
 use starlark_base::diagnostic::WithDiagnostic;
 use std::alloc::{AllocError, Global};
 use std::fmt;
@@ -118,6 +118,21 @@ impl EvalException {
             Err(error) => Err(EvalException { error }),
         }
     }
+
+    /// The lines and columns of an error's place, for tests; `None` where the place isn't known, or isn't
+    /// in its file.
+    pub fn _testing_loc(
+        alloc: Global,
+        error: &Error,
+    ) -> Result<Option<ResolvedFileSpan>, AllocError>
+        ensures found { IfOk result (λ location. IfSome location (λ it. IsLocation error.now.span it)) }
+        ensures missing { IfOk result (λ location. IfNone location (HasNoLocation error.now.span)) }
+    {
+        match error.span() {
+            Some(place) if place.file.holds(place.span) => Ok(Some(place.resolve(alloc)?)),
+            _ => Ok(None),
+        }
+    }
 }
 
 impl From<WithDiagnostic<Error>> for EvalException {
@@ -148,5 +163,118 @@ impl fmt::Debug for EvalException {
 
     fn fmt<W: fmt::Write>(&self, f: &mut fmt::Formatter<W>) -> fmt::Result {
         write!(f, "{}", self.error)
+    }
+}
+
+#[cfg(test)]
+mod tests {
+    use super::*;
+    use crate::error::error_from_lexeme;
+    use crate::lexer::LexemeError;
+    use starlark_base::codemap::{CodeMapId, Pos};
+    use std::test::Fail;
+
+    fn code_map(alloc: Global) -> Result<CodeMap, Fail> {
+        let name = "f".to_string(alloc)?;
+        let source = "ab".to_string(alloc)?;
+        Ok(CodeMap::new(alloc, CodeMapId::new(1), name, source)?)
+    }
+
+    fn first() -> Span {
+        Span::new(Pos::new(0), Pos::new(1))
+    }
+
+    fn second() -> Span {
+        Span::new(Pos::new(1), Pos::new(2))
+    }
+
+    fn one_call(alloc: Global) -> Result<CallStack, AllocError> {
+        let frame = "call".to_string(alloc)?;
+        Ok(CallStack::from_frames(vec![in alloc; frame]?))
+    }
+
+    #[test]
+    fn fault_at_a_place(rt: HostRuntime) -> Result<(), Fail> {
+        let alloc = rt.alloc();
+        let map = code_map(alloc)?;
+        let error = error_from_lexeme(alloc, LexemeError::InvalidTab)?;
+        let exception = EvalException::new(error, first(), &map)?;
+        assert_eq!(rt;
+            exception.to_string(alloc)?.as_str(),
+            "Parse error: tabs are not allowed at f:1:1-2"
+        );
+        let exception = exception.into_internal_error(alloc)?;
+        assert!(rt; matches!(exception.error().kind(), ErrorKind::Internal(_)));
+        assert_eq!(rt;
+            exception.to_string(alloc)?.as_str(),
+            "Parse error: tabs are not allowed at f:1:1-2"
+        );
+        let exception = EvalException::new(exception.into_error(), second(), &map)?;
+        assert_eq!(rt;
+            format!(in alloc; "{exception:?}")?.as_str(),
+            "Parse error: tabs are not allowed at f:1:1-2"
+        );
+        Ok(())
+    }
+
+    #[test]
+    fn first_calls_are_kept(rt: HostRuntime) -> Result<(), Fail> {
+        let alloc = rt.alloc();
+        let map = code_map(alloc)?;
+        let calls = one_call(alloc)?;
+        let error = error_from_lexeme(alloc, LexemeError::InvalidTab)?;
+        let exception = EvalException::new_with_callstack(error, first(), &map, move || calls)?;
+        let error = exception.into_error();
+        let exception = EvalException::new_with_callstack(error, second(), &map, CallStack::empty)?;
+        assert_eq!(rt; exception.error().call_stack().frames().len(), 1);
+        assert_eq!(rt;
+            exception.error().span().map(|place| place.span),
+            Some(first())
+        );
+        Ok(())
+    }
+
+    #[test]
+    fn unknown_and_outer_places(rt: HostRuntime) -> Result<(), Fail> {
+        let alloc = rt.alloc();
+        let map = code_map(alloc)?;
+        let error = error_from_lexeme(alloc, LexemeError::InvalidTab)?;
+        let exception = EvalException::new_unknown_span(error);
+        assert!(rt; exception.error().span().is_none());
+        let outer = WithDiagnostic::new_spanned(alloc, exception.into_error(), second(), &map)?;
+        let exception = EvalException::from(outer);
+        assert_eq!(rt;
+            exception.error().span().map(|place| place.span),
+            Some(second())
+        );
+        Ok(())
+    }
+
+    #[test]
+    fn internal_error_says_what_is_printed(rt: HostRuntime) -> Result<(), Fail> {
+        let alloc = rt.alloc();
+        let map = code_map(alloc)?;
+        let exception = EvalException::internal_error(alloc, 42u32, second(), &map)?;
+        assert!(rt; matches!(exception.error().kind(), ErrorKind::Internal(_)));
+        assert_eq!(rt; exception.to_string(alloc)?.as_str(), "42 at f:1:2-3");
+        Ok(())
+    }
+
+    #[test]
+    fn locations(rt: HostRuntime) -> Result<(), Fail> {
+        let alloc = rt.alloc();
+        let map = code_map(alloc)?;
+        let mut error = error_from_lexeme(alloc, LexemeError::InvalidTab)?;
+        assert!(rt; EvalException::_testing_loc(alloc, &error)?.is_none());
+        error.set_span(second(), &map)?;
+        let location = EvalException::_testing_loc(alloc, &error)?;
+        assert_eq!(rt;
+            location.expect(&rt, "a place").to_string(alloc)?.as_str(),
+            "f:1:2-3"
+        );
+        let mut outside = error_from_lexeme(alloc, LexemeError::InvalidTab)?;
+        outside.set_span(Span::new(Pos::new(0), Pos::new(3)), &map)?;
+        assert!(rt; EvalException::_testing_loc(alloc, &outside)?.is_none());
+        Ok(())
     }
 }
