@@ -1,0 +1,3 @@
+pub mod LineFeeds
+pub mod LineEnds
+pub mod HeldSpans

@@ -12,7 +12,7 @@ line_count text = count_by is_line_feed text + 1
 abbrev pub line_begin : Text → ℕ → ℕ
 line_begin text zero = 0
 line_begin [] (suc line) = 0
-line_begin (b ∷ rest) (suc line) = (if is_line_feed b then line_begin rest line else line_begin rest (suc line)) + 1
+line_begin (b ∷ rest) (suc line) = suc (if is_line_feed b then line_begin rest line else line_begin rest (suc line))
 
 -- a line with its line feed
 abbrev pub line_span : Text → ℕ → ByteSpan

@@ -1,5 +1,5 @@
 -- What a code map is to its user, which spans lie in it, and how they are printed.
-use Rattle.std.specs.Prelude.{◌≤◌, ℕ, Bool, ◌&&◌, nat_le, ◌++◌, length, take, codes, if◌then◌else◌}
+use Rattle.std.specs.Prelude.{ℕ, Bool, ◌&&◌, nat_le, ◌++◌, length, take, codes, if◌then◌else◌}
 use Rattle.std.specs.Str.{is_utf8, IsCharBoundary}
 use Rattle.std.specs.Fmt.{decimal}
 use Rattle.starlark_base.specs.Spans.{ByteSpan}
@@ -24,5 +24,5 @@ holds text span = nat_le span.begin (length text) && nat_le span.end (length tex
 unfoldable pub file_span_text : SourceFile → ByteSpan → Text
 file_span_text file span =
     file.filename ++ codes ":" ++ (if holds file.source span
-        then span_text (place_at file.source span.begin) (place_at file.source span.end)
-        else codes "@" ++ decimal span.begin ++ codes "-" ++ decimal span.end)
+    then span_text (place_at file.source span.begin) (place_at file.source span.end)
+    else codes "@" ++ decimal span.begin ++ codes "-" ++ decimal span.end)

@@ -1,11 +1,12 @@
 //! Source texts with their lines.
 
-ghost use Rattle.std.specs.Prelude.{◌≡◌, ◌+◌, ◌<◌, ◌≤◌, ◌^◌, ◌↔◌, IsTrue, IfOk, OnOk, length, take, string_bytes, slice_index, SomeIff};
-ghost use Rattle.std.specs.Str.{chars, IsCharBoundary};
-ghost use Rattle.starlark_base.specs.Lines.{line_begin, line_count, line_span, line_text, text_of, trimmed_line_span, without_last, without_line_ends};
+ghost use Rattle.std.specs.Prelude.{◌≡◌, ◌+◌, ◌<◌, ◌≤◌, ◌^◌, ◌↔◌, IsTrue, IfOk, OnOk, length, take, string_bytes, slice_index, SomeIff, IfSome};
+ghost use Rattle.std.specs.List.{suffix_len};
+ghost use Rattle.std.specs.Str.{chars, IsCharBoundary, IsUtf8};
+ghost use Rattle.starlark_base.specs.Lines.{is_line_end, line_begin, line_count, line_span, line_text, text_of, trimmed_line_span, without_last, without_line_ends};
 ghost use Rattle.starlark_base.specs.Places.{place_at, resolved};
 ghost use Rattle.starlark_base.specs.Refusals.{IsRefused};
-ghost use Rattle.starlark_base.specs.Sources.{Holds};
+ghost use Rattle.starlark_base.specs.Sources.{holds, Holds};
 ghost use Rattle.starlark_base.specs.Starts.{line_starts};
 
 use crate::codemap::{FileSpan, OrMemory, Pos, ResolvedPos, ResolvedSpan, SourceTooLong, Span};
@@ -100,16 +101,21 @@ fn count_characters(text: &str) -> usize
     text.chars().count()
 }
 
+/// How many line feeds and carriage returns a text ends with.
+fn count_line_ends(text: &[u8]) -> usize
+    ensures { result ≡ suffix_len is_line_end text.now }
+{
+    let reversed = text.iter().rev();
+    reversed
+        .take_while(|b| **b == b'\n' || **b == b'\r')
+        .count()
+}
+
 /// A text without the line feeds and carriage returns that it ends with.
 fn trim_line_ends(text: &str) -> &str
     ensures { result.now ≡ without_line_ends text.now }
 {
-    let line_ends = text
-        .as_bytes()
-        .iter()
-        .rev()
-        .take_while(|b| **b == b'\n' || **b == b'\r')
-        .count();
+    let line_ends = count_line_ends(text.as_bytes());
     &text[..text.len() - line_ends]
 }
 
@@ -173,9 +179,27 @@ impl CodeMap {
         self.data.source.as_str()
     }
 
+    /// Where the lines begin.
+    fn starts(&self) -> &[Pos]
+        ensures starts { result.now ≡ line_starts self.now.source }
+        ensures utf8 { IsUtf8 self.now.source }
+    {
+        self.data.starts.as_slice()
+    }
+
+    /// Where a line begins.
+    fn line_start(&self, line: usize) -> Pos
+        requires { line < line_count self.now.source }
+        ensures start { result ≡ line_begin self.now.source line }
+        ensures boundary { IsCharBoundary self.now.source result }
+    {
+        self.starts()[line]
+    }
+
     /// The span of the whole source.
     pub fn full_span(&self) -> Span
-        ensures { result ≡ record { begin = 0; end = length self.now.source } }
+        ensures span { result ≡ record { begin = 0; end = length self.now.source } }
+        ensures held { Holds self.now.source result }
     {
         Span::new(Pos::new(0), Pos::new(self.source().len() as u32))
     }
@@ -200,7 +224,8 @@ impl CodeMap {
 
     /// Whether a span is in the source, with both ends between two characters.
     pub fn holds(&self, span: Span) -> bool
-        ensures { IsTrue result ↔ Holds self.now.source span }
+        ensures held { IsTrue result ↔ Holds self.now.source span }
+        ensures test { result ≡ holds self.now.source span }
     {
         let source = self.source();
         source.is_char_boundary(span.begin().get() as usize)
@@ -211,7 +236,7 @@ impl CodeMap {
     pub fn line_count(&self) -> usize
         ensures { result ≡ line_count self.now.source }
     {
-        self.data.starts.len()
+        self.starts().len()
     }
 
     /// The byte at a position.
@@ -225,9 +250,11 @@ impl CodeMap {
     /// The line of a position, from 0.
     pub fn find_line(&self, pos: Pos) -> usize
         requires { pos ≤ length self.now.source }
-        ensures { result ≡ (place_at self.now.source pos).line }
+        ensures line { result ≡ (place_at self.now.source pos).line }
+        ensures within { result < line_count self.now.source }
     {
-        self.data.starts.partition_point(|start| *start <= pos) - 1
+        let at = pos.get();
+        self.starts().partition_point(|start| start.get() <= at) - 1
     }
 
     /// The line and the column of a position.
@@ -236,9 +263,12 @@ impl CodeMap {
         ensures { result ≡ place_at self.now.source pos }
     {
         let line = self.find_line(pos);
-        let begin = self.data.starts[line].get() as usize;
-        let column = count_characters(&self.source()[begin..pos.get() as usize]);
-        ResolvedPos { line, column }
+        let begin = self.line_start(line).get() as usize;
+        let front = &self.source()[begin..pos.get() as usize];
+        ResolvedPos {
+            line,
+            column: count_characters(front),
+        }
     }
 
     /// The text of a span.
@@ -263,20 +293,23 @@ impl CodeMap {
     /// The span of a line, with its line feed.
     pub fn line_span(&self, line: usize) -> Span
         requires { line < line_count self.now.source }
-        ensures { result ≡ line_span self.now.source line }
+        ensures span { result ≡ line_span self.now.source line }
+        ensures held { Holds self.now.source result }
     {
-        let starts = self.data.starts.as_slice();
-        let end = if line + 1 < starts.len() {
-            starts[line + 1]
+        let count = self.line_count();
+        let begin = self.line_start(line);
+        let end = if line + 1 < count {
+            self.line_start(line + 1)
         } else {
             self.full_span().end()
         };
-        Span::new(starts[line], end)
+        Span::new(begin, end)
     }
 
     /// The span of a line, with its line feed; `None` where there is no such line.
     pub fn line_span_opt(&self, line: usize) -> Option<Span>
-        ensures { SomeIff result (line < line_count self.now.source) (line_span self.now.source line) }
+        ensures span { SomeIff result (line < line_count self.now.source) (line_span self.now.source line) }
+        ensures held { IfSome result (Holds self.now.source) }
     {
         if line < self.line_count() {
             Some(self.line_span(line))
@@ -285,15 +318,18 @@ impl CodeMap {
         }
     }
 
-    /// A span without its last byte, if that is the given one.
+    /// A span without its last byte, if that is the given ASCII byte.
     fn without_last(&self, span: Span, byte: u8) -> Span
-        requires { span.end ≤ length self.now.source }
-        ensures { result ≡ without_last byte self.now.source span }
+        requires held { Holds self.now.source span }
+        requires ascii { byte < 128 }
+        ensures span { result ≡ without_last byte self.now.source span }
+        ensures held { Holds self.now.source result }
     {
-        let begin = span.begin();
-        let end = span.end();
-        if begin < end && self.byte_at(end - 1) == byte {
-            Span::new(begin, end - 1)
+        let begin = span.begin().get();
+        let end = span.end().get();
+        let bytes = self.source().as_bytes();
+        if begin < end && bytes[end as usize - 1] == byte {
+            Span::new(Pos::new(begin), Pos::new(end - 1))
         } else {
             span
         }
@@ -302,7 +338,8 @@ impl CodeMap {
     /// The span of a line, without its line feed and then without one carriage return at its end.
     pub fn line_span_trim_newline(&self, line: usize) -> Span
         requires { line < line_count self.now.source }
-        ensures { result ≡ trimmed_line_span self.now.source line }
+        ensures span { result ≡ trimmed_line_span self.now.source line }
+        ensures held { Holds self.now.source result }
     {
         let span = self.without_last(self.line_span(line), b'\n');
         self.without_last(span, b'\r')

@@ -6,7 +6,9 @@ ghost use Rattle.starlark_base.specs.Places.{resolved};
 ghost use Rattle.starlark_base.specs.Refusals.{IsRefused};
 ghost use Rattle.starlark_base.specs.Sources.{Holds};
 
-use crate::codemap::{CodeMap, CodeMapId, OrMemory, ResolvedFileSpan, ResolvedSpan, SourceTooLong, Span};
+use crate::codemap::{
+    CodeMap, CodeMapId, OrMemory, ResolvedFileSpan, ResolvedSpan, SourceTooLong, Span,
+};
 use std::alloc::{AllocError, Global};
 use std::cmp::Ordering;
 use std::fmt;
@@ -193,7 +195,7 @@ impl PartialOrd for FileSpan {
     ghost partial_cmp = { as_partial_cmp (then_cmp (on (λ it. it.file.filename) (slice_cmp nat_cmp))
         (then_cmp (on (λ it. it.span.begin) nat_cmp) (then_cmp (on (λ it. it.span.end) nat_cmp) (on (λ it. it.file.id) nat_cmp)))) };
 
-    ghost laws = { partial_order_from_own_ties (Prim.search (comparing, rules)) (Prim.search (comparing, rules)) };
+    ghost laws = { partial_order_from_own_ties (Prim.search (comparing, rules) depth 9) (Prim.search (comparing, rules) depth 9) };
 
     fn partial_cmp(&self, other: &FileSpan) -> Option<Ordering> {
         Some(self.cmp(other))

@@ -37,7 +37,7 @@ impl ResolvedSpan {
     pub fn contains(&self, pos: ResolvedPos) -> bool
         ensures { IsTrue result
             ↔ (((self.now.begin.line < pos.line) ⊎ ((self.now.begin.line ≡ pos.line) × (self.now.begin.column ≤ pos.column)))
-                × ((pos.line < self.now.end.line) ⊎ ((pos.line ≡ self.now.end.line) × (pos.column ≤ self.now.end.column)))) }
+            × ((pos.line < self.now.end.line) ⊎ ((pos.line ≡ self.now.end.line) × (pos.column ≤ self.now.end.column)))) }
     {
         let not_before = self.begin.line < pos.line
             || (self.begin.line == pos.line && self.begin.column <= pos.column);
