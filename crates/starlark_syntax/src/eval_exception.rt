@@ -162,7 +162,7 @@ impl fmt::Debug for EvalException {
     ghost debug_output = { error_text };
 
     fn fmt<W: fmt::Write>(&self, f: &mut fmt::Formatter<W>) -> fmt::Result {
-        write!(f, "{}", self.error)
+        write!(f, "{self}")
     }
 }
 
