@@ -11,3 +11,4 @@ pub mod Sources
 pub mod SourceFiles
 pub mod Refusals
 pub mod Starts
+pub mod Diagnostics

@@ -1,8 +1,10 @@
-//! Positions in source texts, code maps, and places as they are printed; and what the crate below has for
-//! texts.
+//! Positions in source texts, code maps, places as they are printed, and values with their places; and what the
+//! crate below has for texts.
 #![tactic(auto)]
 
+pub mod call_stack;
 pub mod codemap;
+pub mod diagnostic;
 pub mod laws;
 #[cfg(test)]
 mod tests;

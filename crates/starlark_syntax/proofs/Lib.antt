@@ -6,6 +6,7 @@ pub mod Integers
 pub mod IntegerValues
 pub mod PrintedWords
 mod RowsOfTokens
+mod RowsOfErrors
 pub mod Bodies
 pub mod Steps
 pub mod Readings

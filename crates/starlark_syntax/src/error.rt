@@ -1,52 +1,312 @@
-//! What is said of a text that is refused.
+//! Errors, each with what it says, the place it belongs to and the calls that led there.
 
-ghost use Rattle.std.specs.Prelude.{Some};
-ghost use Rattle.starlark_syntax.specs.FaultTexts.{message_text, kind_text};
+ghost use Rattle.std.specs.Prelude.{◌≡◌, ◌≢◌, [], Some, None, option_copied, IsOk, IsSome, IfOk, IfErr, OnOk, OnErr};
+ghost use Rattle.starlark_base.specs.Diagnostics.{with_span};
+ghost use Rattle.starlark_syntax.specs.Errors.{IsFault, IsInternal};
+ghost use Rattle.starlark_syntax.specs.FaultTexts.{kind_text};
+
+mod kinds;
 
 use crate::lexer::LexemeError;
-use std::fmt;
+pub use kinds::{ErrorKind, ParserMessage};
+use starlark_base::call_stack::CallStack;
+use starlark_base::codemap::{CodeMap, FileSpan, Span};
+use starlark_base::diagnostic::WithDiagnostic;
+use std::alloc::{AllocError, AllocFailed, Global};
+use std::marker::Model;
+use std::{fmt, mem};
 
-/// What a parser says.
-#[derive(Debug, Drop)]
-pub enum ParserMessage {
-    /// A fault of the lexer.
-    Lexeme(LexemeError),
-    /// Words of its own.
-    Text(String),
+#[derive(Drop)]
+struct Parts {
+    kind: ErrorKind,
+    span: Option<FileSpan>,
+    call_stack: CallStack,
 }
 
-/// What kind of error it is, and what it says.
-#[derive(Debug, Drop)]
-pub enum ErrorKind {
-    /// The text is no program.
-    Parser(ParserMessage),
-    /// Something else is wrong.
-    Other(String),
-    /// A promise of this code was broken.
-    Internal(String),
+/// An error: its kind with what it says, the place that it belongs to, if that is known, and the calls
+/// that led there. In a contract it is these three.
+///
+/// The place and the calls that were known first are kept: what is told later doesn't replace them.
+#[derive(Drop)]
+pub struct Error {
+    parts: Box<Parts>,
 }
 
-#[tactic(auto, unfolding(crate::specs::FaultTexts::message_text))]
-impl fmt::Display for ParserMessage {
-    ghost output = { λ message. Some (message_text message) };
+impl Model for Error {
+    ghost use Rattle.starlark_base.specs.Diagnostics.{Diagnosed};
+    ghost use Rattle.starlark_syntax.specs.declared.error.kinds.ErrorKind.{ErrorKind};
+
+    ghost Value = { Diagnosed ErrorKind };
+
+    ghost view = { λ it. record { value = it.parts.value.kind; span = it.parts.value.span; call_stack = it.parts.value.call_stack } };
+}
+
+impl Error {
+    /// An error of a kind, with no place and no calls. Want of memory hands the kind back.
+    pub fn new_kind(alloc: Global, kind: ErrorKind) -> Result<Error, ErrorKind>
+        ensures ok { IfOk result (λ it. it ≡ record { value = kind; span = None; call_stack = [] }) }
+        ensures refused { IfErr result (λ given. given ≡ kind) }
+    {
+        let parts = Parts {
+            kind,
+            span: None,
+            call_stack: CallStack::empty(),
+        };
+        match Box::new(alloc, parts) {
+            Ok(parts) => Ok(Error { parts }),
+            Err(AllocFailed { value: parts }) => Err(parts.kind),
+        }
+    }
+
+    /// The kind.
+    pub fn kind(&self) -> &ErrorKind
+        ensures { result.now ≡ self.now.value }
+    {
+        &self.parts.kind
+    }
+
+    /// The place, if it is known.
+    pub fn span(&self) -> Option<&FileSpan>
+        ensures { option_copied result ≡ self.now.span }
+    {
+        self.parts.span.as_ref()
+    }
+
+    /// The calls.
+    pub fn call_stack(&self) -> &CallStack
+        ensures { result.now ≡ self.now.call_stack }
+    {
+        &self.parts.call_stack
+    }
+
+    /// Tells the place, unless one is known. Want of memory changes nothing; where a place is known
+    /// no memory is taken.
+    pub fn set_span(&mut self, span: Span, codemap: &CodeMap) -> Result<(), AllocError>
+        ensures ok { OnOk result (self.new ≡ with_span self.old (record { file = codemap.now; span = span })) }
+        ensures known { IsSome self.old.span → IsOk result }
+        ensures refused { OnErr result (self.new ≡ self.old) }
+    {
+        if self.parts.span.is_none() {
+            self.parts.span = Some(codemap.file_span(span)?);
+        }
+        Ok(())
+    }
+
+    /// Tells the calls, unless some are known. Only where none are is the function called.
+    pub fn set_call_stack<F: FnOnce() -> CallStack + Drop>(&mut self, call_stack: F)
+        requires { self.old.call_stack ≡ [] → F.pre call_stack }
+        ensures value { self.new.value ≡ self.old.value }
+        ensures span { self.new.span ≡ self.old.span }
+        ensures told { self.old.call_stack ≡ [] → F.post call_stack self.new.call_stack }
+        ensures known { self.old.call_stack ≢ [] → self.new.call_stack ≡ self.old.call_stack }
+    {
+        if self.parts.call_stack.is_empty() {
+            self.parts.call_stack = call_stack();
+        }
+    }
+
+    #[tactic(auto, unfolding(crate::specs::FaultTexts::kind_text, crate::specs::FaultTexts::message_text))]
+    /// The error as one of this code, with the same message, place and calls. Only for a fault of the
+    /// lexer is memory taken; want of it hands the error back.
+    pub fn into_internal_error(self, alloc: Global) -> Result<Error, Error>
+        ensures kind { IfOk result (λ it. IsInternal it.value (Some (kind_text self.value))) }
+        ensures span { IfOk result (λ it. it.span ≡ self.span) }
+        ensures call_stack { IfOk result (λ it. it.call_stack ≡ self.call_stack) }
+        ensures refused { IfErr result (λ it. it ≡ self) }
+        ensures memory { OnErr result (IsFault self.value) }
+    {
+        let mut error = self;
+        if let ErrorKind::Parser(ParserMessage::Lexeme(fault)) = error.kind() {
+            let Ok(text) = fault.to_string(alloc) else {
+                return Err(error);
+            };
+            error.parts.kind = ErrorKind::Internal(text);
+            return Ok(error);
+        }
+        let nothing = ErrorKind::Internal(String::new(alloc));
+        error.parts.kind = match mem::replace(&mut error.parts.kind, nothing) {
+            ErrorKind::Parser(ParserMessage::Lexeme(_)) => unreachable!(),
+            ErrorKind::Parser(ParserMessage::Text(text)) => ErrorKind::Internal(text),
+            ErrorKind::Other(text) => ErrorKind::Internal(text),
+            ErrorKind::Internal(text) => ErrorKind::Internal(text),
+        };
+        Ok(error)
+    }
+}
+
+/// A fault of the lexer as an error, with no place and no calls. Want of memory hands the fault back.
+pub fn error_from_lexeme(alloc: Global, fault: LexemeError) -> Result<Error, LexemeError>
+    ensures ok { IfOk result (λ it. it ≡ record { value = ErrorKind.Parser (ParserMessage.Lexeme fault); span = None; call_stack = [] }) }
+    ensures refused { IfErr result (λ given. given ≡ fault) }
+{
+    match Error::new_kind(alloc, ErrorKind::Parser(ParserMessage::Lexeme(fault))) {
+        Ok(error) => Ok(error),
+        Err(ErrorKind::Parser(ParserMessage::Lexeme(fault))) => Err(fault),
+        Err(_) => unreachable!(),
+    }
+}
+
+/// A fault of the lexer as an error, with its place and calls. Want of memory hands the fault back.
+pub fn error_from_diagnostic(
+    alloc: Global,
+    diagnostic: WithDiagnostic<LexemeError>,
+) -> Result<Error, WithDiagnostic<LexemeError>>
+    ensures ok { IfOk result (λ it. it ≡ record { value = ErrorKind.Parser (ParserMessage.Lexeme diagnostic.value); span = diagnostic.span; call_stack = diagnostic.call_stack }) }
+    ensures refused { IfErr result (λ given. given ≡ diagnostic) }
+{
+    let room = ErrorKind::Internal(String::new(alloc));
+    let Ok(mut error) = Error::new_kind(alloc, room) else {
+        return Err(diagnostic);
+    };
+    let (fault, span, call_stack) = diagnostic.into_parts();
+    *error.parts = Parts {
+        kind: ErrorKind::Parser(ParserMessage::Lexeme(fault)),
+        span,
+        call_stack,
+    };
+    Ok(error)
+}
+
+impl From<WithDiagnostic<Error>> for Error {
+    ghost from_gives = { λ d it. it ≡ record { value = d.value.value; span = d.span; call_stack = d.call_stack } };
+
+    /// The error inside, with the place and the calls of the outside. It takes no memory.
+    fn from(diagnostic: WithDiagnostic<Error>) -> Error {
+        let (mut error, span, call_stack) = diagnostic.into_parts();
+        error.parts.span = span;
+        error.parts.call_stack = call_stack;
+        error
+    }
+}
+
+impl fmt::Display for Error {
+    ghost use Rattle.starlark_syntax.specs.Errors.{error_text};
+
+    ghost output = { error_text };
 
     fn fmt<W: fmt::Write>(&self, f: &mut fmt::Formatter<W>) -> fmt::Result {
-        match self {
-            ParserMessage::Lexeme(fault) => write!(f, "{fault}"),
-            ParserMessage::Text(text) => write!(f, "{text}"),
+        write!(f, "{}", self.kind())?;
+        match self.span() {
+            Some(span) => write!(f, " at {span}"),
+            None => Ok(()),
         }
     }
 }
 
-#[tactic(auto, unfolding(crate::specs::FaultTexts::kind_text))]
-impl fmt::Display for ErrorKind {
-    ghost output = { λ kind. Some (kind_text kind) };
+impl fmt::Debug for Error {
+    ghost use Rattle.starlark_syntax.specs.Errors.{error_text};
+
+    ghost debug_output = { error_text };
 
     fn fmt<W: fmt::Write>(&self, f: &mut fmt::Formatter<W>) -> fmt::Result {
-        match self {
-            ErrorKind::Parser(message) => write!(f, "{message}"),
-            ErrorKind::Other(text) => write!(f, "{text}"),
-            ErrorKind::Internal(text) => write!(f, "{text}"),
+        write!(f, "{self}")
+    }
+}
+
+#[cfg(test)]
+mod tests {
+    use super::*;
+    use starlark_base::codemap::{CodeMapId, Pos};
+    use std::test::Fail;
+
+    fn code_map(alloc: Global) -> Result<CodeMap, Fail> {
+        let name = "f".to_string(alloc)?;
+        let source = "ab".to_string(alloc)?;
+        Ok(CodeMap::new(alloc, CodeMapId::new(1), name, source)?)
+    }
+
+    fn first() -> Span {
+        Span::new(Pos::new(0), Pos::new(1))
+    }
+
+    fn second() -> Span {
+        Span::new(Pos::new(1), Pos::new(2))
+    }
+
+    fn one_call(alloc: Global) -> Result<CallStack, AllocError> {
+        let frame = "call".to_string(alloc)?;
+        Ok(CallStack::from_frames(vec![in alloc; frame]?))
+    }
+
+    #[test]
+    fn fault_without_a_place(rt: HostRuntime) -> Result<(), Fail> {
+        let alloc = rt.alloc();
+        let error = error_from_lexeme(alloc, LexemeError::InvalidTab)?;
+        assert_eq!(rt;
+            error.to_string(alloc)?.as_str(),
+            "Parse error: tabs are not allowed"
+        );
+        assert!(rt; error.span().is_none());
+        assert!(rt; error.call_stack().is_empty());
+        Ok(())
+    }
+
+    #[test]
+    fn first_place_and_calls_are_kept(rt: HostRuntime) -> Result<(), Fail> {
+        let alloc = rt.alloc();
+        let map = code_map(alloc)?;
+        let calls = one_call(alloc)?;
+        let mut error = Error::new_kind(alloc, ErrorKind::Other("oops".to_string(alloc)?))?;
+        error.set_span(first(), &map)?;
+        error.set_span(second(), &map)?;
+        error.set_call_stack(move || calls);
+        error.set_call_stack(CallStack::empty);
+        assert_eq!(rt; error.to_string(alloc)?.as_str(), "oops at f:1:1-2");
+        assert_eq!(rt; format!(in alloc; "{error:?}")?.as_str(), "oops at f:1:1-2");
+        assert_eq!(rt; error.call_stack().frames().len(), 1);
+        Ok(())
+    }
+
+    #[test]
+    fn internal_errors_keep_their_message(rt: HostRuntime) -> Result<(), Fail> {
+        let alloc = rt.alloc();
+        let fault = ErrorKind::Parser(ParserMessage::Lexeme(LexemeError::Indentation));
+        let message = ErrorKind::Parser(ParserMessage::Text("message".to_string(alloc)?));
+        let other = ErrorKind::Other("other".to_string(alloc)?);
+        let internal = ErrorKind::Internal("internal".to_string(alloc)?);
+        let texts = [
+            "Parse error: incorrect indentation",
+            "message",
+            "other",
+            "internal",
+        ];
+        let kinds = vec![in alloc; fault, message, other, internal]?;
+        for (kind, text) in kinds.into_iter().zip(texts) {
+            let error = Error::new_kind(alloc, kind)?.into_internal_error(alloc)?;
+            assert!(rt; matches!(error.kind(), ErrorKind::Internal(_)));
+            assert_eq!(rt; error.to_string(alloc)?.as_str(), text);
         }
+        Ok(())
+    }
+
+    #[test]
+    fn outer_place_and_calls_are_taken(rt: HostRuntime) -> Result<(), Fail> {
+        let alloc = rt.alloc();
+        let map = code_map(alloc)?;
+        let calls = one_call(alloc)?;
+        let mut error = error_from_lexeme(alloc, LexemeError::InvalidTab)?;
+        error.set_span(first(), &map)?;
+        error.set_call_stack(move || calls);
+        let outer = WithDiagnostic::new_spanned(alloc, error, second(), &map)?;
+        let error = Error::from(outer);
+        assert_eq!(rt; error.span().map(|place| place.span), Some(second()));
+        assert!(rt; error.call_stack().is_empty());
+        Ok(())
+    }
+
+    #[test]
+    fn fault_with_a_place(rt: HostRuntime) -> Result<(), Fail> {
+        let alloc = rt.alloc();
+        let map = code_map(alloc)?;
+        let calls = one_call(alloc)?;
+        let mut fault = WithDiagnostic::new_spanned(alloc, LexemeError::InvalidTab, first(), &map)?;
+        fault.set_call_stack(move || calls);
+        let error = error_from_diagnostic(alloc, fault)?;
+        assert_eq!(rt;
+            error.to_string(alloc)?.as_str(),
+            "Parse error: tabs are not allowed at f:1:1-2"
+        );
+        assert_eq!(rt; error.call_stack().frames().len(), 1);
+        Ok(())
     }
 }

@@ -1,0 +1,260 @@
+//! Values with their places.
+
+ghost use Rattle.std.specs.Prelude.{◌≡◌, ◌≢◌, [], Some, None, option_copied, IsOk, IsSome, IfOk, IfErr, OnOk, OnErr};
+ghost use Rattle.starlark_base.specs.Diagnostics.{with_span};
+
+use crate::call_stack::CallStack;
+use crate::codemap::{CodeMap, FileSpan, Span};
+use std::alloc::{AllocError, AllocFailed, Global};
+use std::fmt;
+use std::marker::Model;
+
+/// What a box has room for. The value is missing only until `map` has it.
+#[derive(Drop)]
+struct Parts<T> {
+    value: Option<T>,
+    span: Option<FileSpan>,
+    call_stack: CallStack,
+}
+
+/// A value, the place that it belongs to, if that is known, and the calls that led there. In a contract
+/// it is these three.
+///
+/// The place and the calls that were known first are kept: what is told later doesn't replace them.
+#[derive(Drop)]
+pub struct WithDiagnostic<T> {
+    parts: Box<Parts<T>>,
+    ghost has_value: { parts.value.value ≢ None },
+}
+
+impl<T> Model for WithDiagnostic<T> {
+    ghost use Rattle.starlark_base.specs.Diagnostics.{Diagnosed, held};
+
+    ghost Value = { Diagnosed T };
+
+    ghost view = { λ it. record { value = held it.parts.value.value it.has_value; span = it.parts.value.span; call_stack = it.parts.value.call_stack } };
+}
+
+impl<T> WithDiagnostic<T> {
+    /// A value at a place, with no calls. Want of memory hands the value back.
+    pub fn new_spanned(alloc: Global, t: T, span: Span, codemap: &CodeMap) -> Result<Self, T>
+        ensures ok { IfOk result (λ it. it ≡ record { value = t; span = Some (record { file = codemap.now; span = span }); call_stack = [] }) }
+        ensures refused { IfErr result (λ given. given ≡ t) }
+    {
+        let Ok(span) = codemap.file_span(span) else {
+            return Err(t);
+        };
+        let parts = Parts {
+            value: Some(t),
+            span: Some(span),
+            call_stack: CallStack::empty(),
+        };
+        match Box::new(alloc, parts) {
+            Ok(parts) => Ok(WithDiagnostic { parts }),
+            Err(AllocFailed { value: parts }) => Err(parts.value.unwrap()),
+        }
+    }
+
+    /// The value.
+    pub fn inner(&self) -> &T
+        ensures { result.now ≡ self.now.value }
+    {
+        self.parts.value.as_ref().unwrap()
+    }
+
+    /// The value alone.
+    pub fn into_inner(self) -> T
+        ensures { result ≡ self.value }
+    {
+        let (value, _, _) = self.into_parts();
+        value
+    }
+
+    /// The value, its place and its calls.
+    pub fn into_parts(self) -> (T, Option<FileSpan>, CallStack)
+        ensures value { result.0 ≡ self.value }
+        ensures span { result.1 ≡ self.span }
+        ensures call_stack { result.2 ≡ self.call_stack }
+    {
+        let parts = Box::into_inner(self.parts);
+        (parts.value.unwrap(), parts.span, parts.call_stack)
+    }
+
+    /// What a function makes of the value, with the same place and calls. The function is called once
+    /// there is memory; want of memory hands the old value back, and the function wasn't called.
+    pub fn map<U, F: FnOnce(T) -> U + Drop>(
+        self,
+        alloc: Global,
+        f: F,
+    ) -> Result<WithDiagnostic<U>, WithDiagnostic<T>>
+        requires { F.pre f self.value }
+        ensures value { IfOk result (λ it. F.post f self.value it.value) }
+        ensures span { IfOk result (λ it. it.span ≡ self.span) }
+        ensures call_stack { IfOk result (λ it. it.call_stack ≡ self.call_stack) }
+        ensures refused { IfErr result (λ it. it ≡ self) }
+    {
+        let room = Parts {
+            value: None,
+            span: None,
+            call_stack: CallStack::empty(),
+        };
+        match Box::new(alloc, room) {
+            Ok(mut parts) => {
+                let (value, span, call_stack) = self.into_parts();
+                match parts.value.replace(f(value)) {
+                    Some(_) => unreachable!(),
+                    None => {}
+                }
+                parts.span = span;
+                parts.call_stack = call_stack;
+                Ok(WithDiagnostic { parts })
+            }
+            Err(
+                AllocFailed {
+                    value: Parts { value, .. },
+                },
+            ) => match value {
+                Some(_) => unreachable!(),
+                None => Err(self),
+            },
+        }
+    }
+
+    /// The place, if it is known.
+    pub fn span(&self) -> Option<&FileSpan>
+        ensures { option_copied result ≡ self.now.span }
+    {
+        self.parts.span.as_ref()
+    }
+
+    /// The calls.
+    pub fn call_stack(&self) -> &CallStack
+        ensures { result.now ≡ self.now.call_stack }
+    {
+        &self.parts.call_stack
+    }
+
+    /// Tells the place, unless one is known. Want of memory changes nothing; where a place is known
+    /// no memory is taken.
+    pub fn set_span(&mut self, span: Span, codemap: &CodeMap) -> Result<(), AllocError>
+        ensures ok { OnOk result (self.new ≡ with_span self.old (record { file = codemap.now; span = span })) }
+        ensures known { IsSome self.old.span → IsOk result }
+        ensures refused { OnErr result (self.new ≡ self.old) }
+    {
+        if self.parts.span.is_none() {
+            self.parts.span = Some(codemap.file_span(span)?);
+        }
+        Ok(())
+    }
+
+    /// Tells the calls, unless some are known. Only where none are is the function called.
+    pub fn set_call_stack<F: FnOnce() -> CallStack + Drop>(&mut self, call_stack: F)
+        requires { self.old.call_stack ≡ [] → F.pre call_stack }
+        ensures value { self.new.value ≡ self.old.value }
+        ensures span { self.new.span ≡ self.old.span }
+        ensures told { self.old.call_stack ≡ [] → F.post call_stack self.new.call_stack }
+        ensures known { self.old.call_stack ≢ [] → self.new.call_stack ≡ self.old.call_stack }
+    {
+        if self.parts.call_stack.is_empty() {
+            self.parts.call_stack = call_stack();
+        }
+    }
+}
+
+impl<T: fmt::Display> fmt::Display for WithDiagnostic<T> {
+    ghost use Rattle.starlark_base.specs.Diagnostics.{diagnosed_text};
+
+    ghost output = { λ it. diagnosed_text (T.output it.value) it.span };
+
+    fn fmt<W: fmt::Write>(&self, f: &mut fmt::Formatter<W>) -> fmt::Result {
+        write!(f, "{}", self.inner())?;
+        match self.span() {
+            Some(span) => write!(f, " at {span}"),
+            None => Ok(()),
+        }
+    }
+}
+
+impl<T: fmt::Display> fmt::Debug for WithDiagnostic<T> {
+    ghost use Rattle.starlark_base.specs.Diagnostics.{diagnosed_text};
+
+    ghost debug_output = { λ it. diagnosed_text (T.output it.value) it.span };
+
+    fn fmt<W: fmt::Write>(&self, f: &mut fmt::Formatter<W>) -> fmt::Result {
+        write!(f, "{self}")
+    }
+}
+
+#[cfg(test)]
+mod tests {
+    use super::*;
+    use crate::codemap::{CodeMapId, Pos};
+    use std::test::Fail;
+
+    fn code_map(alloc: Global) -> Result<CodeMap, Fail> {
+        let name = "f".to_string(alloc)?;
+        let source = "ab".to_string(alloc)?;
+        Ok(CodeMap::new(alloc, CodeMapId::new(1), name, source)?)
+    }
+
+    fn first() -> Span {
+        Span::new(Pos::new(0), Pos::new(1))
+    }
+
+    fn second() -> Span {
+        Span::new(Pos::new(1), Pos::new(2))
+    }
+
+    fn one_call(alloc: Global) -> Result<CallStack, AllocError> {
+        let frame = "call".to_string(alloc)?;
+        Ok(CallStack::from_frames(vec![in alloc; frame]?))
+    }
+
+    #[test]
+    fn first_place_is_kept(rt: HostRuntime) -> Result<(), Fail> {
+        let alloc = rt.alloc();
+        let map = code_map(alloc)?;
+        let mut oops = WithDiagnostic::new_spanned(alloc, "oops", first(), &map)?;
+        oops.set_span(second(), &map)?;
+        assert_eq!(rt; oops.to_string(alloc)?.as_str(), "oops at f:1:1-2");
+        assert_eq!(rt; format!(in alloc; "{oops:?}")?.as_str(), "oops at f:1:1-2");
+        assert_eq!(rt; oops.span().map(|place| place.span), Some(first()));
+        assert!(rt; oops.call_stack().is_empty());
+        assert_eq!(rt; oops.into_inner(), "oops");
+        Ok(())
+    }
+
+    #[test]
+    fn first_calls_are_kept(rt: HostRuntime) -> Result<(), Fail> {
+        let alloc = rt.alloc();
+        let map = code_map(alloc)?;
+        let calls = one_call(alloc)?;
+        let mut oops = WithDiagnostic::new_spanned(alloc, "oops", first(), &map)?;
+        oops.set_call_stack(move || calls);
+        assert_eq!(rt; oops.call_stack().frames().len(), 1);
+        let mut called = false;
+        oops.set_call_stack(|| {
+            called = true;
+            CallStack::empty()
+        });
+        assert!(rt; !called);
+        assert_eq!(rt; oops.call_stack().frames().len(), 1);
+        Ok(())
+    }
+
+    #[test]
+    fn map_keeps_place_and_calls(rt: HostRuntime) -> Result<(), Fail> {
+        let alloc = rt.alloc();
+        let map = code_map(alloc)?;
+        let calls = one_call(alloc)?;
+        let mut oops = WithDiagnostic::new_spanned(alloc, "oops", second(), &map)?;
+        oops.set_call_stack(move || calls);
+        let length = oops.map(alloc, |text| text.len())?;
+        assert_eq!(rt; *length.inner(), 4);
+        let (value, place, calls) = length.into_parts();
+        assert_eq!(rt; value, 4);
+        assert_eq!(rt; place.map(|place| place.span), Some(second()));
+        assert_eq!(rt; calls.frames().len(), 1);
+        Ok(())
+    }
+}

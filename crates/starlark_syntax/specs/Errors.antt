@@ -1,0 +1,40 @@
+-- What becomes of an error, and what is printed of it.
+use Rattle.std.specs.Prelude.{◌≡◌, ℕ, List, Option, Some, None, IfSome, string_bytes, ⊤}
+use Rattle.starlark_base.specs.Diagnostics.{Diagnosed, diagnosed_text}
+use Rattle.starlark_base.specs.Places.{resolved}
+use Rattle.starlark_base.specs.Sources.{Holds}
+use Rattle.starlark_base.specs.declared.codemap.file_span.FileSpan.{FileSpan}
+use Rattle.starlark_base.specs.declared.codemap.resolved.ResolvedFileSpan.{ResolvedFileSpan}
+use Rattle.starlark_syntax.specs.FaultTexts.{kind_text}
+use Rattle.starlark_syntax.specs.declared.error.kinds.ParserMessage.TheVariants.{Lexeme}
+use Rattle.starlark_syntax.specs.declared.error.kinds.ErrorKind.{ErrorKind}
+use Rattle.starlark_syntax.specs.declared.error.kinds.ErrorKind.TheVariants.{Parser, Internal}
+
+-- a fault of the lexer
+abbrev pub IsFault : ErrorKind → Type 0
+IsFault (Parser (Lexeme fault)) = ⊤
+IsFault _ = ⊥
+
+-- an internal error that says this text, if it is stated
+abbrev pub IsInternal : ErrorKind → Option (List ℕ) → Type 0
+IsInternal (Internal text) said = IfSome said (λ bytes. string_bytes text ≡ bytes)
+IsInternal _ said = ⊥
+
+-- the message, and the place where it is known
+abbrev pub error_text : Diagnosed ErrorKind → Option (List ℕ)
+error_text error = diagnosed_text (Some (kind_text error.value)) error.span
+
+-- the file's name and the lines and columns of a place that its source holds
+pub record IsResolved (place : FileSpan) (location : ResolvedFileSpan) : Type 0 where
+  pub held : Holds place.file.source place.span
+  pub file : string_bytes location.file ≡ place.file.filename
+  pub span : location.span ≡ resolved place.file.source place.span
+
+abbrev pub IsLocation : Option FileSpan → ResolvedFileSpan → Type 0
+IsLocation None location = ⊥
+IsLocation (Some place) location = IsResolved place location
+
+-- no place is known, or its source doesn't hold it
+abbrev pub HasNoLocation : Option FileSpan → Type 0
+HasNoLocation None = ⊤
+HasNoLocation (Some place) = ¬ (Holds place.file.source place.span)

@@ -1,0 +1,280 @@
+//! Errors that should have a place.
+
+ghost use Rattle.std.specs.Prelude.{◌≡◌, ◌≢◌, [], Some, None, IsOk, IsSome, IfSome, IfNone, IfOk, IfErr, OnErr};
+ghost use Rattle.starlark_base.specs.Diagnostics.{with_span};
+ghost use Rattle.starlark_syntax.specs.Errors.{IsFault, IsInternal, IsLocation, HasNoLocation};
+ghost use Rattle.starlark_syntax.specs.FaultTexts.{kind_text};
+
+use crate::error::{Error, ErrorKind};
+use starlark_base::call_stack::CallStack;
+use starlark_base::codemap::{CodeMap, ResolvedFileSpan, Span};
+use starlark_base::diagnostic::WithDiagnostic;
+use std::alloc::{AllocError, Global};
+use std::fmt;
+use std::marker::Model;
+
+/// An error that was given a place, or said to have none. In a contract it is what the error is.
+#[derive(Drop)]
+pub struct EvalException {
+    error: Error,
+}
+
+impl Model for EvalException {
+    ghost use Rattle.starlark_base.specs.Diagnostics.{Diagnosed};
+    ghost use Rattle.starlark_syntax.specs.declared.error.kinds.ErrorKind.{ErrorKind};
+
+    ghost Value = { Diagnosed ErrorKind };
+
+    ghost view = { λ it. it.error };
+}
+
+impl EvalException {
+    /// An error at a place. A place and calls that it has already are kept. Want of memory hands the
+    /// error back; where a place is known no memory is taken.
+    pub fn new(error: Error, span: Span, codemap: &CodeMap) -> Result<Self, Error>
+        ensures ok { IfOk result (λ it. it ≡ with_span error (record { file = codemap.now; span = span })) }
+        ensures known { IsSome error.span → IsOk result }
+        ensures refused { IfErr result (λ given. given ≡ error) }
+    {
+        let mut error = error;
+        match error.set_span(span, codemap) {
+            Ok(()) => Ok(EvalException { error }),
+            Err(_) => Err(error),
+        }
+    }
+
+    /// An error whose place isn't known. It takes no memory.
+    pub fn new_unknown_span(error: Error) -> Self
+        ensures { result ≡ error }
+    {
+        EvalException { error }
+    }
+
+    /// An error at a place, with the calls that a function tells. A place and calls that it has already
+    /// are kept, and only where it has no calls is the function called. Want of memory hands the error
+    /// back, and the function wasn't called; where a place is known no memory is taken.
+    pub fn new_with_callstack<F: FnOnce() -> CallStack + Drop>(
+        error: Error,
+        span: Span,
+        codemap: &CodeMap,
+        call_stack: F,
+    ) -> Result<Self, Error>
+        requires { error.call_stack ≡ [] → F.pre call_stack }
+        ensures value { IfOk result (λ it. it.value ≡ error.value) }
+        ensures span { IfOk result (λ it. it.span ≡ (with_span error (record { file = codemap.now; span = span })).span) }
+        ensures told { IfOk result (λ it. error.call_stack ≡ [] → F.post call_stack it.call_stack) }
+        ensures known_calls { IfOk result (λ it. error.call_stack ≢ [] → it.call_stack ≡ error.call_stack) }
+        ensures known { IsSome error.span → IsOk result }
+        ensures refused { IfErr result (λ given. given ≡ error) }
+    {
+        let mut exception = EvalException::new(error, span, codemap)?;
+        exception.error.set_call_stack(call_stack);
+        Ok(exception)
+    }
+
+    /// An error of this code at a place, which says what a value prints.
+    pub fn internal_error<D: fmt::Display + Drop>(
+        alloc: Global,
+        error: D,
+        span: Span,
+        codemap: &CodeMap,
+    ) -> Result<Self, AllocError>
+        ensures kind { IfOk result (λ it. IsInternal it.value (D.output error)) }
+        ensures span { IfOk result (λ it. it.span ≡ Some (record { file = codemap.now; span = span })) }
+        ensures call_stack { IfOk result (λ it. it.call_stack ≡ []) }
+    {
+        let text = error.to_string(alloc)?;
+        let Ok(error) = Error::new_kind(alloc, ErrorKind::Internal(text)) else {
+            return Err(AllocError);
+        };
+        EvalException::new(error, span, codemap).map_err(|_| AllocError)
+    }
+
+    /// The error.
+    pub fn error(&self) -> &Error
+        ensures { result.now ≡ self.now }
+    {
+        &self.error
+    }
+
+    /// The error alone.
+    pub fn into_error(self) -> Error
+        ensures { result ≡ self }
+    {
+        self.error
+    }
+
+    /// The error as one of this code, with the same message, place and calls. Only for a fault of the
+    /// lexer is memory taken; want of it hands the error back.
+    pub fn into_internal_error(self, alloc: Global) -> Result<Self, Self>
+        ensures kind { IfOk result (λ it. IsInternal it.value (Some (kind_text self.value))) }
+        ensures span { IfOk result (λ it. it.span ≡ self.span) }
+        ensures call_stack { IfOk result (λ it. it.call_stack ≡ self.call_stack) }
+        ensures refused { IfErr result (λ it. it ≡ self) }
+        ensures memory { OnErr result (IsFault self.value) }
+    {
+        match self.error.into_internal_error(alloc) {
+            Ok(error) => Ok(EvalException { error }),
+            Err(error) => Err(EvalException { error }),
+        }
+    }
+
+    /// The lines and columns of an error's place, for tests; `None` where the place isn't known, or isn't
+    /// in its file.
+    pub fn _testing_loc(
+        alloc: Global,
+        error: &Error,
+    ) -> Result<Option<ResolvedFileSpan>, AllocError>
+        ensures found { IfOk result (λ location. IfSome location (λ it. IsLocation error.now.span it)) }
+        ensures missing { IfOk result (λ location. IfNone location (HasNoLocation error.now.span)) }
+    {
+        match error.span() {
+            Some(place) if place.file.holds(place.span) => Ok(Some(place.resolve(alloc)?)),
+            _ => Ok(None),
+        }
+    }
+}
+
+impl From<WithDiagnostic<Error>> for EvalException {
+    ghost from_gives = { λ d it. it ≡ record { value = d.value.value; span = d.span; call_stack = d.call_stack } };
+
+    /// The error inside, with the place and the calls of the outside. It takes no memory.
+    fn from(diagnostic: WithDiagnostic<Error>) -> EvalException {
+        EvalException {
+            error: Error::from(diagnostic),
+        }
+    }
+}
+
+impl fmt::Display for EvalException {
+    ghost use Rattle.starlark_syntax.specs.Errors.{error_text};
+
+    ghost output = { error_text };
+
+    fn fmt<W: fmt::Write>(&self, f: &mut fmt::Formatter<W>) -> fmt::Result {
+        write!(f, "{}", self.error)
+    }
+}
+
+impl fmt::Debug for EvalException {
+    ghost use Rattle.starlark_syntax.specs.Errors.{error_text};
+
+    ghost debug_output = { error_text };
+
+    fn fmt<W: fmt::Write>(&self, f: &mut fmt::Formatter<W>) -> fmt::Result {
+        write!(f, "{self}")
+    }
+}
+
+#[cfg(test)]
+mod tests {
+    use super::*;
+    use crate::error::error_from_lexeme;
+    use crate::lexer::LexemeError;
+    use starlark_base::codemap::{CodeMapId, Pos};
+    use std::test::Fail;
+
+    fn code_map(alloc: Global) -> Result<CodeMap, Fail> {
+        let name = "f".to_string(alloc)?;
+        let source = "ab".to_string(alloc)?;
+        Ok(CodeMap::new(alloc, CodeMapId::new(1), name, source)?)
+    }
+
+    fn first() -> Span {
+        Span::new(Pos::new(0), Pos::new(1))
+    }
+
+    fn second() -> Span {
+        Span::new(Pos::new(1), Pos::new(2))
+    }
+
+    fn one_call(alloc: Global) -> Result<CallStack, AllocError> {
+        let frame = "call".to_string(alloc)?;
+        Ok(CallStack::from_frames(vec![in alloc; frame]?))
+    }
+
+    #[test]
+    fn fault_at_a_place(rt: HostRuntime) -> Result<(), Fail> {
+        let alloc = rt.alloc();
+        let map = code_map(alloc)?;
+        let error = error_from_lexeme(alloc, LexemeError::InvalidTab)?;
+        let exception = EvalException::new(error, first(), &map)?;
+        assert_eq!(rt;
+            exception.to_string(alloc)?.as_str(),
+            "Parse error: tabs are not allowed at f:1:1-2"
+        );
+        let exception = exception.into_internal_error(alloc)?;
+        assert!(rt; matches!(exception.error().kind(), ErrorKind::Internal(_)));
+        assert_eq!(rt;
+            exception.to_string(alloc)?.as_str(),
+            "Parse error: tabs are not allowed at f:1:1-2"
+        );
+        let exception = EvalException::new(exception.into_error(), second(), &map)?;
+        assert_eq!(rt;
+            format!(in alloc; "{exception:?}")?.as_str(),
+            "Parse error: tabs are not allowed at f:1:1-2"
+        );
+        Ok(())
+    }
+
+    #[test]
+    fn first_calls_are_kept(rt: HostRuntime) -> Result<(), Fail> {
+        let alloc = rt.alloc();
+        let map = code_map(alloc)?;
+        let calls = one_call(alloc)?;
+        let error = error_from_lexeme(alloc, LexemeError::InvalidTab)?;
+        let exception = EvalException::new_with_callstack(error, first(), &map, move || calls)?;
+        let error = exception.into_error();
+        let exception = EvalException::new_with_callstack(error, second(), &map, CallStack::empty)?;
+        assert_eq!(rt; exception.error().call_stack().frames().len(), 1);
+        assert_eq!(rt;
+            exception.error().span().map(|place| place.span),
+            Some(first())
+        );
+        Ok(())
+    }
+
+    #[test]
+    fn unknown_and_outer_places(rt: HostRuntime) -> Result<(), Fail> {
+        let alloc = rt.alloc();
+        let map = code_map(alloc)?;
+        let error = error_from_lexeme(alloc, LexemeError::InvalidTab)?;
+        let exception = EvalException::new_unknown_span(error);
+        assert!(rt; exception.error().span().is_none());
+        let outer = WithDiagnostic::new_spanned(alloc, exception.into_error(), second(), &map)?;
+        let exception = EvalException::from(outer);
+        assert_eq!(rt;
+            exception.error().span().map(|place| place.span),
+            Some(second())
+        );
+        Ok(())
+    }
+
+    #[test]
+    fn internal_error_says_what_is_printed(rt: HostRuntime) -> Result<(), Fail> {
+        let alloc = rt.alloc();
+        let map = code_map(alloc)?;
+        let exception = EvalException::internal_error(alloc, 42u32, second(), &map)?;
+        assert!(rt; matches!(exception.error().kind(), ErrorKind::Internal(_)));
+        assert_eq!(rt; exception.to_string(alloc)?.as_str(), "42 at f:1:2-3");
+        Ok(())
+    }
+
+    #[test]
+    fn locations(rt: HostRuntime) -> Result<(), Fail> {
+        let alloc = rt.alloc();
+        let map = code_map(alloc)?;
+        let mut error = error_from_lexeme(alloc, LexemeError::InvalidTab)?;
+        assert!(rt; EvalException::_testing_loc(alloc, &error)?.is_none());
+        error.set_span(second(), &map)?;
+        let location = EvalException::_testing_loc(alloc, &error)?;
+        assert_eq!(rt;
+            location.expect(&rt, "a place").to_string(alloc)?.as_str(),
+            "f:1:2-3"
+        );
+        let mut outside = error_from_lexeme(alloc, LexemeError::InvalidTab)?;
+        outside.set_span(Span::new(Pos::new(0), Pos::new(3)), &map)?;
+        assert!(rt; EvalException::_testing_loc(alloc, &outside)?.is_none());
+        Ok(())
+    }
+}
