@@ -286,7 +286,10 @@ fn shared_code_maps(rt: HostRuntime) -> Result<(), Fail> {
     let map = code_map(rt.alloc(), 7, "a", "bc")?.dupe()?;
     assert!(rt; map.source() == "bc");
     assert_eq!(rt; map.id().get(), 7);
-    assert_eq!(rt; format!(in rt.alloc(); "{map:?}")?.as_str(), "CodeMap(\"a\")");
+    assert_eq!(rt;
+        format!(in rt.alloc(); "{map:?}")?.as_str(),
+        "CodeMap(\"a\")"
+    );
     assert!(rt; map.has_pos(Pos::new(1)) && Pos::new(1) < map.full_span().end());
     assert_eq!(rt; map.byte_at(Pos::new(1)), b'c');
     Ok(())

@@ -7,5 +7,6 @@ pub mod laws;
 pub mod lexer;
 
 pub use starlark_base::{
-    call_stack, codemap, convert_indices, cursors, diagnostic, dialect, dot_format_parser, fast_string,
+    call_stack, codemap, convert_indices, cursors, diagnostic, dialect, dot_format_parser,
+    fast_string,
 };
