@@ -13,3 +13,4 @@ pub mod Silent
 pub mod Order
 mod Rows
 mod RowsOfWords
+pub mod Settled

@@ -1,7 +1,7 @@
 //! Laws of the written grammar, for all texts. Each function here has a law as its contract and nothing to do;
 //! programs don't call them.
 
-ghost use Rattle.starlark_syntax.specs.Laws.{FrontIsLongest, LongestFrontIsOne, ReadingsAgree, ReadingsFit, OutcomeIs, OutcomeIsOne, DedentsFollow, BlocksClose, ItemsAreFew, LexemesInOrder, FaultlessInOrder};
+ghost use Rattle.starlark_syntax.specs.Laws.{FrontIsLongest, LongestFrontIsOne, ReadingsAgree, ReadingsFit, OutcomeIs, OutcomeIsOne, DedentsFollow, BlocksClose, ItemsAreFew, LexemesInOrder, FaultlessInOrder, CutsJoin};
 
 /// The longest front of a text that is a word is the longest, and there is only one.
 pub fn one_longest_front()
@@ -34,4 +34,10 @@ pub fn balanced_layout()
 pub fn ordered_lexemes()
     ensures order { LexemesInOrder }
     ensures whole { FaultlessInOrder }
+{}
+
+/// At a clean cut the lexemes of two texts joined are the joined list. A fault of the second text stays the same fault,
+/// that much later, unless it is its first margin's.
+pub fn joins_at_clean_cuts()
+    ensures { CutsJoin }
 {}
