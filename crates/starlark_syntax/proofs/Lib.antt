@@ -14,3 +14,4 @@ pub mod Order
 mod Rows
 mod RowsOfWords
 pub mod Settled
+pub mod MarginsFollowed

@@ -52,7 +52,7 @@ token_fits len node text some inside = record { some = some; inside = inside; so
 
 -- Margins
 
-lines_len : (text : Text) → sum_by (λ (line : Text). length line) (lines text) ≡ length text
+pub lines_len : (text : Text) → sum_by (λ (line : Text). length line) (lines text) ≡ length text
 unfolding lines
 lines_len [] = refl
 lines_len (b ∷ bs) = go (is_feed b) (lines bs) (lines_len bs)
