@@ -11,5 +11,6 @@ pub mod Gaps
 pub mod WordBytes
 pub mod Silent
 pub mod Order
+pub mod Edges
 mod Rows
 mod RowsOfWords
