@@ -12,5 +12,6 @@ pub mod WordBytes
 pub mod Silent
 pub mod Order
 pub mod Edges
+pub mod Boundaries
 mod Rows
 mod RowsOfWords
