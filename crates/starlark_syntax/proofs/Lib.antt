@@ -13,5 +13,6 @@ pub mod Silent
 pub mod Order
 pub mod Edges
 pub mod Boundaries
+pub mod Bounded
 mod Rows
 mod RowsOfWords
