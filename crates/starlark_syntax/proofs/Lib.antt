@@ -11,6 +11,9 @@ pub mod Gaps
 pub mod WordBytes
 pub mod Silent
 pub mod Order
+pub mod Edges
+pub mod Boundaries
+pub mod Bounded
 mod Rows
 mod RowsOfWords
 pub mod Settled

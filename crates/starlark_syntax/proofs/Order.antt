@@ -3,7 +3,7 @@ use Rattle.std.proofs.Common.{◌≡◌, ℕ, zero, suc, ◌+◌, ◌-◌, ◌�
 use Rattle.std.specs.Prelude.{⊤, ◌&&◌, ◌==◌, if◌then◌else◌, map, sum_by, take_while, replicate, count_by}
 use Rattle.std.specs.List.{prefix_len, onto_first}
 use Rattle.std.specs.Str.{byte}
-use Rattle.std.proofs.lemmas.Bool.{and_parts, cases_lt, not-true}
+use Rattle.std.proofs.lemmas.Bool.{and_parts, cases_lt, eqb-true, not-true}
 use Rattle.std.proofs.lemmas.Bool.Decides.{nat_tests}
 use Rattle.std.proofs.lemmas.List.{take-append-drop, length-take-le, length-drop}
 use Rattle.std.proofs.Math.Seq.{drop-append_seam}
@@ -41,6 +41,7 @@ pub record Split (text line : Text) (more : List Text) : Type 0 where
   pub whole : text ≡ line ++ rest
   pub left : lines rest ≡ more
   pub one : is_line line ≡ true
+  pub ended : (rest ≡ []) ⊎ ((front : Text) × (line ≡ front ++ 10 ∷ []))
 
 no_lines : (text : Text) → lines text ≡ [] → text ≡ []
 unfolding lines
@@ -64,21 +65,25 @@ first_line (b ∷ bs) line more e = go (is_feed b) refl (lines bs) refl (first_l
     longer [] f h = refl
     longer (c ∷ cs) f h = rw f h
 
+    later : (l rest : Text) → (rest ≡ []) ⊎ ((front : Text) × (l ≡ front ++ 10 ∷ [])) → (rest ≡ []) ⊎ ((front : Text) × (b ∷ l ≡ front ++ 10 ∷ []))
+    later l rest (inl none) = inl none
+    later l rest (inr found) = inr (b ∷ found.0, ap (λ (t : Text). b ∷ t) found.1)
+
     go : (feed : Bool) → is_feed b ≡ feed → (m : List Text) → lines bs ≡ m → ((l : Text) (ms : List Text) → lines bs ≡ l ∷ ms → Split bs l ms) → (if feed then (b ∷ []) ∷ m else onto_first b m) ≡ line ∷ more → Split (b ∷ bs) line more
     go true f m k h e =
         let first : b ∷ [] ≡ line = cc in
         let rest : m ≡ more = cc in
-        other_split (b ∷ bs) line (b ∷ []) more m first rest (record { rest = bs; whole = refl; left = k; one = refl })
+        other_split (b ∷ bs) line (b ∷ []) more m first rest (record { rest = bs; whole = refl; left = k; one = refl; ended = inr ([], ap (λ c. c ∷ []) (eqb-true b 10 f)) })
     go false f [] k h e =
         let none = no_lines bs k in
         let first : b ∷ [] ≡ line = cc in
         let rest : [] ≡ more = cc in
-        other_split (b ∷ bs) line (b ∷ []) more [] first rest (record { rest = bs; whole = refl; left = k; one = refl })
+        other_split (b ∷ bs) line (b ∷ []) more [] first rest (record { rest = bs; whole = refl; left = k; one = refl; ended = inl none })
     go false f (l ∷ m) k h e =
         let split = h l m k in
         let first : b ∷ l ≡ line = cc in
         let rest : m ≡ more = cc in
-        other_split (b ∷ bs) line (b ∷ l) more m first rest (record { rest = split.rest; whole = ap (λ (t : Text). b ∷ t) split.whole; left = split.left; one = longer l f split.one })
+        other_split (b ∷ bs) line (b ∷ l) more m first rest (record { rest = split.rest; whole = ap (λ (t : Text). b ∷ t) split.whole; left = split.left; one = longer l f split.one; ended = later l split.rest split.ended })
 
 -- Comment-only lines
 
@@ -98,7 +103,7 @@ part_more b bs e =
     ap without_return same
 
 -- the blanks end before the comment does
-comment_spans : (line : Text) → is_comment_only line ≡ true → blanks_len line < length (comment_part line)
+pub comment_spans : (line : Text) → is_comment_only line ≡ true → blanks_len line < length (comment_part line)
 comment_spans [] h = cc
 comment_spans (b ∷ bs) h = go (is_blank b) refl (is_feed b) refl h (comment_spans bs)
   where
@@ -141,7 +146,7 @@ tail_more b [] behind n gap = go (b == byte "\r") refl
 tail_more b (c ∷ cs) behind n gap = gap_cons b behind (length (without_return (c ∷ cs))) n gap
 
 -- behind a comment its line end stands
-comment_tail : (line rest : Text) → is_line line ≡ true → IsGap (line ++ rest) (length (comment_part line)) (length line)
+pub comment_tail : (line rest : Text) → is_line line ≡ true → IsGap (line ++ rest) (length (comment_part line)) (length line)
 comment_tail [] rest h = gap_none rest 0
 comment_tail (b ∷ []) rest h = go (is_feed b) refl
   where
@@ -154,7 +159,7 @@ comment_tail (b ∷ c ∷ bs) rest h =
     tail_more b (before_feed (c ∷ bs)) (c ∷ bs ++ rest) (length (c ∷ bs)) (comment_tail (c ∷ bs) rest parts.1) in
     subst (λ (t : Text). IsGap (b ∷ (c ∷ bs ++ rest)) (length t) (suc (length (c ∷ bs)))) (sym (part_more b (c ∷ bs) (not-true (is_feed b) parts.0))) text
 
-part_len : (line : Text) → length (comment_part line) ≤ length line
+pub part_len : (line : Text) → length (comment_part line) ≤ length line
 part_len line =
     let taken = take_fits (prefix_len (λ b. not (is_feed b)) line) line in
     let cut = shorter (before_feed line) in
@@ -171,7 +176,7 @@ part_len line =
 
 -- Margins
 
-abbrev lines_sum : List Text → ℕ
+abbrev pub lines_sum : List Text → ℕ
 lines_sum ls = sum_by (λ (line : Text). length line) ls
 
 -- the comments of a margin from a place on, and what follows them
@@ -219,7 +224,7 @@ comments_order whole at text (line ∷ more) tail to e f h = go (is_comment_only
 blanks_behind : (text : Text) → IsGap text 0 (blanks_len text)
 blanks_behind text = subst (λ (t : Text). IsGap t 0 (blanks_len text)) (append-nil text) (blanks_gap text [])
 
-margin_blanks : (passed : List Text) (at : ℕ) (text : Text) → IsGap text at (margin_len (margin_from passed at (drop at text)))
+pub margin_blanks : (passed : List Text) (at : ℕ) (text : Text) → IsGap text at (margin_len (margin_from passed at (drop at text)))
 margin_blanks passed at text =
     let within = prefix_len-le-length is_blank (drop at text) in
     let taken : length (take (blanks_len (drop at text)) (drop at text)) ≡ blanks_len (drop at text) = length-take-le (blanks_len (drop at text)) (drop at text) within in

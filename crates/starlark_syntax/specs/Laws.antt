@@ -1,8 +1,10 @@
 -- What the laws of the grammar say.
 use Rattle.std.specs.Prelude.{◌≡◌, ◌≤◌, ℕ, ◌+◌, ◌*◌, Bool, true, false, ◌⊎◌, List, ◌++◌, length, take, count_by, Option, Some, None, option_map, option_to_list}
+use Rattle.std.specs.List.{AllByRecursion}
+use Rattle.std.specs.Str.{IsUtf8, IsCharBoundary}
 use Rattle.starlark_syntax.specs.Words.{Text, Class, Table, class_in, language}
 use Rattle.starlark_syntax.specs.Front.{IsLongestFront, language_front}
-use Rattle.starlark_syntax.specs.Tokens.{Token, Indent, Dedent, Lexeme, moved, Outcome}
+use Rattle.starlark_syntax.specs.Tokens.{Token, Indent, Dedent, Spanned, Lexeme, moved, Outcome}
 use Rattle.starlark_syntax.specs.Pieces.{Piece, Stands}
 use Rattle.starlark_syntax.specs.Reading.{History, nothing, next_step, IsReading, pieces_len, outcome_in, outcome, IsOutcome}
 use Rattle.starlark_syntax.specs.Cuts.{InOrder, is_clean_cut, joined}
@@ -42,6 +44,14 @@ LexemesInOrder = (text : Text) → (to : ℕ) × (to ≤ length text) × InOrder
 -- … In a text without fault nothing but a gap stands behind them either.
 abbrev pub FaultlessInOrder : Type 0
 FaultlessInOrder = (text : Text) → (outcome text).fault ≡ None → InOrder text 0 (outcome text).lexemes (length text)
+
+-- both ends of something lie between characters of the text
+abbrev pub AtBoundaries : {A : Type 0} → Text → Spanned A → Type 0
+AtBoundaries text x = IsCharBoundary text x.begin × IsCharBoundary text x.end
+
+-- The lexemes of a text of characters begin and end between characters.
+abbrev pub LexemesAtBoundaries : Type 0
+LexemesAtBoundaries = (text : Text) → IsUtf8 text → AllByRecursion (AtBoundaries text) (outcome text).lexemes
 
 abbrev pub is_indent : Token → Bool
 is_indent Indent = true
