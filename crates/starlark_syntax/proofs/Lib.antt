@@ -11,5 +11,7 @@ pub mod Gaps
 pub mod WordBytes
 pub mod Silent
 pub mod Order
+pub mod WordLines
+pub mod Followed
 mod Rows
 mod RowsOfWords
