@@ -14,6 +14,8 @@ pub mod Order
 pub mod Edges
 pub mod Boundaries
 pub mod Bounded
+pub mod WordLines
+pub mod Followed
 mod Rows
 mod RowsOfWords
 pub mod Settled
