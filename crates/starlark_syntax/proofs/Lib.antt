@@ -20,3 +20,4 @@ mod Rows
 mod RowsOfWords
 pub mod Settled
 pub mod MarginsFollowed
+pub mod Joining
