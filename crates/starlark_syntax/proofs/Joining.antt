@@ -1,16 +1,19 @@
 -- Texts joined at clean cuts.
 use Rattle.std.proofs.Common.{◌≡◌, ℕ, zero, suc, ◌+◌, ◌-◌, ◌≤◌, ◌<◌, Bool, true, false, cond, not, List, [], ◌∷◌, ◌++◌, length, take, drop, map, refl, ap, ◌∙◌, sym, subst, Option, Some, None, arith, append_assoc, append-nil}
 use Rattle.std.specs.Prelude.{⊤, ◌&&◌, ◌==◌, if◌then◌else◌, nat_lt, option_to_list}
+use Rattle.std.proofs.lemmas.Bool.{both_ways}
 use Rattle.starlark_syntax.specs.Words as word
 use Rattle.starlark_syntax.specs.Words.{Text, Kind, OfText, OfBytes, OfFString, Class, class_in, language}
 use Rattle.starlark_syntax.specs.Front.{longest_front, language_front}
-use Rattle.starlark_syntax.specs.Tokens.{Token, Indent, InvalidTab, Indentation, Opening, Lexeme, moved, Outcome}
+use Rattle.starlark_syntax.specs.Numbers.{integer_of}
+use Rattle.starlark_syntax.specs.Tokens.{Token, Int, StartsZero, FStringBang, Indent, InvalidTab, Indentation, Opening, Lexeme, moved, Outcome}
 use Rattle.starlark_syntax.specs.Items.{Stop, Closing, Line, Ended, OpeningBrace, ClosingBrace, BadEscape, Body, body_at}
 use Rattle.starlark_syntax.specs.Depths.{Where, Outside, InText, AtTop, Deeper}
 use Rattle.starlark_syntax.specs.Margins.{Margin, margin_of, margin_len, is_content, has_tab, width_of, fits, is_widest, indentation}
-use Rattle.starlark_syntax.specs.Pieces.{Before, Nothing, Layout, Gap, Other, Piece, Step, Stands, Fails, Ends, Situation, margin_step, first_margin, line_end, counts, is_bang, takes_bang, escape_fault, literal_by, opener, opening_of, chunk_by, chunk, starts_zero, word_step, front_step, in_code, by_place, by_before, step_at}
+use Rattle.starlark_syntax.specs.Pieces.{more_quotes, fault, token, Before, Nothing, Layout, Gap, Other, Piece, Step, Stands, Fails, Ends, Situation, margin_step, first_margin, line_end, counts, is_bang, takes_bang, escape_fault, literal_by, opener, opening_of, chunk_by, chunk, starts_zero, word_step, front_step, in_code, by_place, by_before, step_at}
 use Rattle.starlark_syntax.specs.Reading.{History, nothing, after, after_all, situation, next_step, IsReading, IsLongestReading, pieces_len, lexemes_along}
 use Rattle.starlark_syntax.specs.Cuts.{is_layout}
+use Rattle.starlark_syntax.proofs.Steps.{is_nothing}
 use Rattle.starlark_syntax.proofs.MarginsFollowed.{Followed, Whole, Within, margin_behind, followed, has_whole_lines}
 use Rattle.starlark_syntax.proofs.Settled.{Settled, behind}
 
@@ -93,3 +96,137 @@ step_behind len lexemes n comments margin first e =
     go false true fitting f e = cc
     go false false true f e = stands (laid (indentation [] margin) (Some (width_of margin))) _ e (ap (λ ls. made ls (Some (width_of margin))) (indentation_behind n comments margin) ∙ same (indentation [] margin) (Some (width_of margin)))
     go false false false f e = cc
+
+-- Which steps are layout
+
+abbrev NoLayout : Step → Type 0
+NoLayout (Stands piece) = is_layout piece.sort ≡ false
+NoLayout (Fails fault) = ⊤
+NoLayout Ends = ⊤
+
+plain_escape : (begin : ℕ) (text : Text) → NoLayout (escape_fault begin text)
+plain_escape begin [] = tt
+plain_escape begin (b ∷ bs) = tt
+
+plain_literal : (place : Where) (kind : Kind) (opening : Opening) (len : ℕ) (behind : Text) (body : Body) (stop : Stop) → NoLayout (literal_by place kind opening len behind body stop)
+plain_literal place kind opening len behind body Closing = refl
+plain_literal place kind opening len behind body (BadEscape read last) = plain_escape _ _
+plain_literal place kind opening len behind body Line = tt
+plain_literal place kind opening len behind body Ended = tt
+plain_literal place kind opening len behind body OpeningBrace = tt
+plain_literal place kind opening len behind body ClosingBrace = tt
+
+plain_body : (place : Where) (kind : Kind) (opening : Opening) (len : ℕ) (behind : Text) (body : Body) → NoLayout (literal_by place kind opening len behind body body.stop)
+plain_body place kind opening len behind body = plain_literal place kind opening len behind body body.stop
+
+plain_opener : (place : Where) (kind : Kind) (opening : Opening) (len : ℕ) (behind : Text) → NoLayout (opener place kind opening len behind)
+plain_opener place OfFString opening len behind = refl
+plain_opener place OfText opening len behind = plain_body place OfText opening (len + more_quotes opening) (drop (more_quotes opening) behind) (body_at (record { kind = OfText; opening = opening }) (drop (more_quotes opening) behind))
+plain_opener place OfBytes opening len behind = plain_body place OfBytes opening (len + more_quotes opening) (drop (more_quotes opening) behind) (body_at (record { kind = OfBytes; opening = opening }) (drop (more_quotes opening) behind))
+
+plain_chunk : (opening : Opening) (text : Text) → NoLayout (chunk opening text)
+unfolding chunk
+plain_chunk opening text = go (body_at (record { kind = OfFString; opening = opening }) text)
+  where
+    by : (body : Body) (stop : Stop) → NoLayout (chunk_by opening text body stop)
+    by body OpeningBrace = refl
+    by body Closing = refl
+    by body ClosingBrace = tt
+    by body (BadEscape read last) = tt
+    by body Line = tt
+    by body Ended = tt
+
+    go : (body : Body) → NoLayout (chunk_by opening text body body.stop)
+    go body = by body body.stop
+
+plain_if : (b : Bool) (one other : Step) → NoLayout one → NoLayout other → NoLayout (if b then one else other)
+plain_if true one other h k = h
+plain_if false one other h k = k
+
+-- a line end that counts
+pub record CountedEnd (s : Situation) (text : Text) (piece : Piece) : Type 0 where
+  pub len : ℕ
+  pub front : longest_front (class_in language) text ≡ Some (word.LineEnd, len)
+  pub counted : counts s.place s.is_balanced ≡ true
+  pub stands : line_end (length (take len text)) s.levels (drop len text) ≡ Stands piece
+
+layout_not : (step : Step) (piece : Piece) → NoLayout step → step ≡ Stands piece → is_layout piece.sort ≡ true → ⊥
+layout_not (Stands other) piece none e h = let same : other ≡ piece = cc in both_ways _ (subst (λ (p : Piece). is_layout p.sort ≡ false) same none) h
+layout_not (Fails fault) piece none e h = cc
+layout_not Ends piece none e h = cc
+
+module _ (s : Situation) (text : Text) (piece : Piece) (laid : is_layout piece.sort ≡ true) where
+  by_class : (class : Class) (len : ℕ) → longest_front (class_in language) text ≡ Some (class, len) → word_step s class (take len text) (drop len text) ≡ Stands piece → CountedEnd s text piece
+  by_class word.Skipped len front e = absurd (layout_not _ piece refl e laid)
+  by_class word.Comment len front e = absurd (layout_not _ piece refl e laid)
+  by_class word.Tabs len front e = absurd (layout_not _ piece tt e laid)
+  by_class word.LineEnd len front e = go (counts s.place s.is_balanced) refl e
+    where
+      go : (counted : Bool) → counts s.place s.is_balanced ≡ counted
+          → (if counted then line_end (length (take len text)) s.levels (drop len text) else Stands (record { len = length (take len text); lexemes = []; width = None; sort = Other })) ≡ Stands piece → CountedEnd s text piece
+      go true f e = record { len = len; front = front; counted = f; stands = e }
+      go false f e = absurd (layout_not _ piece refl e laid)
+  by_class (word.Opener kind is_raw quote) len front e = absurd (layout_not _ piece (plain_opener s.place kind _ _ _) e laid)
+  by_class word.Reserved len front e = absurd (layout_not _ piece tt e laid)
+  by_class word.Identifier len front e = absurd (layout_not _ piece refl e laid)
+  by_class word.Decimal len front e = absurd (layout_not _ piece (plain_if (starts_zero (take len text)) (fault 0 (StartsZero (take len text)) (length (take len text))) (token (length (take len text)) (Int (integer_of 10 (take len text)))) tt refl) e laid)
+  by_class word.Hexadecimal len front e = absurd (layout_not _ piece refl e laid)
+  by_class word.Octal len front e = absurd (layout_not _ piece refl e laid)
+  by_class word.Binary len front e = absurd (layout_not _ piece refl e laid)
+  by_class word.Float len front e = absurd (layout_not _ piece refl e laid)
+  by_class (word.Fixed terminal) len front e = absurd (layout_not _ piece refl e laid)
+
+  by_front : (found : Option (Class × ℕ)) → longest_front (class_in language) text ≡ found → front_step s text found ≡ Stands piece → CountedEnd s text piece
+  by_front None front e = cc
+  by_front (Some found) front e = by_class found.0 found.1 front e
+
+  in_code_end : in_code language s text ≡ Stands piece → CountedEnd s text piece
+  in_code_end e = go text refl e
+    where
+      bang : (b : ℕ) (bs : Text) (bangs : Bool) → text ≡ b ∷ bs → (if bangs then token 1 FStringBang else front_step s (b ∷ bs) (longest_front (class_in language) (b ∷ bs))) ≡ Stands piece → CountedEnd s text piece
+      bang b bs true same e = absurd (layout_not _ piece refl e laid)
+      bang b bs false same e = by_front (longest_front (class_in language) text) refl (subst (λ (t : Text). front_step s t (longest_front (class_in language) t) ≡ Stands piece) (sym same) e)
+
+      go : (t : Text) → text ≡ t → in_code language s t ≡ Stands piece → CountedEnd s text piece
+      go [] same e = cc
+      go (b ∷ bs) same e = bang b bs (takes_bang s.place s.before && is_bang (b ∷ bs)) same e
+
+  by_place_end : (place : Where) → by_place language s place text ≡ Stands piece → CountedEnd s text piece
+  by_place_end Outside e = in_code_end e
+  by_place_end (InText opening) e = absurd (layout_not _ piece (plain_chunk opening text) e laid)
+  by_place_end AtTop e = in_code_end e
+  by_place_end Deeper e = in_code_end e
+
+  counted_end : is_nothing s.before ≡ false → step_at language s text ≡ Stands piece → CountedEnd s text piece
+  unfolding step_at
+  counted_end started e = go s.before started e
+    where
+      go : (before : Before) → is_nothing before ≡ false → by_before language s before text ≡ Stands piece → CountedEnd s text piece
+      go Nothing h e = cc
+      go Layout h e = by_place_end s.place e
+      go Gap h e = by_place_end s.place e
+      go Other h e = by_place_end s.place e
+
+outside : (place : Where) (balanced : Bool) → counts place balanced ≡ true → place ≡ Outside
+outside Outside balanced h = refl
+outside (InText opening) balanced h = cc
+outside AtTop balanced h = cc
+outside Deeper balanced h = cc
+
+-- what stands where a line end counts
+counted_step : (s : Situation) (b : ℕ) (bs : Text) (len : ℕ) → is_nothing s.before ≡ false → counts s.place s.is_balanced ≡ true → longest_front (class_in language) (b ∷ bs) ≡ Some (word.LineEnd, len)
+    → step_at language s (b ∷ bs) ≡ line_end (length (take len (b ∷ bs))) s.levels (drop len (b ∷ bs))
+unfolding step_at
+counted_step s b bs len started counted front = before_is s.before started ∙ ap (λ (place : Where). by_place language s place (b ∷ bs)) place ∙ rw (place, front) (rw (counted') refl)
+  where
+    place : s.place ≡ Outside
+    place = outside s.place s.is_balanced counted
+
+    counted' : s.is_balanced ≡ true
+    counted' = rw place at counted
+
+    before_is : (before : Before) → is_nothing before ≡ false → by_before language s before (b ∷ bs) ≡ by_place language s s.place (b ∷ bs)
+    before_is Nothing h = cc
+    before_is Layout h = refl
+    before_is Gap h = refl
+    before_is Other h = refl

@@ -4,7 +4,7 @@ use Rattle.std.specs.Prelude.{◌&&◌, if◌then◌else◌, sum_by, take_while,
 use Rattle.std.specs.List.{list_all, onto_first, prefix_len}
 use Rattle.std.proofs.Math.Seq.{drop-append-add, drop-append_seam, take-append_seam, take-append-add, drop-length, take-length}
 use Rattle.std.proofs.lemmas.Bool.{and_parts, eqb-true}
-use Rattle.std.proofs.lemmas.List.{drop-append-le, take-append-le, length-drop}
+use Rattle.std.proofs.lemmas.List.{drop-append-le, take-append-le, length-drop, length-take}
 use Rattle.std.proofs.lemmas.List.Sums.{sum_by-append, sum_by-cons}
 use Rattle.starlark_syntax.specs.Words.{Text}
 use Rattle.starlark_syntax.specs.Tokens.{Lexeme, moved}
@@ -135,7 +135,7 @@ margin_behind len comments margin = record { comments = comments ++ map (moved l
 -- How the margin of a text of whole lines goes on with more text behind it.
 pub data Followed (text more : Text) : Type 0 where
   Whole : margin_of text ≡ record { comments = (margin_of text).comments; at = length text; blanks = []; behind = [] } → margin_of (text ++ more) ≡ margin_behind (length text) (margin_of text).comments (margin_of more) → Followed text more
-  Within : 0 < length (margin_of text).behind → margin_of (text ++ more) ≡ record { comments = (margin_of text).comments; at = (margin_of text).at; blanks = (margin_of text).blanks; behind = (margin_of text).behind ++ more } → Followed text more
+  Within : 0 < length (margin_of text).behind → margin_len (margin_of text) < length text → margin_of (text ++ more) ≡ record { comments = (margin_of text).comments; at = (margin_of text).at; blanks = (margin_of text).blanks; behind = (margin_of text).behind ++ more } → Followed text more
 
 from_followed : (passed : List Text) (at b : ℕ) (bs more : Text) → has_whole_lines (b ∷ bs) ≡ true
     → margin_from passed at ((b ∷ bs) ++ more) ≡ record { comments = (margin_from passed at (b ∷ bs)).comments; at = at; blanks = (margin_from passed at (b ∷ bs)).blanks; behind = (margin_from passed at (b ∷ bs)).behind ++ more }
@@ -179,12 +179,12 @@ module _ (text more : Text) (whole : has_whole_lines text ≡ true) where
       let left : drop at (text ++ more) ≡ drop at text ++ more = drop-append-le at text more (omega arith) in
       let some : 0 < length (drop at text) = omega (arith, inside, length-drop at text) in
       let rest = go (drop at text) (comment_lines text) at (whole_behind at text whole) some in
-      Within rest.0 (rw (there, left) rest.1)
+      Within rest.0 (omega (arith, rest.1, inside, length-drop at text)) (rw (there, left) rest.2)
     where
       go : (rest : Text) (passed : List Text) (at : ℕ) → has_whole_lines rest ≡ true → 0 < length rest
-          → (0 < length (margin_from passed at rest).behind) × (margin_from passed at (rest ++ more) ≡ record { comments = (margin_from passed at rest).comments; at = at; blanks = (margin_from passed at rest).blanks; behind = (margin_from passed at rest).behind ++ more })
+          → (0 < length (margin_from passed at rest).behind) × (length (margin_from passed at rest).blanks < length rest) × (margin_from passed at (rest ++ more) ≡ record { comments = (margin_from passed at rest).comments; at = at; blanks = (margin_from passed at rest).blanks; behind = (margin_from passed at rest).behind ++ more })
       go [] passed at ends some = absurd (omega (arith, some))
-      go (b ∷ bs) passed at ends some = let less = blanks_less b bs ends in (omega (arith, less, length-drop (blanks_len (b ∷ bs)) (b ∷ bs)), from_followed passed at b bs more ends)
+      go (b ∷ bs) passed at ends some = let less = blanks_less b bs ends in (omega (arith, less, length-drop (blanks_len (b ∷ bs)) (b ∷ bs)), omega (arith, less, length-take (blanks_len (b ∷ bs)) (b ∷ bs)), from_followed passed at b bs more ends)
 
   pub followed : Followed text more
   followed = go (list_all is_comment_only (lines text)) refl
