@@ -2,19 +2,22 @@
 use Rattle.std.proofs.Common.{◌≡◌, ℕ, zero, suc, ◌+◌, ◌-◌, ◌≤◌, ◌<◌, Bool, true, false, cond, not, List, [], ◌∷◌, ◌++◌, length, take, drop, map, refl, ap, ◌∙◌, sym, subst, Option, Some, None, arith, append_assoc, append-nil}
 use Rattle.std.specs.Prelude.{⊤, ◌&&◌, ◌==◌, if◌then◌else◌, nat_lt, option_to_list}
 use Rattle.std.proofs.lemmas.Bool.{both_ways}
+use Rattle.std.proofs.lemmas.List.{drop-append-le, take-append-le, length-drop, length-take}
 use Rattle.starlark_syntax.specs.Words as word
 use Rattle.starlark_syntax.specs.Words.{Text, Kind, OfText, OfBytes, OfFString, Class, class_in, language}
 use Rattle.starlark_syntax.specs.Front.{longest_front, language_front}
 use Rattle.starlark_syntax.specs.Numbers.{integer_of}
-use Rattle.starlark_syntax.specs.Tokens.{Token, Int, StartsZero, FStringBang, Indent, InvalidTab, Indentation, Opening, Lexeme, moved, Outcome}
+use Rattle.starlark_syntax.specs.Tokens.{Token, Newline, Int, StartsZero, FStringBang, Indent, InvalidTab, Indentation, Opening, Lexeme, moved, Outcome}
 use Rattle.starlark_syntax.specs.Items.{Stop, Closing, Line, Ended, OpeningBrace, ClosingBrace, BadEscape, Body, body_at}
 use Rattle.starlark_syntax.specs.Depths.{Where, Outside, InText, AtTop, Deeper}
 use Rattle.starlark_syntax.specs.Margins.{Margin, margin_of, margin_len, is_content, has_tab, width_of, fits, is_widest, indentation}
 use Rattle.starlark_syntax.specs.Pieces.{more_quotes, fault, token, Before, Nothing, Layout, Gap, Other, Piece, Step, Stands, Fails, Ends, Situation, margin_step, first_margin, line_end, counts, is_bang, takes_bang, escape_fault, literal_by, opener, opening_of, chunk_by, chunk, starts_zero, word_step, front_step, in_code, by_place, by_before, step_at}
 use Rattle.starlark_syntax.specs.Reading.{History, nothing, after, after_all, situation, next_step, IsReading, IsLongestReading, pieces_len, lexemes_along}
 use Rattle.starlark_syntax.specs.Cuts.{is_layout}
+use Rattle.starlark_syntax.proofs.Front.{longest_front_is}
 use Rattle.starlark_syntax.proofs.Steps.{is_nothing}
-use Rattle.starlark_syntax.proofs.MarginsFollowed.{Followed, Whole, Within, margin_behind, followed, has_whole_lines}
+use Rattle.starlark_syntax.proofs.Followed.{ends_line, longest_followed}
+use Rattle.starlark_syntax.proofs.MarginsFollowed.{whole_behind, Followed, Whole, Within, margin_behind, followed, has_whole_lines}
 use Rattle.starlark_syntax.proofs.Settled.{Settled, behind}
 
 -- Margins and line ends
@@ -230,3 +233,85 @@ counted_step s b bs len started counted front = before_is s.before started ∙ a
     before_is Layout h = refl
     before_is Gap h = refl
     before_is Other h = refl
+
+-- how long the piece of a margin is
+margin_step_len : (len : ℕ) (lexemes : List Lexeme) (levels : List ℕ) (margin : Margin) (piece : Piece) → margin_step len lexemes levels margin ≡ Stands piece → piece.len ≡ len + margin_len margin
+unfolding margin_step
+margin_step_len len lexemes levels margin piece e = go (not (is_content margin.behind)) (has_tab margin) (fits (width_of margin) levels) (indentation levels margin) e
+  where
+    made : List Lexeme → Option ℕ → Piece
+    made indents width = record { len = len + margin_len margin; lexemes = lexemes ++ map (moved len) (margin.comments ++ indents); width = width; sort = Layout }
+
+    stands : (one : Piece) → Stands one ≡ Stands piece → piece.len ≡ one.len
+    stands one e = let same : one ≡ piece = cc in sym (ap (λ (p : Piece). p.len) same)
+
+    go : (blank tab fitting : Bool) (indents : List Lexeme)
+        → (if blank then Stands (made [] None) else (if tab then Fails (record { begin = 0; node = InvalidTab; end = 0 }) else (if fitting then Stands (made indents (Some (width_of margin))) else Fails (record { begin = 0; node = Indentation; end = len + margin_len margin })))) ≡ Stands piece → piece.len ≡ len + margin_len margin
+    go true tab fitting indents e = stands (made [] None) e
+    go false true fitting indents e = cc
+    go false false true indents e = stands (made indents (Some (width_of margin))) e
+    go false false false indents e = cc
+
+blank_step : (len : ℕ) (lexemes comments : List Lexeme) (at : ℕ) → margin_step len lexemes [] (record { comments = comments; at = at; blanks = []; behind = [] }) ≡ Stands (record { len = len + (at + 0); lexemes = lexemes ++ map (moved len) (comments ++ []); width = None; sort = Layout })
+unfolding margin_step
+blank_step len lexemes comments at = refl
+
+-- The last margin of a text of whole lines, with a text behind it whose first margin stands.
+joined_margin : (len : ℕ) (lexemes : List Lexeme) (text more : Text) (piece first : Piece) → has_whole_lines text ≡ true → margin_step len lexemes [] (margin_of text) ≡ Stands piece → piece.len ≡ len + length text → first_margin more ≡ Stands first
+    → (margin_step len lexemes [] (margin_of (text ++ more)) ≡ Stands (joined_piece (len + length text) piece.lexemes first)) × (piece.width ≡ None)
+joined_margin len lexemes text more piece first whole stands reach begins = go (followed text more whole)
+  where
+    last : Piece
+    last = record { len = len + (length text + 0); lexemes = lexemes ++ map (moved len) ((margin_of text).comments ++ []); width = None; sort = Layout }
+
+    last_step : margin_of text ≡ record { comments = (margin_of text).comments; at = length text; blanks = []; behind = [] } → margin_step len lexemes [] (margin_of text) ≡ Stands last
+    last_step e = ap (margin_step len lexemes []) e ∙ blank_step len lexemes (margin_of text).comments (length text)
+
+    go : Followed text more → (margin_step len lexemes [] (margin_of (text ++ more)) ≡ Stands (joined_piece (len + length text) piece.lexemes first)) × (piece.width ≡ None)
+    go (Whole e f) =
+        let is_last : Stands last ≡ Stands piece = sym (last_step e) ∙ stands in
+        let same : last ≡ piece = cc in
+        let lists : lexemes ++ map (moved len) (margin_of text).comments ≡ piece.lexemes = ap (λ ls. lexemes ++ map (moved len) ls) (sym (append-nil (margin_of text).comments)) ∙ ap (λ (p : Piece). p.lexemes) same in
+        (ap (margin_step len lexemes []) f ∙ step_behind len lexemes (length text) (margin_of text).comments (margin_of more) first begins
+         ∙ ap (λ ls. Stands (joined_piece (len + length text) ls first)) lists,
+         sym (ap (λ (p : Piece). p.width) same))
+    go (Within some less f) = absurd (omega (arith, less, reach, margin_step_len len lexemes [] (margin_of text) piece stands))
+
+-- a situation that is read for the first time, or not
+pub last_joined : (s : Situation) (text more : Text) (piece first : Piece) → ends_line text ≡ true → s.levels ≡ [] → is_layout piece.sort ≡ true → piece.len ≡ length text → step_at language s text ≡ Stands piece → first_margin more ≡ Stands first
+    → (step_at language s (text ++ more) ≡ Stands (joined_piece (length text) piece.lexemes first)) × (piece.width ≡ None)
+unfolding step_at
+last_joined s text more piece first ends levels laid reach stands begins = go s.before refl stands
+  where
+    whole : (t : Text) → ends_line t ≡ true → has_whole_lines t ≡ true
+    whole [] h = refl
+    whole (b ∷ []) h = h
+    whole (b ∷ c ∷ bs) h = whole (c ∷ bs) h
+
+    Claim : Before → Type 0
+    Claim before = (by_before language s before (text ++ more) ≡ Stands (joined_piece (length text) piece.lexemes first)) × (piece.width ≡ None)
+
+    later : is_nothing s.before ≡ false → Claim s.before
+    later started = counted (counted_end s text piece laid started stands) text refl
+      where
+        counted : CountedEnd s text piece → (t : Text) → text ≡ t → Claim s.before
+        counted end [] same = absurd (both_ways _ (subst (λ (t : Text). ends_line t ≡ false) (sym same) refl) ends)
+        counted end (b ∷ bs) same =
+            let n = end.len in
+            let inside = (longest_front_is (class_in language) text word.LineEnd n end.front).inside in
+            let front : longest_front (class_in language) ((b ∷ bs) ++ more) ≡ Some (word.LineEnd, n) = subst (λ (t : Text). longest_front (class_in language) (t ++ more) ≡ Some (word.LineEnd, n)) same (longest_followed text more ends ∙ end.front) in
+            let step = subst (λ (t : Text). step_at language s (t ++ more) ≡ line_end (length (take n (t ++ more))) s.levels (drop n (t ++ more))) (sym same) (counted_step s b (bs ++ more) n started end.counted front) in
+            let taken : take n (text ++ more) ≡ take n text = take-append-le n text more inside in
+            let left : drop n (text ++ more) ≡ drop n text ++ more = drop-append-le n text more inside in
+            let total : length (take n text) + length (drop n text) ≡ length text = omega (arith, length-take n text, length-drop n text, inside) in
+            let found = joined_margin (length (take n text)) (record { begin = 0; node = Newline; end = length (take n text) } ∷ []) (drop n text) more piece first (whole_behind n text (whole text ends)) (rw levels at end.stands) (omega (arith, reach, total)) begins in
+            (step ∙ rw (taken, left, levels) (found.0 ∙ ap (λ n. Stands (joined_piece n piece.lexemes first)) total), found.1)
+
+    go : (before : Before) → s.before ≡ before → by_before language s before text ≡ Stands piece → Claim before
+    go Nothing same e =
+        let zero_len : 0 + length text ≡ length text = omega arith in
+        let found = joined_margin 0 [] text more piece first (whole text ends) e (omega (arith, reach)) begins in
+        (found.0 ∙ ap (λ n. Stands (joined_piece n piece.lexemes first)) zero_len, found.1)
+    go Layout same e = subst Claim same (later (ap is_nothing same))
+    go Gap same e = subst Claim same (later (ap is_nothing same))
+    go Other same e = subst Claim same (later (ap is_nothing same))

@@ -90,7 +90,7 @@ while_less test (l ∷ ls) h some = go (test l) refl (while_less test ls)
         rw (e, one-add) (omega (arith, less, sum_by-cons (λ (line : Text). length line) l ls, sum_by-cons (λ (line : Text). length line) l (take_while test ls)))
     go false e more = rw e (omega (arith, line_sum l parts.0, sum_by-cons (λ (line : Text). length line) l ls))
 
-whole_behind : (n : ℕ) (text : Text) → has_whole_lines text ≡ true → has_whole_lines (drop n text) ≡ true
+pub whole_behind : (n : ℕ) (text : Text) → has_whole_lines text ≡ true → has_whole_lines (drop n text) ≡ true
 whole_behind zero text h = h
 whole_behind (suc n) [] h = refl
 whole_behind (suc n) (b ∷ []) h = whole_behind n [] refl
