@@ -13,5 +13,6 @@ pub mod Silent
 pub mod Order
 pub mod WordLines
 pub mod Followed
+pub mod FollowedBodies
 mod Rows
 mod RowsOfWords
