@@ -193,3 +193,56 @@ found_followed literal (b ∷ bs) more h =
     both P (b == byte "\\") _ _ _ _ (λ e. subst (λ n. FoundFollowed n (escape literal.kind bs) (escape literal.kind (bs ++ more))) one (escape_followed literal.kind bs more)) (λ e.
     both P (is_brace literal.kind b) _ _ _ _ (λ e. brace_followed literal b bs more h e) (λ e.
     λ inside. ap (λ (character : Text). goes (length character) character) (character_followed (b ∷ bs) more inside)))))))
+
+-- Bodies
+
+-- a body that a literal's or a chunk's end closes
+abbrev pub is_closed : Stop → Bool
+is_closed Closing = true
+is_closed OpeningBrace = true
+is_closed stop = false
+
+closed_followed : (stop : Stop) (other : Found) → is_closed stop ≡ true → StopFollowed stop other → other ≡ Stops stop
+closed_followed Closing other h follows = follows
+closed_followed OpeningBrace other h follows = follows
+closed_followed Line other h follows = cc
+closed_followed Ended other h follows = cc
+closed_followed ClosingBrace other h follows = cc
+closed_followed (BadEscape read last) other h follows = cc
+
+-- it isn't at the end yet
+pub closed_inside : (literal : Literal) (passed : ℕ) (text : Text) → is_closed (body_from literal passed text).stop ≡ true → passed < length text
+unfolding body_from
+closed_inside literal zero [] h = cc
+closed_inside literal (suc passed) [] h = cc
+closed_inside literal zero (b ∷ bs) h = omega arith
+closed_inside literal (suc passed) (b ∷ bs) h = let more = closed_inside literal passed bs h in omega arith
+
+pub body_from_followed : (literal : Literal) (passed : ℕ) (text more : Text) → ends_line text ≡ true → is_closed (body_from literal passed text).stop ≡ true → body_from literal passed (text ++ more) ≡ body_from literal passed text
+unfolding body_from
+body_from_followed literal zero [] more h closed = cc
+body_from_followed literal (suc passed) [] more h closed = cc
+body_from_followed literal (suc passed) (b ∷ bs) more h closed =
+    let inside = closed_inside literal passed bs closed in
+    body_from_followed literal passed bs more (ends_line_rest b bs (omega arith) h) closed
+body_from_followed literal zero (b ∷ bs) more h closed =
+    go (found_at literal (b ∷ bs)) (found_at literal (b ∷ (bs ++ more))) (found_followed literal (b ∷ bs) more h) (found_fits literal (b ∷ bs)) (λ passed. body_from_followed literal passed bs more) closed
+  where
+    again : ℕ → Body
+    again passed = body_from literal passed (bs ++ more)
+
+    go : (found other : Found) → FoundFollowed (length (b ∷ bs)) found other → FoundFits literal.opening (b ∷ bs) found
+        → ((passed : ℕ) → ends_line bs ≡ true → is_closed (body_from literal passed bs).stop ≡ true → body_from literal passed (bs ++ more) ≡ body_from literal passed bs)
+        → is_closed (onward found (λ passed. body_from literal passed bs)).stop ≡ true → onward other again ≡ onward found (λ passed. body_from literal passed bs)
+    go (Stops stop) other follows fits rest closed = ap (λ (found : Found). onward found again) (closed_followed stop other closed follows)
+    go (Goes item) other follows fits rest closed =
+        let inside = closed_inside literal (item.len - 1) bs closed in
+        let some = fits.0 in
+        let found : other ≡ Goes item = follows (omega arith) in
+        let behind = rest (item.len - 1) (ends_line_rest b bs (omega arith) h) closed in
+        ap (λ (found : Found). onward found again) found ∙ ap (λ (rest : Body). record { items = item ∷ rest.items; stop = rest.stop }) behind
+
+-- A body that is closed stays.
+pub body_followed : (literal : Literal) (text more : Text) → ends_line text ≡ true → is_closed (body_at literal text).stop ≡ true → body_at literal (text ++ more) ≡ body_at literal text
+unfolding body_at
+body_followed literal text more h closed = body_from_followed literal 0 text more h closed
