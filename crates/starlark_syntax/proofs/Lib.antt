@@ -14,5 +14,6 @@ pub mod Order
 pub mod WordLines
 pub mod Followed
 pub mod FollowedBodies
+pub mod FollowedPieces
 mod Rows
 mod RowsOfWords
