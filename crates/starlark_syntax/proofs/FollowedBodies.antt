@@ -1,17 +1,16 @@
 -- Bodies at the front of a text whose last byte is an LF stay where the text goes on, if they are closed.
-use Rattle.std.proofs.Common.{◌≡◌, ℕ, zero, suc, ◌+◌, ◌-◌, ◌≤◌, ◌<◌, Bool, true, false, cond, not, List, [], ◌∷◌, ◌++◌, length, take, drop, refl, ap, ◌∙◌, sym, subst, Option, Some, None, arith, ◌||◌}
+use Rattle.std.proofs.Common.{◌≡◌, ℕ, zero, suc, ◌+◌, ◌-◌, ◌<◌, Bool, true, false, cond, not, [], ◌∷◌, ◌++◌, length, take, drop, refl, ap, ◌∙◌, sym, subst, Option, Some, None, arith}
 use Rattle.std.specs.Prelude.{⊤, ◌&&◌, ◌==◌, if◌then◌else◌, nat_eq, nat_lt, encode_utf8}
 use Rattle.std.specs.Char.{is_ascii_hexdigit}
-use Rattle.std.specs.List.{list_all, prefix_len, starts_with}
+use Rattle.std.specs.List.{prefix_len, starts_with}
 use Rattle.std.specs.Map.{lookup}
 use Rattle.std.specs.Str.{byte, continuation_len}
 use Rattle.std.specs.Str.Parse.{digits_value}
 use Rattle.std.proofs.lemmas.Bool.{and_parts, eqb-true}
 use Rattle.std.proofs.lemmas.List.{length-take, take-append-le}
-use Rattle.std.proofs.lemmas.List.Sums.{prefix_len-le-length}
 use Rattle.starlark_syntax.specs.Words.{Text, Quote, SingleQuote, DoubleQuote, Kind, OfText, OfBytes, OfFString, is_in_line, is_octal_digit}
 use Rattle.starlark_syntax.specs.Tokens.{Opening}
-use Rattle.starlark_syntax.specs.Items.{Literal, Item, Stop, Closing, Line, Ended, OpeningBrace, ClosingBrace, BadEscape, Found, Goes, Stops, goes, first_character, closing_quotes, broken, is_character, numbered, hexadecimal, octal, escaped_feed, simple_escapes, simple, is_of_bytes, escape, drops_backslash, raw_pair, brace, is_brace, found_at, Body, onward, body_from, body_at}
+use Rattle.starlark_syntax.specs.Items.{Literal, Stop, Closing, Line, Ended, OpeningBrace, ClosingBrace, BadEscape, Found, Goes, Stops, goes, first_character, closing_quotes, broken, is_character, numbered, hexadecimal, octal, escaped_feed, simple_escapes, simple, is_of_bytes, escape, drops_backslash, raw_pair, brace, is_brace, found_at, Body, onward, body_from, body_at}
 use Rattle.starlark_syntax.proofs.Bodies.{found_fits, FoundFits}
 use Rattle.starlark_syntax.proofs.WordLines.{in_line}
 use Rattle.starlark_syntax.proofs.Followed.{ends_line, ends_line_rest}

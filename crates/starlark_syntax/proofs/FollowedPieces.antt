@@ -1,18 +1,19 @@
 -- Pieces at the front of a text whose last byte is an LF stay where the text goes on, all but line ends that count.
-use Rattle.std.proofs.Common.{◌≡◌, ℕ, zero, suc, ◌+◌, ◌-◌, ◌≤◌, ◌<◌, Bool, true, false, cond, not, List, [], ◌∷◌, ◌++◌, length, take, drop, refl, ap, ◌∙◌, sym, subst, Option, Some, None, arith, ◌⊎◌, inl, inr}
+use Rattle.std.proofs.Common.{◌≡◌, ℕ, zero, suc, ◌+◌, ◌≤◌, ◌<◌, Bool, true, false, not, List, [], ◌∷◌, ◌++◌, length, take, drop, refl, ap, ◌∙◌, sym, subst, Option, Some, None, arith, ◌⊎◌, inl, inr}
 use Rattle.std.specs.Prelude.{◌&&◌, ◌==◌, if◌then◌else◌, nat_eq}
 use Rattle.std.specs.List.{starts_with}
-use Rattle.std.specs.Str.{byte}
 use Rattle.std.proofs.lemmas.Bool.{and_parts, eqb-true}
-use Rattle.std.proofs.lemmas.List.{length-drop, take-append-le, drop-append-le}
+use Rattle.std.proofs.lemmas.List.{length-take-le, take-append-le, drop-append-le}
 use Rattle.starlark_syntax.specs.Words as word
 use Rattle.starlark_syntax.specs.Words.{Text, Quote, SingleQuote, DoubleQuote, Kind, OfText, OfBytes, OfFString, Class, class_in, language, is_in_line}
 use Rattle.starlark_syntax.specs.Front.{longest_front}
-use Rattle.starlark_syntax.specs.Tokens.{Token, Opening, FStringBang}
+use Rattle.starlark_syntax.specs.Tokens.{Opening, FStringBang, Lexeme, Spanned, Fault}
 use Rattle.starlark_syntax.specs.Items.{Stop, Closing, Line, Ended, OpeningBrace, ClosingBrace, BadEscape, Body, body_at, quote_byte}
 use Rattle.starlark_syntax.specs.Depths.{Where, Outside, InText, AtTop, Deeper}
 use Rattle.starlark_syntax.specs.Margins.{Margin, margin_of, is_content, has_tab, width_of, fits}
-use Rattle.starlark_syntax.specs.Pieces.{Before, Nothing, Layout, Gap, Other, Piece, Step, Stands, Fails, Ends, Situation, piece, token, margin_step, line_end, opening_of, more_quotes, escape_fault, literal_by, literal, opener, chunk_by, chunk, counts, starts_zero, word_step, front_step, takes_bang, is_bang, in_code, by_place, by_before, step_at}
+use Rattle.starlark_syntax.specs.Pieces.{Before, Nothing, Layout, Gap, Other, Piece, Step, Stands, Fails, Situation, piece, token, margin_step, line_end, opening_of, more_quotes, escape_fault, literal_by, literal, opener, chunk_by, chunk, counts, word_step, front_step, takes_bang, is_bang, in_code, by_place, by_before, step_at}
+use Rattle.starlark_syntax.specs.Reading.{History, situation, next_step}
+use Rattle.starlark_syntax.specs.Cuts.{is_layout}
 use Rattle.starlark_syntax.proofs.Front.{front_sound}
 use Rattle.starlark_syntax.proofs.Steps.{is_nothing}
 use Rattle.starlark_syntax.proofs.WordLines.{in_line, line_fits, language_lines}
@@ -64,10 +65,6 @@ opener_followed : (place : Where) (kind : Kind) (opening : Opening) (len : ℕ) 
 opener_followed place OfFString opening len behind more piece h inside e = e
 opener_followed place OfText opening len behind more piece h inside e = literal_behind place OfText opening (len + more_quotes opening) (more_quotes opening) behind more piece h inside e
 opener_followed place OfBytes opening len behind more piece h inside e = literal_behind place OfBytes opening (len + more_quotes opening) (more_quotes opening) behind more piece h inside e
-
--- the two more quotes of a triple opening
-two_quotes : Quote → Text
-two_quotes quote = quote_byte quote ∷ quote_byte quote ∷ []
 
 quotes_in_line : (quote : Quote) → in_line (quote_byte quote ∷ quote_byte quote ∷ []) ≡ true
 quotes_in_line SingleQuote = refl
@@ -146,3 +143,119 @@ word_followed s word.Octal front behind more piece ends fits e = inl e
 word_followed s word.Binary front behind more piece ends fits e = inl e
 word_followed s word.Float front behind more piece ends fits e = inl e
 word_followed s (word.Fixed terminal) front behind more piece ends fits e = inl e
+
+-- what a longest word at the front comes to
+front_followed : (s : Situation) (text more : Text) (found : Option (Class × ℕ)) (piece : Piece) → ends_line text ≡ true → longest_front (class_in language) text ≡ found → front_step s text found ≡ Stands piece
+    → (front_step s (text ++ more) found ≡ Stands piece) ⊎ CountedLineEnd s text more (front_step s text found) (front_step s (text ++ more) found)
+front_followed s text more None piece h found e = cc
+front_followed s text more (Some front) piece h found e = go (word_followed s front.0 (take front.1 text) (drop front.1 text) more piece ends (language_lines (take front.1 text) front.0 sound.2) e)
+  where
+    sound : (1 ≤ front.1) × (front.1 ≤ length text) × (class_in language (take front.1 text) ≡ Some front.0)
+    sound = front_sound (class_in language) text front.0 front.1 found
+
+    ends : in_line (take front.1 text) ≡ true → ends_line (drop front.1 text) ≡ true
+    ends line = ends_line_drop front.1 text (word_inside front.1 text h line) h
+
+    again : front_step s (text ++ more) (Some front) ≡ word_step s front.0 (take front.1 text) (drop front.1 text ++ more)
+    again =
+        ap (λ (t : Text). word_step s front.0 t (drop front.1 (text ++ more))) (take-append-le front.1 text more sound.1)
+        ∙ ap (λ (t : Text). word_step s front.0 (take front.1 text) t) (drop-append-le front.1 text more sound.1)
+
+    len : length (take front.1 text) ≡ front.1
+    len = length-take-le front.1 text sound.1
+
+    go : WordFollowed s front.0 (take front.1 text) (drop front.1 text) more piece → (front_step s (text ++ more) (Some front) ≡ Stands piece) ⊎ CountedLineEnd s text more (front_step s text (Some front)) (front_step s (text ++ more) (Some front))
+    go (inl stays) = inl (again ∙ stays)
+    go (inr counted) = inr (record {
+      len = front.1;
+      some = sound.0;
+      inside = sound.1;
+      counted = counted.1;
+      known = sound.2 ∙ ap Some counted.0;
+      here = counted.2 ∙ ap (λ n. line_end n s.levels (drop front.1 text)) len;
+      followed = again ∙ counted.3 ∙ ap (λ n. line_end n s.levels (drop front.1 text ++ more)) len;
+    })
+
+bang_followed : (b : ℕ) (bs more : Text) → ends_line (b ∷ bs) ≡ true → is_bang (b ∷ (bs ++ more)) ≡ is_bang (b ∷ bs)
+bang_followed b [] more h = subst (λ n. is_bang (n ∷ more) ≡ is_bang (n ∷ [])) (sym (eqb-true b 10 h)) (go more)
+  where
+    go : (more : Text) → is_bang (10 ∷ more) ≡ is_bang (10 ∷ [])
+    go [] = refl
+    go (c ∷ more) = refl
+bang_followed b (c ∷ bs) more h = refl
+
+-- A piece of code stays, or it is a line end that counts.
+pub code_followed : (s : Situation) (text more : Text) (piece : Piece) → ends_line text ≡ true → in_code language s text ≡ Stands piece
+    → (in_code language s (text ++ more) ≡ Stands piece) ⊎ CountedLineEnd s text more (in_code language s text) (in_code language s (text ++ more))
+code_followed s [] more piece h e = cc
+code_followed s (b ∷ bs) more piece h e = go (takes_bang s.place s.before && is_bang (b ∷ bs)) same (longest_front (class_in language) (b ∷ bs)) refl found e
+  where
+    same : (takes_bang s.place s.before && is_bang (b ∷ (bs ++ more))) ≡ (takes_bang s.place s.before && is_bang (b ∷ bs))
+    same = ap (λ bang. takes_bang s.place s.before && bang) (bang_followed b bs more h)
+
+    found : longest_front (class_in language) (b ∷ (bs ++ more)) ≡ longest_front (class_in language) (b ∷ bs)
+    found = longest_followed (b ∷ bs) more h
+
+    step : Bool → Text → Option (Class × ℕ) → Step
+    step bang text front = if bang then token 1 FStringBang else front_step s text front
+
+    once : (bang : Bool) (front : Option (Class × ℕ)) → longest_front (class_in language) (b ∷ bs) ≡ front → step bang (b ∷ bs) front ≡ Stands piece
+        → (step bang (b ∷ (bs ++ more)) front ≡ Stands piece) ⊎ CountedLineEnd s (b ∷ bs) more (step bang (b ∷ bs) front) (step bang (b ∷ (bs ++ more)) front)
+    once true front known e = inl e
+    once false front known e = front_followed s (b ∷ bs) more front piece h known e
+
+    go : (bang : Bool) → (takes_bang s.place s.before && is_bang (b ∷ (bs ++ more))) ≡ bang → (front : Option (Class × ℕ)) → longest_front (class_in language) (b ∷ bs) ≡ front → longest_front (class_in language) (b ∷ (bs ++ more)) ≡ front
+        → step bang (b ∷ bs) front ≡ Stands piece
+        → (step (takes_bang s.place s.before && is_bang (b ∷ (bs ++ more))) (b ∷ (bs ++ more)) (longest_front (class_in language) (b ∷ (bs ++ more))) ≡ Stands piece)
+        ⊎ CountedLineEnd s (b ∷ bs) more (step bang (b ∷ bs) front) (step (takes_bang s.place s.before && is_bang (b ∷ (bs ++ more))) (b ∷ (bs ++ more)) (longest_front (class_in language) (b ∷ (bs ++ more))))
+    go bang again front known found e = rw (again, found) (once bang front known e)
+
+-- So does what stands at a place that isn't the text's begin.
+pub step_followed : (s : Situation) (text more : Text) (piece : Piece) → is_nothing s.before ≡ false → ends_line text ≡ true → step_at language s text ≡ Stands piece
+    → (step_at language s (text ++ more) ≡ Stands piece) ⊎ CountedLineEnd s text more (step_at language s text) (step_at language s (text ++ more))
+unfolding step_at
+step_followed s text more piece some h e = before s.before some e
+  where
+    at : (place : Where) → by_place language s place text ≡ Stands piece
+        → (by_place language s place (text ++ more) ≡ Stands piece) ⊎ CountedLineEnd s text more (by_place language s place text) (by_place language s place (text ++ more))
+    at Outside e = code_followed s text more piece h e
+    at (InText opening) e = inl (chunk_followed opening text more piece h e)
+    at AtTop e = code_followed s text more piece h e
+    at Deeper e = code_followed s text more piece h e
+
+    before : (before : Before) → is_nothing before ≡ false → by_before language s before text ≡ Stands piece
+        → (by_before language s before (text ++ more) ≡ Stands piece) ⊎ CountedLineEnd s text more (by_before language s before text) (by_before language s before (text ++ more))
+    before Nothing some e = cc
+    before Layout some e = at s.place e
+    before Gap some e = at s.place e
+    before Other some e = at s.place e
+
+-- A margin that stands leaves layout behind, …
+pub margin_layout : (len : ℕ) (before : List Lexeme) (levels : List ℕ) (margin : Margin) (piece : Piece) → margin_step len before levels margin ≡ Stands piece → piece.sort ≡ Layout
+unfolding margin_step
+margin_layout len before levels margin piece e = go (not (is_content margin.behind)) (has_tab margin) (fits (width_of margin) levels) _ _ _ _ refl refl e
+  where
+    stands : (one other : Piece) → Stands one ≡ Stands other → one.sort ≡ Layout → other.sort ≡ Layout
+    stands one other e h = let same : one ≡ other = cc in subst (λ (p : Piece). p.sort ≡ Layout) same h
+
+    go : (blank tab fit : Bool) (first last : Piece) (wrong other : Spanned Fault) → first.sort ≡ Layout → last.sort ≡ Layout → (if blank then Stands first else (if tab then Fails wrong else (if fit then Stands last else Fails other))) ≡ Stands piece → piece.sort ≡ Layout
+    go true tab fit first last wrong other f g e = stands first piece e f
+    go false true fit first last wrong other f g e = cc
+    go false false true first last wrong other f g e = stands last piece e g
+    go false false false first last wrong other f g e = cc
+
+-- … so that a piece of another sort stays.
+pub other_followed : (s : Situation) (text more : Text) (piece : Piece) → is_nothing s.before ≡ false → ends_line text ≡ true → is_layout piece.sort ≡ false → step_at language s text ≡ Stands piece → step_at language s (text ++ more) ≡ Stands piece
+other_followed s text more piece some h sort e = go (step_followed s text more piece some h e)
+  where
+    go : (step_at language s (text ++ more) ≡ Stands piece) ⊎ CountedLineEnd s text more (step_at language s text) (step_at language s (text ++ more)) → step_at language s (text ++ more) ≡ Stands piece
+    go (inl stays) = stays
+    go (inr counted) =
+        let layout : piece.sort ≡ Layout = margin_layout counted.len _ s.levels (margin_of (drop counted.len text)) piece (sym counted.here ∙ e) in
+        let wrong : true ≡ false = sym (ap is_layout layout) ∙ sort in cc
+
+-- The same of what stands behind a history that isn't empty.
+pub next_followed : (history : History) (text more : Text) (piece : Piece) → is_nothing history.before ≡ false → ends_line text ≡ true → next_step language history text ≡ Stands piece
+    → (next_step language history (text ++ more) ≡ Stands piece) ⊎ CountedLineEnd (situation history) text more (next_step language history text) (next_step language history (text ++ more))
+unfolding next_step situation
+next_followed history text more piece some h e = step_followed (situation history) text more piece some h e
