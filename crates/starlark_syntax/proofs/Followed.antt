@@ -22,7 +22,7 @@ ends_line_made (b ∷ []) = refl
 ends_line_made (b ∷ c ∷ front) = ends_line_made (c ∷ front)
 
 -- … and what is left of one behind its first byte, where anything is.
-ends_line_rest : (b : ℕ) (bs : Text) → 1 ≤ length bs → ends_line (b ∷ bs) ≡ true → ends_line bs ≡ true
+pub ends_line_rest : (b : ℕ) (bs : Text) → 1 ≤ length bs → ends_line (b ∷ bs) ≡ true → ends_line bs ≡ true
 ends_line_rest b [] some h = absurd (omega arith)
 ends_line_rest b (c ∷ bs) some h = h
 

@@ -16,6 +16,8 @@ pub mod Boundaries
 pub mod Bounded
 pub mod WordLines
 pub mod Followed
+pub mod FollowedBodies
+pub mod FollowedPieces
 mod Rows
 mod RowsOfWords
 pub mod Settled
