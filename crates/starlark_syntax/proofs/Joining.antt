@@ -1,5 +1,5 @@
 -- Texts joined at clean cuts.
-use Rattle.std.proofs.Common.{◌≡◌, ℕ, zero, suc, ◌+◌, ◌-◌, ◌≤◌, ◌<◌, Bool, true, false, cond, not, List, [], ◌∷◌, ◌++◌, length, take, drop, map, refl, ap, ◌∙◌, sym, subst, Option, Some, None, arith, append_assoc, append-nil}
+use Rattle.std.proofs.Common.{◌≡◌, ℕ, zero, suc, ◌+◌, ◌-◌, ◌≤◌, ◌<◌, Bool, true, false, cond, not, List, [], ◌∷◌, ◌++◌, length, take, drop, map, refl, ap, ◌∙◌, sym, subst, Option, Some, None, arith, append_assoc, append-nil, ◌⊎◌, inl, inr}
 use Rattle.std.specs.Prelude.{⊤, ◌&&◌, ◌==◌, if◌then◌else◌, nat_lt, option_to_list}
 use Rattle.std.proofs.lemmas.Bool.{both_ways}
 use Rattle.std.proofs.lemmas.List.{drop-append-le, take-append-le, length-drop, length-take}
@@ -12,15 +12,21 @@ use Rattle.starlark_syntax.specs.Items.{Stop, Closing, Line, Ended, OpeningBrace
 use Rattle.starlark_syntax.specs.Depths.{Where, Outside, InText, AtTop, Deeper}
 use Rattle.starlark_syntax.specs.Margins.{Margin, margin_of, margin_len, is_content, has_tab, width_of, fits, is_widest, indentation}
 use Rattle.starlark_syntax.specs.Pieces.{more_quotes, fault, token, Before, Nothing, Layout, Gap, Other, Piece, Step, Stands, Fails, Ends, Situation, margin_step, first_margin, line_end, counts, is_bang, takes_bang, escape_fault, literal_by, opener, opening_of, chunk_by, chunk, starts_zero, word_step, front_step, in_code, by_place, by_before, step_at}
-use Rattle.starlark_syntax.specs.Reading.{History, nothing, after, after_all, situation, next_step, IsReading, IsLongestReading, pieces_len, lexemes_along}
+use Rattle.starlark_syntax.specs.Reading.{tokens_onto, History, nothing, after, after_all, situation, next_step, IsReading, IsLongestReading, pieces_len, lexemes_along}
 use Rattle.starlark_syntax.specs.Cuts.{is_layout}
 use Rattle.starlark_syntax.proofs.Front.{longest_front_is}
 use Rattle.starlark_syntax.proofs.Steps.{is_nothing}
 use Rattle.starlark_syntax.proofs.Followed.{ends_line, longest_followed}
+use Rattle.starlark_syntax.proofs.FollowedPieces.{CountedLineEnd, step_followed}
 use Rattle.starlark_syntax.proofs.MarginsFollowed.{whole_behind, Followed, Whole, Within, margin_behind, followed, has_whole_lines}
 use Rattle.starlark_syntax.proofs.Settled.{Settled, behind}
 
 -- Margins and line ends
+
+whole_from_ends : (text : Text) → ends_line text ≡ true → has_whole_lines text ≡ true
+whole_from_ends [] h = refl
+whole_from_ends (b ∷ []) h = h
+whole_from_ends (b ∷ c ∷ bs) h = whole_from_ends (c ∷ bs) h
 
 content_followed : (text more : Text) → 0 < length text → is_content (text ++ more) ≡ is_content text
 content_followed [] more some = absurd (omega (arith, some))
@@ -283,11 +289,6 @@ pub last_joined : (s : Situation) (text more : Text) (piece first : Piece) → e
 unfolding step_at
 last_joined s text more piece first ends levels laid reach stands begins = go s.before refl stands
   where
-    whole : (t : Text) → ends_line t ≡ true → has_whole_lines t ≡ true
-    whole [] h = refl
-    whole (b ∷ []) h = h
-    whole (b ∷ c ∷ bs) h = whole (c ∷ bs) h
-
     Claim : Before → Type 0
     Claim before = (by_before language s before (text ++ more) ≡ Stands (joined_piece (length text) piece.lexemes first)) × (piece.width ≡ None)
 
@@ -304,14 +305,67 @@ last_joined s text more piece first ends levels laid reach stands begins = go s.
             let taken : take n (text ++ more) ≡ take n text = take-append-le n text more inside in
             let left : drop n (text ++ more) ≡ drop n text ++ more = drop-append-le n text more inside in
             let total : length (take n text) + length (drop n text) ≡ length text = omega (arith, length-take n text, length-drop n text, inside) in
-            let found = joined_margin (length (take n text)) (record { begin = 0; node = Newline; end = length (take n text) } ∷ []) (drop n text) more piece first (whole_behind n text (whole text ends)) (rw levels at end.stands) (omega (arith, reach, total)) begins in
+            let found = joined_margin (length (take n text)) (record { begin = 0; node = Newline; end = length (take n text) } ∷ []) (drop n text) more piece first (whole_behind n text (whole_from_ends text ends)) (rw levels at end.stands) (omega (arith, reach, total)) begins in
             (step ∙ rw (taken, left, levels) (found.0 ∙ ap (λ n. Stands (joined_piece n piece.lexemes first)) total), found.1)
 
     go : (before : Before) → s.before ≡ before → by_before language s before text ≡ Stands piece → Claim before
     go Nothing same e =
         let zero_len : 0 + length text ≡ length text = omega arith in
-        let found = joined_margin 0 [] text more piece first (whole text ends) e (omega (arith, reach)) begins in
+        let found = joined_margin 0 [] text more piece first (whole_from_ends text ends) e (omega (arith, reach)) begins in
         (found.0 ∙ ap (λ n. Stands (joined_piece n piece.lexemes first)) zero_len, found.1)
     go Layout same e = subst Claim same (later (ap is_nothing same))
     go Gap same e = subst Claim same (later (ap is_nothing same))
     go Other same e = subst Claim same (later (ap is_nothing same))
+
+-- A margin that ends before its text does stays where the text goes on.
+margin_stays : (len : ℕ) (lexemes : List Lexeme) (levels : List ℕ) (text more : Text) (piece : Piece) → has_whole_lines text ≡ true → margin_step len lexemes levels (margin_of text) ≡ Stands piece → piece.len < len + length text
+    → margin_step len lexemes levels (margin_of (text ++ more)) ≡ Stands piece
+margin_stays len lexemes levels text more piece whole stands less = go (followed text more whole)
+  where
+    go : Followed text more → margin_step len lexemes levels (margin_of (text ++ more)) ≡ Stands piece
+    go (Whole e f) = absurd (omega (arith, less, margin_step_len len lexemes levels (margin_of text) piece stands, ap margin_len e))
+    go (Within some inside f) = step_within len lexemes levels text more some f ∙ stands
+
+-- A piece that ends before its text does stays where the text goes on.
+stands_followed : (s : Situation) (text more : Text) (piece : Piece) → ends_line text ≡ true → piece.len < length text → step_at language s text ≡ Stands piece → step_at language s (text ++ more) ≡ Stands piece
+unfolding step_at
+stands_followed s text more piece ends less stands = go s.before refl stands
+  where
+    later : is_nothing s.before ≡ false → step_at language s (text ++ more) ≡ Stands piece
+    later started = by (step_followed s text more piece started ends stands)
+      where
+        by : (step_at language s (text ++ more) ≡ Stands piece) ⊎ CountedLineEnd s text more (step_at language s text) (step_at language s (text ++ more)) → step_at language s (text ++ more) ≡ Stands piece
+        by (inl same) = same
+        by (inr end) =
+            end.followed ∙ margin_stays end.len (record { begin = 0; node = Newline; end = end.len } ∷ []) s.levels (drop end.len text) more piece (whole_behind end.len text (whole_from_ends text ends)) (sym end.here ∙ stands) (omega (arith, less, length-drop end.len text, end.inside))
+
+    go : (before : Before) → s.before ≡ before → by_before language s before text ≡ Stands piece → by_before language s before (text ++ more) ≡ Stands piece
+    go Nothing same e = margin_stays 0 [] [] text more piece (whole_from_ends text ends) e (omega (arith, less))
+    go Layout same e = subst (λ (before : Before). by_before language s before (text ++ more) ≡ Stands piece) same (later (ap is_nothing same))
+    go Gap same e = subst (λ (before : Before). by_before language s before (text ++ more) ≡ Stands piece) same (later (ap is_nothing same))
+    go Other same e = subst (λ (before : Before). by_before language s before (text ++ more) ≡ Stands piece) same (later (ap is_nothing same))
+
+-- Readings
+
+-- The reading of a settled text with a text behind it whose first margin stands.
+record Joined (history settled : History) (text more : Text) (pieces : List Piece) (first : Piece) : Type 0 where
+  pieces' : List Piece
+  some : ¬ (pieces' ≡ [])
+  reads : IsReading language history (text ++ more) pieces'
+  len : pieces_len pieces' ≡ length text + first.len
+  past : after_all history pieces' ≡ behind settled (after nothing first)
+  lexemes : (at : ℕ) → lexemes_along at pieces' ≡ lexemes_along at pieces ++ map (moved (at + length text)) first.lexemes
+
+onto_both : (tokens : List Token) (one other : List Lexeme) → tokens_onto tokens (one ++ other) ≡ tokens_onto (tokens_onto tokens one) other
+onto_both tokens [] other = refl
+onto_both tokens (lexeme ∷ one) other = onto_both (lexeme.node ∷ tokens) one other
+
+onto_moved : (tokens : List Token) (n : ℕ) (lexemes : List Lexeme) → tokens_onto tokens (map (moved n) lexemes) ≡ tokens_onto tokens lexemes
+onto_moved tokens n [] = refl
+onto_moved tokens n (lexeme ∷ lexemes) = onto_moved (lexeme.node ∷ tokens) n lexemes
+
+-- the last piece alone
+join_last : (history : History) (text more : Text) (piece first : Piece) → ends_line text ≡ true → next_step language history text ≡ Stands piece → piece.len ≡ length text → Settled (after history piece) → first_margin more ≡ Stands first
+    → Joined history (after history piece) text more (piece ∷ []) first
+unfolding next_step situation after
+join_last history text more piece first ends stands reach settled begins = ?
