@@ -2,6 +2,7 @@
 use Rattle.std.proofs.Common.{◌≡◌, ℕ, zero, suc, ◌+◌, ◌-◌, ◌≤◌, ◌<◌, Bool, true, false, cond, not, List, [], ◌∷◌, ◌++◌, length, take, drop, map, refl, ap, ◌∙◌, sym, subst, Option, Some, None, arith, append_assoc, append-nil, ◌⊎◌, inl, inr}
 use Rattle.std.specs.Prelude.{⊤, ◌&&◌, ◌==◌, if◌then◌else◌, nat_lt, option_to_list}
 use Rattle.std.proofs.lemmas.Bool.{both_ways}
+use Rattle.std.proofs.lemmas.List.Sums.{sum_by-cons}
 use Rattle.std.proofs.lemmas.List.{drop-append-le, take-append-le, length-drop, length-take}
 use Rattle.starlark_syntax.specs.Words as word
 use Rattle.starlark_syntax.specs.Words.{Text, Kind, OfText, OfBytes, OfFString, Class, class_in, language}
@@ -10,16 +11,17 @@ use Rattle.starlark_syntax.specs.Numbers.{integer_of}
 use Rattle.starlark_syntax.specs.Tokens.{Token, Newline, Int, StartsZero, FStringBang, Indent, InvalidTab, Indentation, Opening, Lexeme, moved, Outcome}
 use Rattle.starlark_syntax.specs.Items.{Stop, Closing, Line, Ended, OpeningBrace, ClosingBrace, BadEscape, Body, body_at}
 use Rattle.starlark_syntax.specs.Depths.{Where, Outside, InText, AtTop, Deeper}
-use Rattle.starlark_syntax.specs.Margins.{Margin, margin_of, margin_len, is_content, has_tab, width_of, fits, is_widest, indentation}
+use Rattle.starlark_syntax.specs.Margins.{Margin, margin_of, margin_len, is_content, has_tab, width_of, fits, is_widest, indentation, open_widths}
 use Rattle.starlark_syntax.specs.Pieces.{more_quotes, fault, token, Before, Nothing, Layout, Gap, Other, Piece, Step, Stands, Fails, Ends, Situation, margin_step, first_margin, line_end, counts, is_bang, takes_bang, escape_fault, literal_by, opener, opening_of, chunk_by, chunk, starts_zero, word_step, front_step, in_code, by_place, by_before, step_at}
 use Rattle.starlark_syntax.specs.Reading.{tokens_onto, History, nothing, after, after_all, situation, next_step, IsReading, IsLongestReading, pieces_len, lexemes_along}
 use Rattle.starlark_syntax.specs.Cuts.{is_layout}
 use Rattle.starlark_syntax.proofs.Front.{longest_front_is}
+use Rattle.starlark_syntax.proofs.Readings.{none_next, started, piece_fits}
 use Rattle.starlark_syntax.proofs.Steps.{is_nothing}
-use Rattle.starlark_syntax.proofs.Followed.{ends_line, longest_followed}
+use Rattle.starlark_syntax.proofs.Followed.{ends_line, ends_line_drop, longest_followed}
 use Rattle.starlark_syntax.proofs.FollowedPieces.{CountedLineEnd, step_followed}
 use Rattle.starlark_syntax.proofs.MarginsFollowed.{whole_behind, Followed, Whole, Within, margin_behind, followed, has_whole_lines}
-use Rattle.starlark_syntax.proofs.Settled.{Settled, behind}
+use Rattle.starlark_syntax.proofs.Settled.{Settled, behind, onto_append}
 
 -- Margins and line ends
 
@@ -258,9 +260,9 @@ margin_step_len len lexemes levels margin piece e = go (not (is_content margin.b
     go false false true indents e = stands (made indents (Some (width_of margin))) e
     go false false false indents e = cc
 
-blank_step : (len : ℕ) (lexemes comments : List Lexeme) (at : ℕ) → margin_step len lexemes [] (record { comments = comments; at = at; blanks = []; behind = [] }) ≡ Stands (record { len = len + (at + 0); lexemes = lexemes ++ map (moved len) (comments ++ []); width = None; sort = Layout })
+blank_step : (len : ℕ) (lexemes : List Lexeme) (levels : List ℕ) (comments : List Lexeme) (at : ℕ) → margin_step len lexemes levels (record { comments = comments; at = at; blanks = []; behind = [] }) ≡ Stands (record { len = len + (at + 0); lexemes = lexemes ++ map (moved len) (comments ++ []); width = None; sort = Layout })
 unfolding margin_step
-blank_step len lexemes comments at = refl
+blank_step len lexemes levels comments at = refl
 
 -- The last margin of a text of whole lines, with a text behind it whose first margin stands.
 joined_margin : (len : ℕ) (lexemes : List Lexeme) (text more : Text) (piece first : Piece) → has_whole_lines text ≡ true → margin_step len lexemes [] (margin_of text) ≡ Stands piece → piece.len ≡ len + length text → first_margin more ≡ Stands first
@@ -271,7 +273,7 @@ joined_margin len lexemes text more piece first whole stands reach begins = go (
     last = record { len = len + (length text + 0); lexemes = lexemes ++ map (moved len) ((margin_of text).comments ++ []); width = None; sort = Layout }
 
     last_step : margin_of text ≡ record { comments = (margin_of text).comments; at = length text; blanks = []; behind = [] } → margin_step len lexemes [] (margin_of text) ≡ Stands last
-    last_step e = ap (margin_step len lexemes []) e ∙ blank_step len lexemes (margin_of text).comments (length text)
+    last_step e = ap (margin_step len lexemes []) e ∙ blank_step len lexemes [] (margin_of text).comments (length text)
 
     go : Followed text more → (margin_step len lexemes [] (margin_of (text ++ more)) ≡ Stands (joined_piece (len + length text) piece.lexemes first)) × (piece.width ≡ None)
     go (Whole e f) =
@@ -347,6 +349,10 @@ stands_followed s text more piece ends less stands = go s.before refl stands
 
 -- Readings
 
+next_stays : (history : History) (text more : Text) (piece : Piece) → ends_line text ≡ true → piece.len < length text → next_step language history text ≡ Stands piece → next_step language history (text ++ more) ≡ Stands piece
+unfolding next_step situation
+next_stays history text more piece ends less stands = stands_followed (situation history) text more piece ends less stands
+
 -- The reading of a settled text with a text behind it whose first margin stands.
 record Joined (history settled : History) (text more : Text) (pieces : List Piece) (first : Piece) : Type 0 where
   pieces' : List Piece
@@ -364,8 +370,95 @@ onto_moved : (tokens : List Token) (n : ℕ) (lexemes : List Lexeme) → tokens_
 onto_moved tokens n [] = refl
 onto_moved tokens n (lexeme ∷ lexemes) = onto_moved (lexeme.node ∷ tokens) n lexemes
 
+-- the last piece of a settled text leads to no content line
+margin_width : (len : ℕ) (lexemes : List Lexeme) (levels : List ℕ) (text : Text) (piece : Piece) → has_whole_lines text ≡ true → margin_step len lexemes levels (margin_of text) ≡ Stands piece → piece.len ≡ len + length text → piece.width ≡ None
+margin_width len lexemes levels text piece whole stands reach = go (followed text [] whole)
+  where
+    go : Followed text [] → piece.width ≡ None
+    go (Whole e f) =
+        let is_last = sym (ap (margin_step len lexemes levels) e ∙ blank_step len lexemes levels (margin_of text).comments (length text)) ∙ stands in
+        let same : record { len = len + (length text + 0); lexemes = lexemes ++ map (moved len) ((margin_of text).comments ++ []); width = None; sort = Layout } ≡ piece = cc in
+        sym (ap (λ (p : Piece). p.width) same)
+    go (Within some less f) = absurd (omega (arith, less, reach, margin_step_len len lexemes levels (margin_of text) piece stands))
+
+last_width : (s : Situation) (text : Text) (piece : Piece) → ends_line text ≡ true → is_layout piece.sort ≡ true → piece.len ≡ length text → step_at language s text ≡ Stands piece → piece.width ≡ None
+unfolding step_at
+last_width s text piece ends laid reach stands = go s.before refl stands
+  where
+    later : is_nothing s.before ≡ false → piece.width ≡ None
+    later started = counted (counted_end s text piece laid started stands)
+      where
+        counted : CountedEnd s text piece → piece.width ≡ None
+        counted end =
+            let inside = (longest_front_is (class_in language) text word.LineEnd end.len end.front).inside in
+            margin_width (length (take end.len text)) (record { begin = 0; node = Newline; end = length (take end.len text) } ∷ []) s.levels (drop end.len text) piece (whole_behind end.len text (whole_from_ends text ends)) end.stands (omega (arith, reach, length-take end.len text, length-drop end.len text, inside))
+
+    go : (before : Before) → s.before ≡ before → by_before language s before text ≡ Stands piece → piece.width ≡ None
+    go Nothing same e = margin_width 0 [] [] text piece (whole_from_ends text ends) e (omega (arith, reach))
+    go Layout same e = later (ap is_nothing same)
+    go Gap same e = later (ap is_nothing same)
+    go Other same e = later (ap is_nothing same)
+
 -- the last piece alone
 join_last : (history : History) (text more : Text) (piece first : Piece) → ends_line text ≡ true → next_step language history text ≡ Stands piece → piece.len ≡ length text → Settled (after history piece) → first_margin more ≡ Stands first
     → Joined history (after history piece) text more (piece ∷ []) first
 unfolding next_step situation after
-join_last history text more piece first ends stands reach settled begins = ?
+join_last history text more piece first ends stands reach settled begins =
+    let width = last_width (situation history) text piece ends settled.layout reach stands in
+    let widths : history.widths ++ option_to_list piece.width ≡ history.widths = ap (λ w. history.widths ++ option_to_list w) width ∙ append-nil history.widths in
+    let levels : open_widths history.widths ≡ [] = ap open_widths (sym widths) ∙ settled.no_width in
+    let joined = last_joined (situation history) text more piece first ends levels settled.layout reach stands begins in
+    let last = joined_piece (length text) piece.lexemes first in
+    let tokens : tokens_onto history.tokens last.lexemes ≡ tokens_onto [] first.lexemes ++ tokens_onto history.tokens piece.lexemes =
+        onto_both history.tokens piece.lexemes (map (moved (length text)) first.lexemes)
+        ∙ onto_moved (tokens_onto history.tokens piece.lexemes) (length text) first.lexemes
+        ∙ onto_append [] (tokens_onto history.tokens piece.lexemes) first.lexemes in
+    record {
+      pieces' = last ∷ [];
+      some = λ e. no_cons last [] e;
+      reads = (joined.0, tt);
+      len = omega (arith, sum_by-cons (λ (piece : Piece). piece.len) last []);
+      past = ap (λ ts. record { tokens = ts; widths = history.widths ++ option_to_list first.width; before = first.sort }) tokens
+          ∙ ap (λ ws. record { tokens = tokens_onto [] first.lexemes ++ tokens_onto history.tokens piece.lexemes; widths = ws ++ option_to_list first.width; before = first.sort }) (sym widths);
+      lexemes = λ at. append-nil (map (moved at) last.lexemes) ∙ map_both (moved at) piece.lexemes (map (moved (length text)) first.lexemes)
+          ∙ ap (λ ls. map (moved at) piece.lexemes ++ ls) (all_moved at (length text) (at + length text) first.lexemes refl)
+          ∙ ap (λ ls. ls ++ map (moved (at + length text)) first.lexemes) (sym (append-nil (map (moved at) piece.lexemes)));
+    }
+  where
+    no_cons : (p : Piece) (ps : List Piece) → p ∷ ps ≡ [] → ⊥
+    no_cons p ps e = cc
+
+-- a piece behind which another stands ends before the text does
+inside : (history : History) (text : Text) (piece next : Piece) → next_step language history text ≡ Stands piece → next_step language (after history piece) (drop piece.len text) ≡ Stands next → piece.len < length text
+inside history text piece next stands behind = go (drop piece.len text) refl behind
+  where
+    go : (rest : Text) → drop piece.len text ≡ rest → next_step language (after history piece) rest ≡ Stands next → piece.len < length text
+    go [] e f = absurd (none_next language (after history piece) next (started history piece (piece_fits language history text piece stands).sort) f)
+    go (b ∷ bs) e f = omega (arith, length-drop piece.len text, ap length e)
+
+total_at : (at n : ℕ) (text : Text) → n < length text → at + n + length (drop n text) ≡ at + length text
+total_at at n text less = omega (arith, length-drop n text)
+
+-- Of a settled text all pieces but the last stay, and the last goes on with the first margin of the text behind.
+join_reading : (history : History) (text more : Text) (pieces : List Piece) (first : Piece) → ends_line text ≡ true → ¬ (pieces ≡ []) → IsReading language history text pieces → pieces_len pieces ≡ length text → Settled (after_all history pieces) → first_margin more ≡ Stands first
+    → Joined history (after_all history pieces) text more pieces first
+join_reading history text more [] first ends some reads reach settled begins = absurd (some refl)
+join_reading history text more (piece ∷ []) first ends some reads reach settled begins =
+    join_last history text more piece first ends reads.0 (omega (arith, reach, sum_by-cons (λ (piece : Piece). piece.len) piece [])) settled begins
+join_reading history text more (piece ∷ next ∷ pieces) first ends some reads reach settled begins =
+    let total = sum_by-cons (λ (piece : Piece). piece.len) piece (next ∷ pieces) in
+    let less = inside history text piece next reads.0 reads.1.0 in
+    let rest = join_reading (after history piece) (drop piece.len text) more (next ∷ pieces) first (ends_line_drop piece.len text less ends) (no_cons next pieces) reads.1 (omega (arith, reach, total, length-drop piece.len text)) settled begins in
+    let left : drop piece.len (text ++ more) ≡ drop piece.len text ++ more = drop-append-le piece.len text more (omega (arith, less)) in
+    record {
+      pieces' = piece ∷ rest.pieces';
+      some = no_cons piece rest.pieces';
+      reads = (next_stays history text more piece ends less reads.0, subst (λ (t : Text). IsReading language (after history piece) t rest.pieces') (sym left) rest.reads);
+      len = omega (arith, rest.len, less, length-drop piece.len text, sum_by-cons (λ (piece : Piece). piece.len) piece rest.pieces');
+      past = rest.past;
+      lexemes = λ at. ap (λ ls. map (moved at) piece.lexemes ++ ls) (rest.lexemes (at + piece.len) ∙ ap (λ n. lexemes_along (at + piece.len) (next ∷ pieces) ++ map (moved n) first.lexemes) (total_at at piece.len text less))
+          ∙ sym (append_assoc (map (moved at) piece.lexemes) (lexemes_along (at + piece.len) (next ∷ pieces)) (map (moved (at + length text)) first.lexemes));
+    }
+  where
+    no_cons : (p : Piece) (ps : List Piece) → p ∷ ps ≡ [] → ⊥
+    no_cons p ps e = cc

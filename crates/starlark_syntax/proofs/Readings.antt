@@ -72,7 +72,7 @@ none_at_end table s piece h e = by_before' s.before h e
     by_before' Other h e = by_place' s.place e
 
 -- the history behind a piece isn't that of a text's start
-started : (history : History) (piece : Piece) → is_nothing piece.sort ≡ false → is_nothing (after history piece).before ≡ false
+pub started : (history : History) (piece : Piece) → is_nothing piece.sort ≡ false → is_nothing (after history piece).before ≡ false
 unfolding after
 started history piece h = h
 
@@ -93,7 +93,7 @@ longest_onward table history text piece pieces last e h =
       no_piece = h.no_piece;
     }
 
-none_next : (table : Table) (history : History) (piece : Piece) → is_nothing history.before ≡ false → next_step table history [] ≡ Stands piece → ⊥
+pub none_next : (table : Table) (history : History) (piece : Piece) → is_nothing history.before ≡ false → next_step table history [] ≡ Stands piece → ⊥
 unfolding next_step situation
 none_next table history piece h e = none_at_end table (situation history) piece h e
 

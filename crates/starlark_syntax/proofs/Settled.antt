@@ -103,7 +103,7 @@ unfolding situation where_after
 situation_behind earlier history h =
     rw (open_settled earlier.tokens h.none_open 0 history.tokens, balanced_settled history.tokens earlier.tokens h.balanced, widths_settled earlier.widths history.widths h.no_width) refl
 
-onto_append : (tokens earlier : List Token) (lexemes : List Lexeme) → tokens_onto (tokens ++ earlier) lexemes ≡ tokens_onto tokens lexemes ++ earlier
+pub onto_append : (tokens earlier : List Token) (lexemes : List Lexeme) → tokens_onto (tokens ++ earlier) lexemes ≡ tokens_onto tokens lexemes ++ earlier
 onto_append tokens earlier [] = refl
 onto_append tokens earlier (lexeme ∷ lexemes) = onto_append (lexeme.node ∷ tokens) earlier lexemes
 
