@@ -41,17 +41,17 @@ step_within : (len : ℕ) (lexemes : List Lexeme) (levels : List ℕ) (text more
 unfolding margin_step indentation
 step_within len lexemes levels text more some e = rw (e, content_followed (margin_of text).behind more some) refl
 
-moved_both : {A : Type 0} (a b c : ℕ) (x : Rattle.starlark_syntax.specs.Tokens.Spanned A) → a + b ≡ c → moved a (moved b x) ≡ moved c x
+pub moved_both : {A : Type 0} (a b c : ℕ) (x : Rattle.starlark_syntax.specs.Tokens.Spanned A) → a + b ≡ c → moved a (moved b x) ≡ moved c x
 moved_both a b c x e =
     let begin : a + (b + x.begin) ≡ c + x.begin = omega (arith, e) in
     let end : a + (b + x.end) ≡ c + x.end = omega (arith, e) in
     rw (begin, end) refl
 
-all_moved : (a b c : ℕ) (lexemes : List Lexeme) → a + b ≡ c → map (moved a) (map (moved b) lexemes) ≡ map (moved c) lexemes
+pub all_moved : (a b c : ℕ) (lexemes : List Lexeme) → a + b ≡ c → map (moved a) (map (moved b) lexemes) ≡ map (moved c) lexemes
 all_moved a b c [] e = refl
 all_moved a b c (lexeme ∷ lexemes) e = rw (moved_both a b c lexeme e, all_moved a b c lexemes e) refl
 
-map_both : {A B : Type 0} (f : A → B) (xs ys : List A) → map f (xs ++ ys) ≡ map f xs ++ map f ys
+pub map_both : {A B : Type 0} (f : A → B) (xs ys : List A) → map f (xs ++ ys) ≡ map f xs ++ map f ys
 map_both f [] ys = refl
 map_both f (x ∷ xs) ys = ap (λ zs. f x ∷ zs) (map_both f xs ys)
 
@@ -354,13 +354,13 @@ unfolding next_step situation
 next_stays history text more piece ends less stands = stands_followed (situation history) text more piece ends less stands
 
 -- The reading of a settled text with a text behind it whose first margin stands.
-record Joined (history settled : History) (text more : Text) (pieces : List Piece) (first : Piece) : Type 0 where
-  pieces' : List Piece
-  some : ¬ (pieces' ≡ [])
-  reads : IsReading language history (text ++ more) pieces'
-  len : pieces_len pieces' ≡ length text + first.len
-  past : after_all history pieces' ≡ behind settled (after nothing first)
-  lexemes : (at : ℕ) → lexemes_along at pieces' ≡ lexemes_along at pieces ++ map (moved (at + length text)) first.lexemes
+pub record Joined (history settled : History) (text more : Text) (pieces : List Piece) (first : Piece) : Type 0 where
+  pub pieces' : List Piece
+  pub some : ¬ (pieces' ≡ [])
+  pub reads : IsReading language history (text ++ more) pieces'
+  pub len : pieces_len pieces' ≡ length text + first.len
+  pub past : after_all history pieces' ≡ behind settled (after nothing first)
+  pub lexemes : (at : ℕ) → lexemes_along at pieces' ≡ lexemes_along at pieces ++ map (moved (at + length text)) first.lexemes
 
 onto_both : (tokens : List Token) (one other : List Lexeme) → tokens_onto tokens (one ++ other) ≡ tokens_onto (tokens_onto tokens one) other
 onto_both tokens [] other = refl
@@ -440,7 +440,7 @@ total_at : (at n : ℕ) (text : Text) → n < length text → at + n + length (d
 total_at at n text less = omega (arith, length-drop n text)
 
 -- Of a settled text all pieces but the last stay, and the last goes on with the first margin of the text behind.
-join_reading : (history : History) (text more : Text) (pieces : List Piece) (first : Piece) → ends_line text ≡ true → ¬ (pieces ≡ []) → IsReading language history text pieces → pieces_len pieces ≡ length text → Settled (after_all history pieces) → first_margin more ≡ Stands first
+pub join_reading : (history : History) (text more : Text) (pieces : List Piece) (first : Piece) → ends_line text ≡ true → ¬ (pieces ≡ []) → IsReading language history text pieces → pieces_len pieces ≡ length text → Settled (after_all history pieces) → first_margin more ≡ Stands first
     → Joined history (after_all history pieces) text more pieces first
 join_reading history text more [] first ends some reads reach settled begins = absurd (some refl)
 join_reading history text more (piece ∷ []) first ends some reads reach settled begins =

@@ -23,3 +23,4 @@ mod RowsOfWords
 pub mod Settled
 pub mod MarginsFollowed
 pub mod Joining
+pub mod CleanCuts

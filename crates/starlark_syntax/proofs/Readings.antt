@@ -83,7 +83,7 @@ one_least Gap h = refl
 one_least Other h = refl
 
 -- one more piece in front
-longest_onward : (table : Table) (history : History) (text : Text) (piece : Piece) (pieces : List Piece) (last : Step) → next_step table history text ≡ Stands piece → IsLongestReading table (after history piece) (drop piece.len text) pieces last → IsLongestReading table history text (piece ∷ pieces) last
+pub longest_onward : (table : Table) (history : History) (text : Text) (piece : Piece) (pieces : List Piece) (last : Step) → next_step table history text ≡ Stands piece → IsLongestReading table (after history piece) (drop piece.len text) pieces last → IsLongestReading table history text (piece ∷ pieces) last
 longest_onward table history text piece pieces last e h =
     let total : pieces_len (piece ∷ pieces) ≡ piece.len + pieces_len pieces = sum_by-cons (λ (piece : Piece). piece.len) piece pieces in
     let left : drop (pieces_len (piece ∷ pieces)) text ≡ drop (pieces_len pieces) (drop piece.len text) = ap (λ n. drop n text) total ∙ drop-sum piece.len (pieces_len pieces) text in

@@ -65,7 +65,7 @@ no_widths : (widths : List ℕ) → (length widths == 0) ≡ true → widths ≡
 no_widths [] h = refl
 no_widths (w ∷ widths) h = absurd (omega (arith, eqb-true (length (w ∷ widths)) 0 h))
 
-widths_settled : (earlier widths : List ℕ) → open_widths earlier ≡ [] → open_widths (earlier ++ widths) ≡ open_widths widths
+pub widths_settled : (earlier widths : List ℕ) → open_widths earlier ≡ [] → open_widths (earlier ++ widths) ≡ open_widths widths
 unfolding open_widths
 widths_settled [] widths h = refl
 widths_settled (w ∷ earlier) widths h =
