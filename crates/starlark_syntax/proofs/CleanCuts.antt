@@ -145,6 +145,9 @@ some_both : (one other : List Piece) → ¬ (one ≡ []) → ¬ (one ++ other �
 some_both [] other some e = some refl
 some_both (piece ∷ one) other some e = cc
 
+same_outcome : {one other : List Lexeme} {fault end : Option (Spanned Fault)} → one ≡ other → fault ≡ end → ◌≡◌ {A = Outcome} (record { lexemes = one; fault = fault }) (record { lexemes = other; fault = end })
+same_outcome e f = rw (e, f) refl
+
 module _ (text more : Text) (first : Piece) (pieces : List Piece) (here : Cut text pieces) (there : Begun more first) (stands : next_step language nothing more ≡ Stands first) where
   both : Joined nothing (after_all nothing pieces) text more pieces first
   both = join_reading nothing text more pieces first here.ends here.some here.reads here.reach here.is_settled (margin_of_first more first stands)
@@ -186,12 +189,32 @@ module _ (text more : Text) (first : Piece) (pieces : List Piece) (here : Cut te
   cut_lexemes other = ap (λ ls. ls ++ map (moved (length text)) other)
       (sym (ap (λ (ls : List Lexeme). take (length ls - 1) ls) here.lexemes ∙ but_last (lexemes_along 0 pieces) (record { begin = length text; node = Newline; end = length text })))
 
+  to_end : lexemes_along 0 (both.pieces' ++ there.pieces) ++ closing (pieces_len (both.pieces' ++ there.pieces)) (after_all nothing (both.pieces' ++ there.pieces))
+      ≡ joined (length text) (outcome text).lexemes (lexemes_along 0 (first ∷ there.pieces) ++ closing (pieces_len (first ∷ there.pieces)) (after_all nothing (first ∷ there.pieces)))
+  to_end =
+      let end = pieces_len (first ∷ there.pieces) in
+      let last = after_all nothing (first ∷ there.pieces) in
+      ap (λ n. lexemes_along 0 (both.pieces' ++ there.pieces) ++ closing n (after_all nothing (both.pieces' ++ there.pieces))) total
+      ∙ ap (λ (h : History). lexemes_along 0 (both.pieces' ++ there.pieces) ++ closing (length text + end) h) past
+      ∙ ap (λ ls. lexemes_along 0 (both.pieces' ++ there.pieces) ++ ls) (closing_later (length text) end (after_all nothing pieces) last here.is_settled)
+      ∙ ap (λ ls. ls ++ map (moved (length text)) (closing end last)) lexemes
+      ∙ append_assoc (lexemes_along 0 pieces) (map (moved (length text)) (lexemes_along 0 (first ∷ there.pieces))) (map (moved (length text)) (closing end last))
+      ∙ ap (λ ls. lexemes_along 0 pieces ++ ls) (sym (map_both (moved (length text)) (lexemes_along 0 (first ∷ there.pieces)) (closing end last)))
+      ∙ cut_lexemes (lexemes_along 0 (first ∷ there.pieces) ++ closing end last)
+
   -- what the joined text comes to, by what stands last
   by_last : (last : Step) → outcome_of (text ++ more) (both.pieces' ++ there.pieces) last
       ≡ record { lexemes = joined (length text) (outcome text).lexemes (outcome_of more (first ∷ there.pieces) last).lexemes; fault = option_map (moved (length text)) (outcome_of more (first ∷ there.pieces) last).fault }
-  by_last (Fails fault) = ?
-  by_last (Stands piece) = ended
-    where
-      ended : ?
-      ended = ?
-  by_last Ends = ?
+  by_last (Fails fault) =
+      same_outcome (some_before (text ++ more) (both.pieces' ++ there.pieces) (some_both both.pieces' there.pieces both.some) ∙ lexemes ∙ cut_lexemes (lexemes_along 0 (first ∷ there.pieces)))
+          (ap Some (sym (moved_both (length text) (pieces_len (first ∷ there.pieces)) (pieces_len (both.pieces' ++ there.pieces)) fault (sym total))))
+  by_last (Stands piece) = same_outcome to_end refl
+  by_last Ends = same_outcome to_end refl
+
+pub cuts_join : CutsJoin
+cuts_join text more h margin =
+    let here = cut text h in
+    let there = begun more margin.0 margin.1 in
+    joined_is text more margin.0 (read language text).pieces here there margin.1
+    ∙ by_last text more margin.0 (read language text).pieces here there margin.1 there.last
+    ∙ ap (λ (o : Outcome). record { lexemes = joined (length text) (outcome text).lexemes o.lexemes; fault = option_map (moved (length text)) o.fault }) (sym there.is)
