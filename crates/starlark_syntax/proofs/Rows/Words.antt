@@ -1,6 +1,6 @@
 -- Worked texts of words and numbers, closed by computing.
 use Rattle.std.proofs.Common.{refl}
-use Rattle.std.specs.Prelude.{false, None, [], ◌∷◌, codes, pos}
+use Rattle.std.specs.Prelude.{false, [], ◌∷◌, codes, pos}
 use Rattle.std.proofs.Math.Utf8.{encode}
 use Rattle.starlark_syntax.specs.Words as word
 use Rattle.starlark_syntax.specs.Words.{class_in, openers, line_ends, symbols, names, patterns, language}
