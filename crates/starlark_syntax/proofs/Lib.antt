@@ -14,5 +14,6 @@ pub mod Order
 pub mod Edges
 pub mod Boundaries
 pub mod Bounded
+pub mod Faults
 mod Rows
 mod RowsOfWords
