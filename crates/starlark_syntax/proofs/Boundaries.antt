@@ -1,28 +1,24 @@
 -- Lexemes begin and end between characters.
-use Rattle.std.proofs.Common.{◌≡◌, ℕ, zero, suc, ◌+◌, ◌-◌, ◌≤◌, ◌<◌, Bool, true, false, cond, not, List, [], ◌∷◌, ◌++◌, length, take, drop, refl, ap, ◌∙◌, sym, subst, Option, Some, None, arith, ◌⊎◌, inl, inr, ◌||◌, nat_eq, nat_lt, one-add, append_assoc}
-use Rattle.std.specs.Prelude.{⊤, ◌&&◌, ◌==◌, if◌then◌else◌, map, sum_by, take_while, replicate, count_by}
+use Rattle.std.proofs.Common.{◌≡◌, ℕ, zero, suc, ◌+◌, ◌-◌, ◌≤◌, ◌<◌, Bool, true, false, cond, List, [], ◌∷◌, ◌++◌, length, take, drop, refl, ap, ◌∙◌, sym, subst, arith, ◌⊎◌, inl, inr, ◌||◌, nat_lt, one-add, append_assoc}
+use Rattle.std.specs.Prelude.{◌&&◌, ◌==◌, if◌then◌else◌, take_while, replicate, count_by}
 use Rattle.std.specs.Char.{is_ascii}
-use Rattle.std.specs.List.{list_all, prefix_len, starts_with, AllByRecursion}
+use Rattle.std.specs.List.{prefix_len, AllByRecursion}
 use Rattle.std.specs.Str.{byte, IsUtf8, IsCharBoundary}
-use Rattle.std.proofs.lemmas.Bool.{and_parts, cases_lt, eqb-true, ltb-true, ltb-false}
+use Rattle.std.proofs.lemmas.Bool.{cases_lt, eqb-true}
 use Rattle.std.proofs.lemmas.Bool.Decides.{nat_tests}
-use Rattle.std.proofs.lemmas.List.{take-append-drop, length-take-le, length-append, length-drop, drop-append-le}
+use Rattle.std.proofs.lemmas.List.{take-append-drop, length-append, length-drop, drop-append-le}
 use Rattle.std.proofs.Math.Seq.{drop-append_seam}
-use Rattle.std.proofs.lemmas.List.Sums.{sum_by-cons, prefix_len-le-length}
+use Rattle.std.proofs.lemmas.List.Sums.{sum_by-cons}
 use Rattle.std.proofs.lemmas.Str.{IsCharBoundary-end, IsCharBoundary-start, IsUtf8-drop}
-use Rattle.starlark_syntax.specs.Words as word
-use Rattle.starlark_syntax.specs.Words.{Text, Quote, SingleQuote, DoubleQuote, Kind, OfText, OfBytes, OfFString, Class, Table, class_in, language, is_in_line}
-use Rattle.starlark_syntax.specs.Front.{longest_front, IsLongestFront}
-use Rattle.starlark_syntax.specs.Tokens.{Token, Opening, Spanned, Fault, Lexeme, moved, Indent, Dedent, Newline, Outcome, FStringBang, FStringEnd, FStringExprStart, FStringStart}
-use Rattle.starlark_syntax.specs.Items.{Literal, Stop, Closing, Line, Ended, OpeningBrace, ClosingBrace, BadEscape, Body, body_at, body_len, body_value, closing_quotes, quote_byte}
-use Rattle.starlark_syntax.specs.Depths.{Where, Outside, InText, AtTop, Deeper}
-use Rattle.starlark_syntax.specs.Margins.{is_blank, is_feed, blanks_len, lines, begins_comment, is_comment_only, comment_part, comment_of, comments_from, comment_lines, margin_from, Margin, margin_of, margin_len, is_content, has_tab, width_of, fits, is_widest, indentation}
+use Rattle.starlark_syntax.specs.Words.{Text}
+use Rattle.starlark_syntax.specs.Tokens.{Lexeme, Indent, Dedent}
+use Rattle.starlark_syntax.specs.Margins.{is_blank, is_feed, blanks_len, lines, begins_comment, is_comment_only, comment_part, comments_from, comment_lines, Margin, margin_of, margin_len, width_of, is_widest, indentation}
 use Rattle.starlark_syntax.specs.Cuts.{is_gap_byte, IsGap}
 use Rattle.starlark_syntax.specs.Laws.{AtBoundaries}
-use Rattle.starlark_syntax.proofs.Lists.{take_fits, drop-sum}
+use Rattle.starlark_syntax.proofs.Lists.{drop-sum}
 use Rattle.starlark_syntax.proofs.Order.{Split, first_line, comment_spans, comment_tail, part_len, lines_sum}
 use Rattle.starlark_syntax.proofs.WordBytes.{is_plain}
-use Rattle.starlark_syntax.proofs.Edges.{behind_plain, before_byte, boundary_shift, edges_append, edges_shift}
+use Rattle.starlark_syntax.proofs.Edges.{behind_plain, before_byte, boundary_shift}
 
 abbrev pub Edges : Text → List Lexeme → Type 0
 Edges text lexemes = AllByRecursion (AtBoundaries text) lexemes
@@ -68,7 +64,7 @@ line_edge whole at text line more utf8 e split some = go split.ended
     go (inr found) =
         let front : Text = found.0 in
         let before : drop (at + length front) whole ≡ 10 ∷ split.rest =
-          drop-sum at (length front) whole ∙ ap (drop (length front)) (e ∙ split.whole ∙ ap (λ (t : Text). t ++ split.rest) found.1 ∙ append_assoc front (10 ∷ []) split.rest) ∙ drop-append_seam front (10 ∷ split.rest) in
+        drop-sum at (length front) whole ∙ ap (drop (length front)) (e ∙ split.whole ∙ ap (λ (t : Text). t ++ split.rest) found.1 ∙ append_assoc front (10 ∷ []) split.rest) ∙ drop-append_seam front (10 ∷ split.rest) in
         let edge : IsCharBoundary whole (at + length front) = before_byte whole (at + length front) 10 split.rest before (omega arith) in
         let utf8_here = IsUtf8-drop whole (at + length front) utf8 edge in
         let line_len : length line ≡ length front + 1 = ap (λ (t : Text). length t) found.1 ∙ length-append front (10 ∷ []) in
@@ -93,7 +89,7 @@ comments_edges whole at text (line ∷ more) utf8 e f here =
     begin k inside =
         let found = hash line (blanks_len line) k in
         before_byte whole (at + blanks_len line) 35 (found.0 ++ split.rest)
-          (drop-sum at (blanks_len line) whole ∙ ap (drop (blanks_len line)) (e ∙ split.whole) ∙ drop-append-le (blanks_len line) line split.rest inside ∙ ap (λ (t : Text). t ++ split.rest) found.1) (omega arith)
+        (drop-sum at (blanks_len line) whole ∙ ap (drop (blanks_len line)) (e ∙ split.whole) ∙ drop-append-le (blanks_len line) line split.rest inside ∙ ap (λ (t : Text). t ++ split.rest) found.1) (omega arith)
 
     end : 1 ≤ length line → IsCharBoundary whole (at + length (comment_part line))
     end some = ending (cases_lt (length (comment_part line)) (length line))
@@ -124,7 +120,7 @@ comments_edges whole at text (line ∷ more) utf8 e f here =
         let sum : lines_sum (line ∷ take_while is_comment_only more) ≡ length line + lines_sum (take_while is_comment_only more) = sum_by-cons (λ (line : Text). length line) line (take_while is_comment_only more) in
         let total : at + length line + lines_sum (take_while is_comment_only more) ≡ at + lines_sum (line ∷ take_while is_comment_only more) = omega (arith, sum) in
         subst (λ (ls : List Text). Edges whole (comments_from at ls) × IsCharBoundary whole (at + lines_sum ls)) (sym taken)
-          (((begin k (omega (arith, spans, inside)), end some), rest.0), subst (IsCharBoundary whole) total rest.1)
+        (((begin k (omega (arith, spans, inside)), end some), rest.0), subst (IsCharBoundary whole) total rest.1)
 
 -- Margins
 
@@ -156,7 +152,8 @@ margin_edges text utf8 =
     record {
       comments = both.0;
       at = here;
-      end = boundary_shift text (lines_sum (comment_lines text)) (length (take (blanks_len line) line)) here (behind_plain line (take (blanks_len line) line) (drop (blanks_len line) line) (IsUtf8-drop text (lines_sum (comment_lines text)) utf8 here) (sym (take-append-drop (blanks_len line) line)) (blanks_plain line)) }
+      end = boundary_shift text (lines_sum (comment_lines text)) (length (take (blanks_len line) line)) here (behind_plain line (take (blanks_len line) line) (drop (blanks_len line) line) (IsUtf8-drop text (lines_sum (comment_lines text)) utf8 here) (sym (take-append-drop (blanks_len line) line)) (blanks_plain line));
+    }
 
 dedents_edges : (text : Text) (at k : ℕ) → IsCharBoundary text at → Edges text (replicate k (record { begin = at; node = Dedent; end = at }))
 dedents_edges text at zero here = tt

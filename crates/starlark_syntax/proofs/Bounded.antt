@@ -1,12 +1,11 @@
 -- The lexemes of whole texts begin and end between characters.
-use Rattle.std.proofs.Common.{◌≡◌, ℕ, zero, suc, ◌+◌, ◌-◌, ◌≤◌, ◌<◌, Bool, true, false, cond, not, List, [], ◌∷◌, ◌++◌, length, take, drop, get_or, refl, ap, ◌∙◌, sym, subst, Option, Some, None, arith, ◌⊎◌, inl, inr, ◌||◌, nat_eq, nat_lt, one-add}
+use Rattle.std.proofs.Common.{◌≡◌, ℕ, zero, suc, ◌+◌, ◌≤◌, ◌<◌, Bool, true, false, cond, not, List, [], ◌∷◌, ◌++◌, length, take, drop, get_or, refl, ap, ◌∙◌, sym, subst, Option, Some, None, arith, ◌⊎◌, inl, inr, nat_eq}
 use Rattle.std.specs.Prelude.{⊤, ◌&&◌, ◌==◌, if◌then◌else◌, map, replicate}
-use Rattle.std.specs.Char.{is_ascii}
-use Rattle.std.specs.List.{list_all, starts_with, AllByRecursion}
+use Rattle.std.specs.List.{list_all, starts_with}
 use Rattle.std.specs.Str.{byte, bytes_eq, IsUtf8, IsCharBoundary}
 use Rattle.std.proofs.lemmas.Bool.{and_parts, cases_lt, eqb-true}
 use Rattle.std.proofs.lemmas.Bool.Decides.{nat_tests}
-use Rattle.std.proofs.lemmas.List.{take-append-drop, length-take-le, length-drop, drop_more}
+use Rattle.std.proofs.lemmas.List.{take-append-drop, length-take-le, drop_more}
 use Rattle.std.proofs.Math.Seq.{take-add}
 use Rattle.std.proofs.lemmas.List.Folds.{list_all-append}
 use Rattle.std.specs.Map.{lookup}
@@ -17,13 +16,12 @@ use Rattle.starlark_syntax.specs.Words as word
 use Rattle.starlark_syntax.specs.Words.{Text, Quote, SingleQuote, DoubleQuote, Kind, OfText, OfBytes, OfFString, Class, Table, class_in, language, is_in_line, is_comment, patterns, openers, line_ends, symbols, names}
 use Rattle.starlark_syntax.specs.Front.{longest_front, IsLongestFront}
 use Rattle.starlark_syntax.specs.Numbers.{integer_of}
-use Rattle.starlark_syntax.specs.Tokens.{Token, Comment, Identifier, Int, Float, Opening, Spanned, Fault, Lexeme, moved, Newline, Dedent, Outcome, FStringBang, FStringEnd, FStringExprStart, FStringStart}
+use Rattle.starlark_syntax.specs.Tokens.{Token, Comment, Identifier, Int, Float, Opening, Lexeme, moved, Newline, Dedent, FStringBang, FStringEnd, FStringExprStart, FStringStart}
 use Rattle.starlark_syntax.specs.Items.{Literal, Stop, Closing, Line, Ended, OpeningBrace, ClosingBrace, BadEscape, Body, body_at, body_len, body_value, closing_quotes, quote_byte}
 use Rattle.starlark_syntax.specs.Depths.{Where, Outside, InText, AtTop, Deeper}
 use Rattle.starlark_syntax.specs.Margins.{Margin, margin_of, margin_len, is_content, has_tab, width_of, fits, indentation, open_widths}
 use Rattle.starlark_syntax.specs.Pieces.{Before, Nothing, Layout, Gap, Other, Piece, Step, Stands, Fails, Ends, Situation, token, margin_step, line_end, opening_of, more_quotes, escape_fault, literal_token, literal_by, opener, chunk_text, chunk_piece, chunk_by, chunk, terminal_token, counts, starts_zero, word_step, front_step, takes_bang, is_bang, in_code, by_place, by_before, step_at}
-use Rattle.starlark_syntax.specs.Reading.{History, nothing, after, after_all, situation, next_step, IsReading, IsLongestReading, pieces_len, lexemes_along, closing, outcome_of, outcome_in, outcome, read}
-use Rattle.starlark_syntax.specs.Laws.{AtBoundaries}
+use Rattle.starlark_syntax.specs.Reading.{History, nothing, after, after_all, situation, next_step, IsReading, pieces_len, lexemes_along, closing, outcome_of, outcome_in, outcome, read}
 use Rattle.starlark_syntax.proofs.Front.{front_sound, longest_front_is}
 use Rattle.starlark_syntax.proofs.Lists.{drop-sum}
 use Rattle.starlark_syntax.proofs.Steps.{Each}
@@ -132,7 +130,7 @@ chunk_by_bounded : (opening : Opening) (text : Text) (body : Body) (stop : Stop)
 chunk_by_bounded opening text body OpeningBrace utf8 stop =
     let middle : IsCharBoundary text (body_len body) = before_byte text (body_len body) (byte "{") stop.0 stop.1 (omega arith) in
     chunk_piece_bounded text body FStringExprStart 1 utf8 middle
-      (boundary_shift text (body_len body) 1 middle (behind_plain (drop (body_len body) text) (byte "{" ∷ []) stop.0 (IsUtf8-drop text (body_len body) utf8 middle) stop.1 refl))
+    (boundary_shift text (body_len body) 1 middle (behind_plain (drop (body_len body) text) (byte "{" ∷ []) stop.0 (IsUtf8-drop text (body_len body) utf8 middle) stop.1 refl))
 chunk_by_bounded opening text body Closing utf8 stop =
     let edges = closing_edges opening text (body_len body) utf8 stop in
     chunk_piece_bounded text body FStringEnd (length (closing_quotes opening)) utf8 edges.0 edges.1
@@ -153,8 +151,8 @@ word_step_bounded text s word.Comment front behind utf8 end e = token_bounded te
 word_step_bounded text s word.Tabs front behind utf8 end e = tt
 word_step_bounded text s word.LineEnd front behind utf8 end e =
     either (StepBounded text) (counts s.place s.is_balanced) _ _
-      (subst (λ (t : Text). StepBounded text (line_end (length front) s.levels t)) e (margin_step_bounded text (length front) (record { begin = 0; node = Newline; end = length front } ∷ []) s.levels utf8 end ((IsCharBoundary-start text utf8, end), tt)))
-      (tt, end)
+    (subst (λ (t : Text). StepBounded text (line_end (length front) s.levels t)) e (margin_step_bounded text (length front) (record { begin = 0; node = Newline; end = length front } ∷ []) s.levels utf8 end ((IsCharBoundary-start text utf8, end), tt)))
+    (tt, end)
 word_step_bounded text s (word.Opener kind is_raw quote) front behind utf8 end e =
     subst (λ (t : Text). StepBounded text (opener s.place kind (opening_of is_raw quote t) (length front) t)) e (opener_bounded text s.place kind is_raw quote (length front) utf8 end)
 word_step_bounded text s word.Reserved front behind utf8 end e = tt
@@ -175,7 +173,7 @@ comment_known : (text : Text) → is_comment text ≡ true → class_in language
 unfolding class_in patterns
 comment_known text h e =
     let none : class_in patterns text ≡ None =
-      none_behind (lookup (bytes_eq text) names) _ (none_behind (lookup (bytes_eq text) symbols) _ (none_behind (lookup (bytes_eq text) line_ends) _ (none_behind (lookup (bytes_eq text) openers) _ (sym (class_in-language text) ∙ e)))) in
+    none_behind (lookup (bytes_eq text) names) _ (none_behind (lookup (bytes_eq text) symbols) _ (none_behind (lookup (bytes_eq text) line_ends) _ (none_behind (lookup (bytes_eq text) openers) _ (sym (class_in-language text) ∙ e)))) in
     go _ (Rattle.starlark_syntax.specs.Words.is_run (nat_eq 32) text) (is_comment text) h none
   where
     go : (rest : Option Class) (spaces comment : Bool) → comment ≡ true → cond spaces (Some word.Skipped) (cond comment (Some word.Comment) rest) ≡ None → ⊥
@@ -251,8 +249,8 @@ in_code_bounded : (s : Situation) (text : Text) → IsUtf8 text → StepBounded 
 in_code_bounded s [] utf8 = tt
 in_code_bounded s (b ∷ bs) utf8 =
     when (StepBounded (b ∷ bs)) (takes_bang s.place s.before && is_bang (b ∷ bs)) _ _
-      (λ h. let small = bang_plain b bs (and_parts (takes_bang s.place s.before) (is_bang (b ∷ bs)) h).1 in token_bounded (b ∷ bs) 1 FStringBang utf8 (behind_plain (b ∷ bs) (b ∷ []) bs utf8 refl (rw (Rattle.std.proofs.lemmas.Bool.lt-ltb b 128 small) refl)))
-      (front_step_bounded s (b ∷ bs) _ utf8 refl)
+    (λ h. let small = bang_plain b bs (and_parts (takes_bang s.place s.before) (is_bang (b ∷ bs)) h).1 in token_bounded (b ∷ bs) 1 FStringBang utf8 (behind_plain (b ∷ bs) (b ∷ []) bs utf8 refl (rw (Rattle.std.proofs.lemmas.Bool.lt-ltb b 128 small) refl)))
+    (front_step_bounded s (b ∷ bs) _ utf8 refl)
 
 by_place_bounded : (s : Situation) (place : Where) (text : Text) → IsUtf8 text → StepBounded text (by_place language s place text)
 by_place_bounded s Outside text utf8 = in_code_bounded s text utf8

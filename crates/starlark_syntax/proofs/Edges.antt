@@ -1,17 +1,17 @@
 -- Where a text may be cut between characters.
-use Rattle.std.proofs.Common.{◌≡◌, ℕ, zero, suc, ◌+◌, ◌-◌, ◌≤◌, ◌<◌, Bool, true, false, cond, not, List, [], ◌∷◌, ◌++◌, length, take, drop, get_or, refl, ap, ◌∙◌, sym, subst, Option, Some, None, arith, nat_eq, ◌||◌, one-add}
+use Rattle.std.proofs.Common.{◌≡◌, ℕ, zero, suc, ◌+◌, ◌-◌, ◌<◌, Bool, true, false, not, List, [], ◌∷◌, ◌++◌, length, take, drop, get_or, refl, ap, ◌∙◌, sym, subst, Option, Some, None, arith, nat_eq}
 use Rattle.std.specs.Prelude.{⊤, ◌==◌, ◌&&◌, if◌then◌else◌, nat_lt, map}
 use Rattle.std.specs.Char.{is_ascii}
 use Rattle.std.specs.List.{list_all, prefix_len, starts_with, AllByRecursion}
 use Rattle.std.specs.Str.{byte, IsUtf8, IsAscii, IsCharBoundary}
 use Rattle.std.proofs.lemmas.Bool.{and_parts, eqb-true, ltb-true}
-use Rattle.std.proofs.lemmas.List.{length-append, length-drop, length-take-le, take-append-drop, get_or-drop, take-append-le}
-use Rattle.std.proofs.Math.Seq.{drop-append_seam, take-append_seam}
+use Rattle.std.proofs.lemmas.List.{length-append, length-drop, take-append-drop, get_or-drop}
+use Rattle.std.proofs.Math.Seq.{take-append_seam}
 use Rattle.std.proofs.lemmas.List.Sums.{sum_by-cons}
 use Rattle.std.proofs.lemmas.Slice.Eq.{bytes_eq-Decides}
-use Rattle.std.proofs.lemmas.Str.{IsCharBoundary-end, IsCharBoundary-start, IsCharBoundary-before_ascii, IsCharBoundary-from_take, IsCharBoundary-from_rest, IsUtf8-drop, IsUtf8-from_ascii}
+use Rattle.std.proofs.lemmas.Str.{IsCharBoundary-before_ascii, IsCharBoundary-from_take, IsCharBoundary-from_rest, IsUtf8-drop, IsUtf8-from_ascii}
 use Rattle.starlark_syntax.specs.Words.{Text, Quote, SingleQuote, DoubleQuote}
-use Rattle.starlark_syntax.specs.Tokens.{Opening, Spanned, Lexeme, moved}
+use Rattle.starlark_syntax.specs.Tokens.{Opening, Lexeme, moved}
 use Rattle.starlark_syntax.specs.Items.{Literal, Item, Stop, Closing, Line, Ended, OpeningBrace, ClosingBrace, BadEscape, Found, Goes, Stops, goes, first_character, closing_quotes, quote_byte, broken, numbered, is_character, hexadecimal, octal, escaped_feed, simple, simple_escapes, escape, raw_pair, brace, found_at, Body, body_len, onward, body_from, body_at}
 use Rattle.starlark_syntax.specs.Laws.{AtBoundaries}
 use Rattle.starlark_syntax.proofs.Lists.{drop-sum, drop-behind}
@@ -155,7 +155,7 @@ body_stop literal zero (b ∷ bs) = go (found_at literal (b ∷ bs)) (found_stop
         let rest : Body = body_from literal (item.len - 1) bs in
         let total : body_len (record { items = item ∷ rest.items; stop = rest.stop }) ≡ item.len + body_len rest = sum_by-cons (λ (item : Item). item.len) item rest.items in
         let left : drop (body_len rest) (drop (item.len - 1) bs) ≡ drop (body_len (record { items = item ∷ rest.items; stop = rest.stop })) (b ∷ bs) =
-          sym (ap (λ n. drop n (b ∷ bs)) total ∙ drop-sum item.len (body_len rest) (b ∷ bs) ∙ ap (drop (body_len rest)) (drop-behind item.len b bs fits.0)) in
+        sym (ap (λ n. drop n (b ∷ bs)) total ∙ drop-sum item.len (body_len rest) (b ∷ bs) ∙ ap (drop (body_len rest)) (drop-behind item.len b bs fits.0)) in
         subst (λ (t : Text). StopAt literal.opening t rest.stop) left (more (item.len - 1))
 
 pub stop_at : (literal : Literal) (text : Text) → StopAt literal.opening (drop (body_len (body_at literal text)) text) (body_at literal text).stop

@@ -18,6 +18,7 @@ pub mod WordLines
 pub mod Followed
 pub mod FollowedBodies
 pub mod FollowedPieces
+pub mod Faults
 mod Rows
 mod RowsOfWords
 pub mod Settled

@@ -1,9 +1,9 @@
 -- Lexemes are in order, with nothing but gaps between them.
-use Rattle.std.proofs.Common.{◌≡◌, ℕ, zero, suc, ◌+◌, ◌-◌, ◌≤◌, ◌<◌, Bool, true, false, cond, not, List, [], ◌∷◌, ◌++◌, length, take, drop, refl, ap, ◌∙◌, sym, subst, Option, Some, None, arith, ◌⊎◌, inl, inr, ◌||◌, nat_eq, nat_lt, one-add, append-nil}
+use Rattle.std.proofs.Common.{◌≡◌, ℕ, zero, suc, ◌+◌, ◌≤◌, ◌<◌, Bool, true, false, cond, not, List, [], ◌∷◌, ◌++◌, length, take, drop, refl, ap, ◌∙◌, sym, subst, Option, Some, None, arith, ◌⊎◌, inl, inr, nat_lt, one-add, append-nil}
 use Rattle.std.specs.Prelude.{⊤, ◌&&◌, ◌==◌, if◌then◌else◌, map, sum_by, take_while, replicate, count_by}
 use Rattle.std.specs.List.{prefix_len, onto_first}
 use Rattle.std.specs.Str.{byte}
-use Rattle.std.proofs.lemmas.Bool.{and_parts, cases_lt, eqb-true, not-true}
+use Rattle.std.proofs.lemmas.Bool.{and_parts, eqb-true, not-true}
 use Rattle.std.proofs.lemmas.Bool.Decides.{nat_tests}
 use Rattle.std.proofs.lemmas.List.{take-append-drop, length-take-le, length-drop}
 use Rattle.std.proofs.Math.Seq.{drop-append_seam}
@@ -12,18 +12,18 @@ use Rattle.starlark_syntax.specs.Words as word
 use Rattle.starlark_syntax.specs.Words.{Text, Quote, Kind, OfText, OfBytes, OfFString, Class, Table, class_in, language}
 use Rattle.starlark_syntax.specs.Front.{longest_front}
 use Rattle.starlark_syntax.specs.Numbers.{integer_of}
-use Rattle.starlark_syntax.specs.Tokens.{Token, Comment, Identifier, Int, Float, Opening, Spanned, Fault, Lexeme, moved, Indent, Dedent, Newline, Outcome, FStringBang, FStringEnd, FStringExprStart, FStringStart, Indentation}
+use Rattle.starlark_syntax.specs.Tokens.{Token, Comment, Identifier, Int, Float, Opening, Lexeme, moved, Indent, Dedent, Newline, Outcome, FStringBang, FStringEnd, FStringExprStart, FStringStart}
 use Rattle.starlark_syntax.specs.Items.{Stop, Closing, Line, Ended, OpeningBrace, ClosingBrace, BadEscape, Body, body_at, body_len, body_value, closing_quotes}
 use Rattle.starlark_syntax.specs.Depths.{Where, Outside, InText, AtTop, Deeper}
-use Rattle.starlark_syntax.specs.Margins.{is_blank, is_feed, blanks_len, lines, begins_comment, is_comment_only, without_return, comment_part, comment_of, comments_from, comment_lines, margin_from, Margin, margin_of, margin_len, is_content, has_tab, width_of, fits, is_widest, indentation}
-use Rattle.starlark_syntax.specs.Pieces.{Before, Nothing, Layout, Gap, Other, Piece, Step, Stands, Fails, Ends, Situation, token, margin_step, first_margin, line_end, opening_of, more_quotes, escape_fault, literal_token, literal_by, literal, opener, chunk_text, chunk_piece, chunk_by, chunk, terminal_token, counts, starts_zero, word_step, front_step, takes_bang, is_bang, in_code, by_place, by_before, step_at}
+use Rattle.starlark_syntax.specs.Margins.{is_blank, is_feed, blanks_len, lines, begins_comment, is_comment_only, without_return, comment_part, comments_from, comment_lines, margin_from, Margin, margin_of, margin_len, is_content, has_tab, width_of, fits, is_widest, indentation}
+use Rattle.starlark_syntax.specs.Pieces.{Before, Nothing, Layout, Gap, Other, Piece, Step, Stands, Fails, Ends, Situation, token, margin_step, line_end, opening_of, more_quotes, escape_fault, literal_token, literal_by, opener, chunk_text, chunk_piece, chunk_by, chunk, terminal_token, counts, starts_zero, word_step, front_step, takes_bang, is_bang, in_code, by_place, by_before, step_at}
 use Rattle.starlark_syntax.specs.Reading.{History, nothing, after, after_all, situation, next_step, IsReading, IsLongestReading, pieces_len, lexemes_along, closing, outcome_of, outcome_in, outcome, read}
 use Rattle.starlark_syntax.specs.Cuts.{IsGap, InOrder}
 use Rattle.starlark_syntax.proofs.Front.{front_sound}
 use Rattle.starlark_syntax.proofs.Lists.{take_fits, drop-sum}
 use Rattle.starlark_syntax.proofs.Steps.{Each, margin_fits}
 use Rattle.starlark_syntax.proofs.Readings.{ends_at_end, reading_fits, read_is}
-use Rattle.starlark_syntax.proofs.Gaps.{gap_none, gap_join, gap_shift, gap_cons, gap_first, blank_gap, feed_gap, blanks_gap, order_extend, order_append, order_shift, all_gaps, word_gap}
+use Rattle.starlark_syntax.proofs.Gaps.{gap_none, gap_shift, gap_cons, gap_first, blank_gap, feed_gap, blanks_gap, order_extend, order_append, order_shift, all_gaps, word_gap}
 use Rattle.starlark_syntax.proofs.WordBytes.{is_plain, word_fits, language_fits}
 use Rattle.starlark_syntax.proofs.Silent.{silent_gap}
 

@@ -1,17 +1,16 @@
 -- Readings: of two one begins the other, and what is computed is the longest.
-use Rattle.std.proofs.Common.{◌≡◌, ℕ, zero, suc, ◌+◌, ◌-◌, ◌≤◌, ◌<◌, Bool, true, false, List, [], ◌∷◌, ◌++◌, length, drop, refl, ap, ◌∙◌, sym, subst, Option, Some, None, arith, append-nil, inl, inr, ◌⊎◌}
-use Rattle.std.specs.Prelude.{⊤, sum_by}
+use Rattle.std.proofs.Common.{◌≡◌, ℕ, zero, suc, ◌+◌, ◌-◌, ◌≤◌, false, List, [], ◌∷◌, ◌++◌, length, drop, refl, ap, ◌∙◌, sym, subst, arith, append-nil, inl, inr, ◌⊎◌}
 use Rattle.std.proofs.lemmas.List.{length-drop}
 use Rattle.std.proofs.lemmas.List.Sums.{sum_by-cons}
 use Rattle.starlark_syntax.specs.Words.{Text, Table}
-use Rattle.starlark_syntax.specs.Tokens.{Outcome}
+use Rattle.starlark_syntax.specs.Tokens.{Fault, Spanned, Outcome}
 use Rattle.starlark_syntax.specs.Depths.{Where, Outside, InText, AtTop, Deeper}
 use Rattle.starlark_syntax.specs.Items.{body_from, body_at}
-use Rattle.starlark_syntax.specs.Pieces.{Before, Nothing, Layout, Gap, Other, Piece, Step, Stands, Fails, Ends, Situation, in_code, chunk, by_place, by_before, step_at}
-use Rattle.starlark_syntax.specs.Reading.{History, nothing, after, after_all, situation, next_step, IsReading, IsLongestReading, pieces_len, Reading, onward, read_from, read, outcome_of, outcome_in, IsOutcome}
+use Rattle.starlark_syntax.specs.Pieces.{Before, Nothing, Layout, Gap, Other, Piece, Step, Stands, Fails, Ends, Situation, chunk, by_place, by_before, step_at}
+use Rattle.starlark_syntax.specs.Reading.{History, nothing, after, after_all, situation, next_step, IsReading, IsLongestReading, pieces_len, onward, read_from, read, outcome_of, outcome_in, IsOutcome}
 use Rattle.starlark_syntax.specs.Laws.{Begins}
-use Rattle.starlark_syntax.proofs.Lists.{drop-nil, drop-sum, drop-behind}
-use Rattle.starlark_syntax.proofs.Steps.{PieceFits, StepFits, is_nothing, least_len, step_fits}
+use Rattle.starlark_syntax.proofs.Lists.{drop-sum, drop-behind}
+use Rattle.starlark_syntax.proofs.Steps.{FaultFits, PieceFits, StepFits, is_nothing, least_len, step_fits}
 
 -- of two pieces that stand at one place
 same_piece : (step : Step) (one other : Piece) → step ≡ Stands one → step ≡ Stands other → one ≡ other
@@ -40,6 +39,11 @@ readings_agree table history text (first ∷ one) (second ∷ other) h k =
 pub piece_fits : (table : Table) (history : History) (text : Text) (piece : Piece) → next_step table history text ≡ Stands piece → PieceFits (least_len history.before) text piece
 unfolding next_step situation
 piece_fits table history text piece e = subst (StepFits (least_len history.before) text) e (step_fits table (situation history) text)
+
+-- what is known of a fault that stands somewhere
+pub fault_fits : (table : Table) (history : History) (text : Text) (fault : Spanned Fault) → next_step table history text ≡ Fails fault → FaultFits text fault
+unfolding next_step situation
+fault_fits table history text fault e = subst (StepFits (least_len history.before) text) e (step_fits table (situation history) text)
 
 -- where the text is at its end
 pub ends_at_end : (table : Table) (history : History) (text : Text) → next_step table history text ≡ Ends → text ≡ []

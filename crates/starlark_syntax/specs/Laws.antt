@@ -1,5 +1,5 @@
 -- What the laws of the grammar say.
-use Rattle.std.specs.Prelude.{◌≡◌, ◌≤◌, ℕ, ◌+◌, ◌*◌, Bool, true, false, ◌⊎◌, List, ◌++◌, length, take, count_by, Option, Some, None, option_map, option_to_list}
+use Rattle.std.specs.Prelude.{◌≡◌, ◌≤◌, ℕ, ◌+◌, ◌*◌, Bool, true, false, ◌⊎◌, List, ◌++◌, length, take, count_by, Option, Some, None, option_map, option_to_list, IfSome}
 use Rattle.std.specs.List.{AllByRecursion}
 use Rattle.std.specs.Str.{IsUtf8, IsCharBoundary}
 use Rattle.starlark_syntax.specs.Words.{Text, Class, Table, class_in, language}
@@ -44,6 +44,10 @@ LexemesInOrder = (text : Text) → (to : ℕ) × (to ≤ length text) × InOrder
 -- … In a text without fault nothing but a gap stands behind them either.
 abbrev pub FaultlessInOrder : Type 0
 FaultlessInOrder = (text : Text) → (outcome text).fault ≡ None → InOrder text 0 (outcome text).lexemes (length text)
+
+-- The fault of a text lies inside of it.
+abbrev pub FaultsInside : Type 0
+FaultsInside = (table : Table) (text : Text) → IfSome (outcome_in table text).fault (λ fault. (fault.begin ≤ fault.end) × (fault.end ≤ length text))
 
 -- both ends of something lie between characters of the text
 abbrev pub AtBoundaries : {A : Type 0} → Text → Spanned A → Type 0

@@ -1,5 +1,6 @@
 use Rattle.starlark_syntax.proofs.Order.{outcome_order}
 use Rattle.starlark_syntax.proofs.Bounded.{outcome_edges}
+use Rattle.starlark_syntax.proofs.Faults.{outcome_fault}
 use Rattle.starlark_syntax.proofs.laws.ordered_lexemes.Goals as goal
 
 -- src/laws.rt:50:1
@@ -13,3 +14,7 @@ returns-clause-whole c = λ text. (outcome_order text).1
 -- src/laws.rt:50:1
 pub returns-clause-boundaries : goal.returns-clause-boundaries
 returns-clause-boundaries c = outcome_edges
+
+-- src/laws.rt:50:1
+pub returns-clause-fault : goal.returns-clause-fault
+returns-clause-fault c = outcome_fault
