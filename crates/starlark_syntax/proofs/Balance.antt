@@ -1,27 +1,25 @@
 -- Indents and dedents, and how many lexemes there are.
-use Rattle.std.proofs.Common.{◌≡◌, ℕ, zero, suc, ◌+◌, ◌-◌, ◌*◌, ◌≤◌, ◌<◌, Bool, true, false, cond, not, List, [], ◌∷◌, ◌++◌, length, take, drop, refl, ap, ◌∙◌, sym, subst, Option, Some, None, arith, nat_eq, nat_lt, ◌||◌, ◌⊎◌, inl, inr, append-nil, append_assoc, one-add}
-use Rattle.std.specs.Prelude.{⊤, ◌==◌, ◌&&◌, if◌then◌else◌, count_by, sum_by, map, replicate, option_to_list, take_while}
-use Rattle.std.specs.List.{prefix_len, starts_with}
+use Rattle.std.proofs.Common.{◌≡◌, ℕ, zero, suc, ◌+◌, ◌-◌, ◌*◌, ◌≤◌, ◌<◌, Bool, true, false, cond, not, List, [], ◌∷◌, ◌++◌, length, take, drop, refl, ap, ◌∙◌, sym, subst, Option, Some, None, arith, nat_eq, nat_lt, ◌⊎◌, inl, inr, append-nil, one-add}
+use Rattle.std.specs.Prelude.{⊤, ◌&&◌, if◌then◌else◌, count_by, sum_by, map, replicate, option_to_list, take_while}
+use Rattle.std.specs.List.{prefix_len}
 use Rattle.std.specs.Str.{byte}
-use Rattle.std.proofs.lemmas.Bool.{and_parts, ltb-true, cases_lt}
-use Rattle.std.proofs.lemmas.List.{length-append, length-map, length-replicate, length-take-le, length-drop, take-append-le, take_all}
-use Rattle.std.proofs.Math.Seq.{take-append-add}
+use Rattle.std.proofs.lemmas.Bool.{and_parts, ltb-true}
+use Rattle.std.proofs.lemmas.List.{length-append, length-map, length-replicate, length-take-le}
 use Rattle.std.proofs.lemmas.List.Folds.{sum_by-replicate}
-use Rattle.std.proofs.lemmas.List.Sums.{sum_by-cons, sum_by-append, sum_by-take-le, count_by-le-length}
+use Rattle.std.proofs.lemmas.List.Sums.{sum_by-cons, sum_by-append, count_by-le-length}
 use Rattle.starlark_syntax.specs.Words as word
 use Rattle.starlark_syntax.specs.Words.{Text, Quote, Kind, OfText, OfBytes, OfFString, Terminal, Class, Table, class_in}
 use Rattle.starlark_syntax.specs.Front.{longest_front}
 use Rattle.starlark_syntax.specs.Tokens.{Token, Opening, Fault, Spanned, Lexeme, moved, Indent, Dedent, Newline, Outcome, FStringBang, FStringEnd, FStringExprStart, FStringStart}
 use Rattle.starlark_syntax.specs.Items.{Stop, Closing, Line, Ended, OpeningBrace, ClosingBrace, BadEscape, Literal, Found, Goes, Stops, found_at, Body, onward, body_from, body_at, body_len, body_value, closing_quotes}
 use Rattle.starlark_syntax.specs.Depths.{Where, Outside, InText, AtTop, Deeper}
-use Rattle.starlark_syntax.specs.Margins.{lines, is_comment_only, comment_of, comments_from, comment_lines, margin_from, Margin, margin_of, margin_len, is_content, has_tab, width_of, fits, is_widest, indentation, open_widths}
-use Rattle.starlark_syntax.specs.Pieces.{Before, Nothing, Layout, Gap, Other, Piece, Step, Stands, Fails, Ends, Situation, token, margin_step, first_margin, line_end, opening_of, more_quotes, escape_fault, literal_token, literal_by, literal, opener, chunk_text, chunk_piece, chunk_by, chunk, terminal_token, counts, starts_zero, word_step, front_step, takes_bang, is_bang, in_code, by_place, by_before, step_at}
-use Rattle.starlark_syntax.specs.Reading.{History, nothing, after, after_all, situation, next_step, IsReading, IsLongestReading, pieces_len, lexemes_along, closing, before_fault, outcome_of, outcome_in, read}
+use Rattle.starlark_syntax.specs.Margins.{lines, is_comment_only, comment_of, comments_from, comment_lines, Margin, margin_of, margin_len, is_content, has_tab, width_of, fits, is_widest, indentation, open_widths}
+use Rattle.starlark_syntax.specs.Pieces.{Before, Nothing, Layout, Gap, Other, Piece, Step, Stands, Fails, Situation, token, margin_step, first_margin, line_end, opening_of, more_quotes, escape_fault, literal_token, literal_by, literal, opener, chunk_text, chunk_piece, chunk_by, chunk, terminal_token, counts, starts_zero, word_step, front_step, takes_bang, is_bang, in_code, by_place, by_before, step_at}
+use Rattle.starlark_syntax.specs.Reading.{History, situation, next_step, read}
 use Rattle.starlark_syntax.specs.Laws.{is_indent, is_dedent, indents, dedents}
 use Rattle.starlark_syntax.proofs.Front.{front_sound}
 use Rattle.starlark_syntax.proofs.Bodies.{FoundFits, found_fits}
 use Rattle.starlark_syntax.proofs.Steps.{Each}
-use Rattle.starlark_syntax.proofs.Readings.{reading_fits, read_is}
 use Rattle.starlark_syntax.proofs.Widths.{indent_len, dedent_len}
 
 abbrev pub levels_len : List ℕ → ℕ

@@ -1,9 +1,8 @@
 -- Items, stops and bodies lie inside of the text.
-use Rattle.std.proofs.Common.{◌≡◌, ℕ, zero, suc, ◌+◌, ◌-◌, ◌≤◌, ◌<◌, Bool, true, false, cond, not, List, [], ◌∷◌, ◌++◌, length, take, drop, refl, ap, ◌∙◌, sym, subst, Option, Some, None, arith, nat_eq, ◌||◌}
+use Rattle.std.proofs.Common.{◌≡◌, ℕ, zero, suc, ◌+◌, ◌-◌, ◌≤◌, Bool, true, false, not, [], ◌∷◌, length, take, drop, refl, ap, ◌∙◌, sym, subst, Option, Some, None, arith, nat_eq}
 use Rattle.std.specs.Prelude.{⊤, ◌==◌, ◌&&◌, if◌then◌else◌, nat_lt, encode_utf8}
-use Rattle.std.proofs.lemmas.List.{length-take, length-drop, length-take-le}
+use Rattle.std.proofs.lemmas.List.{length-drop}
 use Rattle.std.proofs.lemmas.List.Sums.{prefix_len-le-length, sum_by-cons}
-use Rattle.std.proofs.lemmas.Bool.{and_parts, eqb-true}
 use Rattle.std.proofs.lemmas.Slice.Eq.{bytes_eq-Decides}
 use Rattle.std.specs.Char.{is_ascii_hexdigit}
 use Rattle.std.specs.List.{prefix_len, starts_with}
@@ -11,9 +10,9 @@ use Rattle.std.specs.Map.{lookup}
 use Rattle.std.specs.Str.{byte, continuation_len}
 use Rattle.std.specs.Str.Parse.{digits_value}
 use Rattle.starlark_syntax.proofs.Lists.{take_fits, drop-sum, drop-behind}
-use Rattle.starlark_syntax.specs.Words.{Text, Quote, Kind, OfFString, OfText, OfBytes, is_octal_digit}
+use Rattle.starlark_syntax.specs.Words.{Text, Quote, Kind, is_octal_digit}
 use Rattle.starlark_syntax.specs.Tokens.{Opening}
-use Rattle.starlark_syntax.specs.Items.{Literal, Item, Stop, Closing, Line, Ended, OpeningBrace, ClosingBrace, BadEscape, Found, Goes, Stops, goes, first_character, closing_quotes, broken, is_character, numbered, hexadecimal, octal, escaped_feed, simple_escapes, simple, is_of_bytes, escape, drops_backslash, raw_pair, brace, is_brace, found_at, Body, body_len, onward, body_from, body_at}
+use Rattle.starlark_syntax.specs.Items.{Literal, Item, Stop, Closing, Line, Ended, OpeningBrace, ClosingBrace, BadEscape, Found, Goes, Stops, goes, first_character, closing_quotes, broken, is_character, numbered, hexadecimal, octal, escaped_feed, simple_escapes, simple, is_of_bytes, escape, raw_pair, brace, is_brace, found_at, Body, body_len, onward, body_from, body_at}
 
 pub character_fits : (text : Text) → length (first_character text) ≤ length text
 character_fits [] = omega arith

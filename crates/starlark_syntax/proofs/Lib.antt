@@ -17,6 +17,14 @@ pub mod Gaps
 pub mod WordBytes
 pub mod Silent
 pub mod Order
+pub mod Edges
+pub mod Boundaries
+pub mod Bounded
+pub mod WordLines
+pub mod Followed
+pub mod FollowedBodies
+pub mod FollowedPieces
+pub mod Faults
 mod Rows
 mod RowsOfWords
 pub mod Scanning
@@ -28,3 +36,7 @@ pub mod ByFirst
 pub mod Ascii
 pub mod Openers
 pub mod FirstCharacter
+pub mod Settled
+pub mod MarginsFollowed
+pub mod Joining
+pub mod CleanCuts

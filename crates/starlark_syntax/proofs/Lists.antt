@@ -1,6 +1,6 @@
 -- Facts on lists.
-use Rattle.std.proofs.Common.{◌≡◌, ℕ, zero, suc, ◌+◌, ◌-◌, ◌≤◌, List, [], ◌∷◌, length, take, drop, refl, ap, ◌∙◌, sym, subst, arith}
-use Rattle.std.proofs.lemmas.List.{length-take, length-drop}
+use Rattle.std.proofs.Common.{◌≡◌, ℕ, zero, suc, ◌+◌, ◌-◌, ◌≤◌, List, [], ◌∷◌, length, take, drop, refl, ap, ◌∙◌, sym, arith}
+use Rattle.std.proofs.lemmas.List.{length-take}
 
 pub take_fits : {A : Type 0} (n : ℕ) (xs : List A) → (length (take n xs) ≤ length xs) × (length (take n xs) ≤ n)
 take_fits n xs = (omega (arith, length-take n xs), omega (arith, length-take n xs))

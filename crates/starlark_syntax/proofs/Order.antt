@@ -1,9 +1,9 @@
 -- Lexemes are in order, with nothing but gaps between them.
-use Rattle.std.proofs.Common.{◌≡◌, ℕ, zero, suc, ◌+◌, ◌-◌, ◌≤◌, ◌<◌, Bool, true, false, cond, not, List, [], ◌∷◌, ◌++◌, length, take, drop, refl, ap, ◌∙◌, sym, subst, Option, Some, None, arith, ◌⊎◌, inl, inr, ◌||◌, nat_eq, nat_lt, one-add, append-nil}
+use Rattle.std.proofs.Common.{◌≡◌, ℕ, zero, suc, ◌+◌, ◌≤◌, ◌<◌, Bool, true, false, cond, not, List, [], ◌∷◌, ◌++◌, length, take, drop, refl, ap, ◌∙◌, sym, subst, Option, Some, None, arith, ◌⊎◌, inl, inr, nat_lt, one-add, append-nil}
 use Rattle.std.specs.Prelude.{⊤, ◌&&◌, ◌==◌, if◌then◌else◌, map, sum_by, take_while, replicate, count_by}
 use Rattle.std.specs.List.{prefix_len, onto_first}
 use Rattle.std.specs.Str.{byte}
-use Rattle.std.proofs.lemmas.Bool.{and_parts, cases_lt, not-true}
+use Rattle.std.proofs.lemmas.Bool.{and_parts, eqb-true, not-true}
 use Rattle.std.proofs.lemmas.Bool.Decides.{nat_tests}
 use Rattle.std.proofs.lemmas.List.{take-append-drop, length-take-le, length-drop}
 use Rattle.std.proofs.Math.Seq.{drop-append_seam}
@@ -12,18 +12,18 @@ use Rattle.starlark_syntax.specs.Words as word
 use Rattle.starlark_syntax.specs.Words.{Text, Quote, Kind, OfText, OfBytes, OfFString, Class, Table, class_in, language}
 use Rattle.starlark_syntax.specs.Front.{longest_front}
 use Rattle.starlark_syntax.specs.Numbers.{integer_of}
-use Rattle.starlark_syntax.specs.Tokens.{Token, Comment, Identifier, Int, Float, Opening, Spanned, Fault, Lexeme, moved, Indent, Dedent, Newline, Outcome, FStringBang, FStringEnd, FStringExprStart, FStringStart, Indentation}
+use Rattle.starlark_syntax.specs.Tokens.{Token, Comment, Identifier, Int, Float, Opening, Lexeme, moved, Indent, Dedent, Newline, Outcome, FStringBang, FStringEnd, FStringExprStart, FStringStart}
 use Rattle.starlark_syntax.specs.Items.{Stop, Closing, Line, Ended, OpeningBrace, ClosingBrace, BadEscape, Body, body_at, body_len, body_value, closing_quotes}
 use Rattle.starlark_syntax.specs.Depths.{Where, Outside, InText, AtTop, Deeper}
-use Rattle.starlark_syntax.specs.Margins.{is_blank, is_feed, blanks_len, lines, begins_comment, is_comment_only, without_return, comment_part, comment_of, comments_from, comment_lines, margin_from, Margin, margin_of, margin_len, is_content, has_tab, width_of, fits, is_widest, indentation}
-use Rattle.starlark_syntax.specs.Pieces.{Before, Nothing, Layout, Gap, Other, Piece, Step, Stands, Fails, Ends, Situation, token, margin_step, first_margin, line_end, opening_of, more_quotes, escape_fault, literal_token, literal_by, literal, opener, chunk_text, chunk_piece, chunk_by, chunk, terminal_token, counts, starts_zero, word_step, front_step, takes_bang, is_bang, in_code, by_place, by_before, step_at}
+use Rattle.starlark_syntax.specs.Margins.{is_blank, is_feed, blanks_len, lines, begins_comment, is_comment_only, without_return, comment_part, comments_from, comment_lines, margin_from, Margin, margin_of, margin_len, is_content, has_tab, width_of, fits, is_widest, indentation}
+use Rattle.starlark_syntax.specs.Pieces.{Before, Nothing, Layout, Gap, Other, Piece, Step, Stands, Fails, Ends, Situation, token, margin_step, line_end, opening_of, more_quotes, escape_fault, literal_token, literal_by, opener, chunk_text, chunk_piece, chunk_by, chunk, terminal_token, counts, starts_zero, word_step, front_step, takes_bang, is_bang, in_code, by_place, by_before, step_at}
 use Rattle.starlark_syntax.specs.Reading.{History, nothing, after, after_all, situation, next_step, IsReading, IsLongestReading, pieces_len, lexemes_along, closing, outcome_of, outcome_in, outcome, read}
 use Rattle.starlark_syntax.specs.Cuts.{IsGap, InOrder}
 use Rattle.starlark_syntax.proofs.Front.{front_sound}
 use Rattle.starlark_syntax.proofs.Lists.{take_fits, drop-sum}
 use Rattle.starlark_syntax.proofs.Steps.{Each, margin_fits}
 use Rattle.starlark_syntax.proofs.Readings.{ends_at_end, reading_fits, read_is}
-use Rattle.starlark_syntax.proofs.Gaps.{gap_none, gap_join, gap_shift, gap_cons, gap_first, blank_gap, feed_gap, blanks_gap, order_extend, order_append, order_shift, all_gaps, word_gap}
+use Rattle.starlark_syntax.proofs.Gaps.{gap_none, gap_shift, gap_cons, gap_first, blank_gap, feed_gap, blanks_gap, order_extend, order_append, order_shift, all_gaps, word_gap}
 use Rattle.starlark_syntax.proofs.WordBytes.{is_plain, word_fits, language_fits}
 use Rattle.starlark_syntax.proofs.Silent.{silent_gap}
 
@@ -41,6 +41,7 @@ pub record Split (text line : Text) (more : List Text) : Type 0 where
   pub whole : text ≡ line ++ rest
   pub left : lines rest ≡ more
   pub one : is_line line ≡ true
+  pub ended : (rest ≡ []) ⊎ ((front : Text) × (line ≡ front ++ 10 ∷ []))
 
 no_lines : (text : Text) → lines text ≡ [] → text ≡ []
 unfolding lines
@@ -64,21 +65,25 @@ first_line (b ∷ bs) line more e = go (is_feed b) refl (lines bs) refl (first_l
     longer [] f h = refl
     longer (c ∷ cs) f h = rw f h
 
+    later : (l rest : Text) → (rest ≡ []) ⊎ ((front : Text) × (l ≡ front ++ 10 ∷ [])) → (rest ≡ []) ⊎ ((front : Text) × (b ∷ l ≡ front ++ 10 ∷ []))
+    later l rest (inl none) = inl none
+    later l rest (inr found) = inr (b ∷ found.0, ap (λ (t : Text). b ∷ t) found.1)
+
     go : (feed : Bool) → is_feed b ≡ feed → (m : List Text) → lines bs ≡ m → ((l : Text) (ms : List Text) → lines bs ≡ l ∷ ms → Split bs l ms) → (if feed then (b ∷ []) ∷ m else onto_first b m) ≡ line ∷ more → Split (b ∷ bs) line more
     go true f m k h e =
         let first : b ∷ [] ≡ line = cc in
         let rest : m ≡ more = cc in
-        other_split (b ∷ bs) line (b ∷ []) more m first rest (record { rest = bs; whole = refl; left = k; one = refl })
+        other_split (b ∷ bs) line (b ∷ []) more m first rest (record { rest = bs; whole = refl; left = k; one = refl; ended = inr ([], ap (λ c. c ∷ []) (eqb-true b 10 f)) })
     go false f [] k h e =
         let none = no_lines bs k in
         let first : b ∷ [] ≡ line = cc in
         let rest : [] ≡ more = cc in
-        other_split (b ∷ bs) line (b ∷ []) more [] first rest (record { rest = bs; whole = refl; left = k; one = refl })
+        other_split (b ∷ bs) line (b ∷ []) more [] first rest (record { rest = bs; whole = refl; left = k; one = refl; ended = inl none })
     go false f (l ∷ m) k h e =
         let split = h l m k in
         let first : b ∷ l ≡ line = cc in
         let rest : m ≡ more = cc in
-        other_split (b ∷ bs) line (b ∷ l) more m first rest (record { rest = split.rest; whole = ap (λ (t : Text). b ∷ t) split.whole; left = split.left; one = longer l f split.one })
+        other_split (b ∷ bs) line (b ∷ l) more m first rest (record { rest = split.rest; whole = ap (λ (t : Text). b ∷ t) split.whole; left = split.left; one = longer l f split.one; ended = later l split.rest split.ended })
 
 -- Comment-only lines
 
@@ -98,7 +103,7 @@ part_more b bs e =
     ap without_return same
 
 -- the blanks end before the comment does
-comment_spans : (line : Text) → is_comment_only line ≡ true → blanks_len line < length (comment_part line)
+pub comment_spans : (line : Text) → is_comment_only line ≡ true → blanks_len line < length (comment_part line)
 comment_spans [] h = cc
 comment_spans (b ∷ bs) h = go (is_blank b) refl (is_feed b) refl h (comment_spans bs)
   where
@@ -141,7 +146,7 @@ tail_more b [] behind n gap = go (b == byte "\r") refl
 tail_more b (c ∷ cs) behind n gap = gap_cons b behind (length (without_return (c ∷ cs))) n gap
 
 -- behind a comment its line end stands
-comment_tail : (line rest : Text) → is_line line ≡ true → IsGap (line ++ rest) (length (comment_part line)) (length line)
+pub comment_tail : (line rest : Text) → is_line line ≡ true → IsGap (line ++ rest) (length (comment_part line)) (length line)
 comment_tail [] rest h = gap_none rest 0
 comment_tail (b ∷ []) rest h = go (is_feed b) refl
   where
@@ -154,7 +159,7 @@ comment_tail (b ∷ c ∷ bs) rest h =
     tail_more b (before_feed (c ∷ bs)) (c ∷ bs ++ rest) (length (c ∷ bs)) (comment_tail (c ∷ bs) rest parts.1) in
     subst (λ (t : Text). IsGap (b ∷ (c ∷ bs ++ rest)) (length t) (suc (length (c ∷ bs)))) (sym (part_more b (c ∷ bs) (not-true (is_feed b) parts.0))) text
 
-part_len : (line : Text) → length (comment_part line) ≤ length line
+pub part_len : (line : Text) → length (comment_part line) ≤ length line
 part_len line =
     let taken = take_fits (prefix_len (λ b. not (is_feed b)) line) line in
     let cut = shorter (before_feed line) in
@@ -171,7 +176,7 @@ part_len line =
 
 -- Margins
 
-abbrev lines_sum : List Text → ℕ
+abbrev pub lines_sum : List Text → ℕ
 lines_sum ls = sum_by (λ (line : Text). length line) ls
 
 -- the comments of a margin from a place on, and what follows them
@@ -219,7 +224,7 @@ comments_order whole at text (line ∷ more) tail to e f h = go (is_comment_only
 blanks_behind : (text : Text) → IsGap text 0 (blanks_len text)
 blanks_behind text = subst (λ (t : Text). IsGap t 0 (blanks_len text)) (append-nil text) (blanks_gap text [])
 
-margin_blanks : (passed : List Text) (at : ℕ) (text : Text) → IsGap text at (margin_len (margin_from passed at (drop at text)))
+pub margin_blanks : (passed : List Text) (at : ℕ) (text : Text) → IsGap text at (margin_len (margin_from passed at (drop at text)))
 margin_blanks passed at text =
     let within = prefix_len-le-length is_blank (drop at text) in
     let taken : length (take (blanks_len (drop at text)) (drop at text)) ≡ blanks_len (drop at text) = length-take-le (blanks_len (drop at text)) (drop at text) within in

@@ -1,17 +1,16 @@
 -- Readings: of two one begins the other, and what is computed is the longest.
-use Rattle.std.proofs.Common.{◌≡◌, ℕ, zero, suc, ◌+◌, ◌-◌, ◌≤◌, ◌<◌, Bool, true, false, List, [], ◌∷◌, ◌++◌, length, drop, refl, ap, ◌∙◌, sym, subst, Option, Some, None, arith, append-nil, inl, inr, ◌⊎◌}
-use Rattle.std.specs.Prelude.{⊤, sum_by}
+use Rattle.std.proofs.Common.{◌≡◌, ℕ, zero, suc, ◌+◌, ◌-◌, ◌≤◌, false, List, [], ◌∷◌, ◌++◌, length, drop, refl, ap, ◌∙◌, sym, subst, arith, append-nil, inl, inr, ◌⊎◌}
 use Rattle.std.proofs.lemmas.List.{length-drop}
 use Rattle.std.proofs.lemmas.List.Sums.{sum_by-cons}
 use Rattle.starlark_syntax.specs.Words.{Text, Table}
-use Rattle.starlark_syntax.specs.Tokens.{Outcome}
+use Rattle.starlark_syntax.specs.Tokens.{Fault, Spanned, Outcome}
 use Rattle.starlark_syntax.specs.Depths.{Where, Outside, InText, AtTop, Deeper}
 use Rattle.starlark_syntax.specs.Items.{body_from, body_at}
-use Rattle.starlark_syntax.specs.Pieces.{Before, Nothing, Layout, Gap, Other, Piece, Step, Stands, Fails, Ends, Situation, in_code, chunk, by_place, by_before, step_at}
-use Rattle.starlark_syntax.specs.Reading.{History, nothing, after, after_all, situation, next_step, IsReading, IsLongestReading, pieces_len, Reading, onward, read_from, read, outcome_of, outcome_in, IsOutcome}
+use Rattle.starlark_syntax.specs.Pieces.{Before, Nothing, Layout, Gap, Other, Piece, Step, Stands, Fails, Ends, Situation, chunk, by_place, by_before, step_at}
+use Rattle.starlark_syntax.specs.Reading.{History, nothing, after, after_all, situation, next_step, IsReading, IsLongestReading, pieces_len, onward, read_from, read, outcome_of, outcome_in, IsOutcome}
 use Rattle.starlark_syntax.specs.Laws.{Begins}
-use Rattle.starlark_syntax.proofs.Lists.{drop-nil, drop-sum, drop-behind}
-use Rattle.starlark_syntax.proofs.Steps.{PieceFits, StepFits, is_nothing, least_len, step_fits}
+use Rattle.starlark_syntax.proofs.Lists.{drop-sum, drop-behind}
+use Rattle.starlark_syntax.proofs.Steps.{FaultFits, PieceFits, StepFits, is_nothing, least_len, step_fits}
 
 -- of two pieces that stand at one place
 same_piece : (step : Step) (one other : Piece) → step ≡ Stands one → step ≡ Stands other → one ≡ other
@@ -40,6 +39,11 @@ readings_agree table history text (first ∷ one) (second ∷ other) h k =
 pub piece_fits : (table : Table) (history : History) (text : Text) (piece : Piece) → next_step table history text ≡ Stands piece → PieceFits (least_len history.before) text piece
 unfolding next_step situation
 piece_fits table history text piece e = subst (StepFits (least_len history.before) text) e (step_fits table (situation history) text)
+
+-- what is known of a fault that stands somewhere
+pub fault_fits : (table : Table) (history : History) (text : Text) (fault : Spanned Fault) → next_step table history text ≡ Fails fault → FaultFits text fault
+unfolding next_step situation
+fault_fits table history text fault e = subst (StepFits (least_len history.before) text) e (step_fits table (situation history) text)
 
 -- where the text is at its end
 pub ends_at_end : (table : Table) (history : History) (text : Text) → next_step table history text ≡ Ends → text ≡ []
@@ -72,7 +76,7 @@ none_at_end table s piece h e = by_before' s.before h e
     by_before' Other h e = by_place' s.place e
 
 -- the history behind a piece isn't that of a text's start
-started : (history : History) (piece : Piece) → is_nothing piece.sort ≡ false → is_nothing (after history piece).before ≡ false
+pub started : (history : History) (piece : Piece) → is_nothing piece.sort ≡ false → is_nothing (after history piece).before ≡ false
 unfolding after
 started history piece h = h
 
@@ -83,7 +87,7 @@ one_least Gap h = refl
 one_least Other h = refl
 
 -- one more piece in front
-longest_onward : (table : Table) (history : History) (text : Text) (piece : Piece) (pieces : List Piece) (last : Step) → next_step table history text ≡ Stands piece → IsLongestReading table (after history piece) (drop piece.len text) pieces last → IsLongestReading table history text (piece ∷ pieces) last
+pub longest_onward : (table : Table) (history : History) (text : Text) (piece : Piece) (pieces : List Piece) (last : Step) → next_step table history text ≡ Stands piece → IsLongestReading table (after history piece) (drop piece.len text) pieces last → IsLongestReading table history text (piece ∷ pieces) last
 longest_onward table history text piece pieces last e h =
     let total : pieces_len (piece ∷ pieces) ≡ piece.len + pieces_len pieces = sum_by-cons (λ (piece : Piece). piece.len) piece pieces in
     let left : drop (pieces_len (piece ∷ pieces)) text ≡ drop (pieces_len pieces) (drop piece.len text) = ap (λ n. drop n text) total ∙ drop-sum piece.len (pieces_len pieces) text in
@@ -93,7 +97,7 @@ longest_onward table history text piece pieces last e h =
       no_piece = h.no_piece;
     }
 
-none_next : (table : Table) (history : History) (piece : Piece) → is_nothing history.before ≡ false → next_step table history [] ≡ Stands piece → ⊥
+pub none_next : (table : Table) (history : History) (piece : Piece) → is_nothing history.before ≡ false → next_step table history [] ≡ Stands piece → ⊥
 unfolding next_step situation
 none_next table history piece h e = none_at_end table (situation history) piece h e
 

@@ -1,21 +1,21 @@
 -- A body that denotes nothing is a gap: its items are CRs and escaped line ends.
-use Rattle.std.proofs.Common.{◌≡◌, ℕ, zero, suc, ◌+◌, ◌-◌, ◌≤◌, ◌<◌, Bool, true, false, cond, not, List, [], ◌∷◌, ◌++◌, length, take, drop, refl, ap, ◌∙◌, sym, subst, Option, Some, None, arith, nat_eq, ◌||◌}
+use Rattle.std.proofs.Common.{◌≡◌, ℕ, zero, suc, ◌+◌, ◌-◌, ◌≤◌, Bool, true, false, not, [], ◌∷◌, ◌++◌, length, take, drop, refl, sym, subst, Option, Some, None, arith, nat_eq}
 use Rattle.std.specs.Prelude.{⊤, ◌==◌, ◌&&◌, if◌then◌else◌, nat_lt, encode_utf8}
 use Rattle.std.specs.Char.{is_ascii_hexdigit, len_utf8}
 use Rattle.std.specs.List.{prefix_len, starts_with}
 use Rattle.std.specs.Map.{lookup}
-use Rattle.std.specs.Str.{byte, continuation_len}
+use Rattle.std.specs.Str.{byte}
 use Rattle.std.specs.Str.Parse.{digits_value}
-use Rattle.std.proofs.lemmas.Bool.{eqb-true, and_parts}
+use Rattle.std.proofs.lemmas.Bool.{eqb-true}
 use Rattle.std.proofs.lemmas.Bool.Decides.{nat_tests}
 use Rattle.std.proofs.lemmas.Str.{length-encode}
 use Rattle.std.proofs.lemmas.List.Sums.{sum_by-cons}
 use Rattle.starlark_syntax.specs.Words.{Text, Quote, Kind, is_octal_digit}
-use Rattle.starlark_syntax.specs.Items.{Literal, Item, Stop, Found, Goes, Stops, goes, first_character, closing_quotes, broken, is_character, numbered, hexadecimal, octal, escaped_feed, simple_escapes, simple, is_of_bytes, escape, drops_backslash, raw_pair, brace, is_brace, found_at, Body, body_len, body_value, onward, body_from, body_at, OpeningBrace, ClosingBrace, Closing, Line}
+use Rattle.starlark_syntax.specs.Items.{Literal, Item, Stop, Found, Goes, Stops, goes, first_character, closing_quotes, broken, is_character, numbered, hexadecimal, escaped_feed, simple_escapes, simple, is_of_bytes, escape, drops_backslash, raw_pair, brace, is_brace, found_at, Body, body_len, body_value, onward, body_from, body_at, OpeningBrace, ClosingBrace}
 use Rattle.starlark_syntax.specs.Cuts.{is_gap_byte, IsGap}
 use Rattle.starlark_syntax.proofs.Lists.{drop-behind}
 use Rattle.starlark_syntax.proofs.Bodies.{FoundFits, found_fits}
-use Rattle.starlark_syntax.proofs.Gaps.{gap_none, gap_join, gap_shift, gap_first, word_gap}
+use Rattle.starlark_syntax.proofs.Gaps.{gap_none, gap_join, gap_shift, word_gap}
 
 -- an item that denotes nothing is a gap
 abbrev Silent : Text → Found → Type 0

@@ -1,21 +1,20 @@
 -- Pieces and faults lie inside of the text, and no piece but a first margin is empty.
-use Rattle.std.proofs.Common.{◌≡◌, ℕ, zero, suc, ◌+◌, ◌-◌, ◌≤◌, ◌<◌, Bool, true, false, cond, not, List, [], ◌∷◌, ◌++◌, length, take, drop, refl, ap, ◌∙◌, sym, subst, Option, Some, None, arith, nat_eq, ◌||◌}
-use Rattle.std.specs.Prelude.{⊤, ◌==◌, ◌&&◌, if◌then◌else◌, nat_lt, sum_by, take_while}
-use Rattle.std.proofs.lemmas.List.{length-take, length-drop, length-take-le}
-use Rattle.std.proofs.lemmas.List.Sums.{prefix_len-le-length, sum_by-cons, sum_by-take-le}
+use Rattle.std.proofs.Common.{◌≡◌, ℕ, suc, ◌+◌, ◌≤◌, Bool, true, false, not, List, [], ◌∷◌, length, take, drop, refl, ap, ◌∙◌, Option, Some, None, arith, nat_eq}
+use Rattle.std.specs.Prelude.{⊤, ◌&&◌, if◌then◌else◌, sum_by}
+use Rattle.std.proofs.lemmas.List.{length-drop, length-take-le}
+use Rattle.std.proofs.lemmas.List.Sums.{sum_by-cons, sum_by-take-le}
 use Rattle.std.specs.List.{prefix_len, starts_with, onto_first}
-use Rattle.std.specs.Str.{byte}
 use Rattle.starlark_syntax.specs.Words as word
 use Rattle.starlark_syntax.specs.Words.{Text, Quote, Kind, OfText, OfBytes, OfFString, Class, Table, class_in}
 use Rattle.starlark_syntax.specs.Front.{longest_front}
-use Rattle.starlark_syntax.specs.Tokens.{Token, Opening, Fault, Spanned, Lexeme, FStringBang, FStringStart, Newline, InvalidTab, Indentation}
-use Rattle.starlark_syntax.specs.Items.{Stop, Closing, Line, Ended, OpeningBrace, ClosingBrace, BadEscape, Body, body_at, body_len, closing_quotes, quote_byte, first_character}
+use Rattle.starlark_syntax.specs.Tokens.{Token, Opening, Fault, Spanned, Lexeme, FStringBang, FStringStart}
+use Rattle.starlark_syntax.specs.Items.{Stop, Closing, Line, Ended, OpeningBrace, ClosingBrace, BadEscape, Body, body_at, body_len, closing_quotes, quote_byte}
 use Rattle.starlark_syntax.specs.Depths.{Where, Outside, InText, AtTop, Deeper}
-use Rattle.starlark_syntax.specs.Margins.{lines, is_feed, is_comment_only, comment_lines, blanks_len, margin_from, Margin, margin_of, margin_len, is_content, has_tab, width_of, fits, indentation}
-use Rattle.starlark_syntax.specs.Pieces.{Before, Nothing, Layout, Gap, Other, Piece, Step, Stands, Fails, Ends, Situation, piece, token, gap, fault, margin_step, first_margin, line_end, opening_of, more_quotes, escape_fault, unfinished, literal_by, literal, opener, chunk_piece, chunk_by, chunk, counts, starts_zero, word_step, front_step, takes_bang, is_bang, in_code, by_place, by_before, step_at}
-use Rattle.starlark_syntax.proofs.Lists.{take_fits, drop-sum, drop-behind}
+use Rattle.starlark_syntax.specs.Margins.{lines, is_feed, is_comment_only, comment_lines, blanks_len, margin_from, Margin, margin_of, margin_len, is_content, has_tab, width_of, fits}
+use Rattle.starlark_syntax.specs.Pieces.{Before, Nothing, Layout, Gap, Other, Piece, Step, Stands, Fails, Ends, Situation, piece, token, fault, margin_step, opening_of, more_quotes, escape_fault, literal_by, literal, opener, chunk_by, chunk, counts, starts_zero, word_step, front_step, takes_bang, is_bang, in_code, by_place, by_before, step_at}
+use Rattle.starlark_syntax.proofs.Lists.{take_fits}
 use Rattle.starlark_syntax.proofs.Front.{front_sound}
-use Rattle.starlark_syntax.proofs.Bodies.{StopFits, BodyFits, body_fits, starts_fits, character_fits}
+use Rattle.starlark_syntax.proofs.Bodies.{StopFits, body_fits, starts_fits, character_fits}
 
 -- what is so of a piece or of a fault
 abbrev pub Each : (Piece → Type 0) → (Spanned Fault → Type 0) → Step → Type 0
@@ -52,7 +51,7 @@ token_fits len node text some inside = record { some = some; inside = inside; so
 
 -- Margins
 
-lines_len : (text : Text) → sum_by (λ (line : Text). length line) (lines text) ≡ length text
+pub lines_len : (text : Text) → sum_by (λ (line : Text). length line) (lines text) ≡ length text
 unfolding lines
 lines_len [] = refl
 lines_len (b ∷ bs) = go (is_feed b) (lines bs) (lines_len bs)

@@ -1,8 +1,8 @@
 -- Indents, dedents and lexemes of whole texts.
-use Rattle.std.proofs.Common.{◌≡◌, ℕ, zero, suc, ◌+◌, ◌-◌, ◌*◌, ◌≤◌, ◌<◌, Bool, true, false, cond, List, [], ◌∷◌, ◌++◌, length, take, drop, refl, ap, ◌∙◌, sym, subst, Option, Some, None, arith, ◌⊎◌, inl, inr, append-nil, append_assoc}
-use Rattle.std.specs.Prelude.{⊤, count_by, sum_by, map, replicate, option_to_list}
+use Rattle.std.proofs.Common.{◌≡◌, ℕ, zero, suc, ◌+◌, ◌-◌, ◌*◌, ◌≤◌, ◌<◌, false, cond, List, [], ◌∷◌, ◌++◌, length, take, drop, refl, ap, ◌∙◌, sym, subst, Some, None, arith, ◌⊎◌, inl, inr, append-nil, append_assoc}
+use Rattle.std.specs.Prelude.{map, replicate, option_to_list}
 use Rattle.std.proofs.lemmas.Bool.{cases_lt}
-use Rattle.std.proofs.lemmas.List.{length-append, length-map, length-replicate, take-append-le, take_all}
+use Rattle.std.proofs.lemmas.List.{length-append, length-map, length-replicate, take-append-le}
 use Rattle.std.proofs.Math.Seq.{take-append-add}
 use Rattle.std.proofs.lemmas.List.Folds.{sum_by-replicate}
 use Rattle.std.proofs.lemmas.List.Sums.{sum_by-cons, sum_by-append, sum_by-take-le}
@@ -10,11 +10,11 @@ use Rattle.starlark_syntax.specs.Words.{Text, Table}
 use Rattle.starlark_syntax.specs.Tokens.{Lexeme, moved, Dedent, Newline, Fault, Spanned, Outcome}
 use Rattle.starlark_syntax.specs.Margins.{margin_of, open_widths}
 use Rattle.starlark_syntax.specs.Pieces.{Before, Nothing, Layout, Gap, Other, Piece, Step, Stands, Fails, Ends}
-use Rattle.starlark_syntax.specs.Reading.{History, nothing, after, after_all, next_step, IsReading, pieces_len, lexemes_along, closing, outcome_of, outcome_in, read}
+use Rattle.starlark_syntax.specs.Reading.{History, nothing, after, after_all, IsReading, pieces_len, lexemes_along, closing, outcome_of, outcome_in, read}
 use Rattle.starlark_syntax.specs.Laws.{is_indent, is_dedent, indents, dedents}
 use Rattle.starlark_syntax.proofs.Steps.{is_nothing, margin_fits}
 use Rattle.starlark_syntax.proofs.Readings.{piece_fits, reading_fits, read_is}
-use Rattle.starlark_syntax.proofs.Balance.{levels_len, Balances, StartsSo, count-moved, MarginIsQuiet, margin_quiet, piece_balances}
+use Rattle.starlark_syntax.proofs.Balance.{levels_len, StartsSo, count-moved, margin_quiet, piece_balances}
 
 dedents-append : (xs ys : List Lexeme) → dedents (xs ++ ys) ≡ dedents xs + dedents ys
 dedents-append xs ys = sum_by-append (λ (lexeme : Lexeme). cond (is_dedent lexeme.node) 1 0) xs ys

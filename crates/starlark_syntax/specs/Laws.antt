@@ -1,11 +1,13 @@
 -- What the laws of the grammar say.
-use Rattle.std.specs.Prelude.{◌≡◌, ◌≤◌, ℕ, ◌+◌, ◌*◌, Bool, true, false, ◌⊎◌, List, ◌++◌, length, take, count_by, Option, Some, None, option_to_list}
+use Rattle.std.specs.Prelude.{◌≡◌, ◌≤◌, ℕ, ◌+◌, ◌*◌, Bool, true, false, ◌⊎◌, List, ◌++◌, length, take, count_by, Option, Some, None, option_map, option_to_list, IfSome}
+use Rattle.std.specs.List.{AllByRecursion}
+use Rattle.std.specs.Str.{IsUtf8, IsCharBoundary}
 use Rattle.starlark_syntax.specs.Words.{Text, Class, Table, class_in, language}
 use Rattle.starlark_syntax.specs.Front.{IsLongestFront, language_front}
-use Rattle.starlark_syntax.specs.Tokens.{Token, Indent, Dedent, Lexeme, Outcome}
-use Rattle.starlark_syntax.specs.Pieces.{Piece}
-use Rattle.starlark_syntax.specs.Reading.{History, IsReading, pieces_len, outcome_in, outcome, IsOutcome}
-use Rattle.starlark_syntax.specs.Cuts.{InOrder}
+use Rattle.starlark_syntax.specs.Tokens.{Token, Indent, Dedent, Spanned, Lexeme, moved, Outcome}
+use Rattle.starlark_syntax.specs.Pieces.{Piece, Stands}
+use Rattle.starlark_syntax.specs.Reading.{History, nothing, next_step, IsReading, pieces_len, outcome_in, outcome, IsOutcome}
+use Rattle.starlark_syntax.specs.Cuts.{InOrder, is_clean_cut, joined}
 
 -- What is computed as the longest front of a text is one, …
 abbrev pub FrontIsLongest : Type 0
@@ -43,6 +45,18 @@ LexemesInOrder = (text : Text) → (to : ℕ) × (to ≤ length text) × InOrder
 abbrev pub FaultlessInOrder : Type 0
 FaultlessInOrder = (text : Text) → (outcome text).fault ≡ None → InOrder text 0 (outcome text).lexemes (length text)
 
+-- The fault of a text lies inside of it.
+abbrev pub FaultsInside : Type 0
+FaultsInside = (table : Table) (text : Text) → IfSome (outcome_in table text).fault (λ fault. (fault.begin ≤ fault.end) × (fault.end ≤ length text))
+
+-- both ends of something lie between characters of the text
+abbrev pub AtBoundaries : {A : Type 0} → Text → Spanned A → Type 0
+AtBoundaries text x = IsCharBoundary text x.begin × IsCharBoundary text x.end
+
+-- The lexemes of a text of characters begin and end between characters.
+abbrev pub LexemesAtBoundaries : Type 0
+LexemesAtBoundaries = (text : Text) → IsUtf8 text → AllByRecursion (AtBoundaries text) (outcome text).lexemes
+
 abbrev pub is_indent : Token → Bool
 is_indent Indent = true
 is_indent token = false
@@ -68,3 +82,13 @@ BlocksClose = (table : Table) (text : Text) → (outcome_in table text).fault �
 -- Of n bytes there are at most 2n + 1 lexemes and faults.
 abbrev pub ItemsAreFew : Type 0
 ItemsAreFew = (table : Table) (text : Text) → length (outcome_in table text).lexemes + length (option_to_list (outcome_in table text).fault) ≤ 2 * length text + 1
+
+-- the first margin of a text stands
+abbrev pub HasFirstMargin : Table → Text → Type 0
+HasFirstMargin table text = (piece : Piece) × (next_step table nothing text ≡ Stands piece)
+
+-- Where a text is a clean cut, it and a text behind it come to the joined list, and to the second text's fault, moved
+-- along, where that isn't its first margin's.
+abbrev pub CutsJoin : Type 0
+CutsJoin = (first second : Text) → is_clean_cut first ≡ true → HasFirstMargin language second
+    → outcome (first ++ second) ≡ record { lexemes = joined (length first) (outcome first).lexemes (outcome second).lexemes; fault = option_map (moved (length first)) (outcome second).fault }

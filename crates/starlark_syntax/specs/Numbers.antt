@@ -1,5 +1,5 @@
 -- Integers as they are written in a base.
-use Rattle.std.specs.Prelude.{ℕ, ◌+◌, ◌*◌, ◌^◌, ◌-◌, Bool, true, false, ◌&&◌, ◌||◌, ◌==◌, if◌then◌else◌, nat_eq, nat_lt, nat_le, List, [], ◌∷◌, map, drop, length, ℤ, pos, neg_ℤ, Option, Some, None}
+use Rattle.std.specs.Prelude.{ℕ, ◌^◌, Bool, false, ◌&&◌, ◌||◌, ◌==◌, if◌then◌else◌, nat_eq, nat_lt, [], ◌∷◌, map, drop, ℤ, pos, neg_ℤ, Option, Some, None}
 use Rattle.std.specs.Char.{is_digit, to_ascii_lowercase}
 use Rattle.std.specs.List.{prefix_len}
 use Rattle.std.specs.Str.Parse.{digits_value}

@@ -1,10 +1,10 @@
 -- Readings of a text, and the outcome.
-use Rattle.std.specs.Prelude.{◌≡◌, ℕ, zero, suc, ◌+◌, ◌-◌, Bool, true, false, List, [], ◌∷◌, ◌++◌, map, reverse, length, drop, sum_by, replicate, Option, Some, None, option_to_list, ⊤}
+use Rattle.std.specs.Prelude.{◌≡◌, ℕ, zero, suc, ◌+◌, ◌-◌, List, [], ◌∷◌, ◌++◌, map, length, drop, sum_by, replicate, Some, None, option_to_list, ⊤}
 use Rattle.starlark_syntax.specs.Words.{Text, Table, language}
-use Rattle.starlark_syntax.specs.Tokens.{Token, Newline, Dedent, Spanned, Lexeme, moved, Fault, Outcome}
+use Rattle.starlark_syntax.specs.Tokens.{Token, Newline, Dedent, Lexeme, moved, Outcome}
 use Rattle.starlark_syntax.specs.Depths.{where_after, is_balanced}
 use Rattle.starlark_syntax.specs.Margins.{margin_of, open_widths}
-use Rattle.starlark_syntax.specs.Pieces.{Before, Nothing, Piece, Step, Stands, Fails, Ends, Situation, step_at}
+use Rattle.starlark_syntax.specs.Pieces.{Before, Nothing, Piece, Step, Stands, Fails, Situation, step_at}
 
 -- What was read: the tokens, the last of them first; the widths of the content lines; what the last piece was.
 pub record History : Type 0 where

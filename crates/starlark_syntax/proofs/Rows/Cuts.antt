@@ -13,7 +13,6 @@ use Rattle.starlark_syntax.specs.Margins.{lines, margin_of, open_widths, fits, i
 use Rattle.starlark_syntax.specs.Pieces.{margin_step, chunk, step_at}
 use Rattle.starlark_syntax.specs.Reading.{after, situation, next_step, read_from, read, outcome_in, outcome}
 use Rattle.starlark_syntax.specs.Cuts.{is_settled, is_clean_cut_in, is_clean_cut, is_kept_cut, joined}
-use Rattle.starlark_syntax.proofs.Rows.Shapes.{at}
 
 -- the lexemes of two texts joined are the joined list
 abbrev Joins : Text → Text → Type 0

@@ -12,7 +12,7 @@ use Rattle.starlark_syntax.specs.Depths.{is_balanced, open_fstring, braces, dept
 use Rattle.starlark_syntax.specs.Margins.{lines, margin_of, open_widths, fits, indentation}
 use Rattle.starlark_syntax.specs.Pieces.{margin_step, chunk, step_at}
 use Rattle.starlark_syntax.specs.Reading.{after, situation, next_step, read_from, read, outcome_in, outcome}
-use Rattle.starlark_syntax.proofs.Rows.Shapes.{at, utf8, raw, Lexes, Stops}
+use Rattle.starlark_syntax.proofs.Rows.Shapes.{at, utf8, Lexes, Stops}
 
 -- literals and their faults
 literals_1 :

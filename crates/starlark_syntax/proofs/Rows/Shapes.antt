@@ -1,7 +1,6 @@
 -- How the rows of worked texts are written.
 use Rattle.std.proofs.Common.{◌≡◌}
 use Rattle.std.specs.Prelude.{ℕ, Bool, true, false, Some, None, List, codes, encode_utf8_all}
-use Rattle.std.specs.Str.{byte}
 use Rattle.starlark_syntax.specs.Words.{Text, Quote, SingleQuote, DoubleQuote}
 use Rattle.starlark_syntax.specs.Tokens.{Token, FStringStart, Fault, Spanned, Lexeme}
 use Rattle.starlark_syntax.specs.Reading.{outcome}

@@ -1,6 +1,6 @@
 -- Worked texts of words and numbers, closed by computing.
 use Rattle.std.proofs.Common.{refl}
-use Rattle.std.specs.Prelude.{false, None, [], ◌∷◌, codes, pos}
+use Rattle.std.specs.Prelude.{false, [], ◌∷◌, codes, pos}
 use Rattle.std.proofs.Math.Utf8.{encode}
 use Rattle.starlark_syntax.specs.Words as word
 use Rattle.starlark_syntax.specs.Words.{class_in, openers, line_ends, symbols, names, patterns, language}
@@ -163,8 +163,21 @@ numbers_4 :
     × Lexes (codes "0x000000000ff") (at 0 (Int (Small (pos 255))) 13 ∷ at 13 Newline 13 ∷ [])
     × Lexes (codes "0b0") (at 0 (Int (Small (pos 0))) 3 ∷ at 3 Newline 3 ∷ [])
     × Lexes (codes "9a") (at 0 (Int (Small (pos 9))) 1 ∷ at 1 (Identifier (codes "a")) 2 ∷ at 2 Newline 2 ∷ [])
+    × Lexes (codes ".e5") (at 0 (Word word.Dot) 1 ∷ at 1 (Identifier (codes "e5")) 3 ∷ at 3 Newline 3 ∷ [])
+    × Lexes (codes "0O7") (at 0 (Int (Small (pos 7))) 3 ∷ at 3 Newline 3 ∷ [])
+    × Lexes (codes "1.e") (at 0 (Float (codes "1.")) 2 ∷ at 2 (Identifier (codes "e")) 3 ∷ at 3 Newline 3 ∷ [])
 unfolding encode openers line_ends symbols names patterns language class_in longest_front integer_of simple_escapes escape raw_pair found_at body_from body_at is_balanced open_fstring braces depth where_after lines margin_of open_widths fits indentation margin_step chunk step_at after situation next_step read_from read outcome_in outcome
-numbers_4 = (refl, refl, refl, refl, refl)
+numbers_4 = (refl, refl, refl, refl, refl, refl, refl, refl)
+
+-- numbers
+numbers_5 :
+    Lexes (codes ".5e1x") (at 0 (Float (codes ".5e1")) 4 ∷ at 4 (Identifier (codes "x")) 5 ∷ at 5 Newline 5 ∷ [])
+    × Lexes (codes "00.") (at 0 (Float (codes "00.")) 3 ∷ at 3 Newline 3 ∷ [])
+    × Lexes (codes "0e0") (at 0 (Float (codes "0e0")) 3 ∷ at 3 Newline 3 ∷ [])
+    × Lexes (codes "1.5.") (at 0 (Float (codes "1.5")) 3 ∷ at 3 (Word word.Dot) 4 ∷ at 4 Newline 4 ∷ [])
+    × Lexes (codes "0o18") (at 0 (Int (Small (pos 1))) 3 ∷ at 3 (Int (Small (pos 8))) 4 ∷ at 4 Newline 4 ∷ [])
+unfolding encode openers line_ends symbols names patterns language class_in longest_front integer_of simple_escapes escape raw_pair found_at body_from body_at is_balanced open_fstring braces depth where_after lines margin_of open_widths fits indentation margin_step chunk step_at after situation next_step read_from read outcome_in outcome
+numbers_5 = (refl, refl, refl, refl, refl)
 
 -- symbols
 symbols_1 :
