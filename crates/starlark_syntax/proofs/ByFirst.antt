@@ -1,5 +1,5 @@
 -- The longest front of a text, by the text's first byte.
-use Rattle.std.proofs.Common.{◌≡◌, ◌≢◌, ℕ, suc, ◌+◌, ◌<◌, Bool, true, false, cond, not, ◌&&◌, ◌||◌, ◌==◌, nat_eq, [], ◌∷◌, ◌++◌, length, take, drop, get_or, refl, ap, sym, subst, ◌∙◌, Option, unwrap_or, Some, None, arith, one-add, add-one}
+use Rattle.std.proofs.Common.{◌≡◌, ◌≢◌, ℕ, suc, ◌+◌, ◌<◌, Bool, true, false, cond, not, ◌&&◌, ◌||◌, ◌==◌, nat_eq, [], ◌∷◌, ◌++◌, take, get_or, refl, ap, sym, subst, ◌∙◌, Option, unwrap_or, Some, None, arith}
 use Rattle.std.proofs.lemmas.Bool.{and_parts, not-true, ne_eqb}
 use Rattle.std.proofs.lemmas.Bool.Decides.{nat_tests}
 use Rattle.std.specs.Char.{is_ascii_digit, is_ascii_hexdigit}
@@ -7,14 +7,14 @@ use Rattle.std.specs.List.{list_all, prefix_len, slice_get}
 use Rattle.std.specs.Map.{lookup}
 use Rattle.std.specs.Option.{option_map, option_or}
 use Rattle.std.specs.Str.{bytes_eq}
-use Rattle.starlark_syntax.specs.Words.{Text, Class, Skipped, Comment, Tabs, LineEnd, Opener, OfText, SingleQuote, DoubleQuote, Identifier, class_in, listed, openers, line_ends, symbols, names, patterns, language, begins_name, is_in_name, is_in_line, is_based, is_float, is_fraction, is_pointed, begins, begins_with_digit, is_point, is_identifier, is_comment, is_run, is_octal_digit, is_binary_digit}
+use Rattle.starlark_syntax.specs.Words.{Text, Class, Skipped, Comment, Tabs, Opener, OfText, SingleQuote, DoubleQuote, Identifier, class_in, openers, line_ends, symbols, names, patterns, language, begins_name, is_in_name, is_in_line, is_based, is_float, is_fraction, is_pointed, begins, begins_with_digit, is_point, is_identifier, is_comment, is_run, is_octal_digit, is_binary_digit}
 use Rattle.starlark_syntax.specs.Front.{longer, longest_front, language_front}
 use Rattle.starlark_syntax.specs.Scanned.{begins_number, is_quote, marks}
 use Rattle.starlark_syntax.proofs.Front.{front_single, front_run}
 use Rattle.starlark_syntax.proofs.Listed.{class_of_name, opener_of, all_pass, begins_otherwise, lookup_fails, lookup_elsewhere, each_byte, implied}
 use Rattle.starlark_syntax.proofs.Marks.{mark_is}
 use Rattle.starlark_syntax.proofs.Scanning.{front_ended, run_and, take_behind}
-use Rattle.starlark_syntax.proofs.Words.{class_in-listed, class_in-language}
+use Rattle.starlark_syntax.proofs.Words.{class_in-language}
 
 -- a byte that begins neither blanks, tabs, a comment nor a number
 abbrev pub is_plain : ℕ → Bool

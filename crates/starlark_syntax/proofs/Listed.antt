@@ -1,5 +1,5 @@
 -- Lists of words, and the class that a word has by them.
-use Rattle.std.proofs.Common.{◌≡◌, ◌≢◌, ℕ, ◌<◌, Bool, true, false, cond, not, ◌||◌, ◌==◌, List, [], ◌∷◌, refl, ap, ◌∙◌, Option, unwrap_or, Some, None}
+use Rattle.std.proofs.Common.{◌≡◌, ◌≢◌, ℕ, ◌<◌, Bool, true, false, not, ◌||◌, ◌==◌, List, [], ◌∷◌, refl, ap, ◌∙◌, Option, unwrap_or, None}
 use Rattle.std.proofs.lemmas.Bool.{false_from_ne_true, agree_below, agree_below_at, and_parts, both_ways, eq-eqb}
 use Rattle.std.proofs.lemmas.Slice.Eq.{bytes_eq-Decides}
 use Rattle.std.specs.List.{list_all}

@@ -1,5 +1,5 @@
 -- The longest mark at the front of a text.
-use Rattle.std.proofs.Common.{◌≡◌, ℕ, suc, ◌+◌, ◌<◌, ◌≤◌, Bool, true, false, nat_le, [], ◌∷◌, length, get_or, refl, sym, ap, ◌∙◌, Option, Some, None, arith}
+use Rattle.std.proofs.Common.{◌≡◌, ℕ, suc, ◌<◌, ◌≤◌, true, false, nat_le, [], ◌∷◌, length, get_or, refl, sym, ap, ◌∙◌, Option, None, arith}
 use Rattle.std.proofs.lemmas.Bool.Decides.{nat_tests}
 use Rattle.std.specs.Map.{lookup}
 use Rattle.std.specs.Option.{option_map, option_or}
@@ -7,9 +7,8 @@ use Rattle.std.specs.Str.{bytes_eq}
 use Rattle.starlark_syntax.specs.Scanned.{marks}
 use Rattle.starlark_syntax.specs.Words.{Text, Class, class_in, listed, line_ends, symbols}
 use Rattle.starlark_syntax.specs.Front.{longer, longest_front}
-use Rattle.starlark_syntax.proofs.Front.{front_single}
 use Rattle.starlark_syntax.proofs.Listed.{all_pass, lookup_fails}
-use Rattle.starlark_syntax.proofs.Scanning.{front_double, front_triple}
+use Rattle.starlark_syntax.proofs.Scanning.{front_triple}
 use Rattle.starlark_syntax.proofs.Words.{class_in-behind, class_in-listed}
 
 -- the class of a mark

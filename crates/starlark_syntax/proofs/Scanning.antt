@@ -1,5 +1,5 @@
 -- The longest front, by the classes of the words that begin with a byte.
-use Rattle.std.proofs.Common.{◌≡◌, ℕ, zero, suc, ◌+◌, ◌<◌, ◌≤◌, Bool, true, false, cond, [], ◌∷◌, ◌++◌, length, take, refl, ap, sym, subst, ◌∙◌, Option, Some, None, arith, one-add, add-one}
+use Rattle.std.proofs.Common.{◌≡◌, ℕ, suc, ◌+◌, Bool, true, false, cond, [], ◌∷◌, ◌++◌, take, refl, ap, ◌∙◌, Option, Some, None, arith}
 use Rattle.std.specs.List.{list_all, prefix_len}
 use Rattle.std.specs.Option.{option_map}
 use Rattle.starlark_syntax.specs.Words.{Text}

@@ -1,101 +1,18 @@
-use super::{Class, first_character_len, first_word};
+use super::{Class, LiteralKind, Quote, Terminal, Word, first_character_len, first_word};
 use std::alloc::{AllocError, Global};
 use std::process::Abort;
 use std::test::Fail;
 
-/// The listed words, a line each, with a name for the class. An opener's says what it opens,
-/// whether it is raw, and its quote.
-const LISTED: &str = "\
-' Text-false-Single\n\
-r' Text-true-Single\n\
-\" Text-false-Double\n\
-r\" Text-true-Double\n\
-f' FString-false-Single\n\
-fr' FString-true-Single\n\
-f\" FString-false-Double\n\
-fr\" FString-true-Double\n\
-b' Bytes-false-Single\n\
-br' Bytes-true-Single\n\
-rb' Bytes-true-Single\n\
-b\" Bytes-false-Double\n\
-br\" Bytes-true-Double\n\
-rb\" Bytes-true-Double\n\
-, Comma\n\
-; Semicolon\n\
-: Colon\n\
-+= PlusEqual\n\
--= MinusEqual\n\
-*= StarEqual\n\
-/= SlashEqual\n\
-//= SlashSlashEqual\n\
-%= PercentEqual\n\
-== EqualEqual\n\
-!= BangEqual\n\
-<= LessEqual\n\
->= GreaterEqual\n\
-** StarStar\n\
--> MinusGreater\n\
-= Equal\n\
-< LessThan\n\
-> GreaterThan\n\
-- Minus\n\
-+ Plus\n\
-* Star\n\
-% Percent\n\
-/ Slash\n\
-// SlashSlash\n\
-. Dot\n\
-& Ampersand\n\
-| Pipe\n\
-^ Caret\n\
-<< LessLess\n\
->> GreaterGreater\n\
-~ Tilde\n\
-&= AmpersandEqual\n\
-|= PipeEqual\n\
-^= CaretEqual\n\
-<<= LessLessEqual\n\
->>= GreaterGreaterEqual\n\
-... Ellipsis\n\
-[ OpeningSquare\n\
-{ OpeningCurly\n\
-( OpeningRound\n\
-] ClosingSquare\n\
-} ClosingCurly\n\
-) ClosingRound\n\
-and And\n\
-break Break\n\
-continue Continue\n\
-def Def\n\
-elif Elif\n\
-else Else\n\
-for For\n\
-if If\n\
-in In\n\
-lambda Lambda\n\
-load Load\n\
-not Not\n\
-or Or\n\
-pass Pass\n\
-return Return\n\
-as Reserved\n\
-assert Reserved\n\
-async Reserved\n\
-await Reserved\n\
-class Reserved\n\
-del Reserved\n\
-except Reserved\n\
-finally Reserved\n\
-from Reserved\n\
-global Reserved\n\
-import Reserved\n\
-is Reserved\n\
-nonlocal Reserved\n\
-raise Reserved\n\
-try Reserved\n\
-while Reserved\n\
-with Reserved\n\
-yield Reserved";
+const OPENERS: &str = "' r' \" r\" f' fr' f\" fr\" b' br' rb' b\" br\" rb\"";
+
+const SYMBOLS: &str =
+    ", ; : += -= *= /= //= %= == != <= >= ** -> = < > - + * % / // . & | ^ << >> ~ &= |= ^= \
+<<= >>= ... [ { ( ] } )";
+
+const NAMES: &str =
+    "and break continue def elif else for if in lambda load not or pass return as assert \
+async await class del except finally from global import is nonlocal raise try while with \
+yield";
 
 /// Words that stand on no list, and fronts of such, parted by bars.
 const OTHERS: &str =
@@ -103,36 +20,135 @@ const OTHERS: &str =
 0|7|12|007|0_1|0x|0X1F|0xg|0xa|0b|0B10|0b102|0o|0O17|0o8|1.|1.5|.5|..|1..2|1e|1e5|1E+5|1e-|1.e5|1.5e|\
 1.5e+07|.5e|.5E-1|.5e+|0x.5|0b1.0|$|?|!|`|";
 
-/// The name of a class, as the list has it.
-fn name_of(alloc: Global, class: Class) -> Result<String, AllocError> {
-    match class {
-        Class::Opener {
-            kind,
-            is_raw,
-            quote,
-        } => format!(in alloc; "{kind:?}-{is_raw:?}-{quote:?}"),
-        Class::Fixed(word) => format!(in alloc; "{word:?}"),
-        class => format!(in alloc; "{class:?}"),
-    }
+fn opener(word: &str) -> Option<Class> {
+    let (prefix, quote) = match word.strip_suffix('"') {
+        Some(prefix) => (prefix, Quote::Double),
+        None => (word.strip_suffix('\'')?, Quote::Single),
+    };
+    let kind = match prefix {
+        "" | "r" => LiteralKind::Text,
+        "b" | "br" | "rb" => LiteralKind::Bytes,
+        "f" | "fr" => LiteralKind::FString,
+        _ => return None,
+    };
+    Some(Class::Opener {
+        kind,
+        is_raw: prefix.contains('r'),
+        quote,
+    })
 }
 
-fn listed_name(word: &str) -> Option<&'static str> {
-    for line in LISTED.lines() {
-        if let Some((listed, name)) = line.split_once(' ') {
-            if listed == word {
-                return Some(name);
-            }
-        }
-    }
-    None
+fn keyword(word: &str) -> Option<Class> {
+    let terminal = match word {
+        "and" => Terminal::And,
+        "break" => Terminal::Break,
+        "continue" => Terminal::Continue,
+        "def" => Terminal::Def,
+        "elif" => Terminal::Elif,
+        "else" => Terminal::Else,
+        "for" => Terminal::For,
+        "if" => Terminal::If,
+        "in" => Terminal::In,
+        "lambda" => Terminal::Lambda,
+        "load" => Terminal::Load,
+        "not" => Terminal::Not,
+        "or" => Terminal::Or,
+        "pass" => Terminal::Pass,
+        "return" => Terminal::Return,
+        _ => return None,
+    };
+    Some(Class::Fixed(terminal))
 }
 
-fn line_end_name(word: &str) -> Option<&'static str> {
+fn short_symbol(word: &str) -> Option<Class> {
+    let terminal = match word {
+        "," => Terminal::Comma,
+        ";" => Terminal::Semicolon,
+        ":" => Terminal::Colon,
+        "=" => Terminal::Equal,
+        "<" => Terminal::LessThan,
+        ">" => Terminal::GreaterThan,
+        "-" => Terminal::Minus,
+        "+" => Terminal::Plus,
+        "*" => Terminal::Star,
+        "%" => Terminal::Percent,
+        "/" => Terminal::Slash,
+        "." => Terminal::Dot,
+        "&" => Terminal::Ampersand,
+        "|" => Terminal::Pipe,
+        "^" => Terminal::Caret,
+        "~" => Terminal::Tilde,
+        "[" => Terminal::OpeningSquare,
+        "{" => Terminal::OpeningCurly,
+        "(" => Terminal::OpeningRound,
+        "]" => Terminal::ClosingSquare,
+        "}" => Terminal::ClosingCurly,
+        ")" => Terminal::ClosingRound,
+        _ => return None,
+    };
+    Some(Class::Fixed(terminal))
+}
+
+fn long_symbol(word: &str) -> Option<Class> {
+    let terminal = match word {
+        "+=" => Terminal::PlusEqual,
+        "-=" => Terminal::MinusEqual,
+        "*=" => Terminal::StarEqual,
+        "/=" => Terminal::SlashEqual,
+        "//=" => Terminal::SlashSlashEqual,
+        "%=" => Terminal::PercentEqual,
+        "==" => Terminal::EqualEqual,
+        "!=" => Terminal::BangEqual,
+        "<=" => Terminal::LessEqual,
+        ">=" => Terminal::GreaterEqual,
+        "**" => Terminal::StarStar,
+        "->" => Terminal::MinusGreater,
+        "//" => Terminal::SlashSlash,
+        "<<" => Terminal::LessLess,
+        ">>" => Terminal::GreaterGreater,
+        "&=" => Terminal::AmpersandEqual,
+        "|=" => Terminal::PipeEqual,
+        "^=" => Terminal::CaretEqual,
+        "<<=" => Terminal::LessLessEqual,
+        ">>=" => Terminal::GreaterGreaterEqual,
+        "..." => Terminal::Ellipsis,
+        _ => return None,
+    };
+    Some(Class::Fixed(terminal))
+}
+
+fn other_listed(word: &str) -> Option<Class> {
     match word {
-        "\n" | "\r\n" => Some("LineEnd"),
-        "\\\n" | "\\\r\n" => Some("Skipped"),
+        "\n" | "\r\n" => Some(Class::LineEnd),
+        "\\\n" | "\\\r\n" => Some(Class::Skipped),
+        "as"
+        | "assert"
+        | "async"
+        | "await"
+        | "class"
+        | "del"
+        | "except"
+        | "finally"
+        | "from"
+        | "global"
+        | "import"
+        | "is"
+        | "nonlocal"
+        | "raise"
+        | "try"
+        | "while"
+        | "with"
+        | "yield" => Some(Class::Reserved),
         _ => None,
     }
+}
+
+fn listed(word: &str) -> Option<Class> {
+    opener(word)
+        .or(keyword(word))
+        .or(short_symbol(word))
+        .or(long_symbol(word))
+        .or(other_listed(word))
 }
 
 fn are_digits(word: &str) -> bool {
@@ -174,92 +190,90 @@ fn is_float(word: &str) -> bool {
     }
 }
 
-fn based_name(word: &str) -> Option<&'static str> {
+fn based(word: &str) -> Option<Class> {
     if let Some(digits) = word.strip_prefix("0x").or(word.strip_prefix("0X")) {
         let good = digits.chars().all(|digit| digit.is_ascii_hexdigit());
-        return (good && !digits.is_empty()).then_some("Hexadecimal");
+        return (good && !digits.is_empty()).then_some(Class::Hexadecimal);
     }
     if let Some(digits) = word.strip_prefix("0o").or(word.strip_prefix("0O")) {
         let good = digits.chars().all(|digit| digit.is_digit(8));
-        return (good && !digits.is_empty()).then_some("Octal");
+        return (good && !digits.is_empty()).then_some(Class::Octal);
     }
     if let Some(digits) = word.strip_prefix("0b").or(word.strip_prefix("0B")) {
         let good = digits.chars().all(|digit| digit.is_digit(2));
-        return (good && !digits.is_empty()).then_some("Binary");
+        return (good && !digits.is_empty()).then_some(Class::Binary);
     }
     None
 }
 
-fn pattern_name(word: &str) -> Option<&'static str> {
+fn pattern(word: &str) -> Option<Class> {
     if word.starts_with(' ') && word.chars().all(|character| character == ' ') {
-        return Some("Skipped");
+        return Some(Class::Skipped);
     }
     if word.starts_with('\t') && word.chars().all(|character| character == '\t') {
-        return Some("Tabs");
+        return Some(Class::Tabs);
     }
     if word.starts_with('#') && !word.contains('\r') && !word.contains('\n') {
-        return Some("Comment");
+        return Some(Class::Comment);
     }
     if is_identifier(word) {
-        return Some("Identifier");
+        return Some(Class::Identifier);
     }
     if is_decimal(word) {
-        return Some("Decimal");
+        return Some(Class::Decimal);
     }
     if is_float(word) {
-        return Some("Float");
+        return Some(Class::Float);
     }
-    based_name(word)
-}
-
-fn class_name(word: &str) -> Option<&'static str> {
-    listed_name(word)
-        .or(line_end_name(word))
-        .or(pattern_name(word))
+    based(word)
 }
 
 /// The longest front of a text that is a word, looked for among all fronts.
-fn slow_front(text: &str) -> Option<(&'static str, usize)> {
-    let mut found = None;
-    for len in 1..=text.len() {
+fn slow_front(text: &str) -> Option<Word> {
+    for len in (1..=text.len()).rev() {
         if let Some(front) = text.get(..len) {
-            if let Some(name) = class_name(front) {
-                found = Some((name, len));
+            if let Some(class) = listed(front).or(pattern(front)) {
+                return Some(Word { class, len });
             }
         }
     }
-    found
-}
-
-fn agrees(rt: &impl Abort, alloc: Global, text: &str) -> Result<(), AllocError> {
-    let want = slow_front(text);
-    match first_word(text) {
-        Some(word) => {
-            let name = name_of(alloc, word.class)?;
-            assert_eq!(rt; Some((name.as_str(), word.len)), want, "at {text:?}");
-        }
-        None => assert!(rt; want.is_none(), "at {text:?}"),
-    }
-    Ok(())
+    None
 }
 
 /// A word alone, and followed by each character of one byte.
 fn agrees_followed(rt: &impl Abort, alloc: Global, word: &str) -> Result<(), AllocError> {
-    agrees(rt, alloc, word)?;
+    assert_eq!(rt; first_word(word), slow_front(word), "at {word:?}");
     for byte in 0..128_u8 {
         let text = format!(in alloc; "{word}{}", char::from(byte))?;
-        agrees(rt, alloc, text.as_str())?;
+        let text = text.as_str();
+        assert_eq!(rt; first_word(text), slow_front(text), "at {text:?}");
     }
     Ok(())
 }
 
 #[test]
-fn each_listed_word_alone_and_followed(rt: HostRuntime) -> Result<(), Fail> {
-    for line in LISTED.lines() {
-        if let Some((word, name)) = line.split_once(' ') {
-            assert_eq!(rt; listed_name(word), Some(name));
-            agrees_followed(&rt, rt.alloc(), word)?;
-        }
+fn openers_alone_and_followed(rt: HostRuntime) -> Result<(), Fail> {
+    for word in OPENERS.split(' ') {
+        assert!(rt; opener(word).is_some());
+        agrees_followed(&rt, rt.alloc(), word)?;
+    }
+    Ok(())
+}
+
+#[test]
+fn symbols_alone_and_followed(rt: HostRuntime) -> Result<(), Fail> {
+    for word in SYMBOLS.split(' ') {
+        assert!(rt; listed(word).is_some());
+        agrees_followed(&rt, rt.alloc(), word)?;
+    }
+    Ok(())
+}
+
+#[test]
+fn names_alone_and_followed(rt: HostRuntime) -> Result<(), Fail> {
+    for word in NAMES.split(' ') {
+        assert!(rt; listed(word).is_some());
+        agrees_followed(&rt, rt.alloc(), word)?;
     }
     Ok(())
 }
@@ -272,34 +286,26 @@ fn other_words_alone_and_followed(rt: HostRuntime) -> Result<(), Fail> {
     Ok(())
 }
 
-fn word_is(
-    rt: &impl Abort,
-    alloc: Global,
-    text: &str,
-    name: &str,
-    len: usize,
-) -> Result<(), AllocError> {
-    let Some(word) = first_word(text) else {
-        panic!(rt; "no word at {text:?}");
-    };
-    let found = name_of(alloc, word.class)?;
-    assert_eq!(rt; (found.as_str(), word.len), (name, len), "at {text:?}");
-    Ok(())
+fn word_is(rt: &impl Abort, text: &str, class: Class, len: usize) {
+    assert_eq!(rt; first_word(text), Some(Word { class, len }), "at {text:?}");
 }
 
 #[test]
-fn longest_words(rt: HostRuntime) -> Result<(), Fail> {
-    let alloc = rt.alloc();
-    word_is(&rt, alloc, "format", "Identifier", 6)?;
-    word_is(&rt, alloc, "class:", "Reserved", 5)?;
-    word_is(&rt, alloc, "<<=b>>c", "LessLessEqual", 3)?;
-    word_is(&rt, alloc, "..1", "Dot", 1)?;
-    word_is(&rt, alloc, "1..2", "Float", 2)?;
-    word_is(&rt, alloc, "0b102", "Binary", 4)?;
-    word_is(&rt, alloc, "xrf'a'", "Identifier", 3)?;
-    word_is(&rt, alloc, "rb\"", "Bytes-true-Double", 3)?;
-    word_is(&rt, alloc, "# \u{e9}\r\n", "Comment", 4)?;
-    Ok(())
+fn longest_words(rt: HostRuntime) {
+    let bytes = Class::Opener {
+        kind: LiteralKind::Bytes,
+        is_raw: true,
+        quote: Quote::Double,
+    };
+    word_is(&rt, "format", Class::Identifier, 6);
+    word_is(&rt, "class:", Class::Reserved, 5);
+    word_is(&rt, "<<=b>>c", Class::Fixed(Terminal::LessLessEqual), 3);
+    word_is(&rt, "..1", Class::Fixed(Terminal::Dot), 1);
+    word_is(&rt, "1..2", Class::Float, 2);
+    word_is(&rt, "0b102", Class::Binary, 4);
+    word_is(&rt, "xrf'a'", Class::Identifier, 3);
+    word_is(&rt, "rb\"", bytes, 3);
+    word_is(&rt, "# \u{e9}\r\n", Class::Comment, 4);
 }
 
 #[test]
