@@ -5,6 +5,8 @@ pub mod NumberTexts
 pub mod Integers
 pub mod IntegerValues
 pub mod PrintedWords
+pub mod WordBoundaries
+pub mod OneIdentifier
 mod RowsOfTokens
 pub mod Bodies
 pub mod Steps

@@ -18,3 +18,4 @@ pub mod Pieces
 pub mod Reading
 pub mod Cuts
 pub mod Laws
+pub mod OneIdentifier
