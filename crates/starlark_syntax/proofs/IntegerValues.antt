@@ -10,7 +10,7 @@ use Rattle.starlark_syntax.specs.Numbers.{Integer, Small, Big, is_negative, is_s
 use Rattle.starlark_syntax.specs.IntegerValues.{value_of, IntegersKeepTheirValue}
 
 -- the case of a letter
-value_in_lower_case : (c : ℕ) → digit_value (to_ascii_lowercase c) ≡ digit_value c
+pub value_in_lower_case : (c : ℕ) → digit_value (to_ascii_lowercase c) ≡ digit_value c
 value_in_lower_case c = by_tests (nat_lt c 65) (nat_lt c 91) refl refl
   where
     capital : 65 ≤ c → c < 91 → digit_value c ≡ c - 55
@@ -47,7 +47,7 @@ behind_zeros base (d ∷ ds) = by_digit (behind_zeros base ds) (nat_eq 48 d) ref
         let start : 0 * base + digit_value d ≡ 0 = rw (none, zero-mul base) refl in
         rw (one_more, start) rest
 
-plain_value : (base : ℕ) (digits : Text) → digits_value base (plain_digits digits) ≡ digits_value base digits
+pub plain_value : (base : ℕ) (digits : Text) → digits_value base (plain_digits digits) ≡ digits_value base digits
 plain_value base digits = rw (digits_in_lower_case base 0 (drop (prefix_len (nat_eq 48) digits) digits)) (behind_zeros base digits)
 
 pub value_is_kept : IntegersKeepTheirValue

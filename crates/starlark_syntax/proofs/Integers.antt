@@ -6,6 +6,9 @@ use Rattle.std.specs.List.{list_all}
 use Rattle.std.specs.Int.{w32}
 use Rattle.std.specs.Str.Parse.{AllDigits, IsNumeral, without_leading_sign, starts_with_minus, signed_digits_value, digits_value}
 use Rattle.starlark_syntax.specs.Words.{Text, is_run, is_sign, unsigned}
+use Rattle.starlark_syntax.specs.BigIntegers.{IsKept}
+use Rattle.starlark_syntax.proofs.IntegerValues.{plain_value}
+use Rattle.starlark_syntax.proofs.PlainDigits.{plain_digits_are_plain}
 use Rattle.starlark_syntax.specs.Numbers.{Integer, Small, Big, is_negative, is_number, is_small, signed, plain_digits, integer_of, integer_in}
 use Rattle.std.proofs.lemmas.Bool.{ltb-true, and_parts}
 
@@ -83,9 +86,21 @@ parsed base text value number parses =
     rw (written_small base text number small, parses.1, same) refl
 
 -- and a number's text that it gives no value for
-pub not_parsed : (base : ℕ) (text : Text) → is_number base text ≡ true → ¬ (IsParsed base text) → integer_in base text ≡ Some (Big (is_negative text) (plain_digits (unsigned text)) base)
-not_parsed base text number refused = written_big base text number (by_cases (is_small (is_negative text) (digits_value base (unsigned text))) refl)
+big : (base : ℕ) (text : Text) → is_number base text ≡ true → ¬ (IsParsed base text) → is_small (is_negative text) (digits_value base (unsigned text)) ≡ false
+big base text number refused = by_cases (is_small (is_negative text) (digits_value base (unsigned text))) refl
   where
     by_cases : (small : Bool) → is_small (is_negative text) (digits_value base (unsigned text)) ≡ small → small ≡ false
     by_cases false e = refl
     by_cases true e = absurd (refused (rw (← unsigned_is text) (numeral base (unsigned text) number), rw (signed_is base text) (small_fits (is_negative text) (digits_value base (unsigned text)) e)))
+
+pub not_parsed : (base : ℕ) (text : Text) → is_number base text ≡ true → ¬ (IsParsed base text) → integer_in base text ≡ Some (Big (is_negative text) (plain_digits (unsigned text)) base)
+not_parsed base text number refused = written_big base text number (big base text number refused)
+
+pub is_kept : (base : ℕ) (text : Text) → 2 ≤ base → base ≤ 36 → is_number base text ≡ true → ¬ (IsParsed base text)
+    → IsKept (record { is_negative = is_negative text; digits = plain_digits (unsigned text); radix = base })
+is_kept base text least most number refused = record {
+  least = least;
+  most = most;
+  plain = plain_digits_are_plain base (unsigned text) number;
+  big = rw (plain_value base (unsigned text)) (big base text number refused);
+}

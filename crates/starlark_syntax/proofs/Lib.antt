@@ -5,6 +5,9 @@ pub mod NumberTexts
 pub mod Integers
 pub mod IntegerValues
 pub mod PrintedWords
+pub mod PlainDigits
+pub mod WordBoundaries
+pub mod OneIdentifier
 mod RowsOfTokens
 mod RowsOfErrors
 pub mod Bodies

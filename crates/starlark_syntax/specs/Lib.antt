@@ -19,3 +19,4 @@ pub mod Pieces
 pub mod Reading
 pub mod Cuts
 pub mod Laws
+pub mod OneIdentifier

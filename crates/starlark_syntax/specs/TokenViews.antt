@@ -20,13 +20,14 @@ pub data TokenView : Type 0 where
   Binary : TokenView
   Octal : TokenView
 
--- How an f-string begins. A token doesn't say whether it is raw, and none that is seen through it is.
+-- How an f-string begins. A token doesn't tell whether the f-string is raw, so it is seen as one that isn't.
 abbrev pub opening_view : FStringQuote → grammar.Opening
 opening_view Single = record { is_raw = false; quote = SingleQuote; is_triple = false }
 opening_view Double = record { is_raw = false; quote = DoubleQuote; is_triple = false }
 opening_view TripleSingle = record { is_raw = false; quote = SingleQuote; is_triple = true }
 opening_view TripleDouble = record { is_raw = false; quote = DoubleQuote; is_triple = true }
 
+-- What each token is.
 unfoldable pub token_view : Token → TokenView
 token_view (token.Comment text) = Whole (grammar.Comment (string_bytes text))
 token_view token.Tabs = Tabs

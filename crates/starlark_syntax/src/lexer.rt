@@ -4,6 +4,7 @@ mod big_int;
 mod fstring_style;
 mod lexeme_error;
 mod number_text;
+mod one_identifier;
 mod scanner;
 #[cfg(test)]
 mod tests;
@@ -13,5 +14,6 @@ mod tokens;
 pub use big_int::BigInt;
 pub use fstring_style::{FStringConv, FStringQuote};
 pub use lexeme_error::LexemeError;
+pub use one_identifier::lex_exactly_one_identifier;
 pub use token_int::TokenInt;
 pub use tokens::Token;

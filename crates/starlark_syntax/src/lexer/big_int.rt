@@ -1,4 +1,4 @@
-//! Whole numbers of any size, as they are written down.
+//! Whole numbers that 32 bits don't hold, as they are written down.
 
 ghost use Rattle.std.specs.Prelude.{◌≡◌, IfOk};
 
@@ -6,7 +6,7 @@ use std::alloc::{AllocError, Global};
 use std::fmt;
 use std::marker::Model;
 
-/// A whole number of any size: its sign, its digits and the base that they are written in.
+/// A whole number that 32 bits don't hold: its sign, its digits and the base that they are written in.
 ///
 /// Two are equal where sign, digits and base are, so a number written in two bases has two values.
 #[derive(Debug, Drop)]
@@ -18,18 +18,22 @@ pub struct BigInt {
 
 impl Model for BigInt {
     ghost use Rattle.std.specs.Prelude.{string_bytes};
-    ghost use Rattle.starlark_syntax.specs.BigIntegers.{BigInteger};
+    ghost use Rattle.starlark_syntax.specs.BigIntegers.{BigInteger, IsKept};
 
     ghost Value = { BigInteger };
 
     ghost view = { λ n. record { is_negative = n.negative; digits = string_bytes n.digits; radix = n.radix } };
+
+    ghost invariant = { λ n. IsKept (record { is_negative = n.negative; digits = string_bytes n.digits; radix = n.radix }) };
 }
 
 impl BigInt {
-    ghost use Rattle.std.specs.Prelude.{Bool, ℕ, List, string_bytes};
+    ghost use Rattle.std.specs.Prelude.{string_bytes};
+    ghost use Rattle.starlark_syntax.specs.BigIntegers.{IsKept};
 
     /// The number with this sign and these digits.
     pub(crate) fn from_parts(negative: bool, digits: String, radix: u32) -> BigInt
+        requires { IsKept (record { is_negative = negative; digits = string_bytes digits; radix = radix }) }
         ensures { result ≡ record { is_negative = negative; digits = string_bytes digits; radix = radix } }
     {
         BigInt {
@@ -46,16 +50,18 @@ impl BigInt {
         self.negative
     }
 
-    /// The digits, the greatest first, letters in lower case.
+    /// The digits, letters in lower case, the first no zero.
     pub fn digits(&self) -> &str
-        ensures { result.now ≡ self.now.digits }
+        ensures value { result.now ≡ self.now.digits }
+        ensures kept { IsKept self.now }
     {
         self.digits.as_str()
     }
 
     /// The base that the digits are written in, from 2 to 36.
     pub fn radix(&self) -> u32
-        ensures { result ≡ self.now.radix }
+        ensures value { result ≡ self.now.radix }
+        ensures kept { IsKept self.now }
     {
         self.radix
     }

@@ -1,6 +1,8 @@
 ghost use Rattle.std.specs.Prelude.{◌≤◌};
 
-use crate::lexer::{BigInt, FStringConv, FStringQuote, LexemeError, Token, TokenInt};
+use crate::lexer::{
+    BigInt, FStringConv, FStringQuote, LexemeError, Token, TokenInt, lex_exactly_one_identifier,
+};
 use starlark_base::codemap::OrMemory;
 use std::alloc::Global;
 use std::process::Abort;
@@ -209,4 +211,40 @@ fn tokens_that_differ(rt: HostRuntime) -> Result<(), Fail> {
     assert_eq!(rt; start == Token::FStringStart(FStringQuote::Double), false);
     assert_eq!(rt; FStringConv::default(), FStringConv::None);
     Ok(())
+}
+
+/// A text that is one identifier, or none.
+fn identifier(rt: &impl Abort, alloc: Global, text: &str, name: Option<&str>) -> Result<(), Fail> {
+    let found = lex_exactly_one_identifier(alloc, text)?;
+    match (found, name) {
+        (Some(found), Some(name)) => assert_eq!(rt; found.as_str(), name, "of {text}"),
+        (found, name) => {
+            assert!(rt; found.is_none() && name.is_none(), "of {text}");
+        }
+    }
+    Ok(())
+}
+
+#[test]
+fn texts_of_one_identifier(rt: HostRuntime) -> Result<(), Fail> {
+    let alloc = rt.alloc();
+    identifier(&rt, alloc, "foo", Some("foo"))?;
+    identifier(&rt, alloc, " foo ", Some("foo"))?;
+    identifier(&rt, alloc, "  _x1 ", Some("_x1"))?;
+    identifier(&rt, alloc, "\\\n x\\\r\n", Some("x"))?;
+    identifier(&rt, alloc, "fr", Some("fr"))?;
+    identifier(&rt, alloc, "classy", Some("classy"))
+}
+
+#[test]
+fn texts_of_no_identifier_or_more(rt: HostRuntime) -> Result<(), Fail> {
+    let alloc = rt.alloc();
+    identifier(&rt, alloc, "", None)?;
+    identifier(&rt, alloc, "foo bar", None)?;
+    identifier(&rt, alloc, "a\n", None)?;
+    identifier(&rt, alloc, "not", None)?;
+    identifier(&rt, alloc, "class", None)?;
+    identifier(&rt, alloc, "123", None)?;
+    identifier(&rt, alloc, "f'", None)?;
+    identifier(&rt, alloc, "é", None)
 }

@@ -4,7 +4,7 @@ use Rattle.std.specs.Int.{w32}
 use Rattle.std.specs.Prelude.{FitsSigned, IsSomeAnd}
 use Rattle.starlark_syntax.specs.Numbers.{is_number, integer_in}
 use Rattle.starlark_syntax.specs.TokenInts.{IsBig}
-use Rattle.starlark_syntax.proofs.Integers.{no_number, parsed, not_parsed}
+use Rattle.starlark_syntax.proofs.Integers.{no_number, parsed, not_parsed, is_kept}
 use Rattle.starlark_syntax.proofs.lexer.number_text.number_in.Goals as goal
 
 pub returns-then-not-is_numeral-clause-value : goal.returns-then-not-is_numeral-clause-value
@@ -28,3 +28,8 @@ pub returns-clause-value : goal.returns-clause-value
 returns-clause-value c =
     let number : is_number c.args.base c.args.text.now ≡ true = rw (← c.unsigned-digits.ensures, ← c.as_bytes.ensures.value, ← c.is_numeral.ensures) c.if-not-is_numeral.false in
     rw (not_parsed c.args.base c.args.text.now number c.in_default.ensures.value, c.from_parts-number.ensures, c.is_negative.ensures, c.as_bytes-2.ensures.value, c.in_ok-plain.ensures, c.unsigned-digits.ensures) refl
+
+pub from_parts-number-requires : goal.from_parts-number-requires
+from_parts-number-requires c =
+    let number : is_number c.args.base c.args.text.now ≡ true = rw (← c.unsigned-digits.ensures, ← c.as_bytes.ensures.value, ← c.is_numeral.ensures) c.if-not-is_numeral.false in
+    rw (c.is_negative.ensures, c.as_bytes-2.ensures.value, c.in_ok-plain.ensures, c.unsigned-digits.ensures) (is_kept c.args.base c.args.text.now c.requires.least c.requires.most number c.in_default.ensures.value)
