@@ -27,32 +27,45 @@ fn indices_count_from_either_end_and_stay_in_the_row(rt: HostRuntime) {
 
 #[test]
 fn texts_are_counted_and_cut_by_characters(rt: HostRuntime) {
-    assert_eq!(rt; at("aé", CharIndex(1)), Some('é'));
-    assert_eq!(rt; at("aé", CharIndex(2)), None);
+    let rows: [(&str, usize, Option<char>, Option<(&str, &str)>); 6] = [
+        ("aé", 0, Some('a'), Some(("", "aé"))),
+        ("aé", 1, Some('é'), Some(("a", "é"))),
+        ("éa", 1, Some('a'), Some(("é", "a"))),
+        ("aé", 2, None, Some(("aé", ""))),
+        ("aé", 3, None, None),
+        ("", 0, None, Some(("", ""))),
+    ];
+    for (text, index, character, parts) in rows {
+        assert_eq!(rt; at(text, CharIndex(index)), character, "at {text} {index}");
+        assert_eq!(rt;
+            split_at(text, CharIndex(index)),
+            parts,
+            "at {text} {index}"
+        );
+    }
     assert_eq!(rt; len("aé🔬"), CharIndex(3));
-    assert_eq!(rt; split_at("aé", CharIndex(0)), Some(("", "aé")));
-    assert_eq!(rt; split_at("éa", CharIndex(1)), Some(("é", "a")));
-    assert_eq!(rt; split_at("aé", CharIndex(2)), Some(("aé", "")));
-    assert_eq!(rt; split_at("aé", CharIndex(3)), None);
     assert_eq!(rt; CharIndex(2) + CharIndex(3), CharIndex(5));
     assert_eq!(rt; CharIndex(3) - CharIndex(2), CharIndex(1));
 }
 
 #[test]
 fn needles_are_found_and_counted(rt: HostRuntime) {
-    assert_eq!(rt; count_matches("aaaa", "aa"), 2);
-    assert_eq!(rt; count_matches("aaaaa", "aa"), 2);
-    assert_eq!(rt; count_matches("aé", ""), 3);
-    assert_eq!(rt; count_matches("", ""), 1);
-    assert_eq!(rt; count_matches("abcabc", "c"), 2);
-    assert_eq!(rt; count_matches("ab", "abc"), 0);
+    let rows: [(&str, &str, usize); 8] = [
+        ("aaaa", "aa", 2),
+        ("aaaaa", "aa", 2),
+        ("aé", "", 3),
+        ("", "", 1),
+        ("abcabc", "c", 2),
+        ("banana", "nan", 1),
+        ("ab", "abc", 0),
+        ("a", "ab", 0),
+    ];
+    for (text, needle, count) in rows {
+        assert_eq!(rt; count_matches(text, needle), count, "at {text} {needle}");
+        assert_eq!(rt; contains(text, needle), 0 < count, "at {text} {needle}");
+    }
     assert_eq!(rt; count_matches_byte("é", 0xC3), 1);
     assert_eq!(rt; count_matches_byte("banana", b'a'), 3);
-    assert!(rt; contains("", ""));
-    assert!(rt; contains("banana", "nan"));
-    assert!(rt; contains("banana", "a"));
-    assert!(rt; !contains("a", "ab"));
-    assert!(rt; !contains("banana", "nab"));
 }
 
 #[test]
