@@ -1,3 +1,4 @@
+mod Rows
 pub mod Ascii
 pub mod Characters
 pub mod Matches

@@ -52,7 +52,7 @@ impl<'a> CursorBytes<'a> {
         Some(char::from(byte))
     }
 
-    /// How many bytes stand before this place.
+    /// How many bytes were stepped over.
     pub fn pos(&self) -> usize
         ensures { result ≡ self.now.at }
     {
@@ -129,17 +129,17 @@ impl<'a> CursorChars<'a> {
         self.at = place_before(self.text, self.at, c);
     }
 
-    /// The character here; `None` at the text's end.
-    pub fn peek(&self) -> Option<char>
-        ensures { result ≡ char_at self.now }
-    {
-        char_from(self.text, self.at)
-    }
-
     /// How many bytes stand before this place.
     pub fn pos(&self) -> usize
         ensures { result ≡ self.now.at }
     {
         self.at
+    }
+
+    /// The character here; `None` at the text's end.
+    pub fn peek(&self) -> Option<char>
+        ensures { result ≡ char_at self.now }
+    {
+        char_from(self.text, self.at)
     }
 }

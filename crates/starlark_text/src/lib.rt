@@ -8,3 +8,5 @@ pub mod dialect;
 pub mod dot_format_parser;
 pub mod fast_string;
 pub mod laws;
+#[cfg(test)]
+mod tests;
