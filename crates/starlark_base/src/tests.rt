@@ -235,6 +235,7 @@ fn positions_count(rt: HostRuntime) {
     at += 1;
     assert_eq!(rt; at.get(), 8);
     assert_eq!(rt; Pos::default().get(), 0);
+    assert_eq!(rt; CodeMapId::EMPTY.get(), 0);
     assert_eq!(rt; bounds(Span::default()), (0, 0));
 }
 
@@ -286,7 +287,10 @@ fn shared_code_maps(rt: HostRuntime) -> Result<(), Fail> {
     let map = code_map(rt.alloc(), 7, "a", "bc")?.dupe()?;
     assert!(rt; map.source() == "bc");
     assert_eq!(rt; map.id().get(), 7);
-    assert_eq!(rt; format!(in rt.alloc(); "{map:?}")?.as_str(), "CodeMap(\"a\")");
+    assert_eq!(rt;
+        format!(in rt.alloc(); "{map:?}")?.as_str(),
+        "CodeMap(\"a\")"
+    );
     assert!(rt; map.has_pos(Pos::new(1)) && Pos::new(1) < map.full_span().end());
     assert_eq!(rt; map.byte_at(Pos::new(1)), b'c');
     Ok(())
