@@ -3,3 +3,4 @@ pub mod LineEnds
 pub mod HeldSpans
 pub mod Numbered
 pub mod Resolving
+pub mod Rows

@@ -3,6 +3,7 @@
 mod code_map;
 mod code_maps;
 mod file_span;
+mod file_span_ref;
 mod positions;
 mod refusals;
 mod resolved;
@@ -11,7 +12,8 @@ mod spans;
 
 pub use code_map::{CodeMap, CodeMapId};
 pub use code_maps::CodeMaps;
-pub use file_span::{FileSpan, FileSpanRef};
+pub use file_span::FileSpan;
+pub use file_span_ref::FileSpanRef;
 pub use positions::Pos;
 pub use refusals::{OrMemory, SourceTooLong};
 pub use resolved::{ResolvedFileLine, ResolvedFileSpan, ResolvedPos, ResolvedSpan};

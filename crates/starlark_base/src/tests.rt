@@ -235,6 +235,7 @@ fn positions_count(rt: HostRuntime) {
     at += 1;
     assert_eq!(rt; at.get(), 8);
     assert_eq!(rt; Pos::default().get(), 0);
+    assert_eq!(rt; CodeMapId::EMPTY.get(), 0);
     assert_eq!(rt; bounds(Span::default()), (0, 0));
 }
 

@@ -357,6 +357,11 @@ impl CodeMap {
 }
 
 impl fmt::Debug for CodeMap {
+    ghost use Rattle.std.specs.Prelude.{codes};
+    ghost use Rattle.std.specs.Fmt.{debug_str, debug_variant};
+
+    ghost debug_output = { λ map. debug_variant (codes "CodeMap") (debug_str map.filename) };
+
     fn fmt<W: fmt::Write>(&self, f: &mut fmt::Formatter<W>) -> fmt::Result {
         write!(f, "CodeMap({:?})", self.filename())
     }

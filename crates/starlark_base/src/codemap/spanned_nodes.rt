@@ -19,9 +19,10 @@ impl<T> Spanned<T> {
         ensures node { F.post f self.node result.node }
         ensures span { result.span ≡ self.span }
     {
+        let Spanned { node, span } = self;
         Spanned {
-            node: f(self.node),
-            span: self.span,
+            node: f(node),
+            span,
         }
     }
 
