@@ -1,5 +1,5 @@
 -- Worked rows, closed by computing: which place is kept, and what is printed.
-use Rattle.std.proofs.Common.{◌≡◌, refl, [], ◌++◌, None, Some}
+use Rattle.std.proofs.Common.{◌≡◌, refl, ◌++◌, None, Some}
 use Rattle.std.specs.Prelude.{codes}
 use Rattle.starlark_base.specs.Diagnostics.{Diagnosed, unplaced, with_span, diagnosed_text}
 use Rattle.starlark_base.specs.Sources.{file_span_text}

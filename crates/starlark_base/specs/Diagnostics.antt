@@ -1,5 +1,5 @@
 -- What is known of a value besides itself.
-use Rattle.std.specs.Prelude.{ℕ, List, [], Option, Some, None, ◌≢◌, refl, unwrap_or, ◌++◌, codes}
+use Rattle.std.specs.Prelude.{List, [], Option, Some, None, ◌≢◌, refl, unwrap_or, ◌++◌, codes}
 use Rattle.starlark_base.specs.Spans.{ByteSpan}
 use Rattle.starlark_base.specs.Places.{Text}
 use Rattle.starlark_base.specs.Sources.{SourceFile, file_span_text}
