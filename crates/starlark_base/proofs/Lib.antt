@@ -4,3 +4,4 @@ pub mod HeldSpans
 pub mod Numbered
 pub mod Resolving
 pub mod Rows
+mod DiagnosticRows

@@ -1,7 +1,8 @@
 -- What is known of a value besides itself.
-use Rattle.std.specs.Prelude.{ℕ, List, [], Option, Some, None, ◌≢◌, refl, unwrap_or, ◌++◌, codes}
+use Rattle.std.specs.Prelude.{List, [], Option, Some, None, ◌≢◌, refl, unwrap_or, ◌++◌, codes}
+use Rattle.starlark_base.specs.Spans.{ByteSpan}
 use Rattle.starlark_base.specs.Places.{Text}
-use Rattle.starlark_base.specs.Sources.{file_span_text}
+use Rattle.starlark_base.specs.Sources.{SourceFile, file_span_text}
 use Rattle.starlark_base.specs.declared.codemap.file_span.FileSpan.{FileSpan}
 
 -- a value, the place that it belongs to, if that is known, and the calls that led there
@@ -14,6 +15,18 @@ pub record Diagnosed (T : Type 0) : Type 0 where
 abbrev pub held : {T : Type 0} → (o : Option T) → o ≢ None → T
 held (Some x) h = x
 held None h = absurd (h refl)
+
+-- a span of a source text
+abbrev pub place_in : SourceFile → ByteSpan → FileSpan
+place_in file span = record { file = file; span = span }
+
+-- a value of which nothing else is known
+abbrev pub unplaced : {T : Type 0} → T → Diagnosed T
+unplaced value = record { value = value; span = None; call_stack = [] }
+
+-- another value at the same place, after the same calls
+abbrev pub with_value : {T U : Type 0} → Diagnosed T → U → Diagnosed U
+with_value d value = record { value = value; span = d.span; call_stack = d.call_stack }
 
 -- the place that was known first is kept
 abbrev pub with_span : {T : Type 0} → Diagnosed T → FileSpan → Diagnosed T

@@ -1,7 +1,7 @@
 //! Values with their places.
 
 ghost use Rattle.std.specs.Prelude.{◌≡◌, ◌≢◌, [], Some, None, option_copied, IsOk, IsSome, IfOk, IfErr, OnOk, OnErr};
-ghost use Rattle.starlark_base.specs.Diagnostics.{with_span};
+ghost use Rattle.starlark_base.specs.Diagnostics.{place_in, unplaced, with_span};
 
 use crate::call_stack::CallStack;
 use crate::codemap::{CodeMap, FileSpan, Span};
@@ -38,7 +38,7 @@ impl<T> Model for WithDiagnostic<T> {
 impl<T> WithDiagnostic<T> {
     /// A value at a place, with no calls. Want of memory hands the value back.
     pub fn new_spanned(alloc: Global, t: T, span: Span, codemap: &CodeMap) -> Result<Self, T>
-        ensures ok { IfOk result (λ it. it ≡ record { value = t; span = Some (record { file = codemap.now; span = span }); call_stack = [] }) }
+        ensures ok { IfOk result (λ it. it ≡ with_span (unplaced t) (place_in codemap.now span)) }
         ensures refused { IfErr result (λ given. given ≡ t) }
     {
         let Ok(span) = codemap.file_span(span) else {
@@ -137,7 +137,7 @@ impl<T> WithDiagnostic<T> {
     /// Tells the place, unless one is known. Want of memory changes nothing; where a place is known
     /// no memory is taken.
     pub fn set_span(&mut self, span: Span, codemap: &CodeMap) -> Result<(), AllocError>
-        ensures ok { OnOk result (self.new ≡ with_span self.old (record { file = codemap.now; span = span })) }
+        ensures ok { OnOk result (self.new ≡ with_span self.old (place_in codemap.now span)) }
         ensures known { IsSome self.old.span → IsOk result }
         ensures refused { OnErr result (self.new ≡ self.old) }
     {

@@ -1,5 +1,5 @@
 -- Worked rows, closed by computing: what these faults and errors say.
-use Rattle.std.proofs.Common.{◌≡◌, refl, ap, ℕ, List, [], ◌∷◌, ◌++◌, Option, Some, None, string_bytes}
+use Rattle.std.proofs.Common.{◌≡◌, refl, ap, [], ◌++◌, Option, Some, None, string_bytes}
 use Rattle.std.specs.Prelude.{String, codes, encode_utf8}
 use Rattle.std.specs.Fmt.{digits}
 use Rattle.std.proofs.Math.Utf8.{encode}

@@ -1,7 +1,7 @@
 //! Errors, each with what it says, the place it belongs to and the calls that led there.
 
 ghost use Rattle.std.specs.Prelude.{◌≡◌, ◌≢◌, [], Some, None, option_copied, IsOk, IsSome, IfOk, IfErr, OnOk, OnErr};
-ghost use Rattle.starlark_base.specs.Diagnostics.{with_span};
+ghost use Rattle.starlark_base.specs.Diagnostics.{place_in, unplaced, with_value, with_span};
 ghost use Rattle.starlark_syntax.specs.Errors.{IsFault, IsInternal};
 ghost use Rattle.starlark_syntax.specs.FaultTexts.{kind_text};
 
@@ -44,7 +44,7 @@ impl Model for Error {
 impl Error {
     /// An error of a kind, with no place and no calls. Want of memory hands the kind back.
     pub fn new_kind(alloc: Global, kind: ErrorKind) -> Result<Error, ErrorKind>
-        ensures ok { IfOk result (λ it. it ≡ record { value = kind; span = None; call_stack = [] }) }
+        ensures ok { IfOk result (λ it. it ≡ unplaced kind) }
         ensures refused { IfErr result (λ given. given ≡ kind) }
     {
         let parts = Parts {
@@ -82,7 +82,7 @@ impl Error {
     /// Tells the place, unless one is known. Want of memory changes nothing; where a place is known
     /// no memory is taken.
     pub fn set_span(&mut self, span: Span, codemap: &CodeMap) -> Result<(), AllocError>
-        ensures ok { OnOk result (self.new ≡ with_span self.old (record { file = codemap.now; span = span })) }
+        ensures ok { OnOk result (self.new ≡ with_span self.old (place_in codemap.now span)) }
         ensures known { IsSome self.old.span → IsOk result }
         ensures refused { OnErr result (self.new ≡ self.old) }
     {
@@ -136,7 +136,7 @@ impl Error {
 
 /// A fault of the lexer as an error, with no place and no calls. Want of memory hands the fault back.
 pub fn error_from_lexeme(alloc: Global, fault: LexemeError) -> Result<Error, LexemeError>
-    ensures ok { IfOk result (λ it. it ≡ record { value = ErrorKind.Parser (ParserMessage.Lexeme fault); span = None; call_stack = [] }) }
+    ensures ok { IfOk result (λ it. it ≡ unplaced (ErrorKind.Parser (ParserMessage.Lexeme fault))) }
     ensures refused { IfErr result (λ given. given ≡ fault) }
 {
     match Error::new_kind(alloc, ErrorKind::Parser(ParserMessage::Lexeme(fault))) {
@@ -151,7 +151,8 @@ pub fn error_from_diagnostic(
     alloc: Global,
     diagnostic: WithDiagnostic<LexemeError>,
 ) -> Result<Error, WithDiagnostic<LexemeError>>
-    ensures ok { IfOk result (λ it. it ≡ record { value = ErrorKind.Parser (ParserMessage.Lexeme diagnostic.value); span = diagnostic.span; call_stack = diagnostic.call_stack }) }
+    ensures ok { IfOk result (λ it. it ≡
+        with_value diagnostic (ErrorKind.Parser (ParserMessage.Lexeme diagnostic.value))) }
     ensures refused { IfErr result (λ given. given ≡ diagnostic) }
 {
     let room = ErrorKind::Internal(String::new(alloc));
@@ -168,7 +169,7 @@ pub fn error_from_diagnostic(
 }
 
 impl From<WithDiagnostic<Error>> for Error {
-    ghost from_gives = { λ d it. it ≡ record { value = d.value.value; span = d.span; call_stack = d.call_stack } };
+    ghost from_gives = { λ outer it. it ≡ with_value outer outer.value.value };
 
     /// The error inside, with the place and the calls of the outside. It takes no memory.
     fn from(diagnostic: WithDiagnostic<Error>) -> Error {

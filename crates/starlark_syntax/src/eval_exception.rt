@@ -1,7 +1,7 @@
 //! Errors that should have a place.
 
 ghost use Rattle.std.specs.Prelude.{◌≡◌, ◌≢◌, [], Some, None, IsOk, IsSome, IfSome, IfNone, IfOk, IfErr, OnErr};
-ghost use Rattle.starlark_base.specs.Diagnostics.{with_span};
+ghost use Rattle.starlark_base.specs.Diagnostics.{place_in, with_value, with_span};
 ghost use Rattle.starlark_syntax.specs.Errors.{IsFault, IsInternal, IsLocation, HasNoLocation};
 ghost use Rattle.starlark_syntax.specs.FaultTexts.{kind_text};
 
@@ -31,12 +31,11 @@ impl Model for EvalException {
 impl EvalException {
     /// An error at a place. A place and calls that it has already are kept. Want of memory hands the
     /// error back; where a place is known no memory is taken.
-    pub fn new(error: Error, span: Span, codemap: &CodeMap) -> Result<Self, Error>
-        ensures ok { IfOk result (λ it. it ≡ with_span error (record { file = codemap.now; span = span })) }
+    pub fn new(mut error: Error, span: Span, codemap: &CodeMap) -> Result<Self, Error>
+        ensures ok { IfOk result (λ it. it ≡ with_span error (place_in codemap.now span)) }
         ensures known { IsSome error.span → IsOk result }
         ensures refused { IfErr result (λ given. given ≡ error) }
     {
-        let mut error = error;
         match error.set_span(span, codemap) {
             Ok(()) => Ok(EvalException { error }),
             Err(_) => Err(error),
@@ -61,7 +60,7 @@ impl EvalException {
     ) -> Result<Self, Error>
         requires { error.call_stack ≡ [] → F.pre call_stack }
         ensures value { IfOk result (λ it. it.value ≡ error.value) }
-        ensures span { IfOk result (λ it. it.span ≡ (with_span error (record { file = codemap.now; span = span })).span) }
+        ensures span { IfOk result (λ it. it.span ≡ (with_span error (place_in codemap.now span)).span) }
         ensures told { IfOk result (λ it. error.call_stack ≡ [] → F.post call_stack it.call_stack) }
         ensures known_calls { IfOk result (λ it. error.call_stack ≢ [] → it.call_stack ≡ error.call_stack) }
         ensures known { IsSome error.span → IsOk result }
@@ -80,7 +79,7 @@ impl EvalException {
         codemap: &CodeMap,
     ) -> Result<Self, AllocError>
         ensures kind { IfOk result (λ it. IsInternal it.value (D.output error)) }
-        ensures span { IfOk result (λ it. it.span ≡ Some (record { file = codemap.now; span = span })) }
+        ensures span { IfOk result (λ it. it.span ≡ Some (place_in codemap.now span)) }
         ensures call_stack { IfOk result (λ it. it.call_stack ≡ []) }
     {
         let text = error.to_string(alloc)?;
@@ -136,7 +135,7 @@ impl EvalException {
 }
 
 impl From<WithDiagnostic<Error>> for EvalException {
-    ghost from_gives = { λ d it. it ≡ record { value = d.value.value; span = d.span; call_stack = d.call_stack } };
+    ghost from_gives = { λ outer it. it ≡ with_value outer outer.value.value };
 
     /// The error inside, with the place and the calls of the outside. It takes no memory.
     fn from(diagnostic: WithDiagnostic<Error>) -> EvalException {
