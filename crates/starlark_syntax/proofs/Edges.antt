@@ -6,7 +6,7 @@ use Rattle.std.proofs.lemmas.Bool.Decides.{nat_tests}
 use Rattle.std.proofs.Common.{◌≡◌, ℕ, zero, suc, ◌+◌, ◌-◌, ◌≤◌, ◌<◌, Bool, true, false, cond, not, List, [], ◌∷◌, ◌++◌, length, take, drop, get_or, refl, ap, ◌∙◌, sym, subst, Option, Some, None, arith, nat_eq, ◌⊎◌, inl, inr, one-add, ◌/◌}
 use Rattle.std.specs.Prelude.{⊤, ◌==◌, ◌&&◌, if◌then◌else◌, nat_lt, map}
 use Rattle.std.specs.Char.{is_ascii, is_ascii_hexdigit, len_utf8}
-use Rattle.std.specs.List.{list_all, prefix_len, starts_with, AllByRecursion}
+use Rattle.std.specs.List.{prefix_len, starts_with, AllByRecursion}
 use Rattle.std.specs.Str.{byte, IsUtf8, IsAscii, IsCharBoundary, continuation_len}
 use Rattle.std.proofs.lemmas.Bool.{and_parts, eqb-true, ltb-true, lt-ltb, le-ltb, cases_lt}
 use Rattle.std.proofs.lemmas.List.{length-append, length-drop, take-append-drop, get_or-drop, length-take-le}
@@ -16,7 +16,7 @@ use Rattle.std.proofs.lemmas.Slice.Eq.{bytes_eq-Decides}
 use Rattle.std.proofs.lemmas.Str.{IsCharBoundary-before_ascii, IsCharBoundary-from_take, IsCharBoundary-from_rest, IsUtf8-drop, IsUtf8-from_ascii, IsCharBoundary-end, IsCharBoundary-past_char, length-encode}
 use Rattle.starlark_syntax.specs.Words.{Text, Quote, SingleQuote, DoubleQuote, Kind, OfText, OfBytes, OfFString, is_octal_digit}
 use Rattle.starlark_syntax.specs.Tokens.{Opening, Lexeme, moved}
-use Rattle.starlark_syntax.specs.Items.{Literal, Item, Stop, Closing, Line, Ended, OpeningBrace, ClosingBrace, BadEscape, Found, Goes, Stops, goes, first_character, closing_quotes, quote_byte, broken, numbered, is_character, hexadecimal, octal, escaped_feed, simple, simple_escapes, escape, raw_pair, brace, found_at, Body, body_len, onward, body_from, body_at, is_brace, is_of_bytes}
+use Rattle.starlark_syntax.specs.Items.{Literal, Item, Stop, Closing, Line, Ended, OpeningBrace, ClosingBrace, BadEscape, Found, Goes, Stops, first_character, closing_quotes, quote_byte, broken, numbered, is_character, hexadecimal, octal, escaped_feed, simple, simple_escapes, escape, raw_pair, brace, found_at, Body, body_len, onward, body_from, body_at, is_brace, is_of_bytes}
 use Rattle.starlark_syntax.specs.Laws.{AtBoundaries}
 use Rattle.starlark_syntax.proofs.Lists.{drop-sum, drop-behind}
 use Rattle.starlark_syntax.proofs.Bodies.{FoundFits, found_fits}

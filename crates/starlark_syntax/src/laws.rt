@@ -1,7 +1,7 @@
 //! Laws of the written grammar, for all texts. Each function here has a law as its contract and nothing to do;
 //! programs don't call them.
 
-ghost use Rattle.starlark_syntax.specs.Laws.{FrontIsLongest, LongestFrontIsOne, ReadingsAgree, ReadingsFit, OutcomeIs, OutcomeIsOne, DedentsFollow, BlocksClose, ItemsAreFew, LexemesInOrder, FaultlessInOrder, FaultsInside, LexemesAtBoundaries};
+ghost use Rattle.starlark_syntax.specs.Laws.{FrontIsLongest, LongestFrontIsOne, ReadingsAgree, ReadingsFit, OutcomeIs, OutcomeIsOne, DedentsFollow, BlocksClose, ItemsAreFew, LexemesInOrder, FaultlessInOrder, FaultsInside, LexemesAtBoundaries, FaultAtBoundaries};
 
 /// The longest front of a text that is a word is the longest, and there is only one.
 pub fn one_longest_front()
@@ -31,10 +31,11 @@ pub fn balanced_layout()
 
 /// Lexemes are in order, with nothing but gaps before and between them, and where the text has no fault behind them
 /// too. They lie inside of the text, and in a text of characters they begin and end between
-/// characters. A fault lies inside of the text too.
+/// characters. A fault does so too.
 pub fn ordered_lexemes()
     ensures order { LexemesInOrder }
     ensures whole { FaultlessInOrder }
     ensures boundaries { LexemesAtBoundaries }
     ensures fault { FaultsInside }
+    ensures fault_boundaries { FaultAtBoundaries }
 {}
