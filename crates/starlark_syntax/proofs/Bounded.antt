@@ -1,11 +1,12 @@
 -- The lexemes of whole texts begin and end between characters.
-use Rattle.std.proofs.Common.{◌≡◌, ℕ, zero, suc, ◌+◌, ◌≤◌, ◌<◌, Bool, true, false, cond, not, List, [], ◌∷◌, ◌++◌, length, take, drop, get_or, refl, ap, ◌∙◌, sym, subst, Option, Some, None, arith, ◌⊎◌, inl, inr, nat_eq}
-use Rattle.std.specs.Prelude.{⊤, ◌&&◌, ◌==◌, if◌then◌else◌, map, replicate}
+use Rattle.starlark_syntax.specs.Laws.{AtBoundaries}
+use Rattle.std.proofs.Common.{◌≡◌, ℕ, zero, suc, ◌+◌, ◌≤◌, ◌<◌, Bool, true, false, cond, not, List, [], ◌∷◌, ◌++◌, length, take, drop, get_or, refl, ap, ◌∙◌, sym, subst, Option, Some, None, arith, ◌⊎◌, inl, inr, nat_eq, ◌-◌}
+use Rattle.std.specs.Prelude.{◌&&◌, ◌==◌, if◌then◌else◌, map, replicate, IfSome}
 use Rattle.std.specs.List.{list_all, starts_with}
 use Rattle.std.specs.Str.{byte, bytes_eq, IsUtf8, IsCharBoundary}
 use Rattle.std.proofs.lemmas.Bool.{and_parts, cases_lt, eqb-true}
 use Rattle.std.proofs.lemmas.Bool.Decides.{nat_tests}
-use Rattle.std.proofs.lemmas.List.{take-append-drop, length-take-le, drop_more}
+use Rattle.std.proofs.lemmas.List.{take-append-drop, length-take-le, drop_more, length-drop}
 use Rattle.std.proofs.Math.Seq.{take-add}
 use Rattle.std.proofs.lemmas.List.Folds.{list_all-append}
 use Rattle.std.specs.Map.{lookup}
@@ -16,26 +17,26 @@ use Rattle.starlark_syntax.specs.Words as word
 use Rattle.starlark_syntax.specs.Words.{Text, Quote, SingleQuote, DoubleQuote, Kind, OfText, OfBytes, OfFString, Class, Table, class_in, language, is_in_line, is_comment, patterns, openers, line_ends, symbols, names}
 use Rattle.starlark_syntax.specs.Front.{longest_front, IsLongestFront}
 use Rattle.starlark_syntax.specs.Numbers.{integer_of}
-use Rattle.starlark_syntax.specs.Tokens.{Token, Comment, Identifier, Int, Float, Opening, Lexeme, moved, Newline, Dedent, FStringBang, FStringEnd, FStringExprStart, FStringStart}
+use Rattle.starlark_syntax.specs.Tokens.{Token, Comment, Identifier, Int, Float, Opening, Lexeme, moved, Newline, Dedent, FStringBang, FStringEnd, FStringExprStart, FStringStart, Spanned, Fault}
 use Rattle.starlark_syntax.specs.Items.{Literal, Stop, Closing, Line, Ended, OpeningBrace, ClosingBrace, BadEscape, Body, body_at, body_len, body_value, closing_quotes, quote_byte}
 use Rattle.starlark_syntax.specs.Depths.{Where, Outside, InText, AtTop, Deeper}
 use Rattle.starlark_syntax.specs.Margins.{Margin, margin_of, margin_len, is_content, has_tab, width_of, fits, indentation, open_widths}
 use Rattle.starlark_syntax.specs.Pieces.{Before, Nothing, Layout, Gap, Other, Piece, Step, Stands, Fails, Ends, Situation, token, margin_step, line_end, opening_of, more_quotes, escape_fault, literal_token, literal_by, opener, chunk_text, chunk_piece, chunk_by, chunk, terminal_token, counts, starts_zero, word_step, front_step, takes_bang, is_bang, in_code, by_place, by_before, step_at}
-use Rattle.starlark_syntax.specs.Reading.{History, nothing, after, after_all, situation, next_step, IsReading, pieces_len, lexemes_along, closing, outcome_of, outcome_in, outcome, read}
+use Rattle.starlark_syntax.specs.Reading.{History, nothing, after, after_all, situation, next_step, IsReading, pieces_len, lexemes_along, closing, outcome_of, outcome_in, outcome, read, IsLongestReading}
 use Rattle.starlark_syntax.proofs.Front.{front_sound, longest_front_is}
 use Rattle.starlark_syntax.proofs.Lists.{drop-sum}
 use Rattle.starlark_syntax.proofs.Steps.{Each}
 use Rattle.starlark_syntax.proofs.Readings.{read_is}
 use Rattle.starlark_syntax.proofs.Words.{class_in-language}
 use Rattle.starlark_syntax.proofs.WordBytes.{is_plain, word_fits, language_fits}
-use Rattle.starlark_syntax.proofs.Edges.{behind_plain, before_byte, boundary_shift, edges_append, edges_shift, starts_split, StopAt, stop_at, closing_edges}
+use Rattle.starlark_syntax.proofs.Edges.{behind_plain, before_byte, boundary_shift, edges_append, edges_shift, starts_split, StopAt, stop_at, closing_edges, character_edge}
 use Rattle.starlark_syntax.proofs.Boundaries.{Edges, MarginEdges, margin_edges, indentation_edges}
 
 abbrev pub Bounded : Text → Piece → Type 0
 Bounded text piece = Edges text piece.lexemes × IsCharBoundary text piece.len
 
 abbrev pub StepBounded : Text → Step → Type 0
-StepBounded text = Each (Bounded text) (λ fault. ⊤)
+StepBounded text = Each (Bounded text) (AtBoundaries text)
 
 either : (P : Step → Type 0) (test : Bool) (x y : Step) → P x → P y → P (if test then x else y)
 either P true x y px py = px
@@ -54,9 +55,12 @@ margin_step_bounded : (text : Text) (len : ℕ) (before : List Lexeme) (levels :
 unfolding margin_step
 margin_step_bounded text len before levels utf8 here edges =
     either (StepBounded text) (not (is_content margin.behind)) _ _ (layout [] tt)
-    (either (StepBounded text) (has_tab margin) _ _ tt
-    (either (StepBounded text) (fits (width_of margin) levels) _ _ (layout (indentation levels margin) (indentation_edges levels (drop len text) behind)) tt))
+    (either (StepBounded text) (has_tab margin) _ _ (start, start)
+    (either (StepBounded text) (fits (width_of margin) levels) _ _ (layout (indentation levels margin) (indentation_edges levels (drop len text) behind)) (start, boundary_shift text len (margin_len margin) here found.end)))
   where
+    start : IsCharBoundary text 0
+    start = IsCharBoundary-start text utf8
+
     margin : Margin
     margin = margin_of (drop len text)
 
@@ -71,20 +75,55 @@ margin_step_bounded text len before levels utf8 here edges =
 
 -- Literals
 
+-- the end of the text, from a place in it on
+text_end : (text : Text) (len : ℕ) (behind : Text) → IsCharBoundary text len → drop len text ≡ behind → IsCharBoundary text (len + length behind)
+text_end text len behind here e =
+    let left : length (drop len text) ≡ length behind = ap (λ (t : Text). length t) e in
+    let inside : len ≤ length text = here.0 in
+    let same : length text ≡ len + length behind = omega (arith, left, inside, length-drop len text) in
+    subst (IsCharBoundary text) same (IsCharBoundary-end text)
+
 literal_by_bounded : (text : Text) (place : Where) (kind : Kind) (opening : Opening) (len : ℕ) (behind : Text) (body : Body) (stop : Stop) → IsUtf8 text → IsCharBoundary text len → drop len text ≡ behind → StopAt opening (drop (body_len body) behind) stop → StepBounded text (literal_by place kind opening len behind body stop)
 literal_by_bounded text place kind opening len behind body Closing utf8 here e stop =
     let left : drop (len + body_len body) text ≡ drop (body_len body) behind = drop-sum len (body_len body) text ∙ ap (drop (body_len body)) e in
     let edges = closing_edges opening text (len + body_len body) utf8 (subst (λ (t : Text). t ≡ closing_quotes opening ++ drop (length (closing_quotes opening)) t) (sym left) stop) in
     token_bounded text (len + body_len body + length (closing_quotes opening)) (literal_token kind (body_value body)) utf8 edges.1
-literal_by_bounded text place kind opening len behind body (BadEscape read last) utf8 here e stop = go (len + body_len body) (drop 1 (take read (drop (body_len body) behind)))
+literal_by_bounded text place kind opening len behind body (BadEscape read last) utf8 here e stop = go (drop 1 (take read rest)) count
   where
-    go : (begin : ℕ) (read : Text) → StepBounded text (escape_fault begin read)
-    go begin [] = tt
-    go begin (b ∷ bs) = tt
-literal_by_bounded text place kind opening len behind body Line utf8 here e stop = tt
-literal_by_bounded text place kind opening len behind body Ended utf8 here e stop = tt
-literal_by_bounded text place kind opening len behind body OpeningBrace utf8 here e stop = tt
-literal_by_bounded text place kind opening len behind body ClosingBrace utf8 here e stop = tt
+    at : ℕ
+    at = len + body_len body
+
+    rest : Text
+    rest = drop (body_len body) behind
+
+    left : drop at text ≡ rest
+    left = drop-sum len (body_len body) text ∙ ap (drop (body_len body)) e
+
+    begin : IsCharBoundary text at
+    begin = before_byte text at (byte "\\") stop.0 (left ∙ stop.1) (omega arith)
+
+    utf8_rest : IsUtf8 rest
+    utf8_rest = subst (λ (t : Text). IsUtf8 t) left (IsUtf8-drop text at utf8 begin)
+
+    end : IsCharBoundary text (at + read)
+    end = boundary_shift text at read begin (subst (λ (t : Text). IsCharBoundary t read) (sym left) (stop.2 utf8_rest).0)
+
+    one : IsCharBoundary text (1 + at)
+    one = let same : at + 1 ≡ 1 + at = omega arith in subst (IsCharBoundary text) same (boundary_shift text at 1 begin (behind_plain (drop at text) (byte "\\" ∷ []) stop.0 (IsUtf8-drop text at utf8 begin) (left ∙ stop.1) refl))
+
+    count : length (drop 1 (take read rest)) ≡ read - 1
+    count =
+        let inside : read ≤ length rest = (stop.2 utf8_rest).0.0 in
+        omega (arith, length-drop 1 (take read rest), length-take-le read rest inside)
+
+    go : (t : Text) → length t ≡ read - 1 → StepBounded text (escape_fault at t)
+    go [] k = (begin, one)
+    go (b ∷ bs) k = let same : at + read ≡ at + length (byte "\\" ∷ b ∷ bs) = omega (arith, k) in (begin, subst (IsCharBoundary text) same end)
+literal_by_bounded text place kind opening len behind body Line utf8 here e stop =
+    (IsCharBoundary-start text utf8, before_byte text (len + body_len body) (byte "\n") stop.0 (drop-sum len (body_len body) text ∙ ap (drop (body_len body)) e ∙ stop.1) (omega arith))
+literal_by_bounded text place kind opening len behind body Ended utf8 here e stop = (IsCharBoundary-start text utf8, text_end text len behind here e)
+literal_by_bounded text place kind opening len behind body OpeningBrace utf8 here e stop = (IsCharBoundary-start text utf8, text_end text len behind here e)
+literal_by_bounded text place kind opening len behind body ClosingBrace utf8 here e stop = (IsCharBoundary-start text utf8, text_end text len behind here e)
 
 -- the end of an opening
 opening_edge : (text : Text) (len : ℕ) (is_raw : Bool) (quote : Quote) → IsUtf8 text → IsCharBoundary text len → IsCharBoundary text (len + more_quotes (opening_of is_raw quote (drop len text)))
@@ -126,6 +165,12 @@ chunk_piece_bounded text body node len utf8 middle end = (edges_append text (chu
     first [] = tt
     first (b ∷ bs) = ((IsCharBoundary-start text utf8, middle), tt)
 
+-- before a byte of ASCII, and behind it
+byte_edges : (text : Text) (at b : ℕ) (rest : Text) → IsUtf8 text → drop at text ≡ b ∷ rest → b < 128 → is_plain (b ∷ []) ≡ true → IsCharBoundary text at × IsCharBoundary text (at + 1)
+byte_edges text at b rest utf8 e small plain =
+    let before : IsCharBoundary text at = before_byte text at b rest e small in
+    (before, boundary_shift text at 1 before (behind_plain (drop at text) (b ∷ []) rest (IsUtf8-drop text at utf8 before) e plain))
+
 chunk_by_bounded : (opening : Opening) (text : Text) (body : Body) (stop : Stop) → IsUtf8 text → StopAt opening (drop (body_len body) text) stop → StepBounded text (chunk_by opening text body stop)
 chunk_by_bounded opening text body OpeningBrace utf8 stop =
     let middle : IsCharBoundary text (body_len body) = before_byte text (body_len body) (byte "{") stop.0 stop.1 (omega arith) in
@@ -134,10 +179,13 @@ chunk_by_bounded opening text body OpeningBrace utf8 stop =
 chunk_by_bounded opening text body Closing utf8 stop =
     let edges = closing_edges opening text (body_len body) utf8 stop in
     chunk_piece_bounded text body FStringEnd (length (closing_quotes opening)) utf8 edges.0 edges.1
-chunk_by_bounded opening text body ClosingBrace utf8 stop = tt
-chunk_by_bounded opening text body (BadEscape read last) utf8 stop = tt
-chunk_by_bounded opening text body Line utf8 stop = tt
-chunk_by_bounded opening text body Ended utf8 stop = tt
+chunk_by_bounded opening text body ClosingBrace utf8 stop = byte_edges text (body_len body) (byte "}") stop.0 utf8 stop.1 (omega arith) refl
+chunk_by_bounded opening text body (BadEscape read last) utf8 stop =
+    let middle : IsCharBoundary text (body_len body) = before_byte text (body_len body) (byte "\\") stop.0 stop.1 (omega arith) in
+    let edges = stop.2 (IsUtf8-drop text (body_len body) utf8 middle) in
+    (boundary_shift text (body_len body) (read - last) middle edges.1, boundary_shift text (body_len body) read middle edges.0)
+chunk_by_bounded opening text body Line utf8 stop = (IsCharBoundary-start text utf8, (byte_edges text (body_len body) (byte "\n") stop.0 utf8 stop.1 (omega arith) refl).1)
+chunk_by_bounded opening text body Ended utf8 stop = (IsCharBoundary-start text utf8, IsCharBoundary-end text)
 
 chunk_bounded : (opening : Opening) (text : Text) → IsUtf8 text → StepBounded text (chunk opening text)
 unfolding chunk
@@ -148,16 +196,16 @@ chunk_bounded opening text utf8 = chunk_by_bounded opening text (body_at (record
 word_step_bounded : (text : Text) (s : Situation) (class : Class) (front behind : Text) → IsUtf8 text → IsCharBoundary text (length front) → drop (length front) text ≡ behind → StepBounded text (word_step s class front behind)
 word_step_bounded text s word.Skipped front behind utf8 end e = (tt, end)
 word_step_bounded text s word.Comment front behind utf8 end e = token_bounded text (length front) (Comment (drop 1 front)) utf8 end
-word_step_bounded text s word.Tabs front behind utf8 end e = tt
+word_step_bounded text s word.Tabs front behind utf8 end e = (IsCharBoundary-start text utf8, IsCharBoundary-start text utf8)
 word_step_bounded text s word.LineEnd front behind utf8 end e =
     either (StepBounded text) (counts s.place s.is_balanced) _ _
     (subst (λ (t : Text). StepBounded text (line_end (length front) s.levels t)) e (margin_step_bounded text (length front) (record { begin = 0; node = Newline; end = length front } ∷ []) s.levels utf8 end ((IsCharBoundary-start text utf8, end), tt)))
     (tt, end)
 word_step_bounded text s (word.Opener kind is_raw quote) front behind utf8 end e =
     subst (λ (t : Text). StepBounded text (opener s.place kind (opening_of is_raw quote t) (length front) t)) e (opener_bounded text s.place kind is_raw quote (length front) utf8 end)
-word_step_bounded text s word.Reserved front behind utf8 end e = tt
+word_step_bounded text s word.Reserved front behind utf8 end e = (IsCharBoundary-start text utf8, end)
 word_step_bounded text s word.Identifier front behind utf8 end e = token_bounded text (length front) (Identifier front) utf8 end
-word_step_bounded text s word.Decimal front behind utf8 end e = either (StepBounded text) (starts_zero front) _ _ tt (token_bounded text (length front) (Int (integer_of 10 front)) utf8 end)
+word_step_bounded text s word.Decimal front behind utf8 end e = either (StepBounded text) (starts_zero front) _ _ (IsCharBoundary-start text utf8, end) (token_bounded text (length front) (Int (integer_of 10 front)) utf8 end)
 word_step_bounded text s word.Hexadecimal front behind utf8 end e = token_bounded text (length front) (Int (integer_of 16 (drop 2 front))) utf8 end
 word_step_bounded text s word.Octal front behind utf8 end e = token_bounded text (length front) (Int (integer_of 8 (drop 2 front))) utf8 end
 word_step_bounded text s word.Binary front behind utf8 end e = token_bounded text (length front) (Int (integer_of 2 (drop 2 front))) utf8 end
@@ -234,7 +282,7 @@ word_edge text class n utf8 e = go class e (language_fits (take n text) class (f
     go (word.Fixed terminal) e h = plain h
 
 front_step_bounded : (s : Situation) (text : Text) (found : Option (Class × ℕ)) → IsUtf8 text → longest_front (class_in language) text ≡ found → StepBounded text (front_step s text found)
-front_step_bounded s text None utf8 f = tt
+front_step_bounded s text None utf8 f = (IsCharBoundary-start text utf8, character_edge text utf8)
 front_step_bounded s text (Some front) utf8 f =
     let inside = (front_sound (class_in language) text front.0 front.1 f).1 in
     let taken : front.1 ≡ length (take front.1 text) = sym (length-take-le front.1 text inside) in
@@ -267,6 +315,10 @@ by_before_bounded s Other text utf8 = by_place_bounded s s.place text utf8
 piece_bounded : (history : History) (text : Text) (piece : Piece) → IsUtf8 text → next_step language history text ≡ Stands piece → Bounded text piece
 unfolding next_step situation step_at
 piece_bounded history text piece utf8 e = subst (StepBounded text) e (by_before_bounded (situation history) history.before text utf8)
+
+fault_bounded : (history : History) (text : Text) (fault : Spanned Fault) → IsUtf8 text → next_step language history text ≡ Fails fault → AtBoundaries text fault
+unfolding next_step situation step_at
+fault_bounded history text fault utf8 e = subst (StepBounded text) e (by_before_bounded (situation history) history.before text utf8)
 
 -- Readings
 
@@ -308,3 +360,15 @@ outcome_of_edges text pieces Ends utf8 reads = whole_edges text pieces utf8 read
 pub outcome_edges : (text : Text) → IsUtf8 text → Edges text (outcome text).lexemes
 unfolding outcome outcome_in
 outcome_edges text utf8 = outcome_of_edges text (read language text).pieces (read language text).last utf8 (read_is language text).reads
+
+fault_of_edges : (text : Text) (pieces : List Piece) (last : Step) → IsUtf8 text → IsLongestReading language nothing text pieces last → IfSome (outcome_of text pieces last).fault (AtBoundaries text)
+fault_of_edges text pieces (Fails fault) utf8 h =
+    let here : IsCharBoundary text (pieces_len pieces) = (along text pieces utf8 h.reads).1 in
+    let edges = fault_bounded (after_all nothing pieces) (drop (pieces_len pieces) text) fault (IsUtf8-drop text (pieces_len pieces) utf8 here) h.stands_last in
+    (boundary_shift text (pieces_len pieces) fault.begin here edges.0, boundary_shift text (pieces_len pieces) fault.end here edges.1)
+fault_of_edges text pieces (Stands piece) utf8 h = tt
+fault_of_edges text pieces Ends utf8 h = tt
+
+pub fault_edges : (text : Text) → IsUtf8 text → IfSome (outcome text).fault (AtBoundaries text)
+unfolding outcome outcome_in
+fault_edges text utf8 = fault_of_edges text (read language text).pieces (read language text).last utf8 (read_is language text)

@@ -53,9 +53,13 @@ FaultsInside = (table : Table) (text : Text) → IfSome (outcome_in table text).
 abbrev pub AtBoundaries : {A : Type 0} → Text → Spanned A → Type 0
 AtBoundaries text x = IsCharBoundary text x.begin × IsCharBoundary text x.end
 
--- The lexemes of a text of characters begin and end between characters.
+-- The lexemes of a text of characters begin and end between characters, …
 abbrev pub LexemesAtBoundaries : Type 0
 LexemesAtBoundaries = (text : Text) → IsUtf8 text → AllByRecursion (AtBoundaries text) (outcome text).lexemes
+
+-- … and so does its fault.
+abbrev pub FaultAtBoundaries : Type 0
+FaultAtBoundaries = (text : Text) → IsUtf8 text → IfSome (outcome text).fault (AtBoundaries text)
 
 abbrev pub is_indent : Token → Bool
 is_indent Indent = true

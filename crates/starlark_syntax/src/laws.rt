@@ -2,7 +2,7 @@
 //! programs don't call them.
 
 ghost use Rattle.starlark_syntax.specs.IntegerValues.{IntegersKeepTheirValue};
-ghost use Rattle.starlark_syntax.specs.Laws.{FrontIsLongest, LongestFrontIsOne, ReadingsAgree, ReadingsFit, OutcomeIs, OutcomeIsOne, DedentsFollow, BlocksClose, ItemsAreFew, LexemesInOrder, FaultlessInOrder, LexemesAtBoundaries, CutsJoin, FaultsInside};
+ghost use Rattle.starlark_syntax.specs.Laws.{FrontIsLongest, LongestFrontIsOne, ReadingsAgree, ReadingsFit, OutcomeIs, OutcomeIsOne, DedentsFollow, BlocksClose, ItemsAreFew, LexemesInOrder, FaultlessInOrder, LexemesAtBoundaries, CutsJoin, FaultsInside, FaultAtBoundaries};
 ghost use Rattle.starlark_syntax.specs.TokenTexts.{PrintedWordsReadBack};
 
 /// The longest front of a text that is a word is the longest, and there is only one.
@@ -33,12 +33,13 @@ pub fn balanced_layout()
 
 /// Lexemes are in order, with nothing but gaps before and between them, and where the text has no fault behind them
 /// too. They lie inside of the text, and in a text of characters they begin and end between
-/// characters. A fault lies inside of the text too.
+/// characters. A fault does so too.
 pub fn ordered_lexemes()
     ensures order { LexemesInOrder }
     ensures whole { FaultlessInOrder }
     ensures boundaries { LexemesAtBoundaries }
     ensures fault { FaultsInside }
+    ensures fault_boundaries { FaultAtBoundaries }
 {}
 
 /// At a clean cut the lexemes of two texts joined are the joined list. A fault of the second text stays the same fault,

@@ -123,8 +123,12 @@ widths_3 :
     Lexes (codes " \r x") (at 0 Indent 3 ∷ at 3 (Identifier (codes "x")) 4 ∷ at 4 Newline 4 ∷ at 4 Dedent 4 ∷ [])
     × Lexes (codes "x\n \r y") (at 0 (Identifier (codes "x")) 1 ∷ at 1 Newline 2 ∷ at 2 Indent 5 ∷ at 5 (Identifier (codes "y")) 6 ∷ at 6 Newline 6 ∷ at 6 Dedent 6 ∷ [])
     × Stops (codes "a\n  b\n   c\n d") (at 0 (Identifier (codes "a")) 1 ∷ at 1 Newline 2 ∷ at 2 Indent 4 ∷ at 4 (Identifier (codes "b")) 5 ∷ at 5 Newline 6 ∷ at 6 Indent 9 ∷ at 9 (Identifier (codes "c")) 10 ∷ []) (at 10 Indentation 12)
+    × Lexes (codes " \r x\n  y") (at 0 Indent 3 ∷ at 3 (Identifier (codes "x")) 4 ∷ at 4 Newline 5 ∷ at 7 (Identifier (codes "y")) 8 ∷ at 8 Newline 8 ∷ at 8 Dedent 8 ∷ [])
+    × Lexes (codes "  x\n \r y") (at 0 Indent 2 ∷ at 2 (Identifier (codes "x")) 3 ∷ at 3 Newline 4 ∷ at 7 (Identifier (codes "y")) 8 ∷ at 8 Newline 8 ∷ at 8 Dedent 8 ∷ [])
+    × Lexes (codes "\r x\n y") (at 0 Indent 2 ∷ at 2 (Identifier (codes "x")) 3 ∷ at 3 Newline 4 ∷ at 5 (Identifier (codes "y")) 6 ∷ at 6 Newline 6 ∷ at 6 Dedent 6 ∷ [])
+    × Lexes (codes " x\n\r\r y") (at 0 Indent 1 ∷ at 1 (Identifier (codes "x")) 2 ∷ at 2 Newline 3 ∷ at 6 (Identifier (codes "y")) 7 ∷ at 7 Newline 7 ∷ at 7 Dedent 7 ∷ [])
 unfolding encode openers line_ends symbols names patterns language class_in longest_front integer_of simple_escapes escape raw_pair found_at body_from body_at is_balanced open_fstring braces depth where_after lines margin_of open_widths fits indentation margin_step chunk step_at after situation next_step read_from read outcome_in outcome
-widths_3 = (refl, refl, refl)
+widths_3 = (refl, refl, refl, refl, refl, refl, refl)
 
 -- tabs in margins
 tabs_1 :

@@ -1,5 +1,5 @@
 use Rattle.starlark_syntax.proofs.Order.{outcome_order}
-use Rattle.starlark_syntax.proofs.Bounded.{outcome_edges}
+use Rattle.starlark_syntax.proofs.Bounded.{outcome_edges, fault_edges}
 use Rattle.starlark_syntax.proofs.Faults.{outcome_fault}
 use Rattle.starlark_syntax.proofs.laws.ordered_lexemes.Goals as goal
 
@@ -18,3 +18,7 @@ returns-clause-boundaries c = outcome_edges
 -- src/laws.rt:50:1
 pub returns-clause-fault : goal.returns-clause-fault
 returns-clause-fault c = outcome_fault
+
+-- src/laws.rt:50:1
+pub returns-clause-fault_boundaries : goal.returns-clause-fault_boundaries
+returns-clause-fault_boundaries c = fault_edges
