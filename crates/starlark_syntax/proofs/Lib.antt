@@ -1,1 +1,1 @@
-mod Rows
+mod ErrorRows
