@@ -9,7 +9,6 @@ pub mod PlainDigits
 pub mod WordBoundaries
 pub mod OneIdentifier
 mod RowsOfTokens
-mod RowsOfErrors
 pub mod Bodies
 pub mod Steps
 pub mod Readings
@@ -43,3 +42,4 @@ pub mod Settled
 pub mod MarginsFollowed
 pub mod Joining
 pub mod CleanCuts
+mod ErrorRows
