@@ -50,7 +50,7 @@ longest_both table history text (piece ∷ one) other last reads longest =
     let total : pieces_len (piece ∷ one) ≡ piece.len + pieces_len one = sum_by-cons (λ (piece : Piece). piece.len) piece one in
     let left : drop (pieces_len (piece ∷ one)) text ≡ drop (pieces_len one) (drop piece.len text) = ap (λ n. drop n text) total ∙ drop-sum piece.len (pieces_len one) text in
     longest_onward table history text piece (one ++ other) last reads.0
-        (longest_both table (after history piece) (drop piece.len text) one other last reads.1 (subst (λ (t : Text). IsLongestReading table (after_all (after history piece) one) t other last) left longest))
+    (longest_both table (after history piece) (drop piece.len text) one other last reads.1 (subst (λ (t : Text). IsLongestReading table (after_all (after history piece) one) t other last) left longest))
 
 but_last : {A : Type 0} (xs : List A) (x : A) → take (length (xs ++ x ∷ []) - 1) (xs ++ x ∷ []) ≡ xs
 but_last xs x = let len : length (xs ++ x ∷ []) - 1 ≡ length xs = omega (arith, length-append xs (x ∷ [])) in ap (λ n. take n (xs ++ x ∷ [])) len ∙ take-append_seam xs (x ∷ [])
@@ -83,13 +83,13 @@ closed text pieces last e reach none =
 
 cut_of : (text : Text) (pieces : List Piece) (last : Step) → IsLongestReading language nothing text pieces last → (outcome text).lexemes ≡ (outcome_of text pieces last).lexemes → is_faultless last ≡ true → is_settled (after_all nothing pieces) ≡ true → ends_line text ≡ true → Cut text pieces
 cut_of text pieces last longest same faultless settled_end ends = record {
-    some = λ e. both_ways _ (subst (λ (ps : List Piece). is_layout (after_all nothing ps).before ≡ false) (sym e) refl) is.layout;
-    ends = ends;
-    reads = longest.reads;
-    reach = reach;
-    is_settled = is;
-    lexemes = same ∙ closed text pieces last at_end reach is.no_width;
-  }
+  some = λ e. both_ways _ (subst (λ (ps : List Piece). is_layout (after_all nothing ps).before ≡ false) (sym e) refl) is.layout;
+  ends = ends;
+  reads = longest.reads;
+  reach = reach;
+  is_settled = is;
+  lexemes = same ∙ closed text pieces last at_end reach is.no_width;
+}
   where
     is : Settled (after_all nothing pieces)
     is = settled (after_all nothing pieces) settled_end
@@ -159,9 +159,9 @@ module _ (text more : Text) (first : Piece) (pieces : List Piece) (here : Cut te
   longest =
       let left : drop (pieces_len both.pieces') (text ++ more) ≡ drop first.len more = ap (λ n. drop n (text ++ more)) both.len ∙ drop-append-add text more first.len in
       longest_both language nothing (text ++ more) both.pieces' there.pieces there.last both.reads
-          (subst (λ (t : Text). IsLongestReading language (after_all nothing both.pieces') t there.pieces there.last) (sym left)
-              (subst (λ (past : History). IsLongestReading language past (drop first.len more) there.pieces there.last) (sym both.past)
-                  (longest_behind language (after_all nothing pieces) (after nothing first) (drop first.len more) there.pieces there.last here.is_settled there.longest)))
+      (subst (λ (t : Text). IsLongestReading language (after_all nothing both.pieces') t there.pieces there.last) (sym left)
+      (subst (λ (past : History). IsLongestReading language past (drop first.len more) there.pieces there.last) (sym both.past)
+      (longest_behind language (after_all nothing pieces) (after nothing first) (drop first.len more) there.pieces there.last here.is_settled there.longest)))
 
   joined_is : outcome (text ++ more) ≡ outcome_of (text ++ more) (both.pieces' ++ there.pieces) there.last
   unfolding outcome
@@ -177,10 +177,10 @@ module _ (text more : Text) (first : Piece) (pieces : List Piece) (here : Cut te
       ∙ ap (λ ls. ls ++ lexemes_along (0 + pieces_len both.pieces') there.pieces) (both.lexemes 0)
       ∙ append_assoc (lexemes_along 0 pieces) (map (moved (0 + length text)) first.lexemes) (lexemes_along (0 + pieces_len both.pieces') there.pieces)
       ∙ ap (λ ls. lexemes_along 0 pieces ++ ls)
-          (ap (λ n. map (moved (0 + length text)) first.lexemes ++ lexemes_along n there.pieces) start
-           ∙ ap (λ ls. map (moved (0 + length text)) first.lexemes ++ ls) (along_later (length text) (0 + first.len) there.pieces)
-           ∙ ap (λ ls. ls ++ map (moved (length text)) (lexemes_along (0 + first.len) there.pieces)) (sym (all_moved (length text) 0 (0 + length text) first.lexemes (omega arith)))
-           ∙ sym (map_both (moved (length text)) (map (moved 0) first.lexemes) (lexemes_along (0 + first.len) there.pieces)))
+      (ap (λ n. map (moved (0 + length text)) first.lexemes ++ lexemes_along n there.pieces) start
+      ∙ ap (λ ls. map (moved (0 + length text)) first.lexemes ++ ls) (along_later (length text) (0 + first.len) there.pieces)
+      ∙ ap (λ ls. ls ++ map (moved (length text)) (lexemes_along (0 + first.len) there.pieces)) (sym (all_moved (length text) 0 (0 + length text) first.lexemes (omega arith)))
+      ∙ sym (map_both (moved (length text)) (map (moved 0) first.lexemes) (lexemes_along (0 + first.len) there.pieces)))
 
   past : after_all nothing (both.pieces' ++ there.pieces) ≡ behind (after_all nothing pieces) (after_all nothing (first ∷ there.pieces))
   past = past_both nothing both.pieces' there.pieces ∙ ap (λ (h : History). after_all h there.pieces) both.past ∙ all_behind (after_all nothing pieces) (after nothing first) there.pieces
@@ -207,7 +207,7 @@ module _ (text more : Text) (first : Piece) (pieces : List Piece) (here : Cut te
       ≡ record { lexemes = joined (length text) (outcome text).lexemes (outcome_of more (first ∷ there.pieces) last).lexemes; fault = option_map (moved (length text)) (outcome_of more (first ∷ there.pieces) last).fault }
   by_last (Fails fault) =
       same_outcome (some_before (text ++ more) (both.pieces' ++ there.pieces) (some_both both.pieces' there.pieces both.some) ∙ lexemes ∙ cut_lexemes (lexemes_along 0 (first ∷ there.pieces)))
-          (ap Some (sym (moved_both (length text) (pieces_len (first ∷ there.pieces)) (pieces_len (both.pieces' ++ there.pieces)) fault (sym total))))
+      (ap Some (sym (moved_both (length text) (pieces_len (first ∷ there.pieces)) (pieces_len (both.pieces' ++ there.pieces)) fault (sym total))))
   by_last (Stands piece) = same_outcome to_end refl
   by_last Ends = same_outcome to_end refl
 

@@ -115,7 +115,7 @@ abbrev WordFollowed : Situation → Class → Text → Text → Text → Piece �
 WordFollowed s class front behind more piece =
     (word_step s class front (behind ++ more) ≡ Stands piece)
     ⊎ ((class ≡ word.LineEnd) × (counts s.place s.is_balanced ≡ true) × (word_step s class front behind ≡ line_end (length front) s.levels behind)
-       × (word_step s class front (behind ++ more) ≡ line_end (length front) s.levels (behind ++ more)))
+    × (word_step s class front (behind ++ more) ≡ line_end (length front) s.levels (behind ++ more)))
 
 word_followed : (s : Situation) (class : Class) (front behind more : Text) (piece : Piece) → (in_line front ≡ true → ends_line behind ≡ true) → line_fits class front ≡ true → word_step s class front behind ≡ Stands piece → WordFollowed s class front behind more piece
 word_followed s word.Skipped front behind more piece ends fits e = inl e
@@ -134,7 +134,7 @@ word_followed s word.LineEnd front behind more piece ends fits e = go (counts s.
 word_followed s (word.Opener kind is_raw quote) front behind more piece ends fits e =
     let h = ends fits in
     inl (ap (λ (opening : Opening). opener s.place kind opening (length front) (behind ++ more)) (opening_followed is_raw quote behind more h)
-        ∙ opener_followed s.place kind (opening_of is_raw quote behind) (length front) behind more piece h (opening_inside is_raw quote behind h) e)
+    ∙ opener_followed s.place kind (opening_of is_raw quote behind) (length front) behind more piece h (opening_inside is_raw quote behind h) e)
 word_followed s word.Reserved front behind more piece ends fits e = inl e
 word_followed s word.Identifier front behind more piece ends fits e = inl e
 word_followed s word.Decimal front behind more piece ends fits e = inl e

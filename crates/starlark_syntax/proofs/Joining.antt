@@ -91,10 +91,10 @@ step_behind len lexemes n comments margin first e =
     same indents width =
         let total : len + (n + margin.at + length margin.blanks) ≡ len + n + (0 + (margin.at + length margin.blanks)) = omega arith in
         let lists : lexemes ++ map (moved len) ((comments ++ map (moved n) margin.comments) ++ map (moved n) indents) ≡ (lexemes ++ map (moved len) comments) ++ map (moved (len + n)) (map (moved 0) (margin.comments ++ indents)) =
-            ap (λ ls. lexemes ++ map (moved len) ls) (append_assoc comments (map (moved n) margin.comments) (map (moved n) indents) ∙ ap (λ ls. comments ++ ls) (sym (map_both (moved n) margin.comments indents)))
-            ∙ ap (λ ls. lexemes ++ ls) (map_both (moved len) comments (map (moved n) (margin.comments ++ indents)))
-            ∙ sym (append_assoc lexemes (map (moved len) comments) (map (moved len) (map (moved n) (margin.comments ++ indents))))
-            ∙ ap (λ ls. (lexemes ++ map (moved len) comments) ++ ls) (all_moved len n (len + n) (margin.comments ++ indents) refl ∙ sym (all_moved (len + n) 0 (len + n) (margin.comments ++ indents) (omega arith))) in
+        ap (λ ls. lexemes ++ map (moved len) ls) (append_assoc comments (map (moved n) margin.comments) (map (moved n) indents) ∙ ap (λ ls. comments ++ ls) (sym (map_both (moved n) margin.comments indents)))
+        ∙ ap (λ ls. lexemes ++ ls) (map_both (moved len) comments (map (moved n) (margin.comments ++ indents)))
+        ∙ sym (append_assoc lexemes (map (moved len) comments) (map (moved len) (map (moved n) (margin.comments ++ indents))))
+        ∙ ap (λ ls. (lexemes ++ map (moved len) comments) ++ ls) (all_moved len n (len + n) (margin.comments ++ indents) refl ∙ sym (all_moved (len + n) 0 (len + n) (margin.comments ++ indents) (omega arith))) in
         rw (total, lists) refl
 
     stands : (one other : Piece) → Stands one ≡ Stands first → other ≡ joined_piece (len + n) (lexemes ++ map (moved len) comments) one → Stands other ≡ Stands (joined_piece (len + n) (lexemes ++ map (moved len) comments) first)
@@ -279,10 +279,11 @@ joined_margin len lexemes text more piece first whole stands reach begins = go (
     go (Whole e f) =
         let is_last : Stands last ≡ Stands piece = sym (last_step e) ∙ stands in
         let same : last ≡ piece = cc in
-        let lists : lexemes ++ map (moved len) (margin_of text).comments ≡ piece.lexemes = ap (λ ls. lexemes ++ map (moved len) ls) (sym (append-nil (margin_of text).comments)) ∙ ap (λ (p : Piece). p.lexemes) same in
-        (ap (margin_step len lexemes []) f ∙ step_behind len lexemes (length text) (margin_of text).comments (margin_of more) first begins
-         ∙ ap (λ ls. Stands (joined_piece (len + length text) ls first)) lists,
-         sym (ap (λ (p : Piece). p.width) same))
+        let lists : lexemes ++ map (moved len) (margin_of text).comments ≡ piece.lexemes = ap (λ ls. lexemes ++ map (moved len) ls) (sym (append-nil (margin_of text).comments)) ∙ ap (λ (p : Piece). p.lexemes) same in (
+          ap (margin_step len lexemes []) f ∙ step_behind len lexemes (length text) (margin_of text).comments (margin_of more) first begins
+              ∙ ap (λ ls. Stands (joined_piece (len + length text) ls first)) lists,
+          sym (ap (λ (p : Piece). p.width) same),
+        )
     go (Within some less f) = absurd (omega (arith, less, reach, margin_step_len len lexemes [] (margin_of text) piece stands))
 
 -- a situation that is read for the first time, or not
@@ -410,9 +411,9 @@ join_last history text more piece first ends stands reach settled begins =
     let joined = last_joined (situation history) text more piece first ends levels settled.layout reach stands begins in
     let last = joined_piece (length text) piece.lexemes first in
     let tokens : tokens_onto history.tokens last.lexemes ≡ tokens_onto [] first.lexemes ++ tokens_onto history.tokens piece.lexemes =
-        onto_both history.tokens piece.lexemes (map (moved (length text)) first.lexemes)
-        ∙ onto_moved (tokens_onto history.tokens piece.lexemes) (length text) first.lexemes
-        ∙ onto_append [] (tokens_onto history.tokens piece.lexemes) first.lexemes in
+    onto_both history.tokens piece.lexemes (map (moved (length text)) first.lexemes)
+    ∙ onto_moved (tokens_onto history.tokens piece.lexemes) (length text) first.lexemes
+    ∙ onto_append [] (tokens_onto history.tokens piece.lexemes) first.lexemes in
     record {
       pieces' = last ∷ [];
       some = λ e. no_cons last [] e;

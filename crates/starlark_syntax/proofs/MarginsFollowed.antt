@@ -164,10 +164,10 @@ module _ (text more : Text) (whole : has_whole_lines text ≡ true) where
       let left : drop (lines_sum (comment_lines (text ++ more))) (text ++ more) ≡ drop (lines_sum (comment_lines more)) more = ap (λ n. drop n (text ++ more)) total ∙ drop-append-add text more (lines_sum (comment_lines more)) in
       let start : 0 + lines_sum (lines text) ≡ length text + 0 = omega (arith, lines_len text) in
       let comments : comments_from 0 (comment_lines (text ++ more)) ≡ comments_from 0 (comment_lines text) ++ map (moved (length text)) (comments_from 0 (comment_lines more)) =
-          ap (comments_from 0) there ∙ comments_both 0 (lines text) (comment_lines more)
-          ∙ ap (λ n. comments_from 0 (lines text) ++ comments_from n (comment_lines more)) start
-          ∙ ap (λ ls. comments_from 0 (lines text) ++ ls) (comments_later (length text) 0 (comment_lines more))
-          ∙ ap (λ (ls : List Text). comments_from 0 ls ++ map (moved (length text)) (comments_from 0 (comment_lines more))) (sym here) in
+      ap (comments_from 0) there ∙ comments_both 0 (lines text) (comment_lines more)
+      ∙ ap (λ n. comments_from 0 (lines text) ++ comments_from n (comment_lines more)) start
+      ∙ ap (λ ls. comments_from 0 (lines text) ++ ls) (comments_later (length text) 0 (comment_lines more))
+      ∙ ap (λ (ls : List Text). comments_from 0 ls ++ map (moved (length text)) (comments_from 0 (comment_lines more))) (sym here) in
       Whole (rw (none, len) refl) (rw (left, total, comments) refl)
 
   some_line : list_all is_comment_only (lines text) ≡ false → Followed text more

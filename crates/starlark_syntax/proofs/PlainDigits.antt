@@ -42,6 +42,7 @@ no_zero d other = by_tests (nat_lt d 65) (nat_lt d 91) refl
   where
     same : not (d == 48) ≡ true
     same = grind (arith, other)
+
     by_tests : (low high : Bool) → nat_lt d 65 ≡ low → not (cond low d (cond high (d + 32) d) == 48) ≡ true
     by_tests true high l = same
     by_tests false true l = grind (arith, ltb-false d 65 l)

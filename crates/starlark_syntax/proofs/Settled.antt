@@ -118,9 +118,10 @@ next_behind table earlier history text h = rw (situation_behind earlier history 
 -- Behind a settled place a text is read as it is by itself.
 pub reading_behind : (table : Table) (earlier history : History) (text : Text) (pieces : List Piece) → Settled earlier → IsReading table history text pieces → IsReading table (behind earlier history) text pieces
 reading_behind table earlier history text [] h reads = tt
-reading_behind table earlier history text (piece ∷ pieces) h reads =
-    (next_behind table earlier history text h ∙ reads.0,
-     subst (λ (past : History). IsReading table past (drop piece.len text) pieces) (sym (after_behind earlier history piece)) (reading_behind table earlier (after history piece) (drop piece.len text) pieces h reads.1))
+reading_behind table earlier history text (piece ∷ pieces) h reads = (
+  next_behind table earlier history text h ∙ reads.0,
+  subst (λ (past : History). IsReading table past (drop piece.len text) pieces) (sym (after_behind earlier history piece)) (reading_behind table earlier (after history piece) (drop piece.len text) pieces h reads.1),
+)
 
 pub all_behind : (earlier history : History) (pieces : List Piece) → after_all (behind earlier history) pieces ≡ behind earlier (after_all history pieces)
 all_behind earlier history [] = refl
