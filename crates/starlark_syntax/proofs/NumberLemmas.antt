@@ -1,5 +1,5 @@
 -- The numbers at the front of a text.
-use Rattle.std.proofs.Common.{◌≡◌, if◌then◌else◌, ◌≢◌, ℕ, zero, suc, ◌+◌, Bool, true, false, [], ◌∷◌, drop, refl, ap, sym, ◌∙◌, cond, ◌&&◌, ◌||◌, not, List, ◌<◌, ◌==◌, nat_eq, unwrap_or, Option, Some, None, ◌⊎◌, inl, inr, arith, one-add, add-one}
+use Rattle.std.proofs.Common.{◌≡◌, if◌then◌else◌, ◌≢◌, ℕ, zero, suc, ◌+◌, Bool, true, false, [], ◌∷◌, drop, refl, ap, sym, ◌∙◌, cond, ◌&&◌, ◌||◌, not, List, ◌<◌, ◌==◌, nat_eq, Option, Some, None, ◌⊎◌, inl, inr, arith, one-add}
 use Rattle.std.proofs.Math.Dec.{eqb-suc-zero}
 use Rattle.std.proofs.lemmas.Bool.{eqb-true, not-true, and_parts, agree_below}
 use Rattle.std.specs.Char.{is_ascii_digit, is_ascii_hexdigit}
@@ -12,7 +12,7 @@ use Rattle.starlark_syntax.specs.Scanned.{begins_number, word_view, class_view}
 use Rattle.starlark_syntax.specs.declared.lexer.scanner.class.Class as code
 use Rattle.starlark_syntax.proofs.Words.{class_in-language}
 use Rattle.starlark_syntax.proofs.Listed.{all_pass, lookup_fails, begins_otherwise, lookup_elsewhere, each_byte, implied}
-use Rattle.starlark_syntax.proofs.Residuals.{front_next, front_some, longer_by, or_empty, if_some, when, front_on, front_first, front_same, front_never, front_end, front_stops, front_into, front_of_some, front_of_test, len_of_test, longer_by_none, front_run, front_on_longest}
+use Rattle.starlark_syntax.proofs.Residuals.{front_next, front_some, longer_by, or_empty, if_some, when, front_on, front_first, front_same, front_never, front_end, front_into, front_of_some, front_of_test, len_of_test, longer_by_none, front_run, front_on_longest}
 
 -- no word goes on with the text's first byte
 pub len_never : (test : Text → Bool) (b : ℕ) (rest : Text) → ((word : Text) → test (b ∷ word) ≡ false) → longest_len test (b ∷ rest) ≡ 0

@@ -1,5 +1,5 @@
 -- The words of the language: a table of tests on whole words, each with the class of the words that pass it.
-use Rattle.std.specs.Prelude.{ℕ, Bool, true, false, ◌&&◌, ◌||◌, ◌==◌, if◌then◌else◌, not, nat_eq, nat_lt, List, [], ◌∷◌, ◌++◌, map, drop, Option, codes}
+use Rattle.std.specs.Prelude.{ℕ, Bool, true, false, ◌&&◌, ◌||◌, ◌==◌, if◌then◌else◌, not, nat_eq, List, [], ◌∷◌, ◌++◌, map, drop, Option, codes}
 use Rattle.std.specs.Char.{is_ascii_alphabetic, is_ascii_digit, is_ascii_hexdigit, is_digit}
 use Rattle.std.specs.List.{list_all, prefix_len}
 use Rattle.std.specs.Map.{lookup}

@@ -6,7 +6,8 @@ use crate::codemap::Span;
 use std::ops::{Deref, DerefMut};
 
 /// A value, as a node of a syntax tree, and where it stands in its source text.
-#[derive(Clone, Copy, Debug, Drop, PartialEq, Eq, Hash)]
+#[derive(Copy, Debug, Drop, PartialEq, Eq, Hash)]
+#[derive_where(Clone; T: Copy)]
 pub struct Spanned<T> {
     pub node: T,
     pub span: Span,

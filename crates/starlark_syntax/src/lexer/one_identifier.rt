@@ -1,10 +1,10 @@
 //! Reads a text that is one identifier.
 
-ghost use Rattle.std.specs.Prelude.{◌≡◌, ◌≤◌, length, string_bytes, IfOk, OnErr, IfSome, IsSome};
+ghost use Rattle.std.specs.Prelude.{◌≡◌, ◌↔◌, Some, None, string_bytes, IfOk, OnErr, IfSome};
 ghost use Rattle.std.specs.Option.{option_map};
-ghost use Rattle.std.specs.Str.{IsCharBoundary};
 ghost use Rattle.starlark_syntax.specs.Front.{language_front};
 ghost use Rattle.starlark_syntax.specs.OneIdentifier as spec;
+ghost use Rattle.starlark_syntax.specs.Words.{Text};
 
 use crate::lexer::scanner::{Class, Word, first_word};
 use std::alloc::{AllocError, Global};
@@ -43,7 +43,8 @@ fn identifier_len(text: &str) -> Option<usize>
 
 /// What stands behind the skipped pieces at the front of a text.
 fn behind_skipped(text: &str) -> &str
-    ensures { result.now ≡ spec.behind_skipped text.now }
+    ensures passed { spec.IsBehindSkipped text.now result.now }
+    ensures all { spec.if_skipped (language_front result.now) ≡ None }
 {
     let mut rest = text;
     while let Some(len) = skipped_len(rest) {
@@ -56,8 +57,8 @@ fn behind_skipped(text: &str) -> &str
 ///
 /// Skipped are spaces, and line ends behind a backslash. Only an identifier that is found takes memory.
 pub fn lex_exactly_one_identifier(alloc: Global, s: &str) -> Result<Option<String>, AllocError>
-    ensures value { IfOk result (λ name. option_map string_bytes name ≡ spec.one_identifier s.now) }
-    ensures memory { OnErr result (IsSome (spec.one_identifier s.now)) }
+    ensures value { IfOk result (λ found. (name : Text) → (option_map string_bytes found ≡ Some name) ↔ spec.IsOneIdentifier s.now name) }
+    ensures memory { OnErr result ((name : Text) × spec.IsOneIdentifier s.now name) }
 {
     let rest = behind_skipped(s);
     let Some(len) = identifier_len(rest) else {

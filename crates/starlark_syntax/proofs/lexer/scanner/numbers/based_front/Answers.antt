@@ -1,5 +1,5 @@
 -- The digits behind a base.
-use Rattle.std.proofs.Common.{◌≡◌, refl, sym, ◌∙◌, ap}
+use Rattle.std.proofs.Common.{sym}
 use Rattle.std.proofs.lemmas.List.{take_rest}
 use Rattle.starlark_syntax.proofs.NumberLemmas.{hexadecimal_base, octal_base, binary_base, no_base, if_based_word}
 use Rattle.starlark_syntax.proofs.lexer.scanner.numbers.based_front.Goals as goal

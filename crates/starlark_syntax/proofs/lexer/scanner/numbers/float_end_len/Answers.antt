@@ -1,5 +1,5 @@
 -- A fraction goes before an exponent.
-use Rattle.std.proofs.Common.{◌≡◌, refl, sym, ◌∙◌, ap}
+use Rattle.std.proofs.Common.{refl, sym, ◌∙◌}
 use Rattle.starlark_syntax.proofs.NumberLemmas.{float_end, first_some_some}
 use Rattle.starlark_syntax.proofs.lexer.scanner.numbers.float_end_len.Goals as goal
 

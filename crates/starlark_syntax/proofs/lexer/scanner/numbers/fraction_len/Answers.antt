@@ -1,5 +1,5 @@
 -- The length of a fraction, by its digits and its exponent.
-use Rattle.std.proofs.Common.{◌≡◌, refl, sym, ◌∙◌, ap, one-add, arith}
+use Rattle.std.proofs.Common.{sym, arith}
 use Rattle.std.proofs.lemmas.List.{take_rest}
 use Rattle.starlark_syntax.proofs.NumberLemmas.{fraction_none, fraction_some}
 use Rattle.starlark_syntax.proofs.lexer.scanner.numbers.fraction_len.Goals as goal

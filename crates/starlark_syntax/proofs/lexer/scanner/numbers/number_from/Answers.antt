@@ -1,5 +1,5 @@
 -- A base with digits goes before digits with what makes them a float.
-use Rattle.std.proofs.Common.{◌≡◌, ◌<◌, refl, sym, ◌∙◌, ap, arith, get_or}
+use Rattle.std.proofs.Common.{refl, sym, ◌∙◌, arith}
 use Rattle.std.proofs.lemmas.List.{take_rest}
 use Rattle.starlark_syntax.proofs.NumberLemmas.{number_language, digits_only, digits_and_more}
 use Rattle.starlark_syntax.proofs.lexer.scanner.numbers.number_from.Goals as goal
