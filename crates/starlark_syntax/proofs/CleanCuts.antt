@@ -1,17 +1,17 @@
 -- The outcome of two texts joined at a clean cut.
-use Rattle.std.proofs.Common.{◌≡◌, ℕ, zero, suc, ◌+◌, ◌-◌, ◌≤◌, ◌<◌, Bool, true, false, List, [], ◌∷◌, ◌++◌, length, take, drop, map, refl, ap, ◌∙◌, sym, subst, Option, Some, None, arith, append_assoc, append-nil, length-append, replicate}
+use Rattle.std.proofs.Common.{◌≡◌, ℕ, zero, suc, ◌+◌, ◌-◌, true, false, List, [], ◌∷◌, ◌++◌, length, take, drop, map, refl, ap, ◌∙◌, sym, subst, Option, Some, arith, append_assoc, length-append, replicate}
 use Rattle.std.specs.Prelude.{◌&&◌, option_map}
 use Rattle.std.proofs.Math.Seq.{drop-append-add, take-append_seam}
 use Rattle.std.proofs.lemmas.Bool.{and_parts, both_ways}
 use Rattle.std.proofs.lemmas.List.{length-drop}
 use Rattle.std.proofs.lemmas.List.Sums.{sum_by-cons, sum_by-append}
 use Rattle.starlark_syntax.specs.Words.{Text, Table, language}
-use Rattle.starlark_syntax.specs.Tokens.{Token, Newline, Dedent, Lexeme, Spanned, moved, Fault, Outcome}
+use Rattle.starlark_syntax.specs.Tokens.{Newline, Dedent, Lexeme, Spanned, moved, Fault, Outcome}
 use Rattle.starlark_syntax.specs.Margins.{open_widths}
 use Rattle.starlark_syntax.specs.Pieces.{Piece, Step, Stands, Fails, Ends, first_margin, step_at}
-use Rattle.starlark_syntax.specs.Reading.{History, nothing, after, after_all, situation, next_step, IsReading, IsLongestReading, pieces_len, Reading, read, read_from, lexemes_along, closing, before_fault, outcome_of, outcome_in, outcome, IsOutcome}
+use Rattle.starlark_syntax.specs.Reading.{History, nothing, after, after_all, situation, next_step, IsReading, IsLongestReading, pieces_len, read, read_from, lexemes_along, closing, before_fault, outcome_of, outcome_in, outcome}
 use Rattle.starlark_syntax.specs.Cuts.{is_layout, is_clean_cut, is_clean_cut_in, is_faultless, is_settled, joined}
-use Rattle.starlark_syntax.specs.Laws.{HasFirstMargin, CutsJoin}
+use Rattle.starlark_syntax.specs.Laws.{CutsJoin}
 use Rattle.starlark_syntax.proofs.Lists.{drop-sum}
 use Rattle.starlark_syntax.proofs.Readings.{longest_onward, read_from_is, read_is, reading_fits, ends_at_end, started, piece_fits, outcome_only}
 use Rattle.starlark_syntax.proofs.Followed.{ends_line, ends_line_of}

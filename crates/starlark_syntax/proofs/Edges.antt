@@ -120,11 +120,11 @@ abbrev FoundAt : Opening → Text → Found → Type 0
 FoundAt opening text (Goes item) = ⊤
 FoundAt opening text (Stops stop) = StopAt opening text stop
 
-either : (P : Found → Type 0) (test : Bool) (x y : Found) → P x → P y → P (if test then x else y)
+pub either : (P : Found → Type 0) (test : Bool) (x y : Found) → P x → P y → P (if test then x else y)
 either P true x y px py = px
 either P false x y px py = py
 
-when : (P : Found → Type 0) (test : Bool) (x y : Found) → (test ≡ true → P x) → P y → P (if test then x else y)
+pub when : (P : Found → Type 0) (test : Bool) (x y : Found) → (test ≡ true → P x) → P y → P (if test then x else y)
 when P true x y px py = px refl
 when P false x y px py = py
 
@@ -133,7 +133,7 @@ plain_take zero text h = refl
 plain_take (suc n) [] h = refl
 plain_take (suc n) (b ∷ bs) h = let parts = and_parts (is_ascii b) (is_plain bs) h in rw (parts.0) (plain_take n bs parts.1)
 
-plain_end : (text : Text) (n : ℕ) → IsUtf8 text → n ≤ length text → is_plain (take n text) ≡ true → IsCharBoundary text n
+pub plain_end : (text : Text) (n : ℕ) → IsUtf8 text → n ≤ length text → is_plain (take n text) ≡ true → IsCharBoundary text n
 plain_end text n utf8 inside h = subst (IsCharBoundary text) (length-take-le n text inside) (behind_plain text (take n text) (drop n text) utf8 (sym (take-append-drop n text)) h)
 
 -- a front of a front
@@ -175,7 +175,7 @@ numbered_at opening tail len true n h = either (FoundAt opening (92 ∷ tail)) (
 numbered_at opening tail len false n h = either (FoundAt opening (92 ∷ tail)) (is_character n) _ _ tt (broken_end opening tail len h)
 
 -- a run of digits
-digits_run : (p : ℕ → Bool) (wanted : ℕ) (text : Text) → ((b : ℕ) → p b ≡ true → is_ascii b ≡ true) → (prefix_len p (take wanted text) ≤ length text) × (is_plain (take (prefix_len p (take wanted text)) text) ≡ true)
+pub digits_run : (p : ℕ → Bool) (wanted : ℕ) (text : Text) → ((b : ℕ) → p b ≡ true → is_ascii b ≡ true) → (prefix_len p (take wanted text) ≤ length text) × (is_plain (take (prefix_len p (take wanted text)) text) ≡ true)
 digits_run p zero text h = (omega arith, refl)
 digits_run p (suc wanted) [] h = (omega arith, refl)
 digits_run p (suc wanted) (b ∷ bs) h = go (p b) refl (digits_run p wanted bs h)
@@ -188,10 +188,10 @@ digits_run p (suc wanted) (b ∷ bs) h = go (p b) refl (digits_run p wanted bs h
         let front : take (1 + prefix_len p (take wanted bs)) (b ∷ bs) ≡ b ∷ take (prefix_len p (take wanted bs)) bs = rw one-add refl in
         (omega (arith, inside), subst (λ (t : Text). is_plain t ≡ true) (sym front) (rw (h b e) more.1))
 
-hex_plain : (b : ℕ) → is_ascii_hexdigit b ≡ true → is_ascii b ≡ true
+pub hex_plain : (b : ℕ) → is_ascii_hexdigit b ≡ true → is_ascii b ≡ true
 hex_plain b h = grind (arith, nat_tests)
 
-octal_plain : (b : ℕ) → is_octal_digit b ≡ true → is_ascii b ≡ true
+pub octal_plain : (b : ℕ) → is_octal_digit b ≡ true → is_ascii b ≡ true
 octal_plain b h = grind (arith, nat_tests)
 
 hexadecimal_at : (opening : Opening) (x wanted : ℕ) (is_byte : Bool) (bs : Text) → is_ascii x ≡ true → FoundAt opening (92 ∷ x ∷ bs) (hexadecimal wanted is_byte bs)
@@ -222,7 +222,7 @@ simple_at : (opening : Opening) (text : Text) (value : Option ℕ) (character : 
 simple_at opening text (Some value) character = tt
 simple_at opening text None character = tt
 
-letter_small : (b letter : ℕ) → is_ascii letter ≡ true → (b == letter) ≡ true → is_ascii b ≡ true
+pub letter_small : (b letter : ℕ) → is_ascii letter ≡ true → (b == letter) ≡ true → is_ascii b ≡ true
 letter_small b letter h e = subst (λ c. is_ascii c ≡ true) (sym (eqb-true b letter e)) h
 
 escape_at : (opening : Opening) (kind : Kind) (bs : Text) → FoundAt opening (92 ∷ bs) (escape kind bs)

@@ -1,12 +1,12 @@
 -- Neither zeros at the front nor the case of letters change a number's value.
-use Rattle.std.proofs.Common.{◌≡◌, ℕ, zero, suc, ◌+◌, ◌*◌, ◌-◌, ◌<◌, ◌≤◌, Bool, true, false, List, [], ◌∷◌, map, drop, nat_eq, nat_lt, refl, sym, ap, arith, rules, cond}
+use Rattle.std.proofs.Common.{◌≡◌, ℕ, suc, ◌+◌, ◌*◌, ◌-◌, ◌<◌, ◌≤◌, Bool, true, false, [], ◌∷◌, map, drop, nat_eq, nat_lt, refl, ap, arith, cond}
 use Rattle.std.specs.Char.{digit_value, to_ascii_lowercase}
 use Rattle.std.specs.List.{prefix_len}
 use Rattle.std.specs.Str.Parse.{digits_value, digits_value_after}
 use Rattle.std.proofs.Math.Nat.{zero-mul}
 use Rattle.std.proofs.lemmas.Bool.{ltb-true, ltb-false, eqb-true}
 use Rattle.starlark_syntax.specs.Words.{Text, unsigned}
-use Rattle.starlark_syntax.specs.Numbers.{Integer, Small, Big, is_negative, is_small, signed, plain_digits, integer_of}
+use Rattle.starlark_syntax.specs.Numbers.{Small, Big, is_negative, is_small, signed, plain_digits, integer_of}
 use Rattle.starlark_syntax.specs.IntegerValues.{value_of, IntegersKeepTheirValue}
 
 -- the case of a letter

@@ -1,15 +1,15 @@
 -- What the parser of 32 bit integers says, in the grammar's words.
-use Rattle.std.proofs.Common.{◌≡◌, ℕ, zero, suc, ◌+◌, ◌^◌, ◌<◌, ◌≤◌, ◌==◌, Bool, true, false, ◌&&◌, ◌||◌, cond, List, [], ◌∷◌, length, get_or, drop, refl, sym, ap, arith, rules, nat_lt, Some, None, Option}
-use Rattle.std.specs.Prelude.{ℤ, pos, negsuc, neg_ℤ, FitsSigned, if◌then◌else◌}
+use Rattle.std.proofs.Common.{◌≡◌, ℕ, zero, suc, ◌^◌, ◌<◌, ◌≤◌, ◌==◌, Bool, true, false, ◌||◌, cond, [], ◌∷◌, drop, refl, arith, Some, None}
+use Rattle.std.specs.Prelude.{ℤ, FitsSigned}
 use Rattle.std.specs.Char.{is_digit, digit_value}
 use Rattle.std.specs.List.{list_all}
 use Rattle.std.specs.Int.{w32}
 use Rattle.std.specs.Str.Parse.{AllDigits, IsNumeral, without_leading_sign, starts_with_minus, signed_digits_value, digits_value}
-use Rattle.starlark_syntax.specs.Words.{Text, is_run, is_sign, unsigned}
+use Rattle.starlark_syntax.specs.Words.{Text, is_run, unsigned}
 use Rattle.starlark_syntax.specs.BigIntegers.{IsKept}
 use Rattle.starlark_syntax.proofs.IntegerValues.{plain_value}
 use Rattle.starlark_syntax.proofs.PlainDigits.{plain_digits_are_plain}
-use Rattle.starlark_syntax.specs.Numbers.{Integer, Small, Big, is_negative, is_number, is_small, signed, plain_digits, integer_of, integer_in}
+use Rattle.starlark_syntax.specs.Numbers.{Small, Big, is_negative, is_number, is_small, signed, plain_digits, integer_of, integer_in}
 use Rattle.std.proofs.lemmas.Bool.{ltb-true, and_parts}
 
 -- the sign

@@ -20,6 +20,13 @@ pub mod WordBytes
 pub mod Silent
 pub mod Order
 pub mod Edges
+pub mod DigitRuns
+pub mod Escapes
+pub mod Found
+pub mod ItemEdges
+pub mod BodySteps
+pub mod LiteralPieces
+pub mod Chunks
 pub mod Boundaries
 pub mod Bounded
 pub mod WordLines

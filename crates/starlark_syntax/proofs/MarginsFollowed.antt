@@ -1,14 +1,14 @@
 -- Margins of a text of whole lines, and what more text behind it makes of them.
-use Rattle.std.proofs.Common.{◌≡◌, ℕ, zero, suc, ◌+◌, ◌≤◌, ◌<◌, Bool, true, false, cond, List, [], ◌∷◌, ◌++◌, length, take, drop, refl, ap, ◌∙◌, sym, subst, arith, ◌⊎◌, inl, inr, map, one-add, add-one, append_assoc, append-nil}
-use Rattle.std.specs.Prelude.{◌&&◌, if◌then◌else◌, sum_by, take_while, ◌≢◌}
-use Rattle.std.specs.List.{list_all, onto_first, prefix_len}
-use Rattle.std.proofs.Math.Seq.{drop-append-add, drop-append_seam, take-append_seam, take-append-add, drop-length, take-length}
+use Rattle.std.proofs.Common.{◌≡◌, ℕ, zero, suc, ◌+◌, ◌<◌, Bool, true, false, cond, List, [], ◌∷◌, ◌++◌, length, take, drop, refl, ap, ◌∙◌, sym, arith, map, one-add, append-nil}
+use Rattle.std.specs.Prelude.{if◌then◌else◌, sum_by, take_while}
+use Rattle.std.specs.List.{list_all, onto_first}
+use Rattle.std.proofs.Math.Seq.{drop-append-add, drop-length}
 use Rattle.std.proofs.lemmas.Bool.{and_parts, eqb-true}
 use Rattle.std.proofs.lemmas.List.{drop-append-le, take-append-le, length-drop, length-take}
 use Rattle.std.proofs.lemmas.List.Sums.{sum_by-append, sum_by-cons}
 use Rattle.starlark_syntax.specs.Words.{Text}
 use Rattle.starlark_syntax.specs.Tokens.{Lexeme, moved}
-use Rattle.starlark_syntax.specs.Margins.{is_blank, is_feed, blanks_len, lines, is_comment_only, comment_of, comments_from, comment_lines, comment_part, margin_from, Margin, margin_of, margin_len, is_content}
+use Rattle.starlark_syntax.specs.Margins.{is_blank, is_feed, blanks_len, lines, is_comment_only, comment_of, comments_from, comment_lines, comment_part, margin_from, Margin, margin_of, margin_len}
 use Rattle.starlark_syntax.proofs.Steps.{lines_len}
 
 -- the text is empty, or its last byte is an LF

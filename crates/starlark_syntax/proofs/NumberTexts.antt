@@ -1,5 +1,5 @@
 -- Signs at the front of a text, and where a text may be cut behind one.
-use Rattle.std.proofs.Common.{◌≡◌, ℕ, zero, suc, ◌<◌, Bool, true, false, List, [], ◌∷◌, length, get_or, drop, refl, sym, arith, rules}
+use Rattle.std.proofs.Common.{◌≡◌, ℕ, ◌<◌, true, false, List, [], ◌∷◌, length, get_or, drop, refl, arith}
 use Rattle.std.specs.Str.{IsUtf8, IsCharBoundary}
 use Rattle.starlark_syntax.specs.Words.{is_sign, unsigned}
 use Rattle.std.proofs.lemmas.Str.{IsCharBoundary-after_ascii}

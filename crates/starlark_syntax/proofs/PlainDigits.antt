@@ -1,7 +1,7 @@
 -- The digits that are kept of a number's text are plain, and have the value of the text's.
-use Rattle.std.proofs.Common.{◌≡◌, ℕ, zero, suc, ◌+◌, ◌<◌, ◌≤◌, ◌==◌, Bool, true, false, cond, not, ◌&&◌, nat_eq, nat_lt, List, [], ◌∷◌, map, drop, length, get_or, refl, sym, ap, arith, rules}
+use Rattle.std.proofs.Common.{◌≡◌, ℕ, zero, suc, ◌+◌, ◌<◌, ◌≤◌, ◌==◌, Bool, true, false, cond, not, ◌&&◌, nat_eq, nat_lt, [], ◌∷◌, map, drop, get_or, refl, arith}
 use Rattle.std.proofs.lemmas.Bool.{and_parts, ltb-true, ltb-false}
-use Rattle.std.specs.Char.{is_digit, digit_value, is_ascii_uppercase, to_ascii_lowercase}
+use Rattle.std.specs.Char.{is_digit, is_ascii_uppercase, to_ascii_lowercase}
 use Rattle.std.specs.List.{list_all, prefix_len}
 use Rattle.starlark_syntax.specs.Words.{Text, is_run}
 use Rattle.starlark_syntax.specs.Numbers.{plain_digits}

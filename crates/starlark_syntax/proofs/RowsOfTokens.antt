@@ -1,11 +1,11 @@
 -- Numbers and printed tokens, closed by computing.
-use Rattle.std.proofs.Common.{◌≡◌, ℕ, true, false, Some, None, refl, ◌∷◌, []}
+use Rattle.std.proofs.Common.{◌≡◌, true, false, Some, None, refl, ◌∷◌, []}
 use Rattle.std.specs.Prelude.{codes, encode_utf8, pos, neg_ℤ}
 use Rattle.std.specs.Fmt.{digits, debug_escape}
 use Rattle.std.proofs.Math.Utf8.{encode}
 use Rattle.starlark_syntax.specs.Words as terminal
 use Rattle.starlark_syntax.specs.Words.{Text, OfFString, OfBytes, SingleQuote, DoubleQuote}
-use Rattle.starlark_syntax.specs.Numbers.{Integer, Small, Big, integer_of, integer_in}
+use Rattle.starlark_syntax.specs.Numbers.{Small, Big, integer_of, integer_in}
 use Rattle.starlark_syntax.specs.BigIntegers.{big_text}
 use Rattle.starlark_syntax.specs.Tokens as grammar
 use Rattle.starlark_syntax.specs.TokenViews.{TokenView, Whole, Tabs, Opener, Octal}

@@ -2,15 +2,15 @@
 use Rattle.std.proofs.Common.{◌≡◌, ℕ, zero, suc, ◌+◌, Bool, true, false, List, [], ◌∷◌, ◌++◌, length, drop, cond, subst, refl, ap, ◌∙◌, sym, Option, Some, None, arith, append_assoc, nat_lt}
 use Rattle.std.specs.Prelude.{◌==◌, ◌&&◌, if◌then◌else◌, count_by, option_map, option_to_list}
 use Rattle.std.specs.List.{list_all}
-use Rattle.std.proofs.lemmas.Bool.{and_parts, eqb-true, eq-eqb, both_ways, false_from_ne_true}
+use Rattle.std.proofs.lemmas.Bool.{and_parts, eqb-true}
 use Rattle.std.proofs.lemmas.Bool.Decides.{nat_tests}
 use Rattle.std.proofs.lemmas.List.Folds.{list_all-append}
 use Rattle.std.proofs.lemmas.List.Sums.{sum_by-append}
 use Rattle.starlark_syntax.specs.Words.{Text, Table}
 use Rattle.starlark_syntax.specs.Tokens.{Token, Opening, FStringStart, FStringEnd, Lexeme}
-use Rattle.starlark_syntax.specs.Depths.{Where, Outside, InText, AtTop, Deeper, Round, Square, braces, depth, open_fstring, inside, where_by, where_after, is_balanced, is_any_opening, is_any_closing}
+use Rattle.starlark_syntax.specs.Depths.{InText, AtTop, Deeper, Round, Square, braces, depth, open_fstring, where_by, where_after, is_balanced, is_any_opening, is_any_closing}
 use Rattle.starlark_syntax.specs.Margins.{open_widths}
-use Rattle.starlark_syntax.specs.Pieces.{Before, Layout, Piece, Step, Stands, Fails, Ends, Situation}
+use Rattle.starlark_syntax.specs.Pieces.{Piece, Step}
 use Rattle.starlark_syntax.specs.Reading.{History, tokens_onto, after, after_all, situation, next_step, IsReading, IsLongestReading, pieces_len}
 use Rattle.starlark_syntax.specs.Cuts.{is_outside, is_layout, is_settled}
 

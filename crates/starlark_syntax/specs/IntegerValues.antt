@@ -1,10 +1,8 @@
 -- The value of an integer, however it is written.
-use Rattle.std.specs.Prelude.{◌≡◌, ℕ, ◌<◌, true, Bool, not, ◌&&◌, nat_lt, nat_le, List, [], ◌∷◌, ℤ}
-use Rattle.std.specs.Char.{is_digit, is_ascii_uppercase}
-use Rattle.std.specs.List.{list_all}
+use Rattle.std.specs.Prelude.{◌≡◌, ℕ, ℤ}
 use Rattle.std.specs.Str.Parse.{digits_value}
-use Rattle.starlark_syntax.specs.Words.{Text, is_run, unsigned}
-use Rattle.starlark_syntax.specs.Numbers.{Integer, Small, Big, is_negative, is_number, is_small, signed, integer_of}
+use Rattle.starlark_syntax.specs.Words.{Text, unsigned}
+use Rattle.starlark_syntax.specs.Numbers.{Integer, Small, Big, is_negative, signed, integer_of}
 
 -- the sum of the digits, each times a power of the base, with the sign
 abbrev pub value_of : Integer → ℤ

@@ -20,3 +20,5 @@ pub mod Reading
 pub mod Cuts
 pub mod Laws
 pub mod OneIdentifier
+pub mod LiteralViews
+pub mod LexedViews

@@ -1,5 +1,5 @@
 -- The names of tokens, and what is printed of them.
-use Rattle.std.specs.Prelude.{◌≡◌, Bool, [], ◌++◌, if◌then◌else◌, length, slice_index, Option, Some, codes}
+use Rattle.std.specs.Prelude.{◌≡◌, [], ◌++◌, if◌then◌else◌, length, slice_index, Option, Some, codes}
 use Rattle.std.specs.Char.{is_ascii_alphabetic}
 use Rattle.std.specs.Fmt.{decimal, debug_str, ◌++?◌}
 use Rattle.starlark_syntax.specs.Words as terminal

@@ -3,6 +3,7 @@
 mod big_int;
 mod fstring_style;
 mod lexeme_error;
+mod literal;
 mod number_text;
 mod one_identifier;
 mod scanner;

@@ -1,4 +1,4 @@
-use Rattle.std.proofs.Common.{◌≡◌, true, false, get_or, sym}
+use Rattle.std.proofs.Common.{◌≡◌, true, false, get_or}
 use Rattle.starlark_syntax.specs.Words.{is_sign}
 use Rattle.starlark_syntax.proofs.NumberTexts.{unsigned_signed, unsigned_plain, boundary_behind_sign}
 use Rattle.starlark_syntax.proofs.lexer.number_text.unsigned.Goals as goal

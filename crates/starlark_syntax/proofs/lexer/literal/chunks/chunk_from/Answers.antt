@@ -1,0 +1,66 @@
+use Rattle.std.proofs.Common.{◌≡◌, ◌∙◌, ◌+◌, ◌-◌, ◌≤◌, ap, arith, length, refl, rules, sym}
+use Rattle.std.specs.Prelude.{codes, string_bytes}
+use Rattle.starlark_syntax.specs.Items as items
+use Rattle.starlark_syntax.specs.LiteralViews.{bytes_of, opening_view, stop_view}
+use Rattle.starlark_syntax.specs.TokenViews.{token_view}
+use Rattle.starlark_syntax.specs.Tokens.{FStringExprStart, FStringEnd, InvalidInput, InvalidEscapeSequence, UnfinishedStringLiteral}
+use Rattle.starlark_syntax.proofs.Chunks.{bad_chunk_fits, chunk_is, fstring}
+use Rattle.starlark_syntax.proofs.lexer.literal.chunks.chunk_from.Goals as goal
+
+pub overflow_sub-result : goal.overflow_sub-result
+overflow_sub-result c =
+    let why : (items.BadEscape c.in-BadEscape.len c.in-BadEscape.last) ≡ (items.body_at (fstring (opening_view c.args.opening)) c.args.text.now).stop = sym (ap stop_view c.in-BadEscape.is) ∙ c.in_ok-text_len.ensures.body.stop in
+    let fits = bad_chunk_fits (opening_view c.args.opening) c.args.text.now c.in_ok-text_len.field-0.len c.in-BadEscape.len c.in-BadEscape.last c.in_ok-text_len.ensures.body.len why in
+    fits.0
+
+pub overflow_add-result-in-BadEscape : goal.overflow_add-result-in-BadEscape
+overflow_add-result-in-BadEscape c =
+    let why : (items.BadEscape c.in-BadEscape.len c.in-BadEscape.last) ≡ (items.body_at (fstring (opening_view c.args.opening)) c.args.text.now).stop = sym (ap stop_view c.in-BadEscape.is) ∙ c.in_ok-text_len.ensures.body.stop in
+    let fits = bad_chunk_fits (opening_view c.args.opening) c.args.text.now c.in_ok-text_len.field-0.len c.in-BadEscape.len c.in-BadEscape.last c.in_ok-text_len.ensures.body.len why in
+    let inside : c.in_ok-text_len.field-0.len + (c.in-BadEscape.len - c.in-BadEscape.last) ≤ length c.args.text.now = omega (arith, fits.0, fits.1) in
+    search (rules, inside)
+
+pub overflow_add-result-in-BadEscape-2 : goal.overflow_add-result-in-BadEscape-2
+overflow_add-result-in-BadEscape-2 c =
+    let why : (items.BadEscape c.in-BadEscape.len c.in-BadEscape.last) ≡ (items.body_at (fstring (opening_view c.args.opening)) c.args.text.now).stop = sym (ap stop_view c.in-BadEscape.is) ∙ c.in_ok-text_len.ensures.body.stop in
+    let fits = bad_chunk_fits (opening_view c.args.opening) c.args.text.now c.in_ok-text_len.field-0.len c.in-BadEscape.len c.in-BadEscape.last c.in_ok-text_len.ensures.body.len why in
+    let inside : c.in_ok-text_len.field-0.len + c.in-BadEscape.len ≤ length c.args.text.now = fits.1 in
+    search (rules, inside)
+
+pub returns-in-OpeningBrace : goal.returns-in-OpeningBrace
+unfolding token_view
+returns-in-OpeningBrace c =
+    let why : items.OpeningBrace ≡ (items.body_at (fstring (opening_view c.args.opening)) c.args.text.now).stop = sym (ap stop_view c.in-OpeningBrace.is) ∙ c.in_ok-text_len.ensures.body.stop in
+    let denoted : string_bytes c.in-Text.value ≡ items.body_value (items.body_at (fstring (opening_view c.args.opening)) c.args.text.now) = sym (ap bytes_of c.in-Text.is) ∙ c.in_ok-text_len.ensures.body.value in
+    (FStringExprStart, refl, chunk_is (opening_view c.args.opening) c.args.text.now c.in_ok-text_len.field-0.len (string_bytes c.in-Text.value) items.OpeningBrace c.in_ok-text_len.ensures.body.len denoted why)
+
+pub returns-in-Closing : goal.returns-in-Closing
+unfolding token_view
+returns-in-Closing c =
+    let why : items.Closing ≡ (items.body_at (fstring (opening_view c.args.opening)) c.args.text.now).stop = sym (ap stop_view c.in-Closing.is) ∙ c.in_ok-text_len.ensures.body.stop in
+    let denoted : string_bytes c.in-Text.value ≡ items.body_value (items.body_at (fstring (opening_view c.args.opening)) c.args.text.now) = sym (ap bytes_of c.in-Text.is) ∙ c.in_ok-text_len.ensures.body.value in
+    rw c.closing_len.ensures (FStringEnd, refl, chunk_is (opening_view c.args.opening) c.args.text.now c.in_ok-text_len.field-0.len (string_bytes c.in-Text.value) items.Closing c.in_ok-text_len.ensures.body.len denoted why)
+
+pub returns-in_ok-from_str-in-ClosingBrace : goal.returns-in_ok-from_str-in-ClosingBrace
+returns-in_ok-from_str-in-ClosingBrace c =
+    let why : items.ClosingBrace ≡ (items.body_at (fstring (opening_view c.args.opening)) c.args.text.now).stop = sym (ap stop_view c.in-ClosingBrace.is) ∙ c.in_ok-text_len.ensures.body.stop in
+    let denoted : string_bytes c.in-Text.value ≡ items.body_value (items.body_at (fstring (opening_view c.args.opening)) c.args.text.now) = sym (ap bytes_of c.in-Text.is) ∙ c.in_ok-text_len.ensures.body.value in
+    rw c.in_ok-from_str-in-ClosingBrace.ensures.ok (InvalidInput (codes "}"), refl, chunk_is (opening_view c.args.opening) c.args.text.now c.in_ok-text_len.field-0.len (string_bytes c.in-Text.value) items.ClosingBrace c.in_ok-text_len.ensures.body.len denoted why)
+
+pub returns-in_ok-from_str-in-BadEscape : goal.returns-in_ok-from_str-in-BadEscape
+returns-in_ok-from_str-in-BadEscape c =
+    let why : (items.BadEscape c.in-BadEscape.len c.in-BadEscape.last) ≡ (items.body_at (fstring (opening_view c.args.opening)) c.args.text.now).stop = sym (ap stop_view c.in-BadEscape.is) ∙ c.in_ok-text_len.ensures.body.stop in
+    let denoted : string_bytes c.in-Text.value ≡ items.body_value (items.body_at (fstring (opening_view c.args.opening)) c.args.text.now) = sym (ap bytes_of c.in-Text.is) ∙ c.in_ok-text_len.ensures.body.value in
+    rw c.in_ok-from_str-in-BadEscape.ensures.ok (InvalidEscapeSequence (codes "\\"), refl, chunk_is (opening_view c.args.opening) c.args.text.now c.in_ok-text_len.field-0.len (string_bytes c.in-Text.value) (items.BadEscape c.in-BadEscape.len c.in-BadEscape.last) c.in_ok-text_len.ensures.body.len denoted why)
+
+pub returns-in-Line : goal.returns-in-Line
+returns-in-Line c =
+    let why : items.Line ≡ (items.body_at (fstring (opening_view c.args.opening)) c.args.text.now).stop = sym (ap stop_view c.in-Line.is) ∙ c.in_ok-text_len.ensures.body.stop in
+    let denoted : string_bytes c.in-Text.value ≡ items.body_value (items.body_at (fstring (opening_view c.args.opening)) c.args.text.now) = sym (ap bytes_of c.in-Text.is) ∙ c.in_ok-text_len.ensures.body.value in
+    (UnfinishedStringLiteral, refl, chunk_is (opening_view c.args.opening) c.args.text.now c.in_ok-text_len.field-0.len (string_bytes c.in-Text.value) items.Line c.in_ok-text_len.ensures.body.len denoted why)
+
+pub returns-in-Ended : goal.returns-in-Ended
+returns-in-Ended c =
+    let why : items.Ended ≡ (items.body_at (fstring (opening_view c.args.opening)) c.args.text.now).stop = sym (ap stop_view c.in-Ended.is) ∙ c.in_ok-text_len.ensures.body.stop in
+    let denoted : string_bytes c.in-Text.value ≡ items.body_value (items.body_at (fstring (opening_view c.args.opening)) c.args.text.now) = sym (ap bytes_of c.in-Text.is) ∙ c.in_ok-text_len.ensures.body.value in
+    (UnfinishedStringLiteral, refl, chunk_is (opening_view c.args.opening) c.args.text.now c.in_ok-text_len.field-0.len (string_bytes c.in-Text.value) items.Ended c.in_ok-text_len.ensures.body.len denoted why)

@@ -1,0 +1,14 @@
+use Rattle.std.proofs.Common.{ap, sym, ◌∙◌}
+use Rattle.starlark_syntax.specs.LiteralViews.{holds_text, bytes_of}
+use Rattle.starlark_syntax.specs.Pieces.{literal_token}
+use Rattle.starlark_syntax.specs.TokenViews.{Whole, token_view}
+use Rattle.starlark_syntax.proofs.LiteralPieces.{token_of_text, token_of_bytes}
+use Rattle.starlark_syntax.proofs.lexer.literal.pieces.literal_token.Goals as goal
+
+pub returns-in-Text : goal.returns-in-Text
+unfolding token_view
+returns-in-Text c = λ kind h. ap Whole (token_of_text kind _ (sym (ap holds_text c.in-Text.is) ∙ h)) ∙ sym (ap (λ v. Whole (literal_token kind (bytes_of v))) c.in-Text.is)
+
+pub returns-in-Bytes : goal.returns-in-Bytes
+unfolding token_view
+returns-in-Bytes c = λ kind h. ap Whole (token_of_bytes kind _ (sym (ap holds_text c.in-Bytes.is) ∙ h)) ∙ sym (ap (λ v. Whole (literal_token kind (bytes_of v))) c.in-Bytes.is)

@@ -1,0 +1,35 @@
+-- What stands at a place of a text, as the code and as the grammar say it.
+use Rattle.std.specs.Prelude.{◌≡◌, ◌+◌, ◌++◌, ◌∷◌, [], Bool, true, false, Option, Some, None, string_bytes}
+use Rattle.starlark_syntax.specs.Tokens as grammar
+use Rattle.starlark_syntax.specs.Depths.{Where, Outside}
+use Rattle.starlark_syntax.specs.Pieces as pieces
+use Rattle.starlark_syntax.specs.TokenViews.{Whole, token_view}
+use Rattle.starlark_syntax.specs.declared.lexer.lexeme_error.LexemeError.{LexemeError}
+use Rattle.starlark_syntax.specs.declared.lexer.lexeme_error.LexemeError.TheVariants as fault
+use Rattle.starlark_syntax.specs.declared.lexer.literal.pieces.Step.{Step}
+use Rattle.starlark_syntax.specs.declared.lexer.literal.pieces.Step.TheVariants as step
+
+-- The fault that an error is, if it is one of a text.
+abbrev pub fault_view : LexemeError → Option grammar.Fault
+fault_view fault.Indentation = Some grammar.Indentation
+fault_view (fault.InvalidInput text) = Some (grammar.InvalidInput (string_bytes text))
+fault_view fault.InvalidTab = Some grammar.InvalidTab
+fault_view fault.UnfinishedStringLiteral = Some grammar.UnfinishedStringLiteral
+fault_view (fault.InvalidEscapeSequence text) = Some (grammar.InvalidEscapeSequence (string_bytes text))
+fault_view fault.EmptyEscapeSequence = Some grammar.EmptyEscapeSequence
+fault_view (fault.ReservedKeyword word) = Some (grammar.ReservedKeyword (string_bytes word))
+fault_view (fault.StartsZero word) = Some (grammar.StartsZero (string_bytes word))
+fault_view (fault.IntParse text) = None
+fault_view fault.CommentSpanComputedIncorrectly = None
+fault_view (fault.CannotParse text base) = None
+fault_view fault.UnfinishedFStringExpression = Some grammar.UnfinishedFStringExpression
+
+-- A token or a fault that was read stands at the place.
+abbrev pub IsStep : pieces.Step → Step → Type 0
+IsStep stands (step.Token token len) = (node : grammar.Token) × (token_view token ≡ Whole node) × (stands ≡ pieces.token len node)
+IsStep stands (step.Text text text_len token len) = (node : grammar.Token) × (token_view token ≡ Whole node) × (stands ≡ pieces.piece (text_len + len) (pieces.chunk_text text_len (string_bytes text) ++ record { begin = text_len; node = node; end = text_len + len } ∷ []))
+IsStep stands (step.Fault begin fault end) = (node : grammar.Fault) × (fault_view fault ≡ Some node) × (stands ≡ pieces.fault begin node end)
+
+abbrev pub is_outside : Where → Bool
+is_outside Outside = true
+is_outside place = false

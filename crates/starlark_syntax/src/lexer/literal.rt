@@ -1,0 +1,13 @@
+//! Reads the bodies of literals.
+
+mod body;
+mod chunks;
+mod escapes;
+mod items;
+mod pieces;
+#[cfg(test)]
+mod tests;
+
+pub use chunks::chunk_from;
+pub use items::{Literal, Opening, Stop};
+pub use pieces::{Step, literal_piece};

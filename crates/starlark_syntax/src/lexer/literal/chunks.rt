@@ -1,0 +1,66 @@
+//! Texts of f-strings, up to an expression or the closing quotes.
+
+ghost use Rattle.std.specs.Prelude.{IfOk};
+ghost use Rattle.starlark_syntax.specs.LexedViews.{IsStep};
+ghost use Rattle.starlark_syntax.specs.LiteralViews.{opening_view};
+ghost use Rattle.starlark_syntax.specs.Pieces as grammar;
+
+use super::body::{Body, LiteralValue, read_body};
+use super::items::{Literal, Opening, Stop, closing_len};
+use super::pieces::Step;
+use crate::lexer::lexeme_error::LexemeError;
+use crate::lexer::scanner::LiteralKind;
+use crate::lexer::tokens::Token;
+use std::alloc::{AllocError, Global};
+
+/// The text of an f-string up to its first stop.
+pub fn chunk_from(alloc: Global, opening: Opening, text: &str) -> Result<Step, AllocError>
+    ensures { IfOk result (IsStep (grammar.chunk (opening_view opening) text.now)) }
+{
+    let literal = Literal {
+        kind: LiteralKind::FString,
+        opening,
+    };
+    let Body {
+        len: text_len,
+        value,
+        stop,
+    } = read_body(alloc, literal, text)?;
+    let LiteralValue::Text(value) = value else {
+        unreachable!()
+    };
+    match stop {
+        Stop::OpeningBrace => Ok(Step::Text {
+            text: value,
+            text_len,
+            token: Token::FStringExprStart,
+            len: 1,
+        }),
+        Stop::Closing => Ok(Step::Text {
+            text: value,
+            text_len,
+            token: Token::FStringEnd,
+            len: closing_len(opening),
+        }),
+        Stop::ClosingBrace => Ok(Step::Fault {
+            begin: text_len,
+            fault: LexemeError::InvalidInput(String::from_str(alloc, "}")?),
+            end: text_len + 1,
+        }),
+        Stop::BadEscape { len, last } => Ok(Step::Fault {
+            begin: text_len + (len - last),
+            fault: LexemeError::InvalidEscapeSequence(String::from_str(alloc, "\\")?),
+            end: text_len + len,
+        }),
+        Stop::Line => Ok(Step::Fault {
+            begin: 0,
+            fault: LexemeError::UnfinishedStringLiteral,
+            end: text_len + 1,
+        }),
+        Stop::Ended => Ok(Step::Fault {
+            begin: 0,
+            fault: LexemeError::UnfinishedStringLiteral,
+            end: text.len(),
+        }),
+    }
+}

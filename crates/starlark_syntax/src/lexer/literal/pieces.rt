@@ -1,0 +1,168 @@
+//! String and bytes literals as lexemes.
+
+ghost use Rattle.std.specs.Prelude.{◌≡◌, ◌≢◌, ◌+◌, ◌<◌, ◌^◌, Some, false, length, not, IfOk};
+ghost use Rattle.starlark_syntax.specs.Depths.{Where};
+ghost use Rattle.starlark_syntax.specs.Items as items;
+ghost use Rattle.starlark_syntax.specs.LexedViews.{IsStep, fault_view, is_outside};
+ghost use Rattle.starlark_syntax.specs.LiteralViews.{bytes_of, holds_text, opening_view};
+ghost use Rattle.starlark_syntax.specs.Pieces as grammar;
+ghost use Rattle.starlark_syntax.specs.Scanned.{kind_view, quote_view};
+ghost use Rattle.starlark_syntax.specs.TokenViews.{Whole, token_view};
+ghost use Rattle.starlark_syntax.specs.Words.{Kind, OfFString};
+
+use super::body::{LiteralValue, read_body};
+use super::items::{Literal, Opening, Stop, closing_len};
+use crate::lexer::lexeme_error::LexemeError;
+use crate::lexer::scanner::{LiteralKind, Quote};
+use crate::lexer::tokens::Token;
+use std::alloc::{AllocError, Global};
+
+/// What stands at a place: a token of so many bytes; a text of an f-string, of `text_len` bytes, which is no lexeme
+/// where it denotes nothing, and a token behind it; or a fault, from one place to another. Places are in bytes from
+/// there on.
+#[derive(Debug, Drop)]
+pub enum Step {
+    Token {
+        token: Token,
+        len: usize,
+    },
+    Text {
+        text: String,
+        text_len: usize,
+        token: Token,
+        len: usize,
+    },
+    Fault {
+        begin: usize,
+        fault: LexemeError,
+        end: usize,
+    },
+}
+
+/// Whether a text has no backslash and no CR, and no LF where the literal may not have one.
+fn is_plain(opening: Opening, text: &[u8]) -> bool
+    ensures { result ≡ grammar.is_plain (opening_view opening) text.now }
+{
+    text.iter().all(|byte| {
+        !(*byte == b'\\' || *byte == b'\r' || (*byte == b'\n' && !opening.is_triple))
+    })
+}
+
+/// The fault of a literal that isn't closed, by the text behind its opening.
+fn unfinished(outside: bool, literal: Literal, behind: &str) -> LexemeError
+    ensures { (place : Where) → is_outside place ≡ outside → fault_view result ≡ Some (grammar.unfinished place (kind_view literal.kind) (opening_view literal.opening) behind.now) }
+{
+    if !outside
+        && literal.kind == LiteralKind::Text
+        && is_plain(literal.opening, behind.as_bytes())
+    {
+        LexemeError::UnfinishedFStringExpression
+    } else {
+        LexemeError::UnfinishedStringLiteral
+    }
+}
+
+fn literal_token(value: LiteralValue) -> Token
+    ensures { (kind : Kind) → holds_text value ≡ not (items.is_of_bytes kind) → token_view result ≡ Whole (grammar.literal_token kind (bytes_of value)) }
+{
+    match value {
+        LiteralValue::Text(text) => Token::String(text),
+        LiteralValue::Bytes(bytes) => Token::Bytes(bytes),
+    }
+}
+
+/// The fault of a bad escape, by the text that was read behind its backslash.
+fn escape_fault(alloc: Global, begin: usize, read: &str) -> Result<Step, AllocError>
+    requires { begin + 1 + length read.now < 2 ^ 64 }
+    ensures { IfOk result (IsStep (grammar.escape_fault begin read.now)) }
+{
+    if read.is_empty() {
+        return Ok(Step::Fault {
+            begin,
+            fault: LexemeError::EmptyEscapeSequence,
+            end: begin + 1,
+        });
+    }
+    let text = String::from_str(alloc, read)?;
+    Ok(Step::Fault {
+        begin,
+        fault: LexemeError::InvalidEscapeSequence(text),
+        end: begin + 1 + read.len(),
+    })
+}
+
+/// A string or bytes literal, by the bytes of its opening and the text behind them.
+fn literal_from(
+    alloc: Global,
+    outside: bool,
+    literal: Literal,
+    len: usize,
+    behind: &str,
+) -> Result<Step, AllocError>
+    requires { len + length behind.now < 2 ^ 64 }
+    ensures { IfOk result (λ step. (place : Where) → is_outside place ≡ outside → IsStep (grammar.literal place (kind_view literal.kind) (opening_view literal.opening) len behind.now) step) }
+{
+    let body = read_body(alloc, literal, behind)?;
+    match body.stop {
+        Stop::Closing => Ok(Step::Token {
+            token: literal_token(body.value),
+            len: len + body.len + closing_len(literal.opening),
+        }),
+        Stop::BadEscape { len: read, .. } => {
+            escape_fault(
+                alloc,
+                len + body.len,
+                &behind[body.len + 1..body.len + read],
+            )
+        }
+        Stop::Line => Ok(Step::Fault {
+            begin: 0,
+            fault: unfinished(outside, literal, behind),
+            end: len + body.len,
+        }),
+        _ => Ok(Step::Fault {
+            begin: 0,
+            fault: unfinished(outside, literal, behind),
+            end: len + behind.len(),
+        }),
+    }
+}
+
+/// Whether two more of its quotes stand behind an opener.
+fn is_triple(quote: Quote, behind: &str) -> bool
+    ensures { result ≡ (grammar.opening_of false (quote_view quote) behind.now).is_triple }
+{
+    let quotes = match quote {
+        Quote::Single => "''",
+        Quote::Double => "\"\"",
+    };
+    behind.as_bytes().starts_with(quotes.as_bytes())
+}
+
+/// The string or bytes literal of an opener of so many bytes, by the text behind that.
+pub fn literal_piece(
+    alloc: Global,
+    outside: bool,
+    kind: LiteralKind,
+    is_raw: bool,
+    quote: Quote,
+    len: usize,
+    behind: &str,
+) -> Result<Step, AllocError>
+    requires kind { kind_view kind ≢ OfFString }
+    requires fits { len + length behind.now < 2 ^ 64 }
+    ensures { IfOk result (λ step. (place : Where) → is_outside place ≡ outside →
+        IsStep (grammar.opener place (kind_view kind) (grammar.opening_of is_raw (quote_view quote) behind.now) len behind.now) step) }
+{
+    let opening = Opening {
+        is_raw,
+        quote,
+        is_triple: is_triple(quote, behind),
+    };
+    let literal = Literal { kind, opening };
+    if opening.is_triple {
+        literal_from(alloc, outside, literal, len + 2, &behind[2..])
+    } else {
+        literal_from(alloc, outside, literal, len, behind)
+    }
+}
