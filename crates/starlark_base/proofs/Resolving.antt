@@ -1,12 +1,14 @@
 -- Places along a text, and its lines one after another.
-use Rattle.std.proofs.Common.{◌≡◌, ℕ, zero, suc, ◌+◌, ◌-◌, ◌<◌, ◌≤◌, ◌⊎◌, inl, inr, List, [], ◌∷◌, ◌++◌, map, length, take, drop, refl, ap, sym, ◌∙◌, arith, count_by, take-add, add-zero, length-append}
-use Rattle.std.proofs.lemmas.Bool.{cases_lt}
+use Rattle.std.proofs.Common.{◌≡◌, ℕ, zero, suc, ◌+◌, ◌-◌, ◌<◌, ◌≤◌, ◌⊎◌, inl, inr, List, [], ◌∷◌, ◌++◌, map, length, take, drop, refl, ap, sym, ◌∙◌, arith, count_by, Less, take-add, add-zero, length-append}
+use Rattle.std.proofs.lemmas.Bool.{cases_lt, lt-ltb, le-ltb, eq-eqb}
 use Rattle.std.proofs.lemmas.List.{drop-drop, length-take-le, length-drop, length-map, take_all}
 use Rattle.std.proofs.lemmas.List.FromFn.{length-range_with_len}
 use Rattle.std.proofs.lemmas.Str.{chars-append, encodes-chars, IsUtf8-between}
 use Rattle.std.proofs.Math.Utf8.{encodes}
 use Rattle.std.specs.List.{concat, range_with_len}
+use Rattle.std.specs.Ordering.{nat_cmp, ordering_then}
 use Rattle.std.specs.Str.{chars, IsUtf8, IsCharBoundary}
+use Rattle.starlark_base.specs.declared.codemap.resolved.ResolvedPos.{ResolvedPos}
 use Rattle.starlark_base.specs.Places.{Text, is_line_feed, place_after, place_at, StandsBefore}
 use Rattle.starlark_base.specs.Lines.{line_begin, line_count, line_span, line_texts, text_of}
 use Rattle.starlark_base.proofs.LineFeeds.{feeds, feeds_count, feeds_rise, begin_before, begins_rise, begin_past, boundary_of_line, front_of_line}
@@ -55,6 +57,14 @@ order text a b utf8 at_a at_b less = go (cases_lt (feeds (take a text)) (feeds (
         let front_b = front_of_line text line begin b at_b.0 (same ∙ feeds_count (take b text)) refl in
         let longer = longer_front text begin a b utf8 (boundary_of_line text line utf8) at_a at_b before less in
         inr (sym (feeds_count (take a text)) ∙ same ∙ feeds_count (take b text), omega (arith, ap (λ t. length (chars t)) front_a, ap (λ t. length (chars t)) front_b, longer))
+
+-- as places are ordered, by their lines and then by their columns
+before_less : (a b : ResolvedPos) → StandsBefore a b → ordering_then (nat_cmp a.line b.line) (nat_cmp a.column b.column) ≡ Less
+before_less a b (inl above) = rw (lt-ltb a.line b.line above) refl
+before_less a b (inr (same, left)) = rw same (rw (le-ltb b.line b.line (omega arith)) (rw (eq-eqb b.line b.line refl) (rw (lt-ltb a.column b.column left) refl)))
+
+pub order_less : (text : Text) (a b : ℕ) → IsUtf8 text → IsCharBoundary text a → IsCharBoundary text b → a < b → ordering_then (nat_cmp (place_at text a).line (place_at text b).line) (nat_cmp (place_at text a).column (place_at text b).column) ≡ Less
+order_less text a b utf8 at_a at_b less = before_less (place_at text a) (place_at text b) (order text a b utf8 at_a at_b less)
 
 lines_from : (text : Text) (n line : ℕ) → concat (map (λ k. text_of text (line_span text k)) (range_with_len line n)) ≡ take (line_begin text (line + n) - line_begin text line) (drop (line_begin text line) text)
 lines_from text zero line = let none : line_begin text (line + 0) - line_begin text line ≡ 0 = ap (λ k. line_begin text k - line_begin text line) (add-zero line) ∙ omega arith in rw none refl

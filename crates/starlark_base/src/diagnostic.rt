@@ -218,6 +218,7 @@ mod tests {
         oops.set_span(second(), &map)?;
         assert_eq!(rt; oops.to_string(alloc)?.as_str(), "oops at f:1:1-2");
         assert_eq!(rt; format!(in alloc; "{oops:?}")?.as_str(), "oops at f:1:1-2");
+        assert_eq!(rt; format!(in alloc; "{oops:#}")?.as_str(), "oops at f:1:1-2");
         assert_eq!(rt; oops.span().map(|place| place.span), Some(first()));
         assert!(rt; oops.call_stack().is_empty());
         assert_eq!(rt; oops.into_inner(), "oops");

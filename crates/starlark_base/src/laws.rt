@@ -11,7 +11,7 @@ ghost use Rattle.starlark_base.specs.Lines.{line_texts};
 ghost use Rattle.starlark_base.specs.Places.{Text, is_line_feed, place_at, StandsBefore};
 ghost use Rattle.starlark_base.specs.SourceFiles.{SourceFiles, joined};
 
-use crate::codemap::{CodeMap, FileSpan};
+use crate::codemap::{CodeMap, FileSpan, ResolvedPos};
 use std::cmp::{Ord, Ordering};
 use std::hash::Hash;
 
@@ -20,10 +20,13 @@ pub fn intersecting_is_symmetric()
     ensures { (a b : ByteSpan) → Meets a b → Meets b a }
 {}
 
-/// Of two positions between characters of a text, the earlier resolves to the earlier place.
+/// Of two positions between characters of a text, the earlier resolves to the earlier place: to one before it
+/// by line and column, and less than it as places are ordered.
 pub fn resolving_keeps_order()
-    ensures { (text : Text) (a b : ℕ) → IsUtf8 text → IsCharBoundary text a → IsCharBoundary text b → a < b
+    ensures before { (text : Text) (a b : ℕ) → IsUtf8 text → IsCharBoundary text a → IsCharBoundary text b → a < b
         → StandsBefore (place_at text a) (place_at text b) }
+    ensures less { (text : Text) (a b : ℕ) → IsUtf8 text → IsCharBoundary text a → IsCharBoundary text b → a < b
+        → ⟦<ResolvedPos as Ord>⟧.cmp (place_at text a) (place_at text b) ≡ Ordering.Less }
 {}
 
 /// The spans of the lines cut a text into one piece more than it has line feeds, and the pieces join to it.

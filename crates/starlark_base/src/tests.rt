@@ -291,6 +291,11 @@ fn shared_code_maps(rt: HostRuntime) -> Result<(), Fail> {
         format!(in rt.alloc(); "{map:?}")?.as_str(),
         "CodeMap(\"a\")"
     );
+    let accented = code_map(rt.alloc(), 1, "é\n", "")?;
+    assert_eq!(rt;
+        format!(in rt.alloc(); "{accented:?}")?.as_str(),
+        "CodeMap(\"é\\n\")"
+    );
     assert!(rt; map.has_pos(Pos::new(1)) && Pos::new(1) < map.full_span().end());
     assert_eq!(rt; map.byte_at(Pos::new(1)), b'c');
     Ok(())

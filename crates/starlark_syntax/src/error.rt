@@ -254,6 +254,7 @@ mod tests {
         error.set_call_stack(CallStack::empty);
         assert_eq!(rt; error.to_string(alloc)?.as_str(), "oops at f:1:1-2");
         assert_eq!(rt; format!(in alloc; "{error:?}")?.as_str(), "oops at f:1:1-2");
+        assert_eq!(rt; format!(in alloc; "{error:#}")?.as_str(), "oops at f:1:1-2");
         assert_eq!(rt; error.call_stack().frames().len(), 1);
         Ok(())
     }

@@ -71,7 +71,7 @@ impl EvalException {
         Ok(exception)
     }
 
-    /// An error of this code at a place, which says what a value prints.
+    /// An error of this code at a place, which says what a value prints. Want of memory drops the value.
     pub fn internal_error<D: fmt::Display + Drop>(
         alloc: Global,
         error: D,
@@ -211,6 +211,10 @@ mod tests {
         let exception = EvalException::new(exception.into_error(), second(), &map)?;
         assert_eq!(rt;
             format!(in alloc; "{exception:?}")?.as_str(),
+            "Parse error: tabs are not allowed at f:1:1-2"
+        );
+        assert_eq!(rt;
+            format!(in alloc; "{exception:#}")?.as_str(),
             "Parse error: tabs are not allowed at f:1:1-2"
         );
         Ok(())

@@ -35,8 +35,9 @@ pub(crate) fn end_place(count: usize, end: Option<i32>) -> usize
     }
 }
 
-/// The places where a slice of a row of `len` things begins and ends. An absent start is the row's
-/// begin, an absent end its end. The begin may lie behind the end.
+/// The places where a slice of a row of `len` things, which is at least 0, begins and ends. An absent start is
+/// the row's begin, an absent end its end. A negative index counts from the row's end, and one past either end
+/// is taken to be that end. The begin may lie behind the end.
 pub fn convert_indices(len: i32, start: Option<i32>, end: Option<i32>) -> (usize, usize)
     requires { pos 0 ≤ℤ len }
     ensures start { result.0 ≡ spec.start_place (unsigned_abs len) start }
@@ -46,7 +47,8 @@ pub fn convert_indices(len: i32, start: Option<i32>, end: Option<i32>) -> (usize
     (start_place(count, start), end_place(count, end))
 }
 
-/// The place that an index means in a row of `len` things.
+/// The place that an index means in a row of `len` things, which is at least 0. A negative index counts from
+/// the row's end, and one past either end is taken to be that end.
 pub fn convert_index(len: i32, start: i32) -> usize
     requires { pos 0 ≤ℤ len }
     ensures { result ≡ spec.place (unsigned_abs len) start }

@@ -99,7 +99,7 @@ impl<'a> Model for CursorChars<'a> {
 }
 
 impl<'a> CursorChars<'a> {
-    /// The place behind so many bytes of a text.
+    /// The place behind so many bytes of a text, which has to be between two characters or at an end.
     pub fn new_offset(x: &'a str, offset: usize) -> CursorChars<'a>
         requires { IsCharBoundary x.now offset }
         ensures { result ≡ record { text = x.now; at = offset } }
@@ -121,7 +121,7 @@ impl<'a> CursorChars<'a> {
         Some(character)
     }
 
-    /// A step back over the character before this place.
+    /// A step back over the character before this place, which has to be the one given.
     pub fn unnext(&mut self, c: char)
         requires { IsCharBefore self.old c }
         ensures { self.new ≡ record self.old { at = self.old.at - len_utf8 c } }

@@ -23,7 +23,9 @@ pub enum FormatConv {
 /// A brace that stands for itself.
 #[derive(Debug, PartialEq, Drop)]
 pub enum EscapeCurlyBrace {
+    /// The brace `{`.
     Open,
+    /// The brace `}`.
     Close,
 }
 

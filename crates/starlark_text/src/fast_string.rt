@@ -126,8 +126,12 @@ fn begins_past(count: usize, start: Option<i32>, end: Option<i32>) -> bool
     }
 }
 
-/// The part of a text that the start and the end of a string method mean: `None` where they are in
-/// the wrong order, or where the start lies past the end of the text.
+/// The part of a text that the start and the end of a string method mean. Places are counted in characters;
+/// a negative one counts from the text's end, and one past either end is taken to be that end.
+///
+/// `None` where both count from the same side and the start is the greater; where the start counts from the
+/// front and lies past the text's end, and no end counts from the end; or where the part would end before it
+/// begins.
 pub fn convert_str_indices(s: &str, start: Option<i32>, end: Option<i32>) -> Option<StrIndices<'_>>
     ensures { option_map indices_view result ≡ spec.str_indices s.now start end }
 {

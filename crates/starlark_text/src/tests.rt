@@ -181,21 +181,22 @@ fn cursors_step_over_bytes_and_characters(rt: HostRuntime) {
     assert_eq!(rt; bytes.pos(), 2);
     assert_eq!(rt; CursorBytes::new("ab").next(), Some(b'a'));
     let text = "aé";
-    if text.is_char_boundary(1) {
-        let mut characters = CursorChars::new_offset(text, 1);
-        assert_eq!(rt; characters.peek(), Some('é'));
-        let Some(character) = characters.next() else {
-            return assert!(rt; false);
-        };
-        assert_eq!(rt; character, 'é');
-        assert_eq!(rt; characters.pos(), 3);
-        assert_eq!(rt; characters.peek(), None);
-        characters.unnext(character);
-        assert_eq!(rt; characters.pos(), 1);
-        assert_eq!(rt; characters.next(), Some('é'));
-        assert_eq!(rt; characters.next(), None);
-        assert_eq!(rt; characters.pos(), 3);
+    if !text.is_char_boundary(1) {
+        return assert!(rt; false);
     }
+    let mut characters = CursorChars::new_offset(text, 1);
+    assert_eq!(rt; characters.peek(), Some('é'));
+    let Some(character) = characters.next() else {
+        return assert!(rt; false);
+    };
+    assert_eq!(rt; character, 'é');
+    assert_eq!(rt; characters.pos(), 3);
+    assert_eq!(rt; characters.peek(), None);
+    characters.unnext(character);
+    assert_eq!(rt; characters.pos(), 1);
+    assert_eq!(rt; characters.next(), Some('é'));
+    assert_eq!(rt; characters.next(), None);
+    assert_eq!(rt; characters.pos(), 3);
 }
 
 fn captured(capture: &str, pos: usize, conv: FormatConv) -> FormatToken<'_> {
@@ -289,7 +290,8 @@ fn format_strings_are_refused_at_their_first_fault(rt: HostRuntime) {
 
 #[test]
 fn faults_print_the_whole_format_string(rt: HostRuntime) -> Result<(), Fail> {
-    let rows: [(&str, &str); 4] = [
+    let rows: [(&str, &str); 5] = [
+        ("}foo", "Standalone '}' in format string `}foo`"),
         ("a}foo", "Standalone '}' in format string `a}foo`"),
         ("{é", "Unmatched '{' in format string `{é`"),
         ("{!}", "Missing conversion character in format string `{!}`"),

@@ -64,7 +64,7 @@ struct CodeMapData {
 /// A source text with its file's name and a number that tells it from others. In a contract it is these
 /// three. Copies share the text.
 ///
-/// It takes four bytes a line besides its texts.
+/// It takes eight bytes a line or less besides its texts.
 #[derive(Drop)]
 pub struct CodeMap {
     data: Rc<CodeMapData>,
@@ -84,8 +84,7 @@ fn starts_of_lines(alloc: Global, source: &str) -> Result<Vec<Pos>, AllocError>
     requires { length source.now < 2 ^ 32 }
     ensures { IfOk result (λ starts. starts.items ≡ line_starts source.now) }
 {
-    let line_feeds = fast_string::count_matches_byte(source, b'\n');
-    let mut starts = Vec::with_capacity(alloc, line_feeds + 1)?;
+    let mut starts = Vec::new(alloc);
     starts.push(Pos::new(0))?;
     for (at, byte) in source.as_bytes().iter().enumerate() {
         if *byte == b'\n' {
@@ -115,7 +114,7 @@ fn trim_line_ends(text: &str) -> &str
 
 impl CodeMap {
     /// A code map of a source text. A source of more than 4294967295 bytes is refused, before want of
-    /// memory is; what was given is dropped then.
+    /// memory is. Either refusal drops what was given.
     pub fn new(
         alloc: Global,
         id: CodeMapId,
@@ -142,7 +141,7 @@ impl CodeMap {
         Ok(CodeMap { data })
     }
 
-    /// The same code map, which shares the text.
+    /// The same code map, which shares the text. Refused where sharing it once more wants memory.
     pub fn dupe(&self) -> Result<CodeMap, AllocError>
         ensures { IfOk result (λ copy. copy ≡ self.now) }
     {
@@ -198,7 +197,7 @@ impl CodeMap {
         Span::new(Pos::new(0), Pos::new(self.source().len() as u32))
     }
 
-    /// A span with this code map, which shares the text.
+    /// A span with this code map, which shares the text. Refused where sharing it once more wants memory.
     pub fn file_span(&self, span: Span) -> Result<FileSpan, AllocError>
         ensures file { IfOk result (λ it. it.file ≡ self.now) }
         ensures span { IfOk result (λ it. it.span ≡ span) }
@@ -233,7 +232,7 @@ impl CodeMap {
         self.starts().len()
     }
 
-    /// The byte at a position.
+    /// The byte at a position, which has to be one of the source's and not its end.
     pub fn byte_at(&self, pos: Pos) -> u8
         requires { pos < length self.now.source }
         ensures { result ≡ slice_index self.now.source pos }
@@ -241,7 +240,7 @@ impl CodeMap {
         self.source().as_bytes()[pos.get() as usize]
     }
 
-    /// The line of a position, from 0.
+    /// The line of a position, from 0. The position has to be in the source or at its end, as `has_pos` tests.
     pub fn find_line(&self, pos: Pos) -> usize
         requires { pos ≤ length self.now.source }
         ensures line { result ≡ (place_at self.now.source pos).line }
@@ -265,7 +264,7 @@ impl CodeMap {
         }
     }
 
-    /// The text of a span.
+    /// The text of a span, which the source has to hold, as `holds` tests.
     pub fn source_span(&self, span: Span) -> &str
         requires { Holds self.now.source span }
         ensures { result.now ≡ text_of self.now.source span }
@@ -273,7 +272,7 @@ impl CodeMap {
         &self.source()[span.begin().get() as usize..span.end().get() as usize]
     }
 
-    /// The lines and columns of a span.
+    /// The lines and columns of a span, which the source has to hold, as `holds` tests.
     pub fn resolve_span(&self, span: Span) -> ResolvedSpan
         requires { Holds self.now.source span }
         ensures { result ≡ resolved self.now.source span }
@@ -284,7 +283,7 @@ impl CodeMap {
         }
     }
 
-    /// The span of a line, with its line feed.
+    /// The span of a line, from 0, with its line feed. The line has to be one of the `line_count` lines.
     pub fn line_span(&self, line: usize) -> Span
         requires { line < line_count self.now.source }
         ensures span { result ≡ line_span self.now.source line }
@@ -300,7 +299,7 @@ impl CodeMap {
         Span::new(begin, end)
     }
 
-    /// The span of a line, with its line feed; `None` where there is no such line.
+    /// The span of a line, from 0, with its line feed; `None` where there is no such line.
     pub fn line_span_opt(&self, line: usize) -> Option<Span>
         ensures span { SomeIff result (line < line_count self.now.source) (line_span self.now.source line) }
         ensures held { IfSome result (Holds self.now.source) }
@@ -329,7 +328,8 @@ impl CodeMap {
         }
     }
 
-    /// The span of a line, without its line feed and then without one carriage return at its end.
+    /// The span of a line, from 0, without its line feed and then without one carriage return at its end. The
+    /// line has to be one of the `line_count` lines.
     pub fn line_span_trim_newline(&self, line: usize) -> Span
         requires { line < line_count self.now.source }
         ensures span { result ≡ trimmed_line_span self.now.source line }
@@ -339,7 +339,8 @@ impl CodeMap {
         self.without_last(span, b'\r')
     }
 
-    /// The text of a line, without the line feeds and carriage returns at its end.
+    /// The text of a line, from 0, without the line feeds and carriage returns at its end. The line has to be
+    /// one of the `line_count` lines.
     pub fn source_line(&self, line: usize) -> &str
         requires { line < line_count self.now.source }
         ensures { result.now ≡ line_text self.now.source line }
@@ -347,7 +348,8 @@ impl CodeMap {
         trim_line_ends(self.source_span(self.line_span(line)))
     }
 
-    /// The text of the line of a position, without the line feeds and carriage returns at its end.
+    /// The text of the line of a position, without the line feeds and carriage returns at its end. The position
+    /// has to be in the source or at its end, as `has_pos` tests.
     pub fn source_line_at_pos(&self, pos: Pos) -> &str
         requires { pos ≤ length self.now.source }
         ensures { result.now ≡ line_text self.now.source (place_at self.now.source pos).line }

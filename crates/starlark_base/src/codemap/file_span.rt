@@ -16,13 +16,15 @@ use std::fmt;
 /// A span, and the code map that it is a span of.
 #[derive(Debug, Drop, PartialEq, Eq, Hash)]
 pub struct FileSpan {
+    /// The code map.
     pub file: CodeMap,
+    /// The span, in bytes of the code map's source. Nothing says that the source holds it.
     pub span: Span,
 }
 
 impl FileSpan {
     /// The span of the whole of a new code map. A source of more than 4294967295 bytes is refused, before
-    /// want of memory is; what was given is dropped then.
+    /// want of memory is. Either refusal drops what was given.
     pub fn new(
         alloc: Global,
         id: CodeMapId,
@@ -38,7 +40,7 @@ impl FileSpan {
         Ok(FileSpan { file, span })
     }
 
-    /// The same span, which shares the text.
+    /// The same span, which shares the text. Refused where sharing the code map once more wants memory.
     pub fn dupe(&self) -> Result<FileSpan, AllocError>
         ensures { IfOk result (λ copy. copy ≡ self.now) }
     {
@@ -52,7 +54,7 @@ impl FileSpan {
         self.file.filename()
     }
 
-    /// The text of the span.
+    /// The text of the span, which its code map has to hold.
     pub fn source_span(&self) -> &str
         requires { Holds self.now.file.source self.now.span }
         ensures { result.now ≡ text_of self.now.file.source self.now.span }
@@ -71,7 +73,7 @@ impl FileSpan {
         }
     }
 
-    /// The lines and columns of the span.
+    /// The lines and columns of the span, which its code map has to hold.
     pub fn resolve_span(&self) -> ResolvedSpan
         requires { Holds self.now.file.source self.now.span }
         ensures { result ≡ resolved self.now.file.source self.now.span }
@@ -79,7 +81,8 @@ impl FileSpan {
         self.file.resolve_span(self.span)
     }
 
-    /// The file's name, and the lines and columns of the span.
+    /// The file's name, and the lines and columns of the span, which its code map has to hold. Refused where
+    /// memory for the name is wanting.
     pub fn resolve(&self, alloc: Global) -> Result<ResolvedFileSpan, AllocError>
         requires { Holds self.now.file.source self.now.span }
         ensures file { IfOk result (λ it. string_bytes it.file ≡ self.now.file.filename) }

@@ -12,7 +12,9 @@ use std::fmt;
 /// A span, and a reference to the code map that it is a span of.
 #[derive(Clone, Copy, Debug, PartialEq, Eq)]
 pub struct FileSpanRef<'a> {
+    /// The code map.
     pub file: &'a CodeMap,
+    /// The span, in bytes of the code map's source. Nothing says that the source holds it.
     pub span: Span,
 }
 
@@ -24,7 +26,8 @@ impl<'a> FileSpanRef<'a> {
         self.file.filename()
     }
 
-    /// The span with a code map of its own, which shares the text.
+    /// The span with a code map of its own, which shares the text. Refused where sharing it once more wants
+    /// memory.
     pub fn to_file_span(self) -> Result<FileSpan, AllocError>
         ensures file { IfOk result (λ it. it.file ≡ self.entry.file.now) }
         ensures span { IfOk result (λ it. it.span ≡ self.entry.span) }
@@ -32,7 +35,7 @@ impl<'a> FileSpanRef<'a> {
         self.file.file_span(self.span)
     }
 
-    /// The lines and columns of the span.
+    /// The lines and columns of the span, which its code map has to hold.
     pub fn resolve_span(&self) -> ResolvedSpan
         requires { Holds self.now.file.now.source self.now.span }
         ensures { result ≡ resolved self.now.file.now.source self.now.span }
@@ -40,7 +43,7 @@ impl<'a> FileSpanRef<'a> {
         self.file.resolve_span(self.span)
     }
 
-    /// The text of the span.
+    /// The text of the span, which its code map has to hold.
     pub fn source_span(self) -> &'a str
         requires { Holds self.file.now.source self.span }
         ensures { result.now ≡ text_of self.entry.file.now.source self.entry.span }

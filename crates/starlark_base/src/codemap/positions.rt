@@ -6,6 +6,8 @@ use std::marker::Model;
 use std::ops::{Add, AddAssign, Sub};
 
 /// A position in a source text: how many bytes stand before it. In a contract it is that number.
+///
+/// A sum has to stay below 2^32; what is taken off may be no more than the position.
 #[derive(Clone, Copy, Debug, Default, PartialEq, Eq, PartialOrd, Ord, Hash)]
 pub struct Pos(u32);
 

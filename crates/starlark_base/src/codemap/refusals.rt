@@ -13,8 +13,10 @@ pub struct SourceTooLong;
 #[derive(Debug, Drop, Error)]
 #[error_bound(E: Display)]
 pub enum OrMemory<E> {
+    /// The refusal.
     #[error("{0}")]
     Error(E),
+    /// Memory was wanting.
     #[error("out of memory")]
     Memory,
 }

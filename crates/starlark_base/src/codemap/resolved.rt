@@ -8,7 +8,9 @@ use std::fmt;
 /// A line and a column, both from 0 and printed from 1. Columns are characters.
 #[derive(Clone, Copy, Debug, Default, PartialEq, Eq, PartialOrd, Ord, Hash)]
 pub struct ResolvedPos {
+    /// The line, from 0.
     pub line: usize,
+    /// How many characters of the line stand before the place.
     pub column: usize,
 }
 
@@ -28,7 +30,9 @@ impl fmt::Display for ResolvedPos {
 /// The lines and columns of a span.
 #[derive(Clone, Copy, Debug, Default, PartialEq, Eq, PartialOrd, Ord, Hash)]
 pub struct ResolvedSpan {
+    /// Where the span begins.
     pub begin: ResolvedPos,
+    /// Where it ends: the place behind its last character.
     pub end: ResolvedPos,
 }
 
@@ -69,12 +73,14 @@ impl fmt::Display for ResolvedSpan {
 /// A file's name and a line, from 0 and printed from 1.
 #[derive(Debug, Drop, PartialEq, Eq, Hash)]
 pub struct ResolvedFileLine {
+    /// The file's name.
     pub file: String,
+    /// The line, from 0.
     pub line: usize,
 }
 
 impl ResolvedFileLine {
-    /// The same name and line.
+    /// The same name and line. Refused where memory for the name is wanting.
     pub fn clone(&self, alloc: Global) -> Result<Self, AllocError>
         ensures file { IfOk result (λ copy. string_bytes copy.file ≡ string_bytes self.now.file) }
         ensures line { IfOk result (λ copy. copy.line ≡ self.now.line) }
@@ -101,12 +107,14 @@ impl fmt::Display for ResolvedFileLine {
 /// A file's name, and the lines and columns of a span.
 #[derive(Debug, Drop, PartialEq, Eq, PartialOrd, Ord, Hash)]
 pub struct ResolvedFileSpan {
+    /// The file's name.
     pub file: String,
+    /// The lines and columns.
     pub span: ResolvedSpan,
 }
 
 impl ResolvedFileSpan {
-    /// The same name and span.
+    /// The same name and span. Refused where memory for the name is wanting.
     pub fn clone(&self, alloc: Global) -> Result<Self, AllocError>
         ensures file { IfOk result (λ copy. string_bytes copy.file ≡ string_bytes self.now.file) }
         ensures span { IfOk result (λ copy. copy.span ≡ self.now.span) }
@@ -117,7 +125,7 @@ impl ResolvedFileSpan {
         })
     }
 
-    /// The file's name and the line of the span's begin.
+    /// The file's name and the line of the span's begin. Refused where memory for the name is wanting.
     pub fn begin_file_line(&self, alloc: Global) -> Result<ResolvedFileLine, AllocError>
         ensures file { IfOk result (λ line. string_bytes line.file ≡ string_bytes self.now.file) }
         ensures line { IfOk result (λ line. line.line ≡ self.now.span.begin.line) }

@@ -9,7 +9,9 @@ use std::ops::{Deref, DerefMut};
 #[derive(Copy, Debug, Drop, PartialEq, Eq, Hash)]
 #[derive_where(Clone; T: Copy)]
 pub struct Spanned<T> {
+    /// The value.
     pub node: T,
+    /// Where it stands, in bytes of its source.
     pub span: Span,
 }
 
