@@ -49,4 +49,3 @@ pub mod Settled
 pub mod MarginsFollowed
 pub mod Joining
 pub mod CleanCuts
-mod ErrorRows

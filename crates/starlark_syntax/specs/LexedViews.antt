@@ -4,8 +4,8 @@ use Rattle.starlark_syntax.specs.Tokens as grammar
 use Rattle.starlark_syntax.specs.Depths.{Where, Outside}
 use Rattle.starlark_syntax.specs.Pieces as pieces
 use Rattle.starlark_syntax.specs.TokenViews.{Whole, token_view}
-use Rattle.starlark_syntax.specs.declared.lexer.lexeme_error.LexemeError.{LexemeError}
-use Rattle.starlark_syntax.specs.declared.lexer.lexeme_error.LexemeError.TheVariants as fault
+use Rattle.starlark_error.specs.declared.lexeme_error.LexemeError.{LexemeError}
+use Rattle.starlark_error.specs.declared.lexeme_error.LexemeError.TheVariants as fault
 use Rattle.starlark_syntax.specs.declared.lexer.literal.pieces.Step.{Step}
 use Rattle.starlark_syntax.specs.declared.lexer.literal.pieces.Step.TheVariants as step
 

@@ -8,8 +8,6 @@ pub mod BigIntegers
 pub mod TokenInts
 pub mod TokenViews
 pub mod TokenTexts
-pub mod Errors
-pub mod FaultTexts
 pub mod NumberRefusals
 pub mod Scanned
 pub mod Items

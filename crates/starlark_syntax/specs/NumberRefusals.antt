@@ -5,8 +5,8 @@ use Rattle.starlark_base.specs.declared.codemap.refusals.OrMemory.TheVariants.{E
 use Rattle.starlark_syntax.specs.Words.{Text}
 use Rattle.starlark_syntax.specs.Numbers.{integer_in}
 use Rattle.starlark_syntax.specs.TokenInts.{IsBig}
-use Rattle.starlark_syntax.specs.declared.lexer.lexeme_error.LexemeError.{LexemeError}
-use Rattle.starlark_syntax.specs.declared.lexer.lexeme_error.LexemeError.TheVariants.{CannotParse}
+use Rattle.starlark_error.specs.declared.lexeme_error.LexemeError.{LexemeError}
+use Rattle.starlark_error.specs.declared.lexeme_error.LexemeError.TheVariants.{CannotParse}
 
 -- the fault names this text and this base
 abbrev pub CannotParseText : ℕ → Text → LexemeError → Type 0

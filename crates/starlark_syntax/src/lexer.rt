@@ -2,7 +2,6 @@
 
 mod big_int;
 mod fstring_style;
-mod lexeme_error;
 mod literal;
 mod number_text;
 mod one_identifier;
@@ -14,7 +13,7 @@ mod tokens;
 
 pub use big_int::BigInt;
 pub use fstring_style::{FStringConv, FStringQuote};
-pub use lexeme_error::LexemeError;
 pub use one_identifier::lex_exactly_one_identifier;
+pub use starlark_error::lexeme_error::LexemeError;
 pub use token_int::TokenInt;
 pub use tokens::Token;

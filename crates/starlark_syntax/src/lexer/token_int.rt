@@ -6,7 +6,7 @@ ghost use Rattle.starlark_syntax.specs.Numbers.{integer_in};
 ghost use Rattle.starlark_syntax.specs.TokenInts.{IsBig, integer_view};
 
 use crate::lexer::big_int::BigInt;
-use crate::lexer::lexeme_error::LexemeError;
+use starlark_error::lexeme_error::LexemeError;
 use crate::lexer::number_text::number_in;
 use starlark_base::codemap::OrMemory;
 use std::alloc::{AllocError, Global};

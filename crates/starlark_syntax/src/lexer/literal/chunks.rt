@@ -8,7 +8,7 @@ ghost use Rattle.starlark_syntax.specs.Pieces as grammar;
 use super::body::{Body, LiteralValue, read_body};
 use super::items::{Literal, Opening, Stop, closing_len};
 use super::pieces::Step;
-use crate::lexer::lexeme_error::LexemeError;
+use starlark_error::lexeme_error::LexemeError;
 use crate::lexer::scanner::LiteralKind;
 use crate::lexer::tokens::Token;
 use std::alloc::{AllocError, Global};

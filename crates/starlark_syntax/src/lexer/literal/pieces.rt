@@ -12,7 +12,7 @@ ghost use Rattle.starlark_syntax.specs.Words.{Kind, OfFString};
 
 use super::body::{LiteralValue, read_body};
 use super::items::{Literal, Opening, Stop, closing_len};
-use crate::lexer::lexeme_error::LexemeError;
+use starlark_error::lexeme_error::LexemeError;
 use crate::lexer::scanner::{LiteralKind, Quote};
 use crate::lexer::tokens::Token;
 use std::alloc::{AllocError, Global};

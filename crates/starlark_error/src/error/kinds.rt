@@ -1,9 +1,9 @@
 //! What is said of a text that is refused.
 
 ghost use Rattle.std.specs.Prelude.{Some};
-ghost use Rattle.starlark_syntax.specs.FaultTexts.{message_text, kind_text};
+ghost use Rattle.starlark_error.specs.FaultTexts.{message_text, kind_text};
 
-use crate::lexer::LexemeError;
+use crate::lexeme_error::LexemeError;
 use std::fmt;
 
 /// What a parser says.

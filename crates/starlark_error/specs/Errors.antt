@@ -5,10 +5,10 @@ use Rattle.starlark_base.specs.Places.{resolved}
 use Rattle.starlark_base.specs.Sources.{Holds}
 use Rattle.starlark_base.specs.declared.codemap.file_span.FileSpan.{FileSpan}
 use Rattle.starlark_base.specs.declared.codemap.resolved.ResolvedFileSpan.{ResolvedFileSpan}
-use Rattle.starlark_syntax.specs.FaultTexts.{kind_text}
-use Rattle.starlark_syntax.specs.declared.error.kinds.ParserMessage.TheVariants.{Lexeme}
-use Rattle.starlark_syntax.specs.declared.error.kinds.ErrorKind.{ErrorKind}
-use Rattle.starlark_syntax.specs.declared.error.kinds.ErrorKind.TheVariants.{Parser, Internal}
+use Rattle.starlark_error.specs.FaultTexts.{kind_text}
+use Rattle.starlark_error.specs.declared.error.kinds.ParserMessage.TheVariants.{Lexeme}
+use Rattle.starlark_error.specs.declared.error.kinds.ErrorKind.{ErrorKind}
+use Rattle.starlark_error.specs.declared.error.kinds.ErrorKind.TheVariants.{Parser, Internal}
 
 -- a fault of the lexer
 abbrev pub IsFault : ErrorKind → Type 0

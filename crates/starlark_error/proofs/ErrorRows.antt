@@ -7,12 +7,12 @@ use Rattle.std.specs.declared.alloc.Global.{Global}
 use Rattle.starlark_base.specs.Places.{Text}
 use Rattle.starlark_base.specs.Sources.{file_span_text}
 use Rattle.starlark_base.specs.declared.codemap.file_span.FileSpan.{FileSpan}
-use Rattle.starlark_syntax.specs.Errors.{error_text}
-use Rattle.starlark_syntax.specs.FaultTexts.{fault_text, message_text, kind_text}
-use Rattle.starlark_syntax.specs.declared.lexer.lexeme_error.LexemeError.{LexemeError}
-use Rattle.starlark_syntax.specs.declared.lexer.lexeme_error.LexemeError.TheVariants.{InvalidInput, InvalidTab, StartsZero, CannotParse}
-use Rattle.starlark_syntax.specs.declared.error.kinds.ParserMessage.TheVariants.{Lexeme}
-use Rattle.starlark_syntax.specs.declared.error.kinds.ErrorKind.TheVariants.{Parser}
+use Rattle.starlark_error.specs.Errors.{error_text}
+use Rattle.starlark_error.specs.FaultTexts.{fault_text, message_text, kind_text}
+use Rattle.starlark_error.specs.declared.lexeme_error.LexemeError.{LexemeError}
+use Rattle.starlark_error.specs.declared.lexeme_error.LexemeError.TheVariants.{InvalidInput, InvalidTab, StartsZero, CannotParse}
+use Rattle.starlark_error.specs.declared.error.kinds.ParserMessage.TheVariants.{Lexeme}
+use Rattle.starlark_error.specs.declared.error.kinds.ErrorKind.TheVariants.{Parser}
 
 -- a fault over a text says this
 abbrev Says : (String Global → LexemeError) → Text → Text → Type 0

@@ -2,12 +2,12 @@
 
 ghost use Rattle.std.specs.Prelude.{◌≡◌, ◌≢◌, [], Some, None, option_copied, IsOk, IsSome, IfOk, IfErr, OnOk, OnErr};
 ghost use Rattle.starlark_base.specs.Diagnostics.{place_in, unplaced, with_value, with_span};
-ghost use Rattle.starlark_syntax.specs.Errors.{IsFault, IsInternal};
-ghost use Rattle.starlark_syntax.specs.FaultTexts.{kind_text};
+ghost use Rattle.starlark_error.specs.Errors.{IsFault, IsInternal};
+ghost use Rattle.starlark_error.specs.FaultTexts.{kind_text};
 
 mod kinds;
 
-use crate::lexer::LexemeError;
+use crate::lexeme_error::LexemeError;
 pub use kinds::{ErrorKind, ParserMessage};
 use starlark_base::call_stack::CallStack;
 use starlark_base::codemap::{CodeMap, FileSpan, Span};
@@ -34,7 +34,7 @@ pub struct Error {
 
 impl Model for Error {
     ghost use Rattle.starlark_base.specs.Diagnostics.{Diagnosed};
-    ghost use Rattle.starlark_syntax.specs.declared.error.kinds.ErrorKind.{ErrorKind};
+    ghost use Rattle.starlark_error.specs.declared.error.kinds.ErrorKind.{ErrorKind};
 
     ghost Value = { Diagnosed ErrorKind };
 
@@ -181,7 +181,7 @@ impl From<WithDiagnostic<Error>> for Error {
 }
 
 impl fmt::Display for Error {
-    ghost use Rattle.starlark_syntax.specs.Errors.{error_text};
+    ghost use Rattle.starlark_error.specs.Errors.{error_text};
 
     ghost output = { error_text };
 
@@ -195,7 +195,7 @@ impl fmt::Display for Error {
 }
 
 impl fmt::Debug for Error {
-    ghost use Rattle.starlark_syntax.specs.Errors.{error_text};
+    ghost use Rattle.starlark_error.specs.Errors.{error_text};
 
     ghost debug_output = { error_text };
 

@@ -1,12 +1,12 @@
 -- What is said of each fault.
 use Rattle.std.specs.Prelude.{ℕ, List, ◌++◌, codes, string_bytes}
 use Rattle.std.specs.Fmt.{decimal}
-use Rattle.starlark_syntax.specs.declared.lexer.lexeme_error.LexemeError.{LexemeError}
-use Rattle.starlark_syntax.specs.declared.lexer.lexeme_error.LexemeError.TheVariants.{Indentation, InvalidInput, InvalidTab, UnfinishedStringLiteral, InvalidEscapeSequence, EmptyEscapeSequence, ReservedKeyword, StartsZero, IntParse, CommentSpanComputedIncorrectly, CannotParse, UnfinishedFStringExpression}
-use Rattle.starlark_syntax.specs.declared.error.kinds.ParserMessage.{ParserMessage}
-use Rattle.starlark_syntax.specs.declared.error.kinds.ParserMessage.TheVariants.{Lexeme, Text}
-use Rattle.starlark_syntax.specs.declared.error.kinds.ErrorKind.{ErrorKind}
-use Rattle.starlark_syntax.specs.declared.error.kinds.ErrorKind.TheVariants.{Parser, Other, Internal}
+use Rattle.starlark_error.specs.declared.lexeme_error.LexemeError.{LexemeError}
+use Rattle.starlark_error.specs.declared.lexeme_error.LexemeError.TheVariants.{Indentation, InvalidInput, InvalidTab, UnfinishedStringLiteral, InvalidEscapeSequence, EmptyEscapeSequence, ReservedKeyword, StartsZero, IntParse, CommentSpanComputedIncorrectly, CannotParse, UnfinishedFStringExpression}
+use Rattle.starlark_error.specs.declared.error.kinds.ParserMessage.{ParserMessage}
+use Rattle.starlark_error.specs.declared.error.kinds.ParserMessage.TheVariants.{Lexeme, Text}
+use Rattle.starlark_error.specs.declared.error.kinds.ErrorKind.{ErrorKind}
+use Rattle.starlark_error.specs.declared.error.kinds.ErrorKind.TheVariants.{Parser, Other, Internal}
 
 -- the twelve texts
 unfoldable pub fault_text : LexemeError → List ℕ

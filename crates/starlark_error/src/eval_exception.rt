@@ -2,8 +2,8 @@
 
 ghost use Rattle.std.specs.Prelude.{◌≡◌, ◌≢◌, [], Some, None, IsOk, IsSome, IfSome, IfNone, IfOk, IfErr, OnErr};
 ghost use Rattle.starlark_base.specs.Diagnostics.{place_in, with_value, with_span};
-ghost use Rattle.starlark_syntax.specs.Errors.{IsFault, IsInternal, IsLocation, HasNoLocation};
-ghost use Rattle.starlark_syntax.specs.FaultTexts.{kind_text};
+ghost use Rattle.starlark_error.specs.Errors.{IsFault, IsInternal, IsLocation, HasNoLocation};
+ghost use Rattle.starlark_error.specs.FaultTexts.{kind_text};
 
 use crate::error::{Error, ErrorKind};
 use starlark_base::call_stack::CallStack;
@@ -21,7 +21,7 @@ pub struct EvalException {
 
 impl Model for EvalException {
     ghost use Rattle.starlark_base.specs.Diagnostics.{Diagnosed};
-    ghost use Rattle.starlark_syntax.specs.declared.error.kinds.ErrorKind.{ErrorKind};
+    ghost use Rattle.starlark_error.specs.declared.error.kinds.ErrorKind.{ErrorKind};
 
     ghost Value = { Diagnosed ErrorKind };
 
@@ -146,7 +146,7 @@ impl From<WithDiagnostic<Error>> for EvalException {
 }
 
 impl fmt::Display for EvalException {
-    ghost use Rattle.starlark_syntax.specs.Errors.{error_text};
+    ghost use Rattle.starlark_error.specs.Errors.{error_text};
 
     ghost output = { error_text };
 
@@ -156,7 +156,7 @@ impl fmt::Display for EvalException {
 }
 
 impl fmt::Debug for EvalException {
-    ghost use Rattle.starlark_syntax.specs.Errors.{error_text};
+    ghost use Rattle.starlark_error.specs.Errors.{error_text};
 
     ghost debug_output = { error_text };
 
@@ -169,7 +169,7 @@ impl fmt::Debug for EvalException {
 mod tests {
     use super::*;
     use crate::error::error_from_lexeme;
-    use crate::lexer::LexemeError;
+    use crate::lexeme_error::LexemeError;
     use starlark_base::codemap::{CodeMapId, Pos};
     use std::test::Fail;
 

@@ -1,0 +1,11 @@
+//! The faults of a text, and errors with their places and calls; and what the crates below have.
+#![tactic(auto)]
+
+pub mod error;
+pub mod eval_exception;
+pub mod lexeme_error;
+
+pub use starlark_base::{
+    call_stack, codemap, convert_indices, cursors, diagnostic, dialect, dot_format_parser,
+    fast_string,
+};
