@@ -6,9 +6,9 @@ ghost use Rattle.starlark_syntax.specs.Numbers.{integer_in};
 ghost use Rattle.starlark_syntax.specs.TokenInts.{IsBig, integer_view};
 
 use crate::lexer::big_int::BigInt;
-use starlark_error::lexeme_error::LexemeError;
 use crate::lexer::number_text::number_in;
 use starlark_base::codemap::OrMemory;
+use starlark_error::lexeme_error::LexemeError;
 use std::alloc::{AllocError, Global};
 use std::fmt;
 

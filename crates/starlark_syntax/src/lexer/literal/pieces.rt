@@ -12,9 +12,9 @@ ghost use Rattle.starlark_syntax.specs.Words.{Kind, OfFString};
 
 use super::body::{LiteralValue, read_body};
 use super::items::{Literal, Opening, Stop, closing_len};
-use starlark_error::lexeme_error::LexemeError;
 use crate::lexer::scanner::{LiteralKind, Quote};
 use crate::lexer::tokens::Token;
+use starlark_error::lexeme_error::LexemeError;
 use std::alloc::{AllocError, Global};
 
 /// What stands at a place: a token of so many bytes; a text of an f-string, of `text_len` bytes, which is no lexeme
