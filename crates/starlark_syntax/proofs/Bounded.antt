@@ -257,7 +257,7 @@ comment_edge text n utf8 h comment = go (cases_lt n (length text))
         let same : length text ≡ n = omega (arith, least, inside) in
         subst (IsCharBoundary text) same (IsCharBoundary-end text)
 
-word_edge : (text : Text) (class : Class) (n : ℕ) → IsUtf8 text → longest_front (class_in language) text ≡ Some (class, n) → IsCharBoundary text n
+pub word_edge : (text : Text) (class : Class) (n : ℕ) → IsUtf8 text → longest_front (class_in language) text ≡ Some (class, n) → IsCharBoundary text n
 word_edge text class n utf8 e = go class e (language_fits (take n text) class (front_sound (class_in language) text class n e).2)
   where
     inside : n ≤ length text
@@ -312,7 +312,7 @@ by_before_bounded s Layout text utf8 = by_place_bounded s s.place text utf8
 by_before_bounded s Gap text utf8 = by_place_bounded s s.place text utf8
 by_before_bounded s Other text utf8 = by_place_bounded s s.place text utf8
 
-piece_bounded : (history : History) (text : Text) (piece : Piece) → IsUtf8 text → next_step language history text ≡ Stands piece → Bounded text piece
+pub piece_bounded : (history : History) (text : Text) (piece : Piece) → IsUtf8 text → next_step language history text ≡ Stands piece → Bounded text piece
 unfolding next_step situation step_at
 piece_bounded history text piece utf8 e = subst (StepBounded text) e (by_before_bounded (situation history) history.before text utf8)
 

@@ -16,6 +16,7 @@ pub mod Widths
 pub mod Balance
 pub mod Totals
 pub mod Gaps
+pub mod WordClasses
 pub mod WordBytes
 pub mod Silent
 pub mod Order
@@ -49,3 +50,17 @@ pub mod Settled
 pub mod MarginsFollowed
 pub mod Joining
 pub mod CleanCuts
+pub mod Nested
+pub mod Represented
+pub mod MarginsRead
+pub mod CommentLines
+pub mod LevelsKept
+pub mod Laid
+pub mod Waiting
+pub mod Taken
+pub mod Here
+pub mod ChunksTaken
+pub mod Onward
+pub mod PieceTaken
+pub mod NextLexeme
+pub mod LexerItems

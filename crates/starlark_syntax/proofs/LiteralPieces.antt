@@ -1,12 +1,12 @@
 -- String and bytes literals, by what was read of them.
-use Rattle.std.proofs.Common.{◌≡◌, ℕ, zero, suc, ◌+◌, ◌-◌, ◌≤◌, ◌==◌, true, false, not, [], ◌∷◌, length, take, drop, get_or, nat_eq, refl, sym, ap, subst, ◌∙◌, arith, Ok, Err}
+use Rattle.std.proofs.Common.{◌≡◌, ◌≢◌, ℕ, zero, suc, ◌+◌, ◌-◌, ◌≤◌, ◌==◌, true, false, not, [], ◌∷◌, length, take, drop, get_or, nat_eq, refl, sym, ap, subst, ◌∙◌, arith, Ok, Err}
 use Rattle.std.proofs.lemmas.List.{get_or-drop, length-drop}
 use Rattle.std.proofs.lemmas.Str.{IsCharBoundary-after_ascii, IsUtf8-drop}
 use Rattle.std.specs.List.{starts_with}
 use Rattle.std.specs.Prelude.{IfOk, Result}
 use Rattle.std.specs.Str.{IsUtf8, IsCharBoundary}
 use Rattle.starlark_syntax.specs.Words.{Text, Quote, SingleQuote, DoubleQuote, Kind, OfText, OfBytes, OfFString}
-use Rattle.starlark_syntax.specs.Tokens.{String, Bytes, EmptyEscapeSequence, InvalidEscapeSequence}
+use Rattle.starlark_syntax.specs.Tokens.{String, Bytes, Opening, EmptyEscapeSequence, InvalidEscapeSequence}
 use Rattle.starlark_syntax.specs.Items.{Literal, Closing, BadEscape, body_at, body_len, closing_quotes, is_of_bytes, quote_byte}
 use Rattle.starlark_syntax.specs.Depths.{Where}
 use Rattle.starlark_syntax.specs.Pieces as pieces
@@ -90,3 +90,21 @@ if_ok P Q (Err e) more h = tt
 pub triple_edge : (text : Text) (quote : Quote) → IsUtf8 text → starts_with nat_eq text (quote_byte quote ∷ quote_byte quote ∷ []) ≡ true → IsCharBoundary text 2
 triple_edge text SingleQuote utf8 h = behind_plain text (39 ∷ 39 ∷ []) (drop 2 text) utf8 (starts_split text (39 ∷ 39 ∷ []) h) refl
 triple_edge text DoubleQuote utf8 h = behind_plain text (34 ∷ 34 ∷ []) (drop 2 text) utf8 (starts_split text (34 ∷ 34 ∷ []) h) refl
+
+-- without two more quotes the literal begins right behind its opener
+pub opener_plain : (place : Where) (kind : Kind) (opening : Opening) (len : ℕ) (behind : Text) → kind ≢ OfFString → opening.is_triple ≡ false → pieces.opener place kind opening len behind ≡ pieces.literal place kind opening len behind
+opener_plain place kind opening len behind other single = by_kind kind other
+  where
+    none_more : pieces.more_quotes opening ≡ 0
+    none_more = rw single refl
+
+    same : len + 0 ≡ len
+    same = omega arith
+
+    right_behind : (kind : Kind) → pieces.literal place kind opening (len + pieces.more_quotes opening) (drop (pieces.more_quotes opening) behind) ≡ pieces.literal place kind opening len behind
+    right_behind kind = ap (λ n. pieces.literal place kind opening (len + n) (drop n behind)) none_more ∙ ap (λ n. pieces.literal place kind opening n behind) same
+
+    by_kind : (kind : Kind) → kind ≢ OfFString → pieces.opener place kind opening len behind ≡ pieces.literal place kind opening len behind
+    by_kind OfText other = right_behind OfText
+    by_kind OfBytes other = right_behind OfBytes
+    by_kind OfFString other = absurd (other refl)

@@ -80,7 +80,7 @@ pub started : (history : History) (piece : Piece) → is_nothing piece.sort ≡ 
 unfolding after
 started history piece h = h
 
-one_least : (before : Before) → is_nothing before ≡ false → least_len before ≡ 1
+pub one_least : (before : Before) → is_nothing before ≡ false → least_len before ≡ 1
 one_least Nothing h = cc
 one_least Layout h = refl
 one_least Gap h = refl
@@ -102,7 +102,7 @@ unfolding next_step situation
 none_next table history piece h e = none_at_end table (situation history) piece h e
 
 -- what stands behind no piece
-stops_here : (table : Table) (history : History) (text : Text) (last : Step) → next_step table history text ≡ last → ((piece : Piece) → last ≡ Stands piece → ⊥) → IsLongestReading table history text [] last
+pub stops_here : (table : Table) (history : History) (text : Text) (last : Step) → next_step table history text ≡ last → ((piece : Piece) → last ≡ Stands piece → ⊥) → IsLongestReading table history text [] last
 stops_here table history text last e none = record { reads = tt; stands_last = e; no_piece = none }
 
 pub read_from_is : (table : Table) (history : History) (passed : ℕ) (text : Text) → is_nothing history.before ≡ false → IsLongestReading table history (drop passed text) (read_from table history passed text).pieces (read_from table history passed text).last

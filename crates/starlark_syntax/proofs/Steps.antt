@@ -42,7 +42,7 @@ StepFits least text (Stands piece) = PieceFits least text piece
 StepFits least text (Fails fault) = FaultFits text fault
 StepFits least text Ends = text ≡ []
 
-either : (P : Step → Type 0) (test : Bool) (x y : Step) → P x → P y → P (if test then x else y)
+pub either : (P : Step → Type 0) (test : Bool) (x y : Step) → P x → P y → P (if test then x else y)
 either P true x y px py = px
 either P false x y px py = py
 

@@ -1,17 +1,13 @@
 -- Of which bytes the words of the language are.
-use Rattle.std.proofs.Common.{◌≡◌, ℕ, ◌+◌, Bool, true, false, cond, List, [], ◌∷◌, drop, refl, ◌∙◌, sym, subst, Option, Some, None, arith, ◌||◌, one-add}
+use Rattle.std.proofs.Common.{◌≡◌, ℕ, ◌+◌, Bool, true, false, cond, [], ◌∷◌, drop, refl, subst, Some, arith, ◌||◌, one-add}
 use Rattle.std.specs.Prelude.{◌&&◌, ◌==◌, if◌then◌else◌, nat_eq}
 use Rattle.std.specs.Char.{is_ascii, is_ascii_digit, is_ascii_hexdigit}
 use Rattle.std.specs.List.{list_all, prefix_len}
-use Rattle.std.specs.Map.{lookup}
-use Rattle.std.specs.Option.{option_or}
-use Rattle.std.specs.Str.{bytes_eq}
 use Rattle.std.proofs.lemmas.Bool.{and_parts, eqb-true}
 use Rattle.std.proofs.lemmas.Bool.Decides.{nat_tests}
-use Rattle.std.proofs.lemmas.Slice.Eq.{bytes_eq-Decides}
 use Rattle.starlark_syntax.specs.Words.{Text, Class, Skipped, Comment, Tabs, LineEnd, Opener, Reserved, Identifier, Decimal, Hexadecimal, Octal, Binary, Float, Fixed, Table, class_in, openers, line_ends, symbols, names, patterns, language, is_run, is_in_name, is_identifier, is_comment, is_based, is_octal_digit, is_binary_digit, behind_digits, begins_with_digit, is_sign, unsigned, is_exponent, ends_float, is_fraction, is_float, is_pointed}
 use Rattle.starlark_syntax.specs.Cuts.{is_gap_byte}
-use Rattle.starlark_syntax.proofs.Words.{class_in-language}
+use Rattle.starlark_syntax.proofs.WordClasses.{all_fit, all_more, language_all_fit, row_fits, none_found}
 use Rattle.starlark_syntax.proofs.Gaps.{all_gaps, blank_gap}
 
 -- all bytes are below 128
@@ -25,41 +21,23 @@ word_fits LineEnd word = all_gaps word && is_plain word
 word_fits Comment word = is_comment word
 word_fits class word = is_plain word
 
--- a row of a table that is kept by words that pass
-lookup_fits : (word : Text) (rows : List (Text × Class)) (class : Class) → list_all (λ (row : Text × Class). word_fits row.1 row.0) rows ≡ true → lookup (bytes_eq word) rows ≡ Some class → word_fits class word ≡ true
-lookup_fits word [] class h e = cc
-lookup_fits word (row ∷ rows) class h e =
-    let parts = and_parts (word_fits row.1 row.0) (list_all (λ (row : Text × Class). word_fits row.1 row.0) rows) h in
-    go (bytes_eq word row.0) refl e parts.0 (lookup_fits word rows class parts.1)
-  where
-    go : (same : Bool) → bytes_eq word row.0 ≡ same → cond same (Some row.1) (lookup (bytes_eq word) rows) ≡ Some class → word_fits row.1 row.0 ≡ true → (lookup (bytes_eq word) rows ≡ Some class → word_fits class word ≡ true) → word_fits class word ≡ true
-    go false f e fits more = more e
-    go true f e fits more =
-        let equal : word ≡ row.0 = (bytes_eq-Decides word row.0).0 f in
-        let known : row.1 ≡ class = cc in
-        subst (λ (c : Class). word_fits c word ≡ true) known (subst (λ (w : Text). word_fits row.1 w ≡ true) (sym equal) fits)
-
-openers_fit : list_all (λ (row : Text × Class). word_fits row.1 row.0) openers ≡ true
+openers_fit : all_fit word_fits openers ≡ true
 unfolding openers
 openers_fit = refl
 
-line_ends_fit : list_all (λ (row : Text × Class). word_fits row.1 row.0) line_ends ≡ true
+line_ends_fit : all_fit word_fits line_ends ≡ true
 unfolding line_ends is_gap_byte
 line_ends_fit = refl
 
-symbols_fit : list_all (λ (row : Text × Class). word_fits row.1 row.0) symbols ≡ true
+symbols_fit : all_fit word_fits symbols ≡ true
 unfolding symbols
 symbols_fit = refl
 
-names_fit : list_all (λ (row : Text × Class). word_fits row.1 row.0) names ≡ true
+names_fit : all_fit word_fits names ≡ true
 unfolding names
 names_fit = refl
 
 -- Patterns
-
-all_more : (p q : ℕ → Bool) (word : Text) → ((b : ℕ) → p b ≡ true → q b ≡ true) → list_all p word ≡ true → list_all q word ≡ true
-all_more p q [] h k = refl
-all_more p q (b ∷ bs) h k = let parts = and_parts (p b) (list_all p bs) k in rw (h b parts.0) (all_more p q bs h parts.1)
 
 run_plain : (p : ℕ → Bool) (word : Text) → ((b : ℕ) → p b ≡ true → is_ascii b ≡ true) → is_run p word ≡ true → is_plain word ≡ true
 run_plain p [] h k = refl
@@ -166,39 +144,19 @@ float_plain word h =
 pointed_plain : (word : Text) → is_pointed word ≡ true → is_plain word ≡ true
 pointed_plain word h = fraction_plain word (and_parts (is_fraction word) (begins_with_digit (drop 1 word)) h).0
 
--- one row of tests
-row_fits : (word : Text) (test : Bool) (class found : Class) (rest : Option Class) → (test ≡ true → word_fits class word ≡ true) → (rest ≡ Some found → word_fits found word ≡ true) → cond test (Some class) rest ≡ Some found → word_fits found word ≡ true
-row_fits word true class found rest h k e =
-    let known : class ≡ found = cc in
-    subst (λ (c : Class). word_fits c word ≡ true) known (h refl)
-row_fits word false class found rest h k e = k e
-
-none_found : (word : Text) (found : Class) → ◌≡◌ {A = Option Class} None (Some found) → word_fits found word ≡ true
-none_found word found e = cc
-
 patterns_fit : (word : Text) (class : Class) → class_in patterns word ≡ Some class → word_fits class word ≡ true
 unfolding class_in patterns
 patterns_fit word class =
-    row_fits word (is_run (nat_eq 32) word) Skipped class _ (spaces_fit word)
-    (row_fits word (is_comment word) Comment class _ (λ h. h)
-    (row_fits word (is_run (nat_eq 9) word) Tabs class _ (run_plain (nat_eq 9) word (λ b h. same_plain 9 b refl h))
-    (row_fits word (is_identifier word) Identifier class _ (identifier_plain word)
-    (row_fits word (is_run is_ascii_digit word) Decimal class _ (run_plain is_ascii_digit word digit_plain)
-    (row_fits word (is_based 120 88 is_ascii_hexdigit word) Hexadecimal class _ (based_plain 120 88 is_ascii_hexdigit word refl refl hex_plain)
-    (row_fits word (is_based 111 79 is_octal_digit word) Octal class _ (based_plain 111 79 is_octal_digit word refl refl octal_plain)
-    (row_fits word (is_based 98 66 is_binary_digit word) Binary class _ (based_plain 98 66 is_binary_digit word refl refl binary_plain)
-    (row_fits word (is_float word) Float class _ (float_plain word)
-    (row_fits word (is_pointed word) Float class _ (pointed_plain word) (none_found word class))))))))))
-
--- one list of words, and then others
-part_fits : (word : Text) (class : Class) (found rest : Option Class) → (found ≡ Some class → word_fits class word ≡ true) → (rest ≡ Some class → word_fits class word ≡ true) → option_or found rest ≡ Some class → word_fits class word ≡ true
-part_fits word class None rest h k e = k e
-part_fits word class (Some other) rest h k e = h e
+    row_fits word_fits word (is_run (nat_eq 32) word) Skipped class _ (spaces_fit word)
+    (row_fits word_fits word (is_comment word) Comment class _ (λ h. h)
+    (row_fits word_fits word (is_run (nat_eq 9) word) Tabs class _ (run_plain (nat_eq 9) word (λ b h. same_plain 9 b refl h))
+    (row_fits word_fits word (is_identifier word) Identifier class _ (identifier_plain word)
+    (row_fits word_fits word (is_run is_ascii_digit word) Decimal class _ (run_plain is_ascii_digit word digit_plain)
+    (row_fits word_fits word (is_based 120 88 is_ascii_hexdigit word) Hexadecimal class _ (based_plain 120 88 is_ascii_hexdigit word refl refl hex_plain)
+    (row_fits word_fits word (is_based 111 79 is_octal_digit word) Octal class _ (based_plain 111 79 is_octal_digit word refl refl octal_plain)
+    (row_fits word_fits word (is_based 98 66 is_binary_digit word) Binary class _ (based_plain 98 66 is_binary_digit word refl refl binary_plain)
+    (row_fits word_fits word (is_float word) Float class _ (float_plain word)
+    (row_fits word_fits word (is_pointed word) Float class _ (pointed_plain word) (none_found word_fits word class))))))))))
 
 pub language_fits : (word : Text) (class : Class) → class_in language word ≡ Some class → word_fits class word ≡ true
-language_fits word class e =
-    part_fits word class (lookup (bytes_eq word) openers) _ (lookup_fits word openers class openers_fit)
-    (part_fits word class (lookup (bytes_eq word) line_ends) _ (lookup_fits word line_ends class line_ends_fit)
-    (part_fits word class (lookup (bytes_eq word) symbols) _ (lookup_fits word symbols class symbols_fit)
-    (part_fits word class (lookup (bytes_eq word) names) _ (lookup_fits word names class names_fit) (patterns_fit word class))))
-    (sym (class_in-language word) ∙ e)
+language_fits = language_all_fit word_fits openers_fit line_ends_fit symbols_fit names_fit patterns_fit

@@ -1,12 +1,13 @@
 -- What stands at a place of a text, as the code and as the grammar say it.
-use Rattle.std.specs.Prelude.{◌≡◌, ◌+◌, ◌++◌, ◌∷◌, [], Bool, true, false, Option, Some, None, string_bytes}
+use Rattle.std.specs.Prelude.{◌≡◌, ℕ, ◌+◌, ◌++◌, ◌∷◌, [], Bool, true, false, Option, Some, None, string_bytes}
 use Rattle.starlark_syntax.specs.Tokens as grammar
 use Rattle.starlark_syntax.specs.Depths.{Where, Outside}
 use Rattle.starlark_syntax.specs.Pieces as pieces
-use Rattle.starlark_syntax.specs.TokenViews.{Whole, token_view}
 use Rattle.starlark_error.specs.declared.lexeme_error.LexemeError.{LexemeError}
 use Rattle.starlark_error.specs.declared.lexeme_error.LexemeError.TheVariants as fault
+use Rattle.starlark_syntax.specs.TokenViews.{TokenView, Whole, token_view}
 use Rattle.starlark_syntax.specs.declared.lexer.literal.pieces.Step.{Step}
+use Rattle.starlark_syntax.specs.declared.lexer.tokens.Token.{Token}
 use Rattle.starlark_syntax.specs.declared.lexer.literal.pieces.Step.TheVariants as step
 
 -- The fault that an error is, if it is one of a text.
@@ -24,12 +25,29 @@ fault_view fault.CommentSpanComputedIncorrectly = None
 fault_view (fault.CannotParse text base) = None
 fault_view fault.UnfinishedFStringExpression = Some grammar.UnfinishedFStringExpression
 
--- A token or a fault that was read stands at the place.
+-- whether a token is the start of an f-string
+abbrev pub begins_fstring : grammar.Token → Bool
+begins_fstring (grammar.FStringStart opening) = true
+begins_fstring token = false
+
+-- A token, which begins no f-string, or a fault that was read stands at the place.
 abbrev pub IsStep : pieces.Step → Step → Type 0
-IsStep stands (step.Token token len) = (node : grammar.Token) × (token_view token ≡ Whole node) × (stands ≡ pieces.token len node)
-IsStep stands (step.Text text text_len token len) = (node : grammar.Token) × (token_view token ≡ Whole node) × (stands ≡ pieces.piece (text_len + len) (pieces.chunk_text text_len (string_bytes text) ++ record { begin = text_len; node = node; end = text_len + len } ∷ []))
+IsStep stands (step.Token token len) = (node : grammar.Token) × (token_view token ≡ Whole node) × (begins_fstring node ≡ false) × (stands ≡ pieces.token len node)
+IsStep stands (step.Text text text_len token len) = (node : grammar.Token) × (token_view token ≡ Whole node) × (begins_fstring node ≡ false) × (stands ≡ pieces.piece (text_len + len) (pieces.chunk_text text_len (string_bytes text) ++ record { begin = text_len; node = node; end = text_len + len } ∷ []))
 IsStep stands (step.Fault begin fault end) = (node : grammar.Fault) × (fault_view fault ≡ Some node) × (stands ≡ pieces.fault begin node end)
 
 abbrev pub is_outside : Where → Bool
 is_outside Outside = true
 is_outside place = false
+
+-- A token as the code shows it: how an f-string begins is told without whether it is raw.
+abbrev pub shown : grammar.Token → grammar.Token
+shown (grammar.FStringStart opening) = grammar.FStringStart (record { is_raw = false; quote = opening.quote; is_triple = opening.is_triple })
+shown token = token
+
+-- a lexeme of the grammar, and one of the code, by its begin, token and end, as both can be compared
+abbrev pub shown_lexeme : grammar.Lexeme → grammar.Spanned TokenView
+shown_lexeme lexeme = record { begin = lexeme.begin; node = Whole (shown lexeme.node); end = lexeme.end }
+
+abbrev pub lexeme_view : ℕ × Token × ℕ → grammar.Spanned TokenView
+lexeme_view lexeme = record { begin = lexeme.0; node = token_view lexeme.1; end = lexeme.2 }

@@ -20,3 +20,8 @@ pub mod Laws
 pub mod OneIdentifier
 pub mod LiteralViews
 pub mod LexedViews
+pub mod NestingViews
+pub mod ReadingViews
+pub mod LayoutViews
+pub mod ReaderViews
+pub mod LexerViews

@@ -10,4 +10,4 @@ mod tests;
 
 pub use chunks::chunk_from;
 pub use items::{Literal, Opening, Stop};
-pub use pieces::{Step, literal_piece};
+pub use pieces::{Step, literal_piece, opening_of};

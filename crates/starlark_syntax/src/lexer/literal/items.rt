@@ -4,9 +4,11 @@ ghost use Rattle.std.specs.Prelude.{◌≡◌, ◌<◌, ◌==◌, ◌&&◌, ◌�
 ghost use Rattle.starlark_syntax.specs.Items as grammar;
 ghost use Rattle.starlark_syntax.specs.LiteralViews.{IsText, found_view, literal_view, opening_view};
 ghost use Rattle.starlark_syntax.specs.Scanned.{kind_view, quote_view};
+ghost use Rattle.starlark_syntax.specs.TokenViews.{opening_view as token_opening};
 ghost use Rattle.starlark_syntax.specs.Words.{OfFString};
 
 use super::escapes::escape;
+use crate::lexer::fstring_style::FStringQuote;
 use crate::lexer::scanner::{LiteralKind, Quote, first_character_len};
 
 /// How a literal begins: whether it is raw, its quote, and whether three of them close it.
@@ -15,6 +17,20 @@ pub struct Opening {
     pub is_raw: bool,
     pub quote: Quote,
     pub is_triple: bool,
+}
+
+impl Opening {
+    /// The quotes, which a token tells.
+    pub fn quotes(self) -> FStringQuote
+        ensures { token_opening result ≡ record { is_raw = false; quote = quote_view self.quote; is_triple = self.is_triple } }
+    {
+        match (self.quote, self.is_triple) {
+            (Quote::Single, false) => FStringQuote::Single,
+            (Quote::Single, true) => FStringQuote::TripleSingle,
+            (Quote::Double, false) => FStringQuote::Double,
+            (Quote::Double, true) => FStringQuote::TripleDouble,
+        }
+    }
 }
 
 /// A literal, as far as its body is read by it.

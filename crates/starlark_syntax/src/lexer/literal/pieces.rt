@@ -3,7 +3,7 @@
 ghost use Rattle.std.specs.Prelude.{◌≡◌, ◌≢◌, ◌+◌, ◌<◌, ◌^◌, Some, false, length, not, IfOk};
 ghost use Rattle.starlark_syntax.specs.Depths.{Where};
 ghost use Rattle.starlark_syntax.specs.Items as items;
-ghost use Rattle.starlark_syntax.specs.LexedViews.{IsStep, fault_view, is_outside};
+ghost use Rattle.starlark_syntax.specs.LexedViews.{IsStep, begins_fstring, fault_view, is_outside};
 ghost use Rattle.starlark_syntax.specs.LiteralViews.{bytes_of, holds_text, opening_view};
 ghost use Rattle.starlark_syntax.specs.Pieces as grammar;
 ghost use Rattle.starlark_syntax.specs.Scanned.{kind_view, quote_view};
@@ -63,7 +63,8 @@ fn unfinished(outside: bool, literal: Literal, behind: &str) -> LexemeError
 }
 
 fn literal_token(value: LiteralValue) -> Token
-    ensures { (kind : Kind) → holds_text value ≡ not (items.is_of_bytes kind) → token_view result ≡ Whole (grammar.literal_token kind (bytes_of value)) }
+    ensures token { (kind : Kind) → holds_text value ≡ not (items.is_of_bytes kind) → token_view result ≡ Whole (grammar.literal_token kind (bytes_of value)) }
+    ensures own { (kind : Kind) → begins_fstring (grammar.literal_token kind (bytes_of value)) ≡ false }
 {
     match value {
         LiteralValue::Text(text) => Token::String(text),
@@ -137,6 +138,17 @@ fn is_triple(quote: Quote, behind: &str) -> bool
         Quote::Double => "\"\"",
     };
     behind.as_bytes().starts_with(quotes.as_bytes())
+}
+
+/// How a literal begins, by its opener and the text behind that.
+pub fn opening_of(is_raw: bool, quote: Quote, behind: &str) -> Opening
+    ensures { opening_view result ≡ grammar.opening_of is_raw (quote_view quote) behind.now }
+{
+    Opening {
+        is_raw,
+        quote,
+        is_triple: is_triple(quote, behind),
+    }
 }
 
 /// The string or bytes literal of an opener of so many bytes, by the text behind that.

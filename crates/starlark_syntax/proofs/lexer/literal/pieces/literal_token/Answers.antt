@@ -5,10 +5,10 @@ use Rattle.starlark_syntax.specs.TokenViews.{Whole, token_view}
 use Rattle.starlark_syntax.proofs.LiteralPieces.{token_of_text, token_of_bytes}
 use Rattle.starlark_syntax.proofs.lexer.literal.pieces.literal_token.Goals as goal
 
-pub returns-in-Text : goal.returns-in-Text
+pub returns-in-Text-clause-token : goal.returns-in-Text-clause-token
 unfolding token_view
-returns-in-Text c = λ kind h. ap Whole (token_of_text kind _ (sym (ap holds_text c.in-Text.is) ∙ h)) ∙ sym (ap (λ v. Whole (literal_token kind (bytes_of v))) c.in-Text.is)
+returns-in-Text-clause-token c = λ kind h. ap Whole (token_of_text kind _ (sym (ap holds_text c.in-Text.is) ∙ h)) ∙ sym (ap (λ v. Whole (literal_token kind (bytes_of v))) c.in-Text.is)
 
-pub returns-in-Bytes : goal.returns-in-Bytes
+pub returns-in-Bytes-clause-token : goal.returns-in-Bytes-clause-token
 unfolding token_view
-returns-in-Bytes c = λ kind h. ap Whole (token_of_bytes kind _ (sym (ap holds_text c.in-Bytes.is) ∙ h)) ∙ sym (ap (λ v. Whole (literal_token kind (bytes_of v))) c.in-Bytes.is)
+returns-in-Bytes-clause-token c = λ kind h. ap Whole (token_of_bytes kind _ (sym (ap holds_text c.in-Bytes.is) ∙ h)) ∙ sym (ap (λ v. Whole (literal_token kind (bytes_of v))) c.in-Bytes.is)

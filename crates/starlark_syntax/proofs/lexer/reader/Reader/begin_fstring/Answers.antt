@@ -1,0 +1,55 @@
+use Rattle.std.proofs.Common.{◌≡◌, ℕ, ◌+◌, ◌≤◌, false, add-zero, ap, append-nil, arith, refl, rules, sym, ◌∙◌}
+use Rattle.starlark_syntax.specs.LexedViews.{lexeme_view, shown_lexeme}
+use Rattle.starlark_syntax.specs.LiteralViews.{opening_view}
+use Rattle.starlark_syntax.specs.Margins.{open_widths}
+use Rattle.starlark_syntax.specs.NestingViews.{bracket_count}
+use Rattle.starlark_syntax.specs.Tokens.{FStringStart, Lexeme, Opening, moved}
+use Rattle.starlark_syntax.specs.TokenViews.{token_view}
+use Rattle.starlark_syntax.specs.TokenViews as views
+use Rattle.starlark_syntax.specs.declared.lexer.fstring_style.FStringQuote.{FStringQuote}
+use Rattle.starlark_syntax.specs.declared.lexer.reader.Reader.{Reader}
+use Rattle.starlark_syntax.specs.declared.lexer.tokens.Token.TheVariants as token
+use Rattle.starlark_syntax.proofs.Taken.{less_taken, piece_inside, took}
+use Rattle.starlark_syntax.proofs.Waiting.{queued_one}
+use Rattle.starlark_syntax.proofs.lexer.reader.Reader.begin_fstring.Goals as goal
+
+pub overflow_add-self : goal.overflow_add-self
+overflow_add-self c =
+    let stands = c.requires.stands in
+    let inside : c.args.self.now.at + c.args.len ≤ _ = (piece_inside c.args.text.now stands.0 c.args.self.now _ stands.1 stands.2).1 in
+    search (rules, inside)
+
+pub step_over-requires : goal.step_over-requires
+step_over-requires c =
+    let stands = c.requires.stands in
+    let inside = piece_inside c.args.text.now stands.0 c.args.self.now _ stands.1 stands.2 in
+    omega (arith, inside.1, c.requires.fits)
+
+-- the start of an f-string as a token
+abbrev start : ℕ → Opening → Lexeme
+start len opening = record { begin = 0; node = FStringStart opening; end = len }
+
+start_shown : (at len : ℕ) (opening : Opening) (quotes : FStringQuote) → views.opening_view quotes ≡ record { is_raw = false; quote = opening.quote; is_triple = opening.is_triple } → lexeme_view (at, token.FStringStart quotes, at + len) ≡ shown_lexeme (moved at (start len opening))
+unfolding token_view
+start_shown at len opening quotes e = rw (e, add-zero at) refl
+
+pub returns-clause-read : goal.returns-clause-read
+returns-clause-read c = λ history kept stands.
+    let opening = opening_view c.args.opening in
+    let new = c.step_over.ensures in
+    let nesting = c.in_ok-begin_fstring.ensures.begins history.tokens kept.nesting in
+    let few : bracket_count c.begin_fstring.new.self ≤ c.args.self.now.at + c.args.len = omega (arith, c.begin_fstring.ensures.count, kept.few) in
+    let queued = queued_one c.args.self.now.waiting.items (c.args.self.now.at, token.FStringStart c.quotes.result, c.args.self.now.at + c.args.len) (moved c.args.self.now.at (start c.args.len opening)) (start_shown c.args.self.now.at c.args.len opening c.quotes.result c.quotes.ensures) in
+    took c.args.text.now history c.args.self.now c.step_over.new.self _ c.utf8.text kept stands
+    (rw new nesting)
+    (ap (λ (reader : Reader). reader.levels) new ∙ kept.levels ∙ ap open_widths (sym (append-nil history.widths)))
+    (ap (λ (reader : Reader). reader.follows_gap) new)
+    (ap (λ (reader : Reader). reader.at) new)
+    (rw new few)
+    (ap (λ (reader : Reader). reader.stage) new)
+    (rw (new, c.in_ok-push_back.ensures.items) queued)
+
+pub returns-clause-less : goal.returns-clause-less
+returns-clause-less c =
+    let stands = c.requires.stands in
+    less_taken c.args.text.now stands.0 c.args.self.now c.step_over.new.self _ stands.1 stands.2 (ap (λ (reader : Reader). reader.stage) c.step_over.ensures) (ap (λ (reader : Reader). reader.at) c.step_over.ensures)

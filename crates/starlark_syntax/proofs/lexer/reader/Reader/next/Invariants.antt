@@ -1,0 +1,15 @@
+use Rattle.std.proofs.Common.{List}
+use Rattle.std.specs.Prelude.{Option}
+use Rattle.starlark_syntax.specs.ReaderViews.{IsAhead, IsReady, left_to_read}
+use Rattle.starlark_syntax.specs.TokenViews.{TokenView}
+use Rattle.starlark_syntax.specs.Tokens.{Fault, Spanned}
+use Rattle.starlark_syntax.proofs.lexer.reader.Reader.next.Given as goal
+
+abbrev pub invariant-loop-lexeme : goal.invariant-loop-lexeme
+invariant-loop-lexeme l = record {
+  ready : IsReady l.text l.self l.self.stage;
+  ahead : (lexemes : List (Spanned TokenView)) (fault : Option (Spanned Fault)) → IsAhead l.text l.initial.self l.initial.self.stage lexemes fault → IsAhead l.text l.self l.self.stage lexemes fault;
+}
+
+abbrev pub decreases-loop-lexeme : goal.decreases-loop-lexeme
+decreases-loop-lexeme l = left_to_read l.text l.self l.self.stage

@@ -1,0 +1,80 @@
+use Rattle.std.proofs.Common.{ap, arith, drop, subst}
+use Rattle.std.proofs.lemmas.Result.{on_ok_weaker}
+use Rattle.starlark_syntax.specs.Margins.{open_widths}
+use Rattle.starlark_syntax.specs.ReadingViews.{IsPiece}
+use Rattle.starlark_syntax.specs.ReaderViews.{step_here}
+use Rattle.starlark_syntax.specs.declared.lexer.reader.Reader.{Reader}
+use Rattle.starlark_syntax.specs.declared.lexer.reading.Piece.TheVariants as piece
+use Rattle.starlark_syntax.proofs.Edges.{boundary_shift}
+use Rattle.starlark_syntax.proofs.Here.{less_onward}
+use Rattle.starlark_syntax.proofs.PieceTaken.{nothing_here, nothing_taken, onward_ahead, piece_read}
+use Rattle.starlark_syntax.proofs.lexer.reader.Reader.read_piece.Goals as goal
+
+pub step_over-requires : goal.step_over-requires
+step_over-requires c =
+    let left = c.requires.ready.2.is_left in
+    let stands : IsPiece (open_widths left.0.widths) (drop c.args.self.now.at c.args.text.now) (step_here c.args.text.now left.0 c.args.self.now) (piece.Nothing c.in-Nothing.len c.in-Nothing.is_gap) = subst (IsPiece (open_widths left.0.widths) (drop c.args.self.now.at c.args.text.now) (step_here c.args.text.now left.0 c.args.self.now)) c.in-Nothing.is (piece_read c.args.text.now left.0 c.args.self.now c.place-place.result c.is_balanced-is_balanced.result c.range_from-rest.result.now c.in_ok-piece.piece c.range_from-rest.ensures.value left.1 c.place-place.ensures c.is_balanced-is_balanced.ensures c.in_ok-piece.ensures) in
+    let here = nothing_here c.args.text.now left.0 c.args.self.now c.in-Nothing.len c.in-Nothing.is_gap left.1 stands in
+    omega (arith, here.1, c.requires.fits)
+
+pub read_line_end-requires-clause-stands : goal.read_line_end-requires-clause-stands
+read_line_end-requires-clause-stands c =
+    let left = c.requires.ready.2.is_left in
+    let stands : IsPiece (open_widths left.0.widths) (drop c.args.self.now.at c.args.text.now) (step_here c.args.text.now left.0 c.args.self.now) (piece.LineEnd c.in-LineEnd.len) = subst (IsPiece (open_widths left.0.widths) (drop c.args.self.now.at c.args.text.now) (step_here c.args.text.now left.0 c.args.self.now)) c.in-LineEnd.is (piece_read c.args.text.now left.0 c.args.self.now c.place-place.result c.is_balanced-is_balanced.result c.range_from-rest.result.now c.in_ok-piece.piece c.range_from-rest.ensures.value left.1 c.place-place.ensures c.is_balanced-is_balanced.ensures c.in_ok-piece.ensures) in
+    (left.0, left.1, stands.0)
+
+pub read_line_end-requires-clause-cut : goal.read_line_end-requires-clause-cut
+read_line_end-requires-clause-cut c =
+    let left = c.requires.ready.2.is_left in
+    let stands : IsPiece (open_widths left.0.widths) (drop c.args.self.now.at c.args.text.now) (step_here c.args.text.now left.0 c.args.self.now) (piece.LineEnd c.in-LineEnd.len) = subst (IsPiece (open_widths left.0.widths) (drop c.args.self.now.at c.args.text.now) (step_here c.args.text.now left.0 c.args.self.now)) c.in-LineEnd.is (piece_read c.args.text.now left.0 c.args.self.now c.place-place.result c.is_balanced-is_balanced.result c.range_from-rest.result.now c.in_ok-piece.piece c.range_from-rest.ensures.value left.1 c.place-place.ensures c.is_balanced-is_balanced.ensures c.in_ok-piece.ensures) in
+    boundary_shift c.args.text.now c.args.self.now.at c.in-LineEnd.len left.1.boundary stands.1
+
+pub begin_fstring-requires-clause-stands : goal.begin_fstring-requires-clause-stands
+begin_fstring-requires-clause-stands c =
+    let left = c.requires.ready.2.is_left in
+    let stands : IsPiece (open_widths left.0.widths) (drop c.args.self.now.at c.args.text.now) (step_here c.args.text.now left.0 c.args.self.now) (piece.FString c.in-FString.opening c.in-FString.len) = subst (IsPiece (open_widths left.0.widths) (drop c.args.self.now.at c.args.text.now) (step_here c.args.text.now left.0 c.args.self.now)) c.in-FString.is (piece_read c.args.text.now left.0 c.args.self.now c.place-place.result c.is_balanced-is_balanced.result c.range_from-rest.result.now c.in_ok-piece.piece c.range_from-rest.ensures.value left.1 c.place-place.ensures c.is_balanced-is_balanced.ensures c.in_ok-piece.ensures) in
+    (left.0, left.1, stands)
+
+pub take-requires-clause-stands : goal.take-requires-clause-stands
+take-requires-clause-stands c =
+    let left = c.requires.ready.2.is_left in
+    let stands : IsPiece (open_widths left.0.widths) (drop c.args.self.now.at c.args.text.now) (step_here c.args.text.now left.0 c.args.self.now) (piece.Lexed c.in-Lexed.step) = subst (IsPiece (open_widths left.0.widths) (drop c.args.self.now.at c.args.text.now) (step_here c.args.text.now left.0 c.args.self.now)) c.in-Lexed.is (piece_read c.args.text.now left.0 c.args.self.now c.place-place.result c.is_balanced-is_balanced.result c.range_from-rest.result.now c.in_ok-piece.piece c.range_from-rest.ensures.value left.1 c.place-place.ensures c.is_balanced-is_balanced.ensures c.in_ok-piece.ensures) in
+    (left.0, left.1, stands)
+
+pub returns-in-Nothing-clause-ahead : goal.returns-in-Nothing-clause-ahead
+returns-in-Nothing-clause-ahead c = λ lexemes fault ahead.
+    onward_ahead c.args.text.now c.args.self.now c.step_over.new.self lexemes fault (λ history kept.
+    let stands : IsPiece (open_widths history.widths) (drop c.args.self.now.at c.args.text.now) (step_here c.args.text.now history c.args.self.now) (piece.Nothing c.in-Nothing.len c.in-Nothing.is_gap) = subst (IsPiece (open_widths history.widths) (drop c.args.self.now.at c.args.text.now) (step_here c.args.text.now history c.args.self.now)) c.in-Nothing.is (piece_read c.args.text.now history c.args.self.now c.place-place.result c.is_balanced-is_balanced.result c.range_from-rest.result.now c.in_ok-piece.piece c.range_from-rest.ensures.value kept c.place-place.ensures c.is_balanced-is_balanced.ensures c.in_ok-piece.ensures) in
+    nothing_taken c.args.text.now history c.args.self.now c.step_over.new.self c.in-Nothing.len c.in-Nothing.is_gap c.utf8.text kept stands c.step_over.ensures) ahead
+
+pub returns-in-Nothing-clause-less : goal.returns-in-Nothing-clause-less
+returns-in-Nothing-clause-less c =
+    let left = c.requires.ready.2.is_left in
+    let stands : IsPiece (open_widths left.0.widths) (drop c.args.self.now.at c.args.text.now) (step_here c.args.text.now left.0 c.args.self.now) (piece.Nothing c.in-Nothing.len c.in-Nothing.is_gap) = subst (IsPiece (open_widths left.0.widths) (drop c.args.self.now.at c.args.text.now) (step_here c.args.text.now left.0 c.args.self.now)) c.in-Nothing.is (piece_read c.args.text.now left.0 c.args.self.now c.place-place.result c.is_balanced-is_balanced.result c.range_from-rest.result.now c.in_ok-piece.piece c.range_from-rest.ensures.value left.1 c.place-place.ensures c.is_balanced-is_balanced.ensures c.in_ok-piece.ensures) in
+    let here = nothing_here c.args.text.now left.0 c.args.self.now c.in-Nothing.len c.in-Nothing.is_gap left.1 stands in
+    let is = c.step_over.ensures in
+    less_onward c.args.text.now c.args.self.now c.step_over.new.self c.in-Nothing.len (ap (λ (reader : Reader). reader.stage) is) (ap (λ (reader : Reader). reader.at) is) here.0 here.1
+
+pub returns-in-LineEnd-clause-ahead : goal.returns-in-LineEnd-clause-ahead
+returns-in-LineEnd-clause-ahead c = on_ok_weaker c.read_line_end.result (λ read lexemes fault ahead.
+    onward_ahead c.args.text.now c.args.self.now c.read_line_end.new.self lexemes fault (λ history kept.
+    let stands : IsPiece (open_widths history.widths) (drop c.args.self.now.at c.args.text.now) (step_here c.args.text.now history c.args.self.now) (piece.LineEnd c.in-LineEnd.len) = subst (IsPiece (open_widths history.widths) (drop c.args.self.now.at c.args.text.now) (step_here c.args.text.now history c.args.self.now)) c.in-LineEnd.is (piece_read c.args.text.now history c.args.self.now c.place-place.result c.is_balanced-is_balanced.result c.range_from-rest.result.now c.in_ok-piece.piece c.range_from-rest.ensures.value kept c.place-place.ensures c.is_balanced-is_balanced.ensures c.in_ok-piece.ensures) in
+    read history kept stands.0) ahead) c.read_line_end.ensures.read
+
+pub returns-in-FString-clause-ahead : goal.returns-in-FString-clause-ahead
+returns-in-FString-clause-ahead c = on_ok_weaker c.begin_fstring.result (λ read lexemes fault ahead.
+    onward_ahead c.args.text.now c.args.self.now c.begin_fstring.new.self lexemes fault (λ history kept.
+    let stands : IsPiece (open_widths history.widths) (drop c.args.self.now.at c.args.text.now) (step_here c.args.text.now history c.args.self.now) (piece.FString c.in-FString.opening c.in-FString.len) = subst (IsPiece (open_widths history.widths) (drop c.args.self.now.at c.args.text.now) (step_here c.args.text.now history c.args.self.now)) c.in-FString.is (piece_read c.args.text.now history c.args.self.now c.place-place.result c.is_balanced-is_balanced.result c.range_from-rest.result.now c.in_ok-piece.piece c.range_from-rest.ensures.value kept c.place-place.ensures c.is_balanced-is_balanced.ensures c.in_ok-piece.ensures) in
+    read history kept stands) ahead) c.begin_fstring.ensures.read
+
+pub returns-in-Lexed-clause-ahead : goal.returns-in-Lexed-clause-ahead
+returns-in-Lexed-clause-ahead c = on_ok_weaker c.take.result (λ read lexemes fault ahead.
+    onward_ahead c.args.text.now c.args.self.now c.take.new.self lexemes fault (λ history kept.
+    let stands : IsPiece (open_widths history.widths) (drop c.args.self.now.at c.args.text.now) (step_here c.args.text.now history c.args.self.now) (piece.Lexed c.in-Lexed.step) = subst (IsPiece (open_widths history.widths) (drop c.args.self.now.at c.args.text.now) (step_here c.args.text.now history c.args.self.now)) c.in-Lexed.is (piece_read c.args.text.now history c.args.self.now c.place-place.result c.is_balanced-is_balanced.result c.range_from-rest.result.now c.in_ok-piece.piece c.range_from-rest.ensures.value kept c.place-place.ensures c.is_balanced-is_balanced.ensures c.in_ok-piece.ensures) in
+    read history kept stands) ahead) c.take.ensures.read
+
+pub returns-in-End-clause-ahead : goal.returns-in-End-clause-ahead
+returns-in-End-clause-ahead c = on_ok_weaker c.close.result (λ read lexemes fault ahead.
+    onward_ahead c.args.text.now c.args.self.now c.close.new.self lexemes fault (λ history kept.
+    let stands : IsPiece (open_widths history.widths) (drop c.args.self.now.at c.args.text.now) (step_here c.args.text.now history c.args.self.now) (piece.End) = subst (IsPiece (open_widths history.widths) (drop c.args.self.now.at c.args.text.now) (step_here c.args.text.now history c.args.self.now)) c.in-End.is (piece_read c.args.text.now history c.args.self.now c.place-place.result c.is_balanced-is_balanced.result c.range_from-rest.result.now c.in_ok-piece.piece c.range_from-rest.ensures.value kept c.place-place.ensures c.is_balanced-is_balanced.ensures c.in_ok-piece.ensures) in
+    read history kept stands) ahead) c.close.ensures.read

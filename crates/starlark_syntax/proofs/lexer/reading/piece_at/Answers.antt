@@ -1,0 +1,81 @@
+use Rattle.std.proofs.Common.{◌≡◌, Bool, true, false, [], ◌∷◌, length, refl, ap, sym, ◌∙◌, arith}
+use Rattle.std.specs.Prelude.{◌&&◌, ◌==◌}
+use Rattle.starlark_syntax.specs.Depths.{Where, InText}
+use Rattle.starlark_syntax.specs.Front.{language_front}
+use Rattle.starlark_syntax.specs.LiteralViews.{opening_view}
+use Rattle.starlark_syntax.specs.NestingViews.{place_view}
+use Rattle.starlark_syntax.specs.Pieces.{Situation, Before, Nothing, Layout, Gap, Other, Ends, token, chunk, front_step, takes_bang, is_bang, in_code, by_place, by_before, step_at}
+use Rattle.starlark_syntax.specs.ReadingViews.{IsBehind}
+use Rattle.starlark_syntax.specs.TokenViews.{token_view}
+use Rattle.starlark_syntax.specs.Tokens.{Opening, FStringBang}
+use Rattle.starlark_syntax.specs.Words.{Text, language}
+use Rattle.starlark_syntax.specs.declared.lexer.literal.items.Opening as code
+use Rattle.starlark_syntax.specs.declared.lexer.nesting.Place.{Place}
+use Rattle.starlark_syntax.specs.declared.lexer.nesting.Place.TheVariants as place
+use Rattle.starlark_syntax.proofs.LiteralPieces.{if_ok}
+use Rattle.starlark_syntax.proofs.lexer.reading.piece_at.Goals as goal
+
+-- behind something that was read the place decides
+by_read : (follows_gap : Bool) (s : Situation) (text : Text) → IsBehind follows_gap s.before → step_at language s text ≡ by_place language s s.place text
+unfolding step_at
+by_read follows_gap s text behind = go s.before behind
+  where
+    go : (before : Before) → IsBehind follows_gap before → by_before language s before text ≡ by_place language s s.place text
+    go Nothing h = absurd h
+    go Layout h = refl
+    go Gap h = refl
+    go Other h = refl
+
+-- in the text of an f-string
+in_text : (follows_gap : Bool) (s : Situation) (text : Text) (opening : Opening) → IsBehind follows_gap s.before → s.place ≡ InText opening → step_at language s text ≡ chunk opening text
+in_text follows_gap s text opening behind here = by_read follows_gap s text behind ∙ ap (λ p. by_place language s p text) here
+
+-- and elsewhere
+elsewhere : (follows_gap : Bool) (s : Situation) (text : Text) (at : Place) → ((opening : code.Opening) → at ≡ place.InText opening → ⊥) → IsBehind follows_gap s.before → s.place ≡ place_view at → step_at language s text ≡ in_code language s text
+elsewhere follows_gap s text at other behind here = by_read follows_gap s text behind ∙ ap (λ p. by_place language s p text) here ∙ go at other
+  where
+    go : (at : Place) → ((opening : code.Opening) → at ≡ place.InText opening → ⊥) → by_place language s (place_view at) text ≡ in_code language s text
+    go place.Outside other = refl
+    go (place.InText opening) other = absurd (other opening refl)
+    go place.AtTop other = refl
+    go place.Deeper other = refl
+
+-- Code
+
+code_ends : (s : Situation) (text : Text) → (length text == 0) ≡ true → in_code language s text ≡ Ends
+code_ends s [] none = refl
+code_ends s (b ∷ bs) none = grind arith
+
+code_bang : (s : Situation) (text : Text) → (length text == 0) ≡ false → (takes_bang s.place s.before && is_bang text) ≡ true → in_code language s text ≡ token 1 FStringBang
+code_bang s [] some bang = grind arith
+code_bang s (b ∷ bs) some bang = rw bang refl
+
+code_front : (s : Situation) (text : Text) → (length text == 0) ≡ false → (takes_bang s.place s.before && is_bang text) ≡ false → in_code language s text ≡ front_step s text (language_front text)
+unfolding language_front
+code_front s [] some bang = grind arith
+code_front s (b ∷ bs) some bang = rw bang refl
+
+-- whether a bang stands, by the situation
+bang_by : (s : Situation) (text : Text) (at : Where) (stands known : Bool) → s.place ≡ at → stands ≡ (takes_bang at s.before && is_bang text) → stands ≡ known → (takes_bang s.place s.before && is_bang text) ≡ known
+bang_by s text at stands known here is e = ap (λ p. takes_bang p s.before && is_bang text) here ∙ sym is ∙ e
+
+pub returns-in-InText : goal.returns-in-InText
+returns-in-InText c = λ s here balanced behind. rw (in_text c.args.follows_gap s c.args.text.now (opening_view c.in-InText.opening) behind (here ∙ ap place_view c.in-InText.is)) c.in_ok-chunk_from.ensures
+
+pub returns-then-is_empty : goal.returns-then-is_empty
+returns-then-is_empty c = λ s here balanced behind.
+    elsewhere c.args.follows_gap s c.args.text.now c.args.place c.in_default.not-InText behind here
+    ∙ code_ends s c.args.text.now (sym c.is_empty.ensures ∙ c.if-is_empty.true)
+
+pub returns-then-bang_stands : goal.returns-then-bang_stands
+unfolding token_view
+returns-then-bang_stands c = λ s here balanced behind.
+    let some : (length c.args.text.now == 0) ≡ false = sym c.is_empty.ensures ∙ c.if-is_empty.false in
+    let bang = bang_by s c.args.text.now (place_view c.args.place) c.bang_stands.result true here (c.bang_stands.ensures s.before behind) c.if-bang_stands.true in
+    (FStringBang, refl, refl, elsewhere c.args.follows_gap s c.args.text.now c.args.place c.in_default.not-InText behind here ∙ code_bang s c.args.text.now some bang)
+
+pub returns : goal.returns
+returns c = if_ok _ _ c.code_piece.result (λ piece is s here balanced behind.
+    let some : (length c.args.text.now == 0) ≡ false = sym c.is_empty.ensures ∙ c.if-is_empty.false in
+    let no_bang = bang_by s c.args.text.now (place_view c.args.place) c.bang_stands.result false here (c.bang_stands.ensures s.before behind) c.if-bang_stands.false in
+    rw (elsewhere c.args.follows_gap s c.args.text.now c.args.place c.in_default.not-InText behind here, code_front s c.args.text.now some no_bang) (is s here balanced)) c.code_piece.ensures

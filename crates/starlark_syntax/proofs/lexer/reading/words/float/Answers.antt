@@ -1,0 +1,8 @@
+use Rattle.std.proofs.Common.{ap, refl}
+use Rattle.starlark_syntax.specs.Tokens.{Float}
+use Rattle.starlark_syntax.specs.TokenViews.{Whole, token_view}
+use Rattle.starlark_syntax.proofs.lexer.reading.words.float.Goals as goal
+
+pub returns : goal.returns
+unfolding token_view
+returns c = (Float c.args.word.now, ap (λ text. Whole (Float text)) c.in_ok-from_str.ensures.ok, refl, refl)

@@ -1,0 +1,141 @@
+//! The lexer: a text's lexemes one after another.
+
+ghost use Rattle.std.specs.Prelude.{◌≡◌, ◌<◌, ◌≤◌, ◌+◌, ◌^◌, ◌↔◌, ◌||◌, None, length, true, false, IfOk, IsErr};
+ghost use Rattle.std.specs.List.{slice_get};
+ghost use Rattle.starlark_base.specs.Diagnostics.{place_in, unplaced, with_span};
+ghost use Rattle.starlark_syntax.specs.LexerViews.{AnswersNext, handed_out_by, is_ended_by, items};
+
+#[cfg(test)]
+mod tests;
+
+use crate::lexer::reader::{Next, Reader};
+use crate::lexer::tokens::Token;
+use starlark_base::codemap::{CodeMap, OrMemory, Pos, SourceTooLong, Span};
+use starlark_base::dialect::Dialect;
+use starlark_error::error::{ErrorKind, ParserMessage, error_from_lexeme};
+use starlark_error::eval_exception::EvalException;
+use starlark_error::lexeme_error::LexemeError;
+use std::alloc::{AllocError, Global};
+use std::marker::Model;
+
+/// A token with the places, in bytes, where it begins and ends; or the fault of the text, or want of memory.
+pub type Lexeme = Result<(usize, Token, usize), OrMemory<EvalException>>;
+
+/// Hands out the lexemes of a text one after another, up to its fault where it has one. In a contract it is its text,
+/// its code map, how many items it has handed out, and whether an error has ended it.
+#[derive(Drop)]
+pub struct Lexer<'a> {
+    alloc: Global,
+    text: &'a str,
+    code_map: CodeMap,
+    reader: Reader,
+    handed_out: usize,
+    has_ended: bool,
+}
+
+impl<'a> Model for Lexer<'a> {
+    ghost use Rattle.std.specs.Prelude.{◌≡◌, ◌<◌, ◌≤◌, ◌^◌, false, drop, length, map};
+    ghost use Rattle.starlark_syntax.specs.LexedViews.{shown_lexeme};
+    ghost use Rattle.starlark_syntax.specs.LexerViews.{LexerView};
+    ghost use Rattle.starlark_syntax.specs.ReaderViews.{IsAhead};
+    ghost use Rattle.starlark_syntax.specs.Reading.{outcome};
+
+    ghost Value = { LexerView };
+
+    ghost view = { λ lexer. record { text = lexer.text.now; code_map = lexer.code_map; handed_out = lexer.handed_out; has_ended = lexer.has_ended } };
+
+    ghost invariant = { λ lexer. (length lexer.text.now < 2 ^ 32)
+        × (lexer.has_ended ≡ false → (lexer.handed_out ≤ length (outcome lexer.text.now).lexemes)
+        × IsAhead lexer.text.now lexer.reader lexer.reader.stage (drop lexer.handed_out (map shown_lexeme (outcome lexer.text.now).lexemes)) (outcome lexer.text.now).fault) };
+}
+
+/// A fault of a text as an exception, at its place in a code map.
+fn exception(
+    alloc: Global,
+    begin: usize,
+    fault: LexemeError,
+    end: usize,
+    code_map: &CodeMap,
+) -> Result<EvalException, AllocError>
+    requires order { begin ≤ end }
+    requires fits { end < 2 ^ 32 }
+    ensures { IfOk result (λ it. it ≡ with_span (unplaced (ErrorKind.Parser (ParserMessage.Lexeme fault))) (place_in code_map.now (record { begin = begin; end = end }))) }
+{
+    let Ok(error) = error_from_lexeme(alloc, fault) else {
+        return Err(AllocError);
+    };
+    let span = Span::new(Pos::new(begin as u32), Pos::new(end as u32));
+    EvalException::new(error, span, code_map).map_err(|_| AllocError)
+}
+
+impl<'a> Lexer<'a> {
+    /// A lexer of a text, whose faults lie in a code map. A text of more than 4294967295 bytes is refused. The dialect
+    /// isn't looked at.
+    pub fn new(
+        alloc: Global,
+        input: &'a str,
+        _dialect: &Dialect,
+        code_map: CodeMap,
+    ) -> Result<Lexer<'a>, SourceTooLong>
+        ensures ok { IfOk result (λ lexer. lexer ≡ record { text = input.now; code_map = code_map; handed_out = 0; has_ended = false }) }
+        ensures too_long { IsErr result ↔ (2 ^ 32 ≤ length input.now) }
+    {
+        if input.len() > u32::MAX as usize {
+            return Err(SourceTooLong);
+        }
+        Ok(Lexer {
+            alloc,
+            text: input,
+            code_map,
+            reader: Reader::new(alloc),
+            handed_out: 0,
+            has_ended: false,
+        })
+    }
+
+    /// The next lexeme; `None` behind the last, and behind any error. The first error, want of memory too, ends the lexer.
+    pub fn next(&mut self) -> Option<Lexeme>
+        ensures ended { self.old.has_ended ≡ true → AnswersNext self.old.code_map None result }
+        ensures item { self.old.has_ended ≡ false → AnswersNext self.old.code_map (slice_get (items self.old.text) self.old.handed_out) result }
+        ensures after { self.new ≡ record self.old { handed_out = self.old.handed_out + handed_out_by result; has_ended = self.old.has_ended || is_ended_by result } }
+    {
+        if self.has_ended {
+            return None;
+        }
+        match self.reader.next(self.text) {
+            Ok(Next::Lexeme(lexeme)) => {
+                self.handed_out += 1;
+                Some(Ok(lexeme))
+            }
+            Ok(Next::Fault { begin, fault, end }) => {
+                self.has_ended = true;
+                match exception(self.alloc, begin, fault, end, &self.code_map) {
+                    Ok(exception) => {
+                        self.handed_out += 1;
+                        Some(Err(OrMemory::Error(exception)))
+                    }
+                    Err(_) => Some(Err(OrMemory::Memory)),
+                }
+            }
+            Ok(Next::Nothing) => None,
+            Err(_) => {
+                self.has_ended = true;
+                Some(Err(OrMemory::Memory))
+            }
+        }
+    }
+}
+
+impl<'a> Iterator for Lexer<'a> {
+    ghost use Rattle.starlark_syntax.specs.LexerViews.{IsNextOf, items_left};
+
+    type Item = Lexeme;
+
+    ghost next_gives = { IsNextOf };
+
+    ghost remaining = { items_left };
+
+    fn next(&mut self) -> Option<Lexeme> {
+        Lexer::next(self)
+    }
+}

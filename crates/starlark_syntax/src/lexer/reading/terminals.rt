@@ -1,0 +1,95 @@
+//! Keywords and symbols as tokens.
+
+ghost use Rattle.std.specs.Prelude.{◌≡◌, false};
+ghost use Rattle.starlark_syntax.specs.LexedViews.{begins_fstring};
+ghost use Rattle.starlark_syntax.specs.NestingViews.{place_view};
+ghost use Rattle.starlark_syntax.specs.Pieces as grammar;
+ghost use Rattle.starlark_syntax.specs.Scanned.{terminal_view};
+ghost use Rattle.starlark_syntax.specs.TokenViews.{Whole, token_view};
+ghost use Rattle.starlark_syntax.specs.Tokens.{Word};
+
+use crate::lexer::nesting::Place;
+use crate::lexer::scanner::Terminal;
+use crate::lexer::tokens::Token;
+
+#[tactic(auto, unfolding(crate::specs::TokenViews::token_view))]
+/// The token of a word that is one of its own.
+fn own_token(terminal: Terminal) -> Token
+    ensures { token_view result ≡ Whole (Word (terminal_view terminal)) }
+{
+    match terminal {
+        Terminal::And => Token::And,
+        Terminal::Break => Token::Break,
+        Terminal::Continue => Token::Continue,
+        Terminal::Def => Token::Def,
+        Terminal::Elif => Token::Elif,
+        Terminal::Else => Token::Else,
+        Terminal::For => Token::For,
+        Terminal::If => Token::If,
+        Terminal::In => Token::In,
+        Terminal::Lambda => Token::Lambda,
+        Terminal::Load => Token::Load,
+        Terminal::Not => Token::Not,
+        Terminal::Or => Token::Or,
+        Terminal::Pass => Token::Pass,
+        Terminal::Return => Token::Return,
+        Terminal::Comma => Token::Comma,
+        Terminal::Semicolon => Token::Semicolon,
+        Terminal::Colon => Token::Colon,
+        Terminal::PlusEqual => Token::PlusEqual,
+        Terminal::MinusEqual => Token::MinusEqual,
+        Terminal::StarEqual => Token::StarEqual,
+        Terminal::SlashEqual => Token::SlashEqual,
+        Terminal::SlashSlashEqual => Token::SlashSlashEqual,
+        Terminal::PercentEqual => Token::PercentEqual,
+        Terminal::EqualEqual => Token::EqualEqual,
+        Terminal::BangEqual => Token::BangEqual,
+        Terminal::LessEqual => Token::LessEqual,
+        Terminal::GreaterEqual => Token::GreaterEqual,
+        Terminal::StarStar => Token::StarStar,
+        Terminal::MinusGreater => Token::MinusGreater,
+        Terminal::Equal => Token::Equal,
+        Terminal::LessThan => Token::LessThan,
+        Terminal::GreaterThan => Token::GreaterThan,
+        Terminal::Minus => Token::Minus,
+        Terminal::Plus => Token::Plus,
+        Terminal::Star => Token::Star,
+        Terminal::Percent => Token::Percent,
+        Terminal::Slash => Token::Slash,
+        Terminal::SlashSlash => Token::SlashSlash,
+        Terminal::Dot => Token::Dot,
+        Terminal::Ampersand => Token::Ampersand,
+        Terminal::Pipe => Token::Pipe,
+        Terminal::Caret => Token::Caret,
+        Terminal::LessLess => Token::LessLess,
+        Terminal::GreaterGreater => Token::GreaterGreater,
+        Terminal::Tilde => Token::Tilde,
+        Terminal::AmpersandEqual => Token::AmpersandEqual,
+        Terminal::PipeEqual => Token::PipeEqual,
+        Terminal::CaretEqual => Token::CaretEqual,
+        Terminal::LessLessEqual => Token::LessLessEqual,
+        Terminal::GreaterGreaterEqual => Token::GreaterGreaterEqual,
+        Terminal::Ellipsis => Token::Ellipsis,
+        Terminal::OpeningSquare => Token::OpeningSquare,
+        Terminal::OpeningCurly => Token::OpeningCurly,
+        Terminal::OpeningRound => Token::OpeningRound,
+        Terminal::ClosingSquare => Token::ClosingSquare,
+        Terminal::ClosingCurly => Token::ClosingCurly,
+        Terminal::ClosingRound => Token::ClosingRound,
+    }
+}
+
+#[tactic(auto, unfolding(crate::specs::TokenViews::token_view))]
+/// The token of such a word at a place. At the top of an expression of an f-string a closing brace ends the expression.
+pub fn terminal_token(place: Place, terminal: Terminal) -> Token
+    ensures token { token_view result ≡ Whole (grammar.terminal_token (place_view place) (terminal_view terminal)) }
+    ensures own { begins_fstring (grammar.terminal_token (place_view place) (terminal_view terminal)) ≡ false }
+{
+    match place {
+        Place::AtTop => match terminal {
+            Terminal::ClosingCurly => Token::FStringExprEnd,
+            other => own_token(other),
+        },
+        _ => own_token(terminal),
+    }
+}

@@ -1,0 +1,131 @@
+//! Words of many texts as tokens, or their faults. Each is read by its whole text.
+
+ghost use Rattle.std.specs.Prelude.{◌≡◌, ◌≤◌, Some, drop, length, true, IfOk};
+ghost use Rattle.std.specs.Char.{is_digit};
+ghost use Rattle.starlark_syntax.specs.LexedViews.{IsStep};
+ghost use Rattle.starlark_syntax.specs.Numbers.{integer_of};
+ghost use Rattle.starlark_syntax.specs.Pieces as grammar;
+ghost use Rattle.starlark_syntax.specs.Tokens as tokens;
+ghost use Rattle.starlark_syntax.specs.Words as class;
+ghost use Rattle.starlark_syntax.specs.Words.{class_in, is_run, language};
+
+use crate::lexer::literal::Step;
+use crate::lexer::number_text::number_in;
+use crate::lexer::tokens::Token;
+use starlark_error::lexeme_error::LexemeError;
+use std::alloc::{AllocError, Global};
+
+/// A comment, whose value leaves out the `#`.
+pub fn comment(alloc: Global, word: &str) -> Result<Step, AllocError>
+    requires { class_in language word.now ≡ Some class.Comment }
+    ensures { IfOk result (IsStep (grammar.token (length word.now) (tokens.Comment (drop 1 word.now)))) }
+{
+    Ok(Step::Token {
+        token: Token::Comment(String::from_str(alloc, &word[1..])?),
+        len: word.len(),
+    })
+}
+
+/// Tabs outside of a margin. The fault is where they begin.
+pub fn tabs() -> Step
+    ensures { IsStep (grammar.fault 0 tokens.InvalidTab 0) result }
+{
+    Step::Fault {
+        begin: 0,
+        fault: LexemeError::InvalidTab,
+        end: 0,
+    }
+}
+
+/// A reserved word, which is a fault.
+pub fn reserved(alloc: Global, word: &str) -> Result<Step, AllocError>
+    ensures { IfOk result (IsStep (grammar.fault 0 (tokens.ReservedKeyword word.now) (length word.now))) }
+{
+    Ok(Step::Fault {
+        begin: 0,
+        fault: LexemeError::ReservedKeyword(String::from_str(alloc, word)?),
+        end: word.len(),
+    })
+}
+
+/// An identifier, with its name.
+pub fn identifier(alloc: Global, word: &str) -> Result<Step, AllocError>
+    ensures { IfOk result (IsStep (grammar.token (length word.now) (tokens.Identifier word.now))) }
+{
+    Ok(Step::Token {
+        token: Token::Identifier(String::from_str(alloc, word)?),
+        len: word.len(),
+    })
+}
+
+/// A float, whose value is its text.
+pub fn float(alloc: Global, word: &str) -> Result<Step, AllocError>
+    ensures { IfOk result (IsStep (grammar.token (length word.now) (tokens.Float word.now))) }
+{
+    Ok(Step::Token {
+        token: Token::Float(String::from_str(alloc, word)?),
+        len: word.len(),
+    })
+}
+
+/// The integer of digits of a base, as a token of `len` bytes.
+fn integer(alloc: Global, digits: &str, base: u32, len: usize) -> Result<Step, AllocError>
+    requires least { 2 ≤ base }
+    requires most { base ≤ 36 }
+    requires digits { is_run (λ b. is_digit b base) digits.now ≡ true }
+    ensures { IfOk result (IsStep (grammar.token len (tokens.Int (integer_of base digits.now)))) }
+{
+    match number_in(alloc, digits, base)? {
+        Some(number) => Ok(Step::Token {
+            token: Token::Int(number),
+            len,
+        }),
+        None => unreachable!(),
+    }
+}
+
+/// Whether a number has more than one digit and the first is 0.
+fn starts_zero(word: &[u8]) -> bool
+    ensures { result ≡ grammar.starts_zero word.now }
+{
+    matches!(word, [b'0', _, ..])
+}
+
+/// A decimal integer. One that begins with a 0 too many is a fault.
+pub fn decimal(alloc: Global, word: &str) -> Result<Step, AllocError>
+    requires { class_in language word.now ≡ Some class.Decimal }
+    ensures { IfOk result (λ step. (s : grammar.Situation) (behind : class.Text) → IsStep (grammar.word_step s class.Decimal word.now behind) step) }
+{
+    if starts_zero(word.as_bytes()) {
+        return Ok(Step::Fault {
+            begin: 0,
+            fault: LexemeError::StartsZero(String::from_str(alloc, word)?),
+            end: word.len(),
+        });
+    }
+    integer(alloc, word, 10, word.len())
+}
+
+/// A hexadecimal integer.
+pub fn hexadecimal(alloc: Global, word: &str) -> Result<Step, AllocError>
+    requires { class_in language word.now ≡ Some class.Hexadecimal }
+    ensures { IfOk result (IsStep (grammar.token (length word.now) (tokens.Int (integer_of 16 (drop 2 word.now))))) }
+{
+    integer(alloc, &word[2..], 16, word.len())
+}
+
+/// An octal integer.
+pub fn octal(alloc: Global, word: &str) -> Result<Step, AllocError>
+    requires { class_in language word.now ≡ Some class.Octal }
+    ensures { IfOk result (IsStep (grammar.token (length word.now) (tokens.Int (integer_of 8 (drop 2 word.now))))) }
+{
+    integer(alloc, &word[2..], 8, word.len())
+}
+
+/// A binary integer.
+pub fn binary(alloc: Global, word: &str) -> Result<Step, AllocError>
+    requires { class_in language word.now ≡ Some class.Binary }
+    ensures { IfOk result (IsStep (grammar.token (length word.now) (tokens.Int (integer_of 2 (drop 2 word.now))))) }
+{
+    integer(alloc, &word[2..], 2, word.len())
+}
