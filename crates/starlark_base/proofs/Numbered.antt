@@ -68,6 +68,11 @@ at_same es id q b is tie = rw (eqb-true q id tie) is
 pub tie_sym : (a b : ℕ) → eqb a b ≡ eqb b a
 tie_sym a b = grind (arith, nat_tests)
 
+-- a file put at a number where there is none
+pub put_where_absent : (es fs : List (ℕ × SourceFile)) (id q : ℕ) (file : SourceFile) → is_some (lookup (eqb id) es) ≡ false → lookup (eqb q) fs ≡ cond (eqb id q) (Some file) (lookup (eqb q) es) → lookup (eqb q) fs ≡ option_or (lookup (eqb q) es) (cond (eqb q id) (Some file) None)
+put_where_absent es fs id q file absent put =
+    put ∙ ap (λ b. cond b (Some file) (lookup (eqb q) es)) (tie_sym id q) ∙ put_absent (lookup (eqb q) es) (eqb q id) file (at_same es id q false absent)
+
 -- a file whose number is there adds nothing
 pub added_present : (es : List (ℕ × SourceFile)) (file : SourceFile) (id : ℕ) → id ≡ file.id → is_some (lookup (eqb id) es) ≡ true → map.from_entries {R = nat_cmp} es ≡ joined (map.from_entries es) (only file)
 added_present es file id same is =

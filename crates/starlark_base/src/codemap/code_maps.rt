@@ -110,9 +110,8 @@ impl CodeMaps {
         if self.codemaps.contains_key(&id) {
             return Ok(());
         }
-        self.codemaps.reserve(1)?;
-        let shared = codemap.dupe()?;
-        put_new(&mut self.codemaps, id, shared)
+        self.codemaps.insert(id, codemap.dupe()?)?;
+        Ok(())
     }
 
     /// Adds code maps, which share their texts, but for those whose numbers are there. A refused call
