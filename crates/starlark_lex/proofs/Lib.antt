@@ -1,10 +1,5 @@
 mod Rows
-pub mod Ascii
-pub mod Behind
-pub mod Front
-pub mod Pieces
+pub mod Items
 pub mod Places
-pub mod Reading
 pub mod Runs
-pub mod Words
 pub mod Writing

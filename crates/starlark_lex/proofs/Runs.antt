@@ -2,8 +2,8 @@
 use Rattle.std.proofs.Common.{◌≡◌, ◌↔◌, [], true, refl, sym, subst, ◌∙◌, append-nil, inr, Result, Ok, Err, Option, IsErrOf, IfOk}
 use Rattle.std.specs.Io.KnownBytes.{Appends}
 use Rattle.std.specs.Str.{IsUtf8}
-use Rattle.starlark_lex.specs.Words.{Text}
-use Rattle.starlark_lex.specs.Outcome.{outcome}
+use Rattle.starlark_base.specs.Places.{Text}
+use Rattle.starlark_syntax.specs.Reading.{outcome}
 use Rattle.starlark_lex.specs.Output.{output}
 use Rattle.starlark_lex.specs.Watch.{Watch}
 use Rattle.starlark_lex.specs.Writing.{Writes}

@@ -2,7 +2,7 @@
 use Rattle.std.proofs.Common.{◌<◌, length, true, arith, ◌≡◌, ◌++◌, [], false, refl, sym, ap, ◌∙◌, append_assoc, append-nil, ℕ, Option, Result, Ok, Err, OnOk, ◌≢◌, ◌⊎◌, inl, inr, ◌+◌, ◌≤◌, length-append}
 use Rattle.std.proofs.KnownBytes.{Appends-nil, Appends-trans}
 use Rattle.std.proofs.lemmas.Bool.{eq-eqb, ne_eqb}
-use Rattle.starlark_lex.specs.Words.{Text}
+use Rattle.starlark_base.specs.Places.{Text}
 use Rattle.starlark_lex.specs.Watch.{Watch, is_nothing}
 use Rattle.starlark_lex.specs.Writing.{Takes, TakesBeginning, Writes}
 use Rattle.starlark_lex.specs.declared.run.RunFault.{RunFault}
@@ -115,6 +115,16 @@ module _ {W : Type 0} (contents : W → Option Text) where
   writes_failed T V a b x waiting end NotUtf8 h = h
   writes_failed T V a b x waiting end TooLong h = h
   writes_failed T V a b x waiting end Read h = h
+
+  -- what a step answers makes no difference
+  pub writes_told : {U : Type 0} (T : Type 0) (a b : Watch W) (x waiting : Text) (u : U) (t : T) → Writes {T = U} contents a b x waiting (Ok u) → Writes {T = T} contents a b x waiting (Ok t)
+  unfolding Writes
+  writes_told T a b x waiting u t h = h
+
+  -- a step that gives up for want of memory behind others
+  pub writes_given_up : {U : Type 0} (T : Type 0) (a b : Watch W) (x waiting end : Text) (u : U) → Writes {T = U} contents a b x waiting (Ok u) → Writes {T = T} contents a b x end (Err Memory)
+  unfolding Writes
+  writes_given_up T a b x waiting end u h = ((waiting, h.0), h.1)
 
   -- a failure is one of the whole, whatever was to wait
   pub writes_stopped : (T U : Type 0) (a b : Watch W) (x y waiting left : Text) (fault : RunFault) → Writes {T = U} contents a b x waiting (Err fault) → Writes {T = T} contents a b (x ++ y) left (Err fault)

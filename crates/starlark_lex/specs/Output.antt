@@ -1,98 +1,84 @@
 -- What is printed of a text.
-use Rattle.std.specs.Prelude.{ℕ, [], ◌++◌, codes, Option, Some, None}
+use Rattle.std.specs.Prelude.{ℕ, ◌/◌, ◌%◌, ◌∷◌, [], ◌++◌, List, codes, Bool, true, false, Option, Some, None}
 use Rattle.std.specs.List.{flat_map}
+use Rattle.std.specs.Char.{digit_char}
 use Rattle.std.specs.Fmt.{decimal}
-use Rattle.starlark_lex.specs.Words.{Text}
-use Rattle.starlark_lex.specs.Lexemes.{Lexeme, FaultAt, Outcome}
-use Rattle.starlark_lex.specs.Outcome.{outcome}
-use Rattle.starlark_base.specs.Places.{place_at, span_text}
-use Rattle.starlark_lex.specs.declared.lexer.Class.{Class}
-use Rattle.starlark_lex.specs.declared.lexer.Class.TheVariants.{Blank, Newline, Reserved, Identifier, Int, And, Break, Continue, Def, Elif, Else, For, If, In, Lambda, Load, Not, Or, Pass, Return, Comma, Semicolon, Colon, Equal, LessThan, GreaterThan, Minus, Plus, Star, Percent, Slash, Dot, Ampersand, Pipe, Caret, Tilde, OpeningSquare, OpeningCurly, OpeningRound, ClosingSquare, ClosingCurly, ClosingRound}
-use Rattle.starlark_lex.specs.declared.lexer.Fault.{Fault}
-use Rattle.starlark_lex.specs.declared.lexer.Fault.TheVariants.{InvalidInput, ReservedKeyword, StartsZero}
+use Rattle.starlark_base.specs.Places.{Text, place_at, span_text}
+use Rattle.starlark_base.specs.Sources.{file_span_text}
+use Rattle.starlark_token.specs.Words.{Quote, SingleQuote, DoubleQuote}
+use Rattle.starlark_token.specs.Tokens as grammar
+use Rattle.starlark_token.specs.TokenInts.{integer_text}
+use Rattle.starlark_token.specs.TokenTexts.{kind_of}
+use Rattle.starlark_token.specs.TokenViews.{TokenView, Whole}
+use Rattle.starlark_syntax.specs.LexerViews.{Item, Given, Refused, items}
 
--- the name of a kind; blanks and reserved words are no lexemes and have none
-unfoldable pub kind_of : Class → Text
-kind_of Blank = []
-kind_of Newline = codes "Newline"
-kind_of Reserved = []
-kind_of Identifier = codes "Identifier"
-kind_of Int = codes "Int"
-kind_of And = codes "And"
-kind_of Break = codes "Break"
-kind_of Continue = codes "Continue"
-kind_of Def = codes "Def"
-kind_of Elif = codes "Elif"
-kind_of Else = codes "Else"
-kind_of For = codes "For"
-kind_of If = codes "If"
-kind_of In = codes "In"
-kind_of Lambda = codes "Lambda"
-kind_of Load = codes "Load"
-kind_of Not = codes "Not"
-kind_of Or = codes "Or"
-kind_of Pass = codes "Pass"
-kind_of Return = codes "Return"
-kind_of Comma = codes "Comma"
-kind_of Semicolon = codes "Semicolon"
-kind_of Colon = codes "Colon"
-kind_of Equal = codes "Equal"
-kind_of LessThan = codes "LessThan"
-kind_of GreaterThan = codes "GreaterThan"
-kind_of Minus = codes "Minus"
-kind_of Plus = codes "Plus"
-kind_of Star = codes "Star"
-kind_of Percent = codes "Percent"
-kind_of Slash = codes "Slash"
-kind_of Dot = codes "Dot"
-kind_of Ampersand = codes "Ampersand"
-kind_of Pipe = codes "Pipe"
-kind_of Caret = codes "Caret"
-kind_of Tilde = codes "Tilde"
-kind_of OpeningSquare = codes "OpeningSquare"
-kind_of OpeningCurly = codes "OpeningCurly"
-kind_of OpeningRound = codes "OpeningRound"
-kind_of ClosingSquare = codes "ClosingSquare"
-kind_of ClosingCurly = codes "ClosingCurly"
-kind_of ClosingRound = codes "ClosingRound"
+-- each byte as two hexadecimal digits
+abbrev pub hex : Text → Text
+hex bytes = flat_map (λ byte. digit_char (byte / 16) ∷ digit_char (byte % 16) ∷ []) bytes
+
+-- the name of an f-string's quotes
+abbrev pub quotes_by : Quote → (is_triple : Bool) → Text
+quotes_by SingleQuote false = codes "Single"
+quotes_by DoubleQuote false = codes "Double"
+quotes_by SingleQuote true = codes "TripleSingle"
+quotes_by DoubleQuote true = codes "TripleDouble"
+
+abbrev pub quotes_name : grammar.Opening → Text
+quotes_name opening = quotes_by opening.quote opening.is_triple
+
+-- the value that is printed of a token; that of a literal in hexadecimal digits
+abbrev pub value_of : grammar.Token → Option Text
+value_of (grammar.Comment text) = Some text
+value_of (grammar.Identifier name) = Some name
+value_of (grammar.Int value) = Some (integer_text value)
+value_of (grammar.Float text) = Some text
+value_of (grammar.String value) = Some (hex value)
+value_of (grammar.Bytes value) = Some (hex value)
+value_of (grammar.FStringStart opening) = Some (quotes_name opening)
+value_of (grammar.FStringText value) = Some (hex value)
+value_of token = None
 
 -- a value is printed behind a space
-abbrev pub value_text : Option Text → Text
-value_text None = []
-value_text (Some value) = codes " " ++ value
+abbrev pub behind_space : Option Text → Text
+behind_space None = []
+behind_space (Some value) = codes " " ++ value
 
--- what a fault says before the text that it names
-unfoldable pub message_of : Fault → Text
-message_of InvalidInput = codes "Parse error: invalid input `"
-message_of ReservedKeyword = codes "Parse error: cannot use reserved keyword `"
-message_of StartsZero = codes "Parse error: integer cannot have leading 0, got `"
+unfoldable pub value_text : TokenView → Text
+value_text (Whole token) = behind_space (value_of token)
+value_text view = []
 
 -- `begin-end place Kind`, and the value
-unfoldable pub lexeme_text : (begin end : ℕ) → (place : Text) → Class → Option Text → Text
-lexeme_text begin end place class value =
-    decimal begin ++ codes "-" ++ decimal end ++ codes " " ++ place ++ codes " " ++ kind_of class ++ value_text value ++ codes "\n"
+unfoldable pub lexeme_text : (begin end : ℕ) → (place : Text) → TokenView → Text
+lexeme_text begin end place node =
+    decimal begin ++ codes "-" ++ decimal end ++ codes " " ++ place ++ codes " " ++ kind_of node ++ value_text node ++ codes "\n"
+
+-- what is said of a fault
+unfoldable pub message_of : grammar.Fault → Text
+message_of grammar.Indentation = codes "Parse error: incorrect indentation"
+message_of (grammar.InvalidInput text) = codes "Parse error: invalid input `" ++ text ++ codes "`"
+message_of grammar.InvalidTab = codes "Parse error: tabs are not allowed"
+message_of grammar.UnfinishedStringLiteral = codes "Parse error: unfinished string literal"
+message_of (grammar.InvalidEscapeSequence text) = codes "Parse error: invalid string escape sequence `" ++ text ++ codes "`"
+message_of grammar.EmptyEscapeSequence = codes "Parse error: missing string escape sequence, only saw `\\`"
+message_of (grammar.ReservedKeyword word) = codes "Parse error: cannot use reserved keyword `" ++ word ++ codes "`"
+message_of (grammar.StartsZero word) = codes "Parse error: integer cannot have leading 0, got `" ++ word ++ codes "`"
+message_of grammar.UnfinishedFStringExpression = codes "Parse error: f-string expression is missing closing `}`"
 
 -- `fault begin-end name:place message`
-unfoldable pub fault_text : (begin end : ℕ) → (name place : Text) → Fault → Text → Text
-fault_text begin end name place fault text =
-    codes "fault " ++ decimal begin ++ codes "-" ++ decimal end ++ codes " " ++ name ++ codes ":" ++ place ++ codes " " ++ message_of fault ++ text ++ codes "`\n"
+unfoldable pub fault_text : (begin end : ℕ) → (place message : Text) → Text
+fault_text begin end place message =
+    codes "fault " ++ decimal begin ++ codes "-" ++ decimal end ++ codes " " ++ place ++ codes " " ++ message ++ codes "\n"
 
--- the place of a span of bytes of a text
-abbrev pub place_of_span : Text → ℕ → ℕ → Text
-place_of_span text begin end = span_text (place_at text begin) (place_at text end)
+-- the line of an item of a text that has this name
+abbrev pub item_line : (name text : Text) → Item → Text
+item_line name text (Given lexeme) =
+    lexeme_text lexeme.begin lexeme.end (span_text (place_at text lexeme.begin) (place_at text lexeme.end)) lexeme.node
+item_line name text (Refused fault) =
+    fault_text fault.begin fault.end (file_span_text (record { id = 0; filename = name; source = text }) (record { begin = fault.begin; end = fault.end })) (message_of fault.node)
 
--- the line of a lexeme, and that of a fault
-abbrev pub lexeme_line : Text → Lexeme → Text
-lexeme_line text l = lexeme_text l.begin l.end (place_of_span text l.begin l.end) l.class l.value
-
-abbrev pub fault_line : Text → Text → Option FaultAt → Text
-fault_line name text None = []
-fault_line name text (Some f) = fault_text f.begin f.end name (place_of_span text f.begin f.end) f.fault f.text
-
--- the lines of an outcome of a text that has this name
-unfoldable pub lines_of : Text → Text → Outcome → Text
-lines_of name text o = flat_map (lexeme_line text) o.lexemes ++ fault_line name text o.fault
+unfoldable pub lines_of : (name text : Text) → List Item → Text
+lines_of name text list = flat_map (item_line name text) list
 
 -- The whole output for a text: a line for each lexeme, and one for the fault where there is one.
-unfoldable pub output : Text → Text → Text
-output name text = lines_of name text (outcome text)
+unfoldable pub output : (name text : Text) → Text
+output name text = lines_of name text (items text)

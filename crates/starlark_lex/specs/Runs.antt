@@ -2,9 +2,9 @@
 use Rattle.std.specs.Prelude.{◌≡◌, ◌≤◌, ◌<◌, ℕ, true, false, ◌⊎◌, [], length, Option, Some, None, Result, Ok, Err}
 use Rattle.std.specs.Io.KnownBytes.{Appends}
 use Rattle.std.specs.Str.{IsUtf8}
-use Rattle.starlark_lex.specs.Words.{Text}
-use Rattle.starlark_lex.specs.Lexemes.{FaultAt}
-use Rattle.starlark_lex.specs.Outcome.{outcome}
+use Rattle.starlark_base.specs.Places.{Text}
+use Rattle.starlark_syntax.specs.Reading.{outcome}
+use Rattle.starlark_token.specs.Tokens as grammar
 use Rattle.starlark_lex.specs.Output.{output}
 use Rattle.starlark_lex.specs.Watch.{Watch}
 use Rattle.starlark_lex.specs.Writing.{TakesBeginning}
@@ -47,7 +47,7 @@ pub record TookAll {W : Type 0} (contents : W → Option Text) (old new : Watch 
   pub sound : new.failed ≡ false
 
 -- whether a text is read whole or up to a fault
-abbrev pub status_of : Option FaultAt → RunStatus
+abbrev pub status_of : Option (grammar.Spanned grammar.Fault) → RunStatus
 status_of None = Clean
 status_of (Some fault) = Fault
 

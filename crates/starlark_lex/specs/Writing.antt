@@ -1,7 +1,7 @@
 -- What a writer took of a text, also where a step gave up.
 use Rattle.std.specs.Prelude.{◌≡◌, true, false, ◌++◌, Option, Result, Ok, Err}
 use Rattle.std.specs.Io.KnownBytes.{Appends}
-use Rattle.starlark_lex.specs.Words.{Text}
+use Rattle.starlark_base.specs.Places.{Text}
 use Rattle.starlark_lex.specs.Watch.{Watch}
 use Rattle.starlark_lex.specs.declared.run.RunFault.{RunFault}
 use Rattle.starlark_lex.specs.declared.run.RunFault.TheVariants.{NotUtf8, TooLong, Read, Write, Memory}

@@ -7,7 +7,7 @@
 #![tactic(auto)]
 
 mod buffer;
-mod lexer;
+mod lines;
 mod place;
 mod printer;
 mod run;

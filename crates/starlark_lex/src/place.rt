@@ -1,65 +1,56 @@
-//! Places in a text, as lexing moves along it.
+//! Places in a text, as printing moves along it.
 
-ghost use Rattle.std.specs.Prelude.{◌≡◌, ◌+◌, ◌<◌, ◌^◌};
-ghost use Rattle.starlark_lex.specs.Places.{ends_of, position_of};
+ghost use Rattle.std.specs.Prelude.{◌≡◌, ◌+◌, ◌<◌, ◌≤◌, ◌^◌, ◌++◌, ℕ, List, length};
+ghost use Rattle.std.specs.Str.{IsCharBoundary, IsUtf8};
+ghost use Rattle.starlark_base.specs.Places.{place_after};
+ghost use Rattle.starlark_lex.specs.Places.{IsPlace};
 
-use starlark_base::codemap::{ResolvedPos, ResolvedSpan};
+use starlark_base::codemap::ResolvedPos;
+use starlark_text::fast_string::{count_matches_byte, len};
 
-/// A place in a text: its byte, its line and its column, each from 0.
+/// A place in a text: its byte, and its line and column, each from 0.
 #[derive(Clone, Copy, Debug, PartialEq, Eq)]
 pub struct Place {
     pub at: usize,
-    pub line: u32,
-    pub column: u32,
+    pub position: ResolvedPos,
 }
 
 impl Place {
     /// The begin of a text.
     pub const START: Place = Place {
         at: 0,
-        line: 0,
-        column: 0,
+        position: ResolvedPos { line: 0, column: 0 },
     };
 
-    /// The place behind so many bytes that hold so many characters, none of them a line feed.
-    pub fn along(self, len: usize, characters: u32) -> Place
-        requires at { self.at + len < 2 ^ 64 }
-        requires column { self.column + characters < 2 ^ 32 }
-        ensures { result ≡ record { at = self.at + len; line = self.line; column = self.column + characters } }
+    /// The place at a later byte. Only the bytes between the two are looked at.
+    pub fn moved(self, text: &str, to: usize) -> Place
+        requires here { IsPlace text.now self }
+        requires onward { self.at ≤ to }
+        requires boundary { IsCharBoundary text.now to }
+        ensures at { result.at ≡ to }
+        ensures place { IsPlace text.now result }
     {
         Place {
-            at: self.at + len,
-            line: self.line,
-            column: self.column + characters,
-        }
-    }
-
-    /// The line and the column.
-    fn resolved(self) -> ResolvedPos
-        ensures { result ≡ position_of self }
-    {
-        ResolvedPos {
-            line: self.line as usize,
-            column: self.column as usize,
+            at: to,
+            position: position_behind(self.position, &text[self.at..to]),
         }
     }
 }
 
-/// What lies between two places.
-#[derive(Clone, Copy, Debug, PartialEq, Eq)]
-pub struct Span {
-    pub begin: Place,
-    pub end: Place,
-}
-
-impl Span {
-    /// The lines and columns of both ends, as they are printed.
-    pub fn resolved(self) -> ResolvedSpan
-        ensures { result ≡ ends_of self }
-    {
-        ResolvedSpan {
-            begin: self.begin.resolved(),
-            end: self.end.resolved(),
-        }
+/// The line and column behind a text that stands at a line and column.
+fn position_behind(begin: ResolvedPos, passed: &str) -> ResolvedPos
+    requires line { begin.line + length passed.now < 2 ^ 64 }
+    requires column { begin.column + length passed.now < 2 ^ 64 }
+    ensures { (front : List ℕ) → IsUtf8 front → place_after front ≡ begin → place_after (front ++ passed.now) ≡ result }
+{
+    match passed.rfind('\n') {
+        None => ResolvedPos {
+            line: begin.line,
+            column: begin.column + len(passed).0,
+        },
+        Some(last) => ResolvedPos {
+            line: begin.line + count_matches_byte(passed, b'\n'),
+            column: len(&passed[last + 1..]).0,
+        },
     }
 }

@@ -1,29 +1,36 @@
 //! Prints the lexemes of a text, each as it is found.
 
-ghost use Rattle.std.specs.Prelude.{◌≡◌, ◌<◌, ◌≤◌, ◌++◌, [], length, drop, false, codes, string_bytes, IfOk, OnOk};
-ghost use Rattle.std.specs.Fmt.{decimal};
+ghost use Rattle.std.specs.Prelude.{◌≡◌, ◌<◌, ◌≤◌, ◌++◌, [], length, false, Some, IfOk, IfErr, IsSome};
 ghost use Rattle.std.specs.Str.{IsCharBoundary};
-ghost use Rattle.starlark_lex.specs.Outcome.{value_of, piece_at, outcome};
-ghost use Rattle.starlark_lex.specs.Output.{kind_of, message_of, lexeme_text, fault_text, output};
-ghost use Rattle.starlark_base.specs.Places.{span_text};
-ghost use Rattle.starlark_lex.specs.Places.{position_of, IsPlace};
+ghost use Rattle.starlark_base.specs.Sources.{file_span_text};
+ghost use Rattle.starlark_error.specs.FaultTexts.{kind_text};
+ghost use Rattle.starlark_lex.specs.Output.{fault_text, item_line, output};
+ghost use Rattle.starlark_lex.specs.Places.{IsPlace};
 ghost use Rattle.starlark_lex.specs.Runs.{status_of};
-ghost use Rattle.starlark_lex.specs.View.{piece_view, piece_len, piece_text, behind, Stands};
-ghost use Rattle.starlark_lex.specs.declared.run.TheConstants.{GREATEST_LEN};
 ghost use Rattle.starlark_lex.specs.Writing.{Writes};
+ghost use Rattle.starlark_lex.specs.declared.run.RunFault.TheVariants.{Memory};
+ghost use Rattle.starlark_lex.specs.declared.run.TheConstants.{GREATEST_LEN};
+ghost use Rattle.starlark_syntax.specs.LexedViews.{lexeme_view};
+ghost use Rattle.starlark_syntax.specs.LexerViews.{Given};
+ghost use Rattle.starlark_syntax.specs.Reading.{outcome};
 
 use crate::buffer::Buffer;
-use crate::lexer::{Class, Fault, Piece, first_piece, place_behind};
-use crate::place::{Place, Span};
+use crate::lines::{fault_line, lexeme_line};
+use crate::place::Place;
 use crate::run::{RunFault, RunStatus};
 use crate::watched::Watched;
+use starlark_base::codemap::{CodeMap, FileSpan, OrMemory, SourceTooLong};
+use starlark_error::error::ErrorKind;
+use starlark_error::eval_exception::EvalException;
+use starlark_syntax::lexer::{Lexer, Token};
+use starlark_text::dialect::Dialect;
 use std::alloc::{AllocError, Global};
 use std::io::Write;
 
-/// What has been put together of a line, and the lines that wait to be written.
+/// The line that is made, and the lines that wait to be written.
 #[derive(Drop)]
 struct Printer {
-    head: String,
+    line: String,
     buffer: Buffer,
 }
 
@@ -33,173 +40,120 @@ impl Printer {
     {
         let buffer = Buffer::new(alloc)?;
         Ok(Printer {
-            head: String::new(alloc),
+            line: String::new(alloc),
             buffer,
         })
     }
 
-    /// Puts what stands in `head`, and two more parts of the line.
-    fn line<W: Write>(
-        &mut self,
-        writer: &mut Watched<W>,
-        text: &str,
-        end: &str,
-    ) -> Result<(), RunFault>
-        requires { writer.old.failed ≡ false }
-        ensures { Writes W.contents writer.old writer.new
-            (self.old.buffer ++ (string_bytes self.old.head ++ text.now ++ end.now)) self.new.buffer result }
-    {
-        self.buffer.put(writer, self.head.as_bytes())?;
-        self.buffer.put(writer, text.as_bytes())?;
-        self.buffer.put(writer, end.as_bytes())
-    }
-
-    /// Begins the line of a lexeme: all but its value.
-    fn begin_lexeme(&mut self, class: Class, span: Span) -> Result<(), AllocError>
-        ensures head { OnOk result (string_bytes self.new.head ≡ decimal span.begin.at ++ codes "-" ++ decimal span.end.at ++ codes " "
-            ++ span_text (position_of span.begin) (position_of span.end) ++ codes " " ++ kind_of class) }
-        ensures buffer { self.new.buffer ≡ self.old.buffer }
-    {
-        let kind = class.kind();
-        let place = span.resolved();
-        self.head.clear();
-        write!(
-            self.head,
-            "{}-{} {place} {kind}",
-            span.begin.at, span.end.at
-        )
-    }
-
-    /// Begins the line of a fault: all but the text that the fault names.
-    fn begin_fault(&mut self, name: &str, fault: Fault, span: Span) -> Result<(), AllocError>
-        ensures head { OnOk result (string_bytes self.new.head ≡ codes "fault " ++ decimal span.begin.at ++ codes "-" ++ decimal span.end.at ++ codes " "
-            ++ name.now ++ codes ":" ++ span_text (position_of span.begin) (position_of span.end) ++ codes " " ++ message_of fault) }
-        ensures buffer { self.new.buffer ≡ self.old.buffer }
-    {
-        let message = fault.message();
-        let place = span.resolved();
-        self.head.clear();
-        write!(self.head, "fault {}-{} ", span.begin.at, span.end.at)?;
-        write!(self.head, "{name}:{place} {message}")
-    }
-
-    /// Puts the line of a lexeme, whose word is the given one.
+    /// Puts the line of a lexeme that stands behind a place, and says the place at its end.
     fn lexeme<W: Write>(
         &mut self,
         writer: &mut Watched<W>,
-        class: Class,
-        word: &str,
-        span: Span,
-    ) -> Result<(), RunFault>
-        requires { writer.old.failed ≡ false }
-        ensures { Writes W.contents writer.old writer.new (self.old.buffer ++ lexeme_text span.begin.at span.end.at
-            (span_text (position_of span.begin) (position_of span.end)) class (value_of class word.now)) self.new.buffer result }
+        text: &str,
+        place: Place,
+        lexeme: (usize, Token, usize),
+    ) -> Result<Place, RunFault>
+        requires sound { writer.old.failed ≡ false }
+        requires here { IsPlace text.now place }
+        requires onward { place.at ≤ lexeme.0 }
+        requires order { lexeme.0 ≤ lexeme.2 }
+        requires begin { IsCharBoundary text.now lexeme.0 }
+        requires end { IsCharBoundary text.now lexeme.2 }
+        ensures writes { Writes W.contents writer.old writer.new
+            (self.old.buffer ++ item_line [] text.now (Given (lexeme_view lexeme))) self.new.buffer result }
+        ensures at { IfOk result (λ place. place.at ≡ lexeme.2) }
+        ensures place { IfOk result (λ place. IsPlace text.now place) }
     {
-        self.begin_lexeme(class, span)?;
-        if class.has_value() {
-            self.head.push(' ')?;
-            return self.line(writer, word, "\n");
-        }
-        self.line(writer, "", "\n")
+        let (begin, token, end) = lexeme;
+        let begin = place.moved(text, begin);
+        let end = begin.moved(text, end);
+        lexeme_line(&mut self.line, begin, token, end)?;
+        self.buffer.put(writer, self.line.as_bytes())?;
+        Ok(end)
     }
 
-    /// Puts the line of a fault, which names the given word.
+    /// Puts the line of a fault at a place.
     fn fault<W: Write>(
         &mut self,
         writer: &mut Watched<W>,
-        name: &str,
-        fault: Fault,
-        word: &str,
-        span: Span,
+        place: &FileSpan,
+        kind: &ErrorKind,
     ) -> Result<(), RunFault>
         requires { writer.old.failed ≡ false }
-        ensures { Writes W.contents writer.old writer.new (self.old.buffer ++ fault_text span.begin.at span.end.at name.now
-            (span_text (position_of span.begin) (position_of span.end)) fault word.now) self.new.buffer result }
-    {
-        self.begin_fault(name, fault, span)?;
-        self.line(writer, word, "`\n")
-    }
-
-    /// Puts the line of a piece at the front of the rest of a text, if it has one.
-    fn piece<W: Write>(
-        &mut self,
-        writer: &mut Watched<W>,
-        name: &str,
-        piece: Piece,
-        rest: &str,
-        span: Span,
-    ) -> Result<(), RunFault>
-        requires sound { writer.old.failed ≡ false }
-        requires boundary { IsCharBoundary rest.now (piece_len piece) }
         ensures { Writes W.contents writer.old writer.new
-            (self.old.buffer ++ piece_text name.now rest.now piece span.begin span.end) self.new.buffer result }
+            (self.old.buffer ++ fault_text place.now.span.begin place.now.span.end (file_span_text place.now.file place.now.span) (kind_text kind.now))
+            self.new.buffer result }
     {
-        match piece {
-            Piece::Blank(_) => Ok(()),
-            Piece::Lexeme(class, len) => self.lexeme(writer, class, &rest[..len], span),
-            Piece::Fault(fault, len) => self.fault(writer, name, fault, &rest[..len], span),
-        }
+        fault_line(&mut self.line, place, kind)?;
+        self.buffer.put(writer, self.line.as_bytes())
     }
 
-    /// Puts the lines of a text that has this name, and says whether the text has a fault.
+    /// Puts the lines of a text, of which the lexer has handed out nothing yet, and says whether the text has a fault.
     fn text<W: Write>(
         &mut self,
         writer: &mut Watched<W>,
-        name: &str,
         text: &str,
+        lexer: &mut Lexer<'_>,
     ) -> Result<RunStatus, RunFault>
         requires sound { writer.old.failed ≡ false }
-        requires fits { length text.now ≤ GREATEST_LEN }
+        requires fresh { lexer.old ≡ record { text = text.now; code_map = lexer.old.code_map; handed_out = 0; has_ended = false } }
+        requires source { lexer.old.code_map.source ≡ text.now }
         ensures writes { Writes W.contents writer.old writer.new
-            (self.old.buffer ++ output name.now text.now) self.new.buffer result }
+            (self.old.buffer ++ output lexer.old.code_map.filename text.now) self.new.buffer result }
         ensures status { IfOk result (λ status. status ≡ status_of (outcome text.now).fault) }
     {
         let mut place = Place::START;
-        while place.at < text.len() {
-            let (piece, end) = next_piece(text, place);
-            let span = Span { begin: place, end };
-            self.piece(writer, name, piece, &text[place.at..], span)?;
-            if let Piece::Fault(_, _) = piece {
-                return Ok(RunStatus::Fault);
+        while let Some(item) = lexer.next() {
+            match item {
+                Ok(lexeme) => place = self.lexeme(writer, text, place, lexeme)?,
+                Err(OrMemory::Error(exception)) => {
+                    self.fault(writer, place_of(&exception), exception.error().kind())?;
+                    return Ok(RunStatus::Fault);
+                }
+                Err(OrMemory::Memory) => return Err(RunFault::Memory),
             }
-            place = end;
         }
-        let span = Span {
-            begin: place,
-            end: place,
-        };
-        self.lexeme(writer, Class::Newline, "", span)?;
         Ok(RunStatus::Clean)
     }
 }
 
-/// The piece at a place, and the place behind it.
-fn next_piece(text: &str, place: Place) -> (Piece, Place)
-    requires place { IsPlace text.now place }
-    requires more { place.at < length text.now }
-    requires fits { length text.now ≤ GREATEST_LEN }
-    ensures view { piece_view (drop place.at text.now) result.0 ≡ piece_at (drop place.at text.now) }
-    ensures stands { Stands text.now place result.0 }
-    ensures end { result.1 ≡ behind place result.0 }
+/// The place of an exception that has one.
+fn place_of(exception: &EvalException) -> &FileSpan
+    requires { IsSome exception.now.span }
+    ensures { exception.now.span ≡ Some result.now }
 {
-    let piece = first_piece(&text[place.at..]);
-    (piece, place_behind(place, piece))
+    let Some(place) = exception.error().span() else {
+        unreachable!()
+    };
+    place
 }
 
-/// Prints the output for a text that has this name, and says whether the text has a fault.
+/// A lexer of the source of a code map. No text is too long for one that a code map has.
+fn lexer_of(alloc: Global, file: &CodeMap) -> Result<Lexer<'_>, RunFault>
+    requires { length file.now.source ≤ GREATEST_LEN }
+    ensures made { IfOk result (λ lexer. lexer ≡ record { text = file.now.source; code_map = file.now; handed_out = 0; has_ended = false }) }
+    ensures refused { IfErr result (λ fault. fault ≡ Memory) }
+{
+    match Lexer::new(alloc, file.source(), &Dialect::Extended, file.dupe()?) {
+        Ok(lexer) => Ok(lexer),
+        Err(SourceTooLong) => Err(RunFault::TooLong),
+    }
+}
+
+/// Prints the output for the source of a code map, and says whether it has a fault.
 pub fn print<W: Write>(
     alloc: Global,
-    name: &str,
-    text: &str,
+    file: &CodeMap,
     writer: &mut Watched<W>,
 ) -> Result<RunStatus, RunFault>
     requires sound { writer.old.failed ≡ false }
-    requires fits { length text.now ≤ GREATEST_LEN }
-    ensures writes { Writes W.contents writer.old writer.new (output name.now text.now) [] result }
-    ensures status { IfOk result (λ status. status ≡ status_of (outcome text.now).fault) }
+    requires fits { length file.now.source ≤ GREATEST_LEN }
+    ensures writes { Writes W.contents writer.old writer.new (output file.now.filename file.now.source) [] result }
+    ensures status { IfOk result (λ status. status ≡ status_of (outcome file.now.source).fault) }
 {
+    let mut lexer = lexer_of(alloc, file)?;
     let mut printer = Printer::new(alloc)?;
-    let status = printer.text(writer, name, text)?;
+    let status = printer.text(writer, file.source(), &mut lexer)?;
     printer.buffer.finish(writer)?;
     Ok(status)
 }

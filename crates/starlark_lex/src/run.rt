@@ -160,5 +160,5 @@ pub fn run<R: Read, W: Write>(
 {
     let text = read_text(alloc, reader)?;
     let map = code_map(alloc, name, text)?;
-    print(alloc, map.filename(), map.source(), writer)
+    print(alloc, &map, writer)
 }

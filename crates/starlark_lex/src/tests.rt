@@ -105,8 +105,13 @@ fn long_text(alloc: Global) -> Result<Vec<u8>, AllocError> {
 
 #[test]
 fn texts_print_their_lexemes_and_their_first_fault(rt: HostRuntime) {
-    let rows: [(&str, &str, RunStatus); 13] = [
+    let rows: [(&str, &str, RunStatus); 23] = [
         ("", "0-0 1:1 Newline\n", RunStatus::Clean),
+        (
+            "def f\n",
+            "0-3 1:1-4 Def\n4-5 1:5-6 Identifier f\n5-6 1:6-2:1 Newline\n6-6 2:1 Newline\n",
+            RunStatus::Clean,
+        ),
         (
             "x !",
             "0-1 1:1-2 Identifier x\nfault 2-3 <stdin>:1:3-4 Parse error: invalid input `!`\n",
@@ -123,49 +128,94 @@ fn texts_print_their_lexemes_and_their_first_fault(rt: HostRuntime) {
             RunStatus::Clean,
         ),
         (
-            "format",
-            "0-6 1:1-7 Identifier format\n6-6 1:7 Newline\n",
-            RunStatus::Clean,
-        ),
-        (
             "x classy class",
             "0-1 1:1-2 Identifier x\n2-8 1:3-9 Identifier classy\nfault 9-14 <stdin>:1:10-15 Parse error: cannot use reserved keyword `class`\n",
             RunStatus::Fault,
         ),
         (
-            "0 00",
-            "0-1 1:1-2 Int 0\nfault 2-4 <stdin>:1:3-5 Parse error: integer cannot have leading 0, got `00`\n",
-            RunStatus::Fault,
-        ),
-        (
-            "0x1F",
-            "0-1 1:1-2 Int 0\n1-4 1:2-5 Identifier x1F\n4-4 1:5 Newline\n",
+            "0x1F 4294967296 0xFFFFFFFFF",
+            "0-4 1:1-5 Int 31\n5-15 1:6-16 Int 4294967296\n16-27 1:17-28 Int fffffffff (base 16)\n27-27 1:28 Newline\n",
             RunStatus::Clean,
         ),
         (
-            "==",
-            "0-1 1:1-2 Equal\n1-2 1:2-3 Equal\n2-2 1:3 Newline\n",
+            "1.5 ==",
+            "0-3 1:1-4 Float 1.5\n4-6 1:5-7 EqualEqual\n6-6 1:7 Newline\n",
             RunStatus::Clean,
         ),
         (
-            "_\n  \u{e9}",
-            "0-1 1:1-2 Identifier _\n1-2 1:2-2:1 Newline\nfault 4-6 <stdin>:2:3-4 Parse error: invalid input `\u{e9}`\n",
+            "''",
+            "0-2 1:1-3 String \n2-2 1:3 Newline\n",
+            RunStatus::Clean,
+        ),
+        (
+            "'\u{e9}'",
+            "0-4 1:1-4 String c3a9\n4-4 1:4 Newline\n",
+            RunStatus::Clean,
+        ),
+        (
+            "b'\\xff' # \u{e9}t\u{e9}",
+            "0-7 1:1-8 Bytes ff\n8-15 1:9-14 Comment  \u{e9}t\u{e9}\n15-15 1:14 Newline\n",
+            RunStatus::Clean,
+        ),
+        (
+            "f\"{x!r}\"",
+            "0-2 1:1-3 FStringStart Double\n2-3 1:3-4 FStringExprStart\n3-4 1:4-5 Identifier x\n4-5 1:5-6 FStringBang\n5-6 1:6-7 Identifier r\n6-7 1:7-8 FStringExprEnd\n7-8 1:8-9 FStringEnd\n8-8 1:9 Newline\n",
+            RunStatus::Clean,
+        ),
+        (
+            "f'''a\nz'''",
+            "0-4 1:1-5 FStringStart TripleSingle\n4-7 1:5-2:2 FStringText 610a7a\n7-10 2:2-5 FStringEnd\n10-10 2:5 Newline\n",
+            RunStatus::Clean,
+        ),
+        (
+            "f'' f\"\"\"\"\"\"",
+            "0-2 1:1-3 FStringStart Single\n2-3 1:3-4 FStringEnd\n4-8 1:5-9 FStringStart TripleDouble\n8-11 1:9-12 FStringEnd\n11-11 1:12 Newline\n",
+            RunStatus::Clean,
+        ),
+        (
+            "if a:\n  b\nc",
+            "0-2 1:1-3 If\n3-4 1:4-5 Identifier a\n4-5 1:5-6 Colon\n5-6 1:6-2:1 Newline\n6-8 2:1-3 Indent\n8-9 2:3-4 Identifier b\n9-10 2:4-3:1 Newline\n10-10 3:1 Dedent\n10-11 3:1-2 Identifier c\n11-11 3:2 Newline\n",
+            RunStatus::Clean,
+        ),
+        (
+            "(\n\u{e9}",
+            "0-1 1:1-2 OpeningRound\nfault 2-4 <stdin>:2:1-2 Parse error: invalid input `\u{e9}`\n",
             RunStatus::Fault,
         ),
         (
-            "\t",
-            "fault 0-1 <stdin>:1:1-2 Parse error: invalid input `\t`\n",
+            "'a\r",
+            "fault 0-3 <stdin>:1:1-4 Parse error: unfinished string literal\n",
+            RunStatus::Fault,
+        ),
+        (
+            "\tx",
+            "fault 0-0 <stdin>:1:1 Parse error: tabs are not allowed\n",
+            RunStatus::Fault,
+        ),
+        (
+            "x\n  y\n z",
+            "0-1 1:1-2 Identifier x\n1-2 1:2-2:1 Newline\n2-4 2:1-3 Indent\n4-5 2:3-4 Identifier y\nfault 5-7 <stdin>:2:4-3:2 Parse error: incorrect indentation\n",
+            RunStatus::Fault,
+        ),
+        (
+            "'\\x4'",
+            "fault 1-5 <stdin>:1:2-6 Parse error: invalid string escape sequence `x4'`\n",
+            RunStatus::Fault,
+        ),
+        (
+            "'\\",
+            "fault 1-2 <stdin>:1:2-3 Parse error: missing string escape sequence, only saw `\\`\n",
+            RunStatus::Fault,
+        ),
+        (
+            "f'{\"a",
+            "0-2 1:1-3 FStringStart Single\n2-3 1:3-4 FStringExprStart\nfault 3-5 <stdin>:1:4-6 Parse error: f-string expression is missing closing `}`\n",
             RunStatus::Fault,
         ),
         (
             "\u{0}",
             "fault 0-1 <stdin>:1:1-2 Parse error: invalid input `\u{0}`\n",
             RunStatus::Fault,
-        ),
-        (
-            "1.5",
-            "0-1 1:1-2 Int 1\n1-2 1:2-3 Dot\n2-3 1:3-4 Int 5\n3-3 1:4 Newline\n",
-            RunStatus::Clean,
         ),
     ];
     for (text, want, status) in rows {
@@ -177,7 +227,7 @@ fn texts_print_their_lexemes_and_their_first_fault(rt: HostRuntime) {
 
 #[test]
 fn each_word_prints_its_kind(rt: HostRuntime) -> Result<(), Fail> {
-    let words: [(&str, &str); 37] = [
+    let words: [(&str, &str); 58] = [
         ("and", "And"),
         ("break", "Break"),
         ("continue", "Continue"),
@@ -209,6 +259,27 @@ fn each_word_prints_its_kind(rt: HostRuntime) -> Result<(), Fail> {
         ("|", "Pipe"),
         ("^", "Caret"),
         ("~", "Tilde"),
+        ("+=", "PlusEqual"),
+        ("-=", "MinusEqual"),
+        ("*=", "StarEqual"),
+        ("/=", "SlashEqual"),
+        ("//=", "SlashSlashEqual"),
+        ("%=", "PercentEqual"),
+        ("==", "EqualEqual"),
+        ("!=", "BangEqual"),
+        ("<=", "LessEqual"),
+        (">=", "GreaterEqual"),
+        ("**", "StarStar"),
+        ("->", "MinusGreater"),
+        ("//", "SlashSlash"),
+        ("<<", "LessLess"),
+        (">>", "GreaterGreater"),
+        ("&=", "AmpersandEqual"),
+        ("|=", "PipeEqual"),
+        ("^=", "CaretEqual"),
+        ("<<=", "LessLessEqual"),
+        (">>=", "GreaterGreaterEqual"),
+        ("...", "Ellipsis"),
         ("[", "OpeningSquare"),
         ("{", "OpeningCurly"),
         ("(", "OpeningRound"),

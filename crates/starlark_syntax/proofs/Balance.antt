@@ -7,17 +7,17 @@ use Rattle.std.proofs.lemmas.Bool.{and_parts, ltb-true}
 use Rattle.std.proofs.lemmas.List.{length-append, length-map, length-replicate, length-take-le}
 use Rattle.std.proofs.lemmas.List.Folds.{sum_by-replicate}
 use Rattle.std.proofs.lemmas.List.Sums.{sum_by-cons, sum_by-append, count_by-le-length}
-use Rattle.starlark_syntax.specs.Words as word
-use Rattle.starlark_syntax.specs.Words.{Text, Quote, Kind, OfText, OfBytes, OfFString, Terminal, Class, Table, class_in}
-use Rattle.starlark_syntax.specs.Front.{longest_front}
-use Rattle.starlark_syntax.specs.Tokens.{Token, Opening, Fault, Spanned, Lexeme, moved, Indent, Dedent, Newline, Outcome, FStringBang, FStringEnd, FStringExprStart, FStringStart}
+use Rattle.starlark_token.specs.Words as word
+use Rattle.starlark_token.specs.Words.{Text, Quote, Kind, OfText, OfBytes, OfFString, Terminal, Class, Table, class_in}
+use Rattle.starlark_token.specs.Front.{longest_front}
+use Rattle.starlark_token.specs.Tokens.{Token, Opening, Fault, Spanned, Lexeme, moved, Indent, Dedent, Newline, Outcome, FStringBang, FStringEnd, FStringExprStart, FStringStart}
 use Rattle.starlark_syntax.specs.Items.{Stop, Closing, Line, Ended, OpeningBrace, ClosingBrace, BadEscape, Literal, Found, Goes, Stops, found_at, Body, onward, body_from, body_at, body_len, body_value, closing_quotes}
 use Rattle.starlark_syntax.specs.Depths.{Where, Outside, InText, AtTop, Deeper}
 use Rattle.starlark_syntax.specs.Margins.{lines, is_comment_only, comment_of, comments_from, comment_lines, Margin, margin_of, margin_len, is_content, has_tab, width_of, fits, is_widest, indentation, open_widths}
 use Rattle.starlark_syntax.specs.Pieces.{Before, Nothing, Layout, Gap, Other, Piece, Step, Stands, Fails, Situation, token, margin_step, first_margin, line_end, opening_of, more_quotes, escape_fault, literal_token, literal_by, literal, opener, chunk_text, chunk_piece, chunk_by, chunk, terminal_token, counts, starts_zero, word_step, front_step, takes_bang, is_bang, in_code, by_place, by_before, step_at}
 use Rattle.starlark_syntax.specs.Reading.{History, situation, next_step, read}
 use Rattle.starlark_syntax.specs.Laws.{is_indent, is_dedent, indents, dedents}
-use Rattle.starlark_syntax.proofs.Front.{front_sound}
+use Rattle.starlark_token.proofs.Front.{front_sound}
 use Rattle.starlark_syntax.proofs.Bodies.{FoundFits, found_fits}
 use Rattle.starlark_syntax.proofs.Steps.{Each}
 use Rattle.starlark_syntax.proofs.Widths.{indent_len, dedent_len}
@@ -57,7 +57,7 @@ count-moved test n (lexeme ∷ lexemes) =
     let right = sum_by-cons (λ (lexeme : Lexeme). cond (test lexeme.node) 1 0) lexeme lexemes in
     left ∙ ap (λ k. cond (test lexeme.node) 1 0 + k) (count-moved test n lexemes) ∙ sym right
 
-comments_quiet : (test : Token → Bool) → ((text : Text) → test (Rattle.starlark_syntax.specs.Tokens.Comment text) ≡ false) → (at : ℕ) (ls : List Text) → count_by (λ (lexeme : Lexeme). test lexeme.node) (comments_from at ls) ≡ 0
+comments_quiet : (test : Token → Bool) → ((text : Text) → test (Rattle.starlark_token.specs.Tokens.Comment text) ≡ false) → (at : ℕ) (ls : List Text) → count_by (λ (lexeme : Lexeme). test lexeme.node) (comments_from at ls) ≡ 0
 comments_quiet test h at [] = refl
 comments_quiet test h at (line ∷ more) = sum_by-cons (λ (lexeme : Lexeme). cond (test lexeme.node) 1 0) (comment_of at line) (comments_from (at + length line) more) ∙ rw (h _, comments_quiet test h (at + length line) more) refl
 
@@ -151,7 +151,7 @@ margin_step_balances widths len before margin end quiet_margin =
     layout more width = record { len = len + margin_len margin; lexemes = before ++ map (moved len) (margin.comments ++ more); width = width; sort = Layout }
 
     fitting : (fit : Bool) → fits w (open_widths widths) ≡ fit → (widest : Bool) → (nat_lt 0 w && is_widest w (open_widths widths)) ≡ widest
-        → StepBalances widths (if fit then Stands (layout (if widest then indent ∷ [] else replicate (count_by (nat_lt w) (open_widths widths)) dedent) (Some w)) else Fails (record { begin = 0; node = Rattle.starlark_syntax.specs.Tokens.Indentation; end = len + margin_len margin }))
+        → StepBalances widths (if fit then Stands (layout (if widest then indent ∷ [] else replicate (count_by (nat_lt w) (open_widths widths)) dedent) (Some w)) else Fails (record { begin = 0; node = Rattle.starlark_token.specs.Tokens.Indentation; end = len + margin_len margin }))
     fitting false e widest f = tt
     fitting true e true f =
         let grown = indent_len widths w f in

@@ -10,9 +10,10 @@ use Rattle.std.specs.Map.{lookup}
 use Rattle.std.specs.Str.{byte, continuation_len}
 use Rattle.std.specs.Str.Parse.{digits_value}
 use Rattle.starlark_syntax.proofs.Lists.{take_fits, drop-sum, drop-behind}
-use Rattle.starlark_syntax.specs.Words.{Text, Quote, Kind, is_octal_digit}
-use Rattle.starlark_syntax.specs.Tokens.{Opening}
-use Rattle.starlark_syntax.specs.Items.{Literal, Item, Stop, Closing, Line, Ended, OpeningBrace, ClosingBrace, BadEscape, Found, Goes, Stops, goes, first_character, closing_quotes, broken, is_character, numbered, hexadecimal, octal, escaped_feed, simple_escapes, simple, is_of_bytes, escape, raw_pair, brace, is_brace, found_at, Body, body_len, onward, body_from, body_at}
+use Rattle.starlark_token.specs.Words.{Text, Quote, Kind, is_octal_digit}
+use Rattle.starlark_token.specs.Tokens.{Opening}
+use Rattle.starlark_syntax.specs.Items.{Literal, Item, Stop, Closing, Line, Ended, OpeningBrace, ClosingBrace, BadEscape, Found, Goes, Stops, goes, closing_quotes, broken, is_character, numbered, hexadecimal, octal, escaped_feed, simple_escapes, simple, is_of_bytes, escape, raw_pair, brace, is_brace, found_at, Body, body_len, onward, body_from, body_at}
+use Rattle.starlark_token.specs.Characters.{first_character}
 
 pub character_fits : (text : Text) → length (first_character text) ≤ length text
 character_fits [] = omega arith

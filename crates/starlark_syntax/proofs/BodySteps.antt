@@ -2,7 +2,7 @@
 use Rattle.std.proofs.Common.{◌≡◌, ℕ, zero, suc, ◌+◌, ◌-◌, ◌≤◌, Bool, true, false, not, [], ◌∷◌, ◌++◌, length, drop, refl, ap, sym, subst, ◌∙◌, arith}
 use Rattle.std.proofs.lemmas.List.{append_assoc, append-nil, length-drop}
 use Rattle.std.proofs.lemmas.List.Sums.{sum_by-cons}
-use Rattle.starlark_syntax.specs.Words.{Text}
+use Rattle.starlark_token.specs.Words.{Text}
 use Rattle.starlark_syntax.specs.Items.{Literal, Item, Stop, Goes, Stops, found_at, Body, body_len, body_value, body_from, body_at}
 use Rattle.starlark_syntax.specs.declared.lexer.literal.items.Value.{Value}
 use Rattle.starlark_syntax.specs.declared.lexer.literal.body.LiteralValue.{LiteralValue}

@@ -10,8 +10,8 @@ use Rattle.std.proofs.lemmas.List.{take-append-drop, length-append, length-drop,
 use Rattle.std.proofs.Math.Seq.{drop-append_seam}
 use Rattle.std.proofs.lemmas.List.Sums.{sum_by-cons}
 use Rattle.std.proofs.lemmas.Str.{IsCharBoundary-end, IsCharBoundary-start, IsUtf8-drop}
-use Rattle.starlark_syntax.specs.Words.{Text}
-use Rattle.starlark_syntax.specs.Tokens.{Lexeme, Indent, Dedent}
+use Rattle.starlark_token.specs.Words.{Text}
+use Rattle.starlark_token.specs.Tokens.{Lexeme, Indent, Dedent}
 use Rattle.starlark_syntax.specs.Margins.{is_blank, is_feed, blanks_len, lines, begins_comment, is_comment_only, comment_part, comments_from, comment_lines, Margin, margin_of, margin_len, width_of, is_widest, indentation}
 use Rattle.starlark_syntax.specs.Cuts.{is_gap_byte, IsGap}
 use Rattle.starlark_syntax.specs.Laws.{AtBoundaries}

@@ -13,21 +13,21 @@ use Rattle.std.specs.Map.{lookup}
 use Rattle.std.specs.Option.{option_or}
 use Rattle.std.proofs.lemmas.List.Sums.{sum_by-cons}
 use Rattle.std.proofs.lemmas.Str.{IsCharBoundary-end, IsCharBoundary-start, IsUtf8-drop}
-use Rattle.starlark_syntax.specs.Words as word
-use Rattle.starlark_syntax.specs.Words.{Text, Quote, SingleQuote, DoubleQuote, Kind, OfText, OfBytes, OfFString, Class, Table, class_in, language, is_in_line, is_comment, patterns, openers, line_ends, symbols, names}
-use Rattle.starlark_syntax.specs.Front.{longest_front, IsLongestFront}
-use Rattle.starlark_syntax.specs.Numbers.{integer_of}
-use Rattle.starlark_syntax.specs.Tokens.{Token, Comment, Identifier, Int, Float, Opening, Lexeme, moved, Newline, Dedent, FStringBang, FStringEnd, FStringExprStart, FStringStart, Spanned, Fault}
+use Rattle.starlark_token.specs.Words as word
+use Rattle.starlark_token.specs.Words.{Text, Quote, SingleQuote, DoubleQuote, Kind, OfText, OfBytes, OfFString, Class, Table, class_in, language, is_in_line, is_comment, patterns, openers, line_ends, symbols, names}
+use Rattle.starlark_token.specs.Front.{longest_front, IsLongestFront}
+use Rattle.starlark_token.specs.Numbers.{integer_of}
+use Rattle.starlark_token.specs.Tokens.{Token, Comment, Identifier, Int, Float, Opening, Lexeme, moved, Newline, Dedent, FStringBang, FStringEnd, FStringExprStart, FStringStart, Spanned, Fault}
 use Rattle.starlark_syntax.specs.Items.{Literal, Stop, Closing, Line, Ended, OpeningBrace, ClosingBrace, BadEscape, Body, body_at, body_len, body_value, closing_quotes, quote_byte}
 use Rattle.starlark_syntax.specs.Depths.{Where, Outside, InText, AtTop, Deeper}
 use Rattle.starlark_syntax.specs.Margins.{Margin, margin_of, margin_len, is_content, has_tab, width_of, fits, indentation, open_widths}
 use Rattle.starlark_syntax.specs.Pieces.{Before, Nothing, Layout, Gap, Other, Piece, Step, Stands, Fails, Ends, Situation, token, margin_step, line_end, opening_of, more_quotes, escape_fault, literal_token, literal_by, opener, chunk_text, chunk_piece, chunk_by, chunk, terminal_token, counts, starts_zero, word_step, front_step, takes_bang, is_bang, in_code, by_place, by_before, step_at}
 use Rattle.starlark_syntax.specs.Reading.{History, nothing, after, after_all, situation, next_step, IsReading, pieces_len, lexemes_along, closing, outcome_of, outcome_in, outcome, read, IsLongestReading}
-use Rattle.starlark_syntax.proofs.Front.{front_sound, longest_front_is}
+use Rattle.starlark_token.proofs.Front.{front_sound, longest_front_is}
 use Rattle.starlark_syntax.proofs.Lists.{drop-sum}
 use Rattle.starlark_syntax.proofs.Steps.{Each}
 use Rattle.starlark_syntax.proofs.Readings.{read_is}
-use Rattle.starlark_syntax.proofs.Words.{class_in-language}
+use Rattle.starlark_token.proofs.Words.{class_in-language}
 use Rattle.starlark_syntax.proofs.WordBytes.{is_plain, word_fits, language_fits}
 use Rattle.starlark_syntax.proofs.Edges.{behind_plain, before_byte, boundary_shift, edges_append, edges_shift, starts_split, StopAt, stop_at, closing_edges, character_edge}
 use Rattle.starlark_syntax.proofs.Boundaries.{Edges, MarginEdges, margin_edges, indentation_edges}
@@ -222,7 +222,7 @@ unfolding class_in patterns
 comment_known text h e =
     let none : class_in patterns text ≡ None =
     none_behind (lookup (bytes_eq text) names) _ (none_behind (lookup (bytes_eq text) symbols) _ (none_behind (lookup (bytes_eq text) line_ends) _ (none_behind (lookup (bytes_eq text) openers) _ (sym (class_in-language text) ∙ e)))) in
-    go _ (Rattle.starlark_syntax.specs.Words.is_run (nat_eq 32) text) (is_comment text) h none
+    go _ (Rattle.starlark_token.specs.Words.is_run (nat_eq 32) text) (is_comment text) h none
   where
     go : (rest : Option Class) (spaces comment : Bool) → comment ≡ true → cond spaces (Some word.Skipped) (cond comment (Some word.Comment) rest) ≡ None → ⊥
     go rest true comment h e = cc

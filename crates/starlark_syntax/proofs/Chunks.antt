@@ -1,8 +1,8 @@
 -- Texts of f-strings, by what was read of them.
 use Rattle.std.proofs.Common.{◌≡◌, ℕ, ◌+◌, ◌-◌, ◌≤◌, [], ◌∷◌, ◌++◌, length, drop, refl, sym, subst, arith}
 use Rattle.std.specs.Prelude.{codes}
-use Rattle.starlark_syntax.specs.Words.{Text, OfFString}
-use Rattle.starlark_syntax.specs.Tokens.{Opening, Token, FStringExprStart, FStringEnd, InvalidInput, InvalidEscapeSequence, UnfinishedStringLiteral}
+use Rattle.starlark_token.specs.Words.{Text, OfFString}
+use Rattle.starlark_token.specs.Tokens.{Opening, Token, FStringExprStart, FStringEnd, InvalidInput, InvalidEscapeSequence, UnfinishedStringLiteral}
 use Rattle.starlark_syntax.specs.Items.{Literal, Stop, Closing, Line, Ended, OpeningBrace, ClosingBrace, BadEscape, body_at, body_len, body_value, closing_quotes}
 use Rattle.starlark_syntax.specs.Pieces.{Step, piece, fault, chunk, chunk_by, chunk_text}
 use Rattle.starlark_syntax.proofs.Bodies.{StopFits, body_fits}

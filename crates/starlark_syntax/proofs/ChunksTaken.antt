@@ -2,18 +2,18 @@
 use Rattle.std.proofs.Common.{◌≡◌, ℕ, ◌+◌, ◌==◌, true, false, List, [], ◌∷◌, ◌++◌, map, length, refl, ap, ◌∙◌, arith, String, string_bytes}
 use Rattle.std.proofs.lemmas.List.{map-append}
 use Rattle.std.specs.declared.alloc.Global.{Global}
-use Rattle.starlark_syntax.specs.Words.{Text}
-use Rattle.starlark_syntax.specs.Tokens as grammar
-use Rattle.starlark_syntax.specs.Tokens.{Lexeme, moved}
+use Rattle.starlark_token.specs.Words.{Text}
+use Rattle.starlark_token.specs.Tokens as grammar
+use Rattle.starlark_token.specs.Tokens.{Lexeme, moved}
 use Rattle.starlark_syntax.specs.Pieces.{chunk_text}
 use Rattle.starlark_syntax.specs.Reading.{tokens_onto}
 use Rattle.starlark_syntax.specs.LexedViews.{begins_fstring, lexeme_view}
 use Rattle.starlark_syntax.specs.LayoutViews.{Queued}
 use Rattle.starlark_syntax.specs.NestingViews.{Represents}
-use Rattle.starlark_syntax.specs.TokenViews.{Whole, token_view}
+use Rattle.starlark_token.specs.TokenViews.{Whole, token_view}
 use Rattle.starlark_syntax.specs.declared.lexer.nesting.Nesting.{Nesting}
-use Rattle.starlark_syntax.specs.declared.lexer.tokens.Token.{Token}
-use Rattle.starlark_syntax.specs.declared.lexer.tokens.Token.TheVariants as token
+use Rattle.starlark_token.specs.declared.tokens.Token.{Token}
+use Rattle.starlark_token.specs.declared.tokens.Token.TheVariants as token
 use Rattle.starlark_syntax.proofs.Taken.{one_kept}
 use Rattle.starlark_syntax.proofs.Here.{shown_at}
 use Rattle.starlark_syntax.proofs.Waiting.{queued_more, queued_none, queued_one}

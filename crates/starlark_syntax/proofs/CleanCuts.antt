@@ -5,8 +5,8 @@ use Rattle.std.proofs.Math.Seq.{drop-append-add, take-append_seam}
 use Rattle.std.proofs.lemmas.Bool.{and_parts, both_ways}
 use Rattle.std.proofs.lemmas.List.{length-drop}
 use Rattle.std.proofs.lemmas.List.Sums.{sum_by-cons, sum_by-append}
-use Rattle.starlark_syntax.specs.Words.{Text, Table, language}
-use Rattle.starlark_syntax.specs.Tokens.{Newline, Dedent, Lexeme, Spanned, moved, Fault, Outcome}
+use Rattle.starlark_token.specs.Words.{Text, Table, language}
+use Rattle.starlark_token.specs.Tokens.{Newline, Dedent, Lexeme, Spanned, moved, Fault, Outcome}
 use Rattle.starlark_syntax.specs.Margins.{open_widths}
 use Rattle.starlark_syntax.specs.Pieces.{Piece, Step, Stands, Fails, Ends, first_margin, step_at}
 use Rattle.starlark_syntax.specs.Reading.{History, nothing, after, after_all, situation, next_step, IsReading, IsLongestReading, pieces_len, read, read_from, lexemes_along, closing, before_fault, outcome_of, outcome_in, outcome}

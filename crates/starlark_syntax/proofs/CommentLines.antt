@@ -7,12 +7,12 @@ use Rattle.std.proofs.lemmas.Bool.{eqb-true}
 use Rattle.std.proofs.lemmas.List.{drop-take, get_or-drop, get_or-take, length-take-le, take-take}
 use Rattle.std.proofs.lemmas.List.Sums.{prefix_len-le-length}
 use Rattle.std.proofs.lemmas.Str.{IsCharBoundary-after_ascii}
-use Rattle.starlark_syntax.specs.Words.{Text}
+use Rattle.starlark_token.specs.Words.{Text}
 use Rattle.starlark_syntax.specs.Margins.{begins_comment, blanks_len, comment_lines, comment_of, comment_part, comments_from, is_comment_only, lines, margin_of, without_return}
-use Rattle.starlark_syntax.specs.Tokens.{Comment, moved}
-use Rattle.starlark_syntax.specs.TokenViews.{Whole, token_view}
+use Rattle.starlark_token.specs.Tokens.{Comment, moved}
+use Rattle.starlark_token.specs.TokenViews.{Whole, token_view}
 use Rattle.starlark_syntax.specs.LexedViews.{lexeme_view, shown_lexeme}
-use Rattle.starlark_syntax.specs.declared.lexer.tokens.Token.{Token}
+use Rattle.starlark_token.specs.declared.tokens.Token.{Token}
 use Rattle.starlark_syntax.proofs.Lists.{drop-sum, take_fits}
 use Rattle.starlark_syntax.proofs.MarginsRead.{is_other}
 use Rattle.starlark_syntax.proofs.Order.{comment_spans, part_len}

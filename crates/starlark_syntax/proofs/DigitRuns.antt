@@ -9,7 +9,7 @@ use Rattle.std.specs.Char.{digit_value, is_ascii, is_ascii_hexdigit}
 use Rattle.std.specs.List.{prefix_len}
 use Rattle.std.specs.Str.{IsUtf8, IsCharBoundary}
 use Rattle.std.specs.Str.Parse.{AllDigits, IsNumeral, digits_value, without_leading_plus}
-use Rattle.starlark_syntax.specs.Words.{Text, is_octal_digit}
+use Rattle.starlark_token.specs.Words.{Text, is_octal_digit}
 use Rattle.starlark_syntax.proofs.Lists.{take_fits}
 use Rattle.starlark_syntax.proofs.Edges.{digits_run, hex_plain, octal_plain, plain_end}
 

@@ -14,9 +14,10 @@ use Rattle.std.proofs.Math.Seq.{take-append_seam}
 use Rattle.std.proofs.lemmas.List.Sums.{sum_by-cons}
 use Rattle.std.proofs.lemmas.Slice.Eq.{bytes_eq-Decides}
 use Rattle.std.proofs.lemmas.Str.{IsCharBoundary-before_ascii, IsCharBoundary-from_take, IsCharBoundary-from_rest, IsUtf8-drop, IsUtf8-from_ascii, IsCharBoundary-end, IsCharBoundary-past_char, length-encode}
-use Rattle.starlark_syntax.specs.Words.{Text, Quote, SingleQuote, DoubleQuote, Kind, OfText, OfBytes, OfFString, is_octal_digit}
-use Rattle.starlark_syntax.specs.Tokens.{Opening, Lexeme, moved}
-use Rattle.starlark_syntax.specs.Items.{Literal, Item, Stop, Closing, Line, Ended, OpeningBrace, ClosingBrace, BadEscape, Found, Goes, Stops, first_character, closing_quotes, quote_byte, broken, numbered, is_character, hexadecimal, octal, escaped_feed, simple, simple_escapes, escape, raw_pair, brace, found_at, Body, body_len, onward, body_from, body_at, is_brace, is_of_bytes}
+use Rattle.starlark_token.specs.Words.{Text, Quote, SingleQuote, DoubleQuote, Kind, OfText, OfBytes, OfFString, is_octal_digit}
+use Rattle.starlark_token.specs.Tokens.{Opening, Lexeme, moved}
+use Rattle.starlark_syntax.specs.Items.{Literal, Item, Stop, Closing, Line, Ended, OpeningBrace, ClosingBrace, BadEscape, Found, Goes, Stops, closing_quotes, quote_byte, broken, numbered, is_character, hexadecimal, octal, escaped_feed, simple, simple_escapes, escape, raw_pair, brace, found_at, Body, body_len, onward, body_from, body_at, is_brace, is_of_bytes}
+use Rattle.starlark_token.specs.Characters.{first_character}
 use Rattle.starlark_syntax.specs.Laws.{AtBoundaries}
 use Rattle.starlark_syntax.proofs.Lists.{drop-sum, drop-behind}
 use Rattle.starlark_syntax.proofs.Bodies.{FoundFits, found_fits}

@@ -4,8 +4,9 @@ use Rattle.std.proofs.lemmas.Bool.{eqb-true, false_from_ne_true}
 use Rattle.std.proofs.lemmas.Bool.Decides.{nat_tests}
 use Rattle.std.specs.List.{slice_get}
 use Rattle.std.specs.Map.{lookup}
-use Rattle.starlark_syntax.specs.Words.{Text, Kind, is_octal_digit}
-use Rattle.starlark_syntax.specs.Items.{goes, broken, first_character, is_of_bytes, hexadecimal, octal, escaped_feed, simple, simple_escapes, escape}
+use Rattle.starlark_token.specs.Words.{Text, Kind, is_octal_digit}
+use Rattle.starlark_syntax.specs.Items.{goes, broken, is_of_bytes, hexadecimal, octal, escaped_feed, simple, simple_escapes, escape}
+use Rattle.starlark_token.specs.Characters.{first_character}
 
 -- a text with its first byte
 pub with_first : (text : Text) (b : ℕ) → slice_get text 0 ≡ Some b → text ≡ b ∷ drop 1 text

@@ -2,8 +2,8 @@
 use Rattle.std.proofs.Common.{◌≤◌, List, length, drop, arith}
 use Rattle.std.specs.Prelude.{IfSome}
 use Rattle.std.proofs.lemmas.List.{length-drop}
-use Rattle.starlark_syntax.specs.Words.{Text, Table}
-use Rattle.starlark_syntax.specs.Tokens.{Fault, Spanned, moved}
+use Rattle.starlark_token.specs.Words.{Text, Table}
+use Rattle.starlark_token.specs.Tokens.{Fault, Spanned, moved}
 use Rattle.starlark_syntax.specs.Pieces.{Piece, Step, Stands, Fails, Ends}
 use Rattle.starlark_syntax.specs.Reading.{nothing, after_all, IsLongestReading, pieces_len, outcome_of, outcome_in, read}
 use Rattle.starlark_syntax.proofs.Readings.{fault_fits, reading_fits, read_is}

@@ -4,9 +4,9 @@ use Rattle.std.specs.Prelude.{◌==◌, nat_eq, codes}
 use Rattle.std.specs.Cmp.Lexicographic.{pointwise}
 use Rattle.std.specs.List.{ends_with}
 use Rattle.std.proofs.lemmas.Bool.{and_parts, and_right, eqb-true}
-use Rattle.starlark_syntax.specs.Words.{Text, class_in, language}
-use Rattle.starlark_syntax.specs.Front.{longest_front, language_front}
-use Rattle.starlark_syntax.proofs.Front.{front_none}
+use Rattle.starlark_token.specs.Words.{Text, class_in, language}
+use Rattle.starlark_token.specs.Front.{longest_front, language_front}
+use Rattle.starlark_token.proofs.Front.{front_none}
 use Rattle.starlark_syntax.proofs.WordLines.{feed_last, feed_ends}
 
 -- the last byte is an LF

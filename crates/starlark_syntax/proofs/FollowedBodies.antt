@@ -8,9 +8,10 @@ use Rattle.std.specs.Str.{byte, continuation_len}
 use Rattle.std.specs.Str.Parse.{digits_value}
 use Rattle.std.proofs.lemmas.Bool.{and_parts, eqb-true}
 use Rattle.std.proofs.lemmas.List.{length-take, take-append-le}
-use Rattle.starlark_syntax.specs.Words.{Text, Quote, SingleQuote, DoubleQuote, Kind, OfText, OfBytes, OfFString, is_in_line, is_octal_digit}
-use Rattle.starlark_syntax.specs.Tokens.{Opening}
-use Rattle.starlark_syntax.specs.Items.{Literal, Stop, Closing, Line, Ended, OpeningBrace, ClosingBrace, BadEscape, Found, Goes, Stops, goes, first_character, closing_quotes, broken, is_character, numbered, hexadecimal, octal, escaped_feed, simple_escapes, simple, is_of_bytes, escape, drops_backslash, raw_pair, brace, is_brace, found_at, Body, onward, body_from, body_at}
+use Rattle.starlark_token.specs.Words.{Text, Quote, SingleQuote, DoubleQuote, Kind, OfText, OfBytes, OfFString, is_in_line, is_octal_digit}
+use Rattle.starlark_token.specs.Tokens.{Opening}
+use Rattle.starlark_syntax.specs.Items.{Literal, Stop, Closing, Line, Ended, OpeningBrace, ClosingBrace, BadEscape, Found, Goes, Stops, goes, closing_quotes, broken, is_character, numbered, hexadecimal, octal, escaped_feed, simple_escapes, simple, is_of_bytes, escape, drops_backslash, raw_pair, brace, is_brace, found_at, Body, onward, body_from, body_at}
+use Rattle.starlark_token.specs.Characters.{first_character}
 use Rattle.starlark_syntax.proofs.Bodies.{found_fits, FoundFits}
 use Rattle.starlark_syntax.proofs.WordLines.{in_line}
 use Rattle.starlark_syntax.proofs.Followed.{ends_line, ends_line_rest}

@@ -2,8 +2,9 @@
 use Rattle.std.proofs.Common.{◌≡◌, ◌≢◌, ℕ, ◌==◌, ◌&&◌, not, Bool, true, false, [], ◌∷◌, length, ◌+◌, take, drop, refl, one-add, Some, None, nat_eq, arith}
 use Rattle.std.proofs.lemmas.Bool.{eqb-true, false_from_ne_true}
 use Rattle.std.specs.List.{slice_get, starts_with}
-use Rattle.starlark_syntax.specs.Words.{Text, Kind, Quote}
-use Rattle.starlark_syntax.specs.Items.{Literal, Stops, Closing, Line, Ended, goes, first_character, closing_quotes, escape, raw_pair, drops_backslash, brace, is_brace, found_at}
+use Rattle.starlark_token.specs.Words.{Text, Kind, Quote}
+use Rattle.starlark_syntax.specs.Items.{Literal, Stops, Closing, Line, Ended, goes, closing_quotes, escape, raw_pair, drops_backslash, brace, is_brace, found_at}
+use Rattle.starlark_token.specs.Characters.{first_character}
 
 unequal : (a b : ℕ) → (a ≡ b → ⊥) → (a == b) ≡ false
 unequal a b h = false_from_ne_true _ (λ e. h (eqb-true a b e))

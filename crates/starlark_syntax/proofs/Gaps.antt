@@ -4,8 +4,8 @@ use Rattle.std.specs.Prelude.{◌&&◌, ◌==◌, map, nat_eq, codes}
 use Rattle.std.specs.List.{prefix_len, starts_with}
 use Rattle.std.specs.Str.{byte}
 use Rattle.std.proofs.lemmas.Bool.{and_parts, cases_lt}
-use Rattle.starlark_syntax.specs.Words.{Text}
-use Rattle.starlark_syntax.specs.Tokens.{Lexeme, moved}
+use Rattle.starlark_token.specs.Words.{Text}
+use Rattle.starlark_token.specs.Tokens.{Lexeme, moved}
 use Rattle.starlark_syntax.specs.Margins.{is_blank, is_feed}
 use Rattle.starlark_syntax.specs.Cuts.{begins_line, is_gap_byte, IsGap, InOrder}
 use Rattle.starlark_syntax.proofs.Lists.{drop-sum}

@@ -1,12 +1,12 @@
 -- What stands where a reader is lies inside the text.
 use Rattle.std.proofs.Common.{◌≡◌, ℕ, ◌+◌, ◌<◌, ◌≤◌, false, length, drop, refl, ap, ◌∙◌, arith}
 use Rattle.std.proofs.lemmas.List.{length-drop}
-use Rattle.starlark_syntax.specs.Words.{Text, language}
-use Rattle.starlark_syntax.specs.Tokens as grammar
-use Rattle.starlark_syntax.specs.Tokens.{Fault, Spanned, moved}
+use Rattle.starlark_token.specs.Words.{Text, language}
+use Rattle.starlark_token.specs.Tokens as grammar
+use Rattle.starlark_token.specs.Tokens.{Fault, Spanned, moved}
 use Rattle.starlark_syntax.specs.LexedViews.{begins_fstring, lexeme_view, shown, shown_lexeme}
-use Rattle.starlark_syntax.specs.TokenViews.{Whole, token_view}
-use Rattle.starlark_syntax.specs.declared.lexer.tokens.Token.{Token}
+use Rattle.starlark_token.specs.TokenViews.{Whole, token_view}
+use Rattle.starlark_token.specs.declared.tokens.Token.{Token}
 use Rattle.starlark_syntax.specs.Pieces.{Before, Nothing, Layout, Gap, Other, Piece, Stands, Fails}
 use Rattle.starlark_syntax.specs.Reading.{History}
 use Rattle.starlark_syntax.specs.ReadingViews.{IsBehind}

@@ -9,8 +9,9 @@ use Rattle.std.specs.Map.{lookup}
 use Rattle.std.specs.Prelude.{⊤, ◌&&◌, if◌then◌else◌, nat_lt}
 use Rattle.std.specs.Str.{byte, IsUtf8, IsCharBoundary}
 use Rattle.std.specs.Str.Parse.{digits_value}
-use Rattle.starlark_syntax.specs.Words.{Text, Quote, Kind, OfText, OfBytes, OfFString, is_octal_digit}
-use Rattle.starlark_syntax.specs.Items.{Literal, Item, Found, Goes, Stops, first_character, closing_quotes, broken, numbered, is_character, hexadecimal, octal, escaped_feed, simple, simple_escapes, escape, raw_pair, brace, found_at, is_brace, is_of_bytes}
+use Rattle.starlark_token.specs.Words.{Text, Quote, Kind, OfText, OfBytes, OfFString, is_octal_digit}
+use Rattle.starlark_syntax.specs.Items.{Literal, Item, Found, Goes, Stops, closing_quotes, broken, numbered, is_character, hexadecimal, octal, escaped_feed, simple, simple_escapes, escape, raw_pair, brace, found_at, is_brace, is_of_bytes}
+use Rattle.starlark_token.specs.Characters.{first_character}
 use Rattle.starlark_syntax.proofs.Edges.{boundary_shift, character_edge, digits_run, either, hex_plain, letter_small, octal_plain, plain_end, when}
 use Rattle.starlark_syntax.proofs.WordBytes.{is_plain}
 

@@ -4,18 +4,18 @@ use Rattle.std.specs.Prelude.{⊤, ◌&&◌, if◌then◌else◌, nat_lt, option
 use Rattle.std.proofs.lemmas.Bool.{both_ways}
 use Rattle.std.proofs.lemmas.List.Sums.{sum_by-cons}
 use Rattle.std.proofs.lemmas.List.{drop-append-le, take-append-le, length-drop, length-take}
-use Rattle.starlark_syntax.specs.Words as word
-use Rattle.starlark_syntax.specs.Words.{Text, Kind, OfText, OfBytes, OfFString, Class, class_in, language}
-use Rattle.starlark_syntax.specs.Front.{longest_front}
-use Rattle.starlark_syntax.specs.Numbers.{integer_of}
-use Rattle.starlark_syntax.specs.Tokens.{Token, Newline, Int, StartsZero, FStringBang, Indent, InvalidTab, Indentation, Opening, Lexeme, moved, Outcome}
+use Rattle.starlark_token.specs.Words as word
+use Rattle.starlark_token.specs.Words.{Text, Kind, OfText, OfBytes, OfFString, Class, class_in, language}
+use Rattle.starlark_token.specs.Front.{longest_front}
+use Rattle.starlark_token.specs.Numbers.{integer_of}
+use Rattle.starlark_token.specs.Tokens.{Token, Newline, Int, StartsZero, FStringBang, Indent, InvalidTab, Indentation, Opening, Lexeme, moved, Outcome}
 use Rattle.starlark_syntax.specs.Items.{Stop, Closing, Line, Ended, OpeningBrace, ClosingBrace, BadEscape, Body, body_at}
 use Rattle.starlark_syntax.specs.Depths.{Where, Outside, InText, AtTop, Deeper}
 use Rattle.starlark_syntax.specs.Margins.{Margin, margin_of, margin_len, is_content, has_tab, width_of, fits, indentation, open_widths}
 use Rattle.starlark_syntax.specs.Pieces.{more_quotes, fault, token, Before, Nothing, Layout, Gap, Other, Piece, Step, Stands, Fails, Ends, Situation, margin_step, first_margin, line_end, counts, is_bang, takes_bang, escape_fault, literal_by, opener, chunk_by, chunk, starts_zero, word_step, front_step, in_code, by_place, by_before, step_at}
 use Rattle.starlark_syntax.specs.Reading.{tokens_onto, History, nothing, after, after_all, situation, next_step, IsReading, pieces_len, lexemes_along}
 use Rattle.starlark_syntax.specs.Cuts.{is_layout}
-use Rattle.starlark_syntax.proofs.Front.{longest_front_is}
+use Rattle.starlark_token.proofs.Front.{longest_front_is}
 use Rattle.starlark_syntax.proofs.Readings.{none_next, started, piece_fits}
 use Rattle.starlark_syntax.proofs.Steps.{is_nothing}
 use Rattle.starlark_syntax.proofs.Followed.{ends_line, ends_line_drop, longest_followed}
@@ -41,7 +41,7 @@ step_within : (len : ℕ) (lexemes : List Lexeme) (levels : List ℕ) (text more
 unfolding margin_step indentation
 step_within len lexemes levels text more some e = rw (e, content_followed (margin_of text).behind more some) refl
 
-pub moved_both : {A : Type 0} (a b c : ℕ) (x : Rattle.starlark_syntax.specs.Tokens.Spanned A) → a + b ≡ c → moved a (moved b x) ≡ moved c x
+pub moved_both : {A : Type 0} (a b c : ℕ) (x : Rattle.starlark_token.specs.Tokens.Spanned A) → a + b ≡ c → moved a (moved b x) ≡ moved c x
 moved_both a b c x e =
     let begin : a + (b + x.begin) ≡ c + x.begin = omega (arith, e) in
     let end : a + (b + x.end) ≡ c + x.end = omega (arith, e) in

@@ -1,16 +1,16 @@
 -- What a margin comes to, and what was done about it.
 use Rattle.std.proofs.Common.{◌≡◌, ℕ, ◌+◌, true, false, List, [], ◌∷◌, ◌++◌, ap, ◌∙◌, sym, subst, refl, arith, add_assoc, map, zero-add}
 use Rattle.std.specs.Prelude.{option_to_list}
-use Rattle.starlark_syntax.specs.Words.{Text}
-use Rattle.starlark_syntax.specs.Tokens.{Indentation, InvalidTab, Lexeme, Newline, moved}
-use Rattle.starlark_syntax.specs.TokenViews.{Whole, token_view}
+use Rattle.starlark_token.specs.Words.{Text}
+use Rattle.starlark_token.specs.Tokens.{Indentation, InvalidTab, Lexeme, Newline, moved}
+use Rattle.starlark_token.specs.TokenViews.{Whole, token_view}
 use Rattle.starlark_syntax.specs.Margins.{Margin, fits, margin_len, margin_of, open_widths}
 use Rattle.starlark_syntax.specs.Pieces.{fault, first_margin, line_end, margin_step}
 use Rattle.starlark_syntax.specs.LayoutViews.{IsDecided, IsLaid, IsMargin, IsTaken, Queued, margin_lexemes, margin_piece, margin_width}
 use Rattle.starlark_syntax.specs.declared.lexer.layout.Laid.{Laid}
 use Rattle.starlark_syntax.specs.declared.lexer.layout.Laid.TheVariants as laid
 use Rattle.starlark_syntax.specs.declared.lexer.layout.margins.Margin.{Margin as Measured}
-use Rattle.starlark_syntax.specs.declared.lexer.tokens.Token.{Token}
+use Rattle.starlark_token.specs.declared.tokens.Token.{Token}
 use Rattle.starlark_syntax.proofs.Waiting.{queued_both, queued_none, queued_one}
 
 -- What stands there

@@ -3,12 +3,12 @@ use Rattle.std.proofs.Common.{◌≡◌, ℕ, zero, suc, ◌+◌, ◌<◌, ◌�
 use Rattle.std.specs.Prelude.{◌&&◌, count_by, filter, replicate}
 use Rattle.std.proofs.lemmas.Bool.{lt-ltb, le-ltb}
 use Rattle.starlark_syntax.specs.Margins.{Margin, indentation, is_widest, margin_len, open_widths, width_of}
-use Rattle.starlark_syntax.specs.Tokens.{Dedent, Indent, Newline, moved}
-use Rattle.starlark_syntax.specs.TokenViews.{Whole, token_view}
+use Rattle.starlark_token.specs.Tokens.{Dedent, Indent, Newline, moved}
+use Rattle.starlark_token.specs.TokenViews.{Whole, token_view}
 use Rattle.starlark_syntax.specs.Reading.{History, closing}
 use Rattle.starlark_syntax.specs.LayoutViews.{IsMargin, Queued}
 use Rattle.starlark_syntax.specs.declared.lexer.layout.margins.Margin.{Margin as Measured}
-use Rattle.starlark_syntax.specs.declared.lexer.tokens.Token.{Token}
+use Rattle.starlark_token.specs.declared.tokens.Token.{Token}
 use Rattle.starlark_syntax.proofs.Waiting.{queued_both, queued_one}
 use Rattle.starlark_syntax.proofs.Widths.{open-push}
 

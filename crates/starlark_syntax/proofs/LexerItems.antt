@@ -1,13 +1,13 @@
 -- The items of a text, one by one.
 use Rattle.std.proofs.Common.{◌≡◌, ℕ, zero, suc, ◌+◌, ◌<◌, ◌≤◌, ◌^◌, List, [], ◌∷◌, ◌++◌, map, length, drop, refl, ap, subst, ◌∙◌, arith, None, Some, slice_get, IfSome, option_to_list}
 use Rattle.std.specs.Prelude.{Option}
-use Rattle.starlark_syntax.specs.Words.{Text, language}
-use Rattle.starlark_syntax.specs.Tokens.{Fault, Lexeme, Spanned}
+use Rattle.starlark_token.specs.Words.{Text, language}
+use Rattle.starlark_token.specs.Tokens.{Fault, Lexeme, Spanned}
 use Rattle.starlark_syntax.specs.Reading.{outcome}
 use Rattle.starlark_syntax.specs.LexedViews.{shown_lexeme}
 use Rattle.starlark_syntax.specs.LexerViews.{Item, Given, Refused, items}
 use Rattle.starlark_syntax.specs.ReaderViews.{IsSomething}
-use Rattle.starlark_syntax.specs.TokenViews.{TokenView}
+use Rattle.starlark_token.specs.TokenViews.{TokenView}
 use Rattle.starlark_syntax.proofs.Faults.{outcome_fault}
 use Rattle.starlark_syntax.proofs.Totals.{outcome_balances}
 

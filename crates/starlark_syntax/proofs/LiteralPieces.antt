@@ -5,8 +5,8 @@ use Rattle.std.proofs.lemmas.Str.{IsCharBoundary-after_ascii, IsUtf8-drop}
 use Rattle.std.specs.List.{starts_with}
 use Rattle.std.specs.Prelude.{IfOk, Result}
 use Rattle.std.specs.Str.{IsUtf8, IsCharBoundary}
-use Rattle.starlark_syntax.specs.Words.{Text, Quote, SingleQuote, DoubleQuote, Kind, OfText, OfBytes, OfFString}
-use Rattle.starlark_syntax.specs.Tokens.{String, Bytes, Opening, EmptyEscapeSequence, InvalidEscapeSequence}
+use Rattle.starlark_token.specs.Words.{Text, Quote, SingleQuote, DoubleQuote, Kind, OfText, OfBytes, OfFString}
+use Rattle.starlark_token.specs.Tokens.{String, Bytes, Opening, EmptyEscapeSequence, InvalidEscapeSequence}
 use Rattle.starlark_syntax.specs.Items.{Literal, Closing, BadEscape, body_at, body_len, closing_quotes, is_of_bytes, quote_byte}
 use Rattle.starlark_syntax.specs.Depths.{Where}
 use Rattle.starlark_syntax.specs.Pieces as pieces

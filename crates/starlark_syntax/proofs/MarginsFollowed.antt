@@ -6,8 +6,8 @@ use Rattle.std.proofs.Math.Seq.{drop-append-add, drop-length}
 use Rattle.std.proofs.lemmas.Bool.{and_parts, eqb-true}
 use Rattle.std.proofs.lemmas.List.{drop-append-le, take-append-le, length-drop, length-take}
 use Rattle.std.proofs.lemmas.List.Sums.{sum_by-append, sum_by-cons}
-use Rattle.starlark_syntax.specs.Words.{Text}
-use Rattle.starlark_syntax.specs.Tokens.{Lexeme, moved}
+use Rattle.starlark_token.specs.Words.{Text}
+use Rattle.starlark_token.specs.Tokens.{Lexeme, moved}
 use Rattle.starlark_syntax.specs.Margins.{is_blank, is_feed, blanks_len, lines, is_comment_only, comment_of, comments_from, comment_lines, comment_part, margin_from, Margin, margin_of, margin_len}
 use Rattle.starlark_syntax.proofs.Steps.{lines_len}
 

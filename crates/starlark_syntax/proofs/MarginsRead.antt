@@ -4,7 +4,7 @@ use Rattle.std.specs.Prelude.{if◌then◌else◌, count_by, take_while}
 use Rattle.std.specs.List.{list_any, prefix_len, onto_first}
 use Rattle.std.proofs.lemmas.Bool.Decides.{nat_tests}
 use Rattle.std.proofs.lemmas.List.{drop_all, length-drop, take_all}
-use Rattle.starlark_syntax.specs.Words.{Text}
+use Rattle.starlark_token.specs.Words.{Text}
 use Rattle.starlark_syntax.specs.Margins.{is_blank, is_feed, blanks_len, lines, begins_comment, is_comment_only, comment_lines, is_content, margin_of}
 use Rattle.starlark_syntax.specs.LayoutViews.{IsFirstComment, IsMargin}
 use Rattle.starlark_syntax.specs.declared.lexer.layout.margins.Margin.{Margin}

@@ -4,10 +4,10 @@ use Rattle.std.specs.Prelude.{◌&&◌, ◌==◌, if◌then◌else◌, map, fold
 use Rattle.std.specs.Option.{MatchOption, IsSomeAnd}
 use Rattle.std.proofs.lemmas.Bool.{eqb-true}
 use Rattle.std.proofs.lemmas.List.Sums.{sum_by-cons}
-use Rattle.starlark_syntax.specs.Words as word
-use Rattle.starlark_syntax.specs.Tokens.{Token, Opening, FStringExprStart, FStringExprEnd, Word}
+use Rattle.starlark_token.specs.Words as word
+use Rattle.starlark_token.specs.Tokens.{Token, Opening, FStringExprStart, FStringExprEnd, Word}
 use Rattle.starlark_syntax.specs.Depths.{Shape, Round, Square, Curly, Where, InText, AtTop, Deeper, is_opening, is_closing, is_any_opening, is_any_closing, expression_tokens, braces, braces_of, surplus, fronts, depth, inside}
-use Rattle.starlark_syntax.specs.TokenViews.{Whole}
+use Rattle.starlark_token.specs.TokenViews.{Whole}
 use Rattle.starlark_syntax.specs.NestingViews.{change_by, opens, closes, brackets_of, expression_view, expression_of, FStringDepths, fstring_of}
 use Rattle.starlark_syntax.specs.declared.lexer.nesting.counts.Brackets.{Brackets}
 use Rattle.starlark_syntax.specs.declared.lexer.nesting.changes.Change.{Change}

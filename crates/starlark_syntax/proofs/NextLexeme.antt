@@ -1,16 +1,16 @@
 -- What a reader hands out next.
 use Rattle.std.proofs.Common.{◌≡◌, ℕ, List, [], ◌∷◌, ◌++◌, map, drop, refl, sym, ap, subst, ◌∙◌, append-nil, None, Some}
 use Rattle.std.specs.Prelude.{Option, Result, Ok, Err, OnErr}
-use Rattle.starlark_syntax.specs.Words.{Text, language}
-use Rattle.starlark_syntax.specs.Tokens.{Fault, Lexeme, Outcome, Spanned}
+use Rattle.starlark_token.specs.Words.{Text, language}
+use Rattle.starlark_token.specs.Tokens.{Fault, Lexeme, Outcome, Spanned}
 use Rattle.starlark_syntax.specs.Pieces.{Piece, Step, Stands, Fails, Ends}
 use Rattle.starlark_syntax.specs.Reading.{History, lexemes_along, outcome, outcome_in, outcome_of, read, read_from}
 use Rattle.starlark_syntax.specs.LexedViews.{fault_view, lexeme_view, shown_lexeme}
 use Rattle.starlark_syntax.specs.NestingViews.{bracket_count}
 use Rattle.starlark_syntax.specs.ReaderViews.{IsAhead, IsKept, IsLeft, IsSomething, outcome_along, outcome_from}
-use Rattle.starlark_syntax.specs.TokenViews.{TokenView}
+use Rattle.starlark_token.specs.TokenViews.{TokenView}
 use Rattle.starlark_error.specs.declared.lexeme_error.LexemeError.{LexemeError}
-use Rattle.starlark_syntax.specs.declared.lexer.tokens.Token.{Token}
+use Rattle.starlark_token.specs.declared.tokens.Token.{Token}
 use Rattle.starlark_syntax.specs.declared.lexer.reader.Reader.{Reader}
 use Rattle.starlark_syntax.specs.declared.lexer.reader.Stage.{Stage}
 use Rattle.starlark_syntax.specs.declared.lexer.reader.Stage.TheVariants as stage

@@ -1,8 +1,8 @@
 -- What the rest of a text comes to, one piece further.
 use Rattle.std.proofs.Common.{◌≡◌, ℕ, ◌+◌, false, List, [], ◌∷◌, ◌++◌, drop, map, refl, ap, ◌∙◌, Some, None, arith, append_assoc}
 use Rattle.std.proofs.lemmas.List.Sums.{sum_by-cons}
-use Rattle.starlark_syntax.specs.Words.{Text, language}
-use Rattle.starlark_syntax.specs.Tokens.{Fault, Outcome, Spanned, moved}
+use Rattle.starlark_token.specs.Words.{Text, language}
+use Rattle.starlark_token.specs.Tokens.{Fault, Outcome, Spanned, moved}
 use Rattle.starlark_syntax.specs.Margins.{margin_of}
 use Rattle.starlark_syntax.specs.Pieces.{Ends, Fails, Piece, Stands, Step, first_margin, step_at}
 use Rattle.starlark_syntax.specs.Reading.{History, IsLongestReading, after, after_all, closing, lexemes_along, next_step, nothing, outcome, outcome_in, outcome_of, pieces_len, read, read_from, situation}

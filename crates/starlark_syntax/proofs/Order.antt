@@ -8,18 +8,18 @@ use Rattle.std.proofs.lemmas.Bool.Decides.{nat_tests}
 use Rattle.std.proofs.lemmas.List.{take-append-drop, length-take-le, length-drop}
 use Rattle.std.proofs.Math.Seq.{drop-append_seam}
 use Rattle.std.proofs.lemmas.List.Sums.{sum_by-cons, prefix_len-le-length}
-use Rattle.starlark_syntax.specs.Words as word
-use Rattle.starlark_syntax.specs.Words.{Text, Quote, Kind, OfText, OfBytes, OfFString, Class, Table, class_in, language}
-use Rattle.starlark_syntax.specs.Front.{longest_front}
-use Rattle.starlark_syntax.specs.Numbers.{integer_of}
-use Rattle.starlark_syntax.specs.Tokens.{Token, Comment, Identifier, Int, Float, Opening, Lexeme, moved, Indent, Dedent, Newline, Outcome, FStringBang, FStringEnd, FStringExprStart, FStringStart}
+use Rattle.starlark_token.specs.Words as word
+use Rattle.starlark_token.specs.Words.{Text, Quote, Kind, OfText, OfBytes, OfFString, Class, Table, class_in, language}
+use Rattle.starlark_token.specs.Front.{longest_front}
+use Rattle.starlark_token.specs.Numbers.{integer_of}
+use Rattle.starlark_token.specs.Tokens.{Token, Comment, Identifier, Int, Float, Opening, Lexeme, moved, Indent, Dedent, Newline, Outcome, FStringBang, FStringEnd, FStringExprStart, FStringStart}
 use Rattle.starlark_syntax.specs.Items.{Stop, Closing, Line, Ended, OpeningBrace, ClosingBrace, BadEscape, Body, body_at, body_len, body_value, closing_quotes}
 use Rattle.starlark_syntax.specs.Depths.{Where, Outside, InText, AtTop, Deeper}
 use Rattle.starlark_syntax.specs.Margins.{is_blank, is_feed, blanks_len, lines, begins_comment, is_comment_only, without_return, comment_part, comments_from, comment_lines, margin_from, Margin, margin_of, margin_len, is_content, has_tab, width_of, fits, is_widest, indentation}
 use Rattle.starlark_syntax.specs.Pieces.{Before, Nothing, Layout, Gap, Other, Piece, Step, Stands, Fails, Ends, Situation, token, margin_step, line_end, opening_of, more_quotes, escape_fault, literal_token, literal_by, opener, chunk_text, chunk_piece, chunk_by, chunk, terminal_token, counts, starts_zero, word_step, front_step, takes_bang, is_bang, in_code, by_place, by_before, step_at}
 use Rattle.starlark_syntax.specs.Reading.{History, nothing, after, after_all, situation, next_step, IsReading, IsLongestReading, pieces_len, lexemes_along, closing, outcome_of, outcome_in, outcome, read}
 use Rattle.starlark_syntax.specs.Cuts.{IsGap, InOrder}
-use Rattle.starlark_syntax.proofs.Front.{front_sound}
+use Rattle.starlark_token.proofs.Front.{front_sound}
 use Rattle.starlark_syntax.proofs.Lists.{take_fits, drop-sum}
 use Rattle.starlark_syntax.proofs.Steps.{Each, margin_fits}
 use Rattle.starlark_syntax.proofs.Readings.{ends_at_end, reading_fits, read_is}

@@ -2,8 +2,8 @@
 use Rattle.std.proofs.Common.{◌≡◌, ℕ, ◌+◌, ◌≤◌, Bool, true, false, List, [], ◌++◌, map, length, drop, refl, sym, ap, ◌∙◌, subst, arith, append-nil, None}
 use Rattle.std.specs.Prelude.{Option}
 use Rattle.std.specs.Str.{IsUtf8}
-use Rattle.starlark_syntax.specs.Words.{Text, language}
-use Rattle.starlark_syntax.specs.Tokens.{Fault, Spanned}
+use Rattle.starlark_token.specs.Words.{Text, language}
+use Rattle.starlark_token.specs.Tokens.{Fault, Spanned}
 use Rattle.starlark_syntax.specs.Depths.{is_balanced, where_after}
 use Rattle.starlark_syntax.specs.Margins.{open_widths}
 use Rattle.starlark_syntax.specs.Pieces as pieces
@@ -12,7 +12,7 @@ use Rattle.starlark_syntax.specs.Reading.{History, next_step, situation}
 use Rattle.starlark_syntax.specs.NestingViews.{Represents, place_view}
 use Rattle.starlark_syntax.specs.ReadingViews.{IsBehind, IsPiece, nothing_of}
 use Rattle.starlark_syntax.specs.ReaderViews.{IsAhead, IsKept, IsRead, left_here, step_here}
-use Rattle.starlark_syntax.specs.TokenViews.{TokenView}
+use Rattle.starlark_token.specs.TokenViews.{TokenView}
 use Rattle.starlark_syntax.specs.declared.lexer.nesting.Place.{Place}
 use Rattle.starlark_syntax.specs.declared.lexer.reading.Piece as code
 use Rattle.starlark_syntax.specs.declared.lexer.reader.Reader.{Reader}
@@ -23,8 +23,8 @@ use Rattle.starlark_syntax.proofs.Waiting.{queued_none}
 
 -- what was read at a reader's place stands there
 pub piece_read : (text : Text) (history : History) (reader : Reader) (place : Place) (balanced : Bool) (rest : Text) (piece : code.Piece) → rest ≡ drop reader.at text → IsKept text history reader
-    → ((tokens : List Rattle.starlark_syntax.specs.Tokens.Token) → Represents tokens reader.nesting → place_view place ≡ where_after tokens)
-    → ((tokens : List Rattle.starlark_syntax.specs.Tokens.Token) → Represents tokens reader.nesting → balanced ≡ is_balanced tokens)
+    → ((tokens : List Rattle.starlark_token.specs.Tokens.Token) → Represents tokens reader.nesting → place_view place ≡ where_after tokens)
+    → ((tokens : List Rattle.starlark_token.specs.Tokens.Token) → Represents tokens reader.nesting → balanced ≡ is_balanced tokens)
     → ((s : Situation) → s.place ≡ place_view place → s.is_balanced ≡ balanced → IsBehind reader.follows_gap s.before → IsPiece s.levels rest (step_at language s rest) piece)
     → IsPiece (open_widths history.widths) (drop reader.at text) (step_here text history reader) piece
 unfolding next_step situation
@@ -38,8 +38,8 @@ onward_ahead text old new lexemes fault read ahead =
     let history = ahead.is_left.0 in
     let same = ahead.is_left.2 in
     read_ahead text (left_here text history old) old new lexemes fault (read history ahead.is_left.1)
-    (ahead.ahead ∙ ap (λ (left : Rattle.starlark_syntax.specs.Tokens.Outcome). map Rattle.starlark_syntax.specs.LexedViews.lexeme_view old.waiting.items ++ map Rattle.starlark_syntax.specs.LexedViews.shown_lexeme left.lexemes) same)
-    (ahead.behind_them ∙ ap (λ (left : Rattle.starlark_syntax.specs.Tokens.Outcome). left.fault) same)
+    (ahead.ahead ∙ ap (λ (left : Rattle.starlark_token.specs.Tokens.Outcome). map Rattle.starlark_syntax.specs.LexedViews.lexeme_view old.waiting.items ++ map Rattle.starlark_syntax.specs.LexedViews.shown_lexeme left.lexemes) same)
+    (ahead.behind_them ∙ ap (λ (left : Rattle.starlark_token.specs.Tokens.Outcome). left.fault) same)
 
 abbrev pub nothing_piece : ℕ → Bool → Piece
 nothing_piece len true = record { len = len; lexemes = []; width = None; sort = pieces.Gap }

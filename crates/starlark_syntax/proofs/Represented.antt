@@ -4,11 +4,11 @@ use Rattle.std.specs.Prelude.{count_by, is_some, option_map, option_to_list, rev
 use Rattle.std.specs.List.{slice_get}
 use Rattle.std.proofs.lemmas.Option.{same_Some, none-some, slice_get_within, get_or_from_slice_get, slice_get-get_or}
 use Rattle.std.proofs.lemmas.List.{length-set, reverse-append, take_all, take_more, take_more_set}
-use Rattle.starlark_syntax.specs.Words as word
-use Rattle.starlark_syntax.specs.Tokens.{Token, Opening, FStringStart, FStringEnd, FStringExprStart, FStringExprEnd, Word}
+use Rattle.starlark_token.specs.Words as word
+use Rattle.starlark_token.specs.Tokens.{Token, Opening, FStringStart, FStringEnd, FStringExprStart, FStringExprEnd, Word}
 use Rattle.starlark_syntax.specs.Depths.{Where, Outside, is_any_opening, is_any_closing, inside, open_fstring, where_by, where_after}
 use Rattle.starlark_syntax.specs.LexedViews.{begins_fstring}
-use Rattle.starlark_syntax.specs.TokenViews.{Whole}
+use Rattle.starlark_token.specs.TokenViews.{Whole}
 use Rattle.starlark_syntax.specs.NestingViews.{IsUnchanged, Represents, change_by, opens, closes, brackets_of, fstring_of, fstring_view}
 use Rattle.starlark_syntax.specs.declared.lexer.nesting.changes.Change.{Change}
 use Rattle.starlark_syntax.specs.declared.lexer.nesting.changes.Change.TheVariants as change

@@ -1,9 +1,9 @@
 -- Words and integers, closed by computing.
 use Rattle.std.proofs.Common.{◌≡◌, ℕ, true, false, Some, None, refl}
 use Rattle.std.specs.Prelude.{codes, pos, neg_ℤ}
-use Rattle.starlark_syntax.specs.Words.{Text, Class, Fixed, Float, Identifier, Decimal, Skipped, Comment, Opener, OfFString, DoubleQuote, class_in, openers, line_ends, symbols, names, patterns, language, Ellipsis, For}
-use Rattle.starlark_syntax.specs.Front.{longest_front, language_front}
-use Rattle.starlark_syntax.specs.Numbers.{Small, Big, integer_of, integer_in}
+use Rattle.starlark_token.specs.Words.{Text, Class, Fixed, Float, Identifier, Decimal, Skipped, Comment, Opener, OfFString, DoubleQuote, class_in, openers, line_ends, symbols, names, patterns, language, Ellipsis, For}
+use Rattle.starlark_token.specs.Front.{longest_front, language_front}
+use Rattle.starlark_token.specs.Numbers.{Small, Big, integer_of, integer_in}
 
 abbrev Front : Text → Class → ℕ → Type 0
 Front text class len = language_front text ≡ Some (class, len)

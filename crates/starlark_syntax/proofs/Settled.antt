@@ -6,8 +6,8 @@ use Rattle.std.proofs.lemmas.Bool.{and_parts, eqb-true}
 use Rattle.std.proofs.lemmas.Bool.Decides.{nat_tests}
 use Rattle.std.proofs.lemmas.List.Folds.{list_all-append}
 use Rattle.std.proofs.lemmas.List.Sums.{sum_by-append}
-use Rattle.starlark_syntax.specs.Words.{Text, Table}
-use Rattle.starlark_syntax.specs.Tokens.{Token, Opening, FStringStart, FStringEnd, Lexeme}
+use Rattle.starlark_token.specs.Words.{Text, Table}
+use Rattle.starlark_token.specs.Tokens.{Token, Opening, FStringStart, FStringEnd, Lexeme}
 use Rattle.starlark_syntax.specs.Depths.{InText, AtTop, Deeper, Round, Square, braces, depth, open_fstring, where_by, where_after, is_balanced, is_any_opening, is_any_closing}
 use Rattle.starlark_syntax.specs.Margins.{open_widths}
 use Rattle.starlark_syntax.specs.Pieces.{Piece, Step}

@@ -10,8 +10,9 @@ use Rattle.std.proofs.lemmas.Bool.{eqb-true}
 use Rattle.std.proofs.lemmas.Bool.Decides.{nat_tests}
 use Rattle.std.proofs.lemmas.Str.{length-encode}
 use Rattle.std.proofs.lemmas.List.Sums.{sum_by-cons}
-use Rattle.starlark_syntax.specs.Words.{Text, Quote, Kind, is_octal_digit}
-use Rattle.starlark_syntax.specs.Items.{Literal, Item, Stop, Found, Goes, Stops, goes, first_character, closing_quotes, broken, is_character, numbered, hexadecimal, escaped_feed, simple_escapes, simple, is_of_bytes, escape, drops_backslash, raw_pair, brace, is_brace, found_at, Body, body_len, body_value, onward, body_from, body_at, OpeningBrace, ClosingBrace}
+use Rattle.starlark_token.specs.Words.{Text, Quote, Kind, is_octal_digit}
+use Rattle.starlark_syntax.specs.Items.{Literal, Item, Stop, Found, Goes, Stops, goes, closing_quotes, broken, is_character, numbered, hexadecimal, escaped_feed, simple_escapes, simple, is_of_bytes, escape, drops_backslash, raw_pair, brace, is_brace, found_at, Body, body_len, body_value, onward, body_from, body_at, OpeningBrace, ClosingBrace}
+use Rattle.starlark_token.specs.Characters.{first_character}
 use Rattle.starlark_syntax.specs.Cuts.{is_gap_byte, IsGap}
 use Rattle.starlark_syntax.proofs.Lists.{drop-behind}
 use Rattle.starlark_syntax.proofs.Bodies.{FoundFits, found_fits}

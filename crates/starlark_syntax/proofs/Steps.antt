@@ -4,16 +4,16 @@ use Rattle.std.specs.Prelude.{⊤, ◌&&◌, if◌then◌else◌, sum_by}
 use Rattle.std.proofs.lemmas.List.{length-drop, length-take-le}
 use Rattle.std.proofs.lemmas.List.Sums.{sum_by-cons, sum_by-take-le}
 use Rattle.std.specs.List.{prefix_len, starts_with, onto_first}
-use Rattle.starlark_syntax.specs.Words as word
-use Rattle.starlark_syntax.specs.Words.{Text, Quote, Kind, OfText, OfBytes, OfFString, Class, Table, class_in}
-use Rattle.starlark_syntax.specs.Front.{longest_front}
-use Rattle.starlark_syntax.specs.Tokens.{Token, Opening, Fault, Spanned, Lexeme, FStringBang, FStringStart}
+use Rattle.starlark_token.specs.Words as word
+use Rattle.starlark_token.specs.Words.{Text, Quote, Kind, OfText, OfBytes, OfFString, Class, Table, class_in}
+use Rattle.starlark_token.specs.Front.{longest_front}
+use Rattle.starlark_token.specs.Tokens.{Token, Opening, Fault, Spanned, Lexeme, FStringBang, FStringStart}
 use Rattle.starlark_syntax.specs.Items.{Stop, Closing, Line, Ended, OpeningBrace, ClosingBrace, BadEscape, Body, body_at, body_len, closing_quotes, quote_byte}
 use Rattle.starlark_syntax.specs.Depths.{Where, Outside, InText, AtTop, Deeper}
 use Rattle.starlark_syntax.specs.Margins.{lines, is_feed, is_comment_only, comment_lines, blanks_len, margin_from, Margin, margin_of, margin_len, is_content, has_tab, width_of, fits}
 use Rattle.starlark_syntax.specs.Pieces.{Before, Nothing, Layout, Gap, Other, Piece, Step, Stands, Fails, Ends, Situation, piece, token, fault, margin_step, opening_of, more_quotes, escape_fault, literal_by, literal, opener, chunk_by, chunk, counts, starts_zero, word_step, front_step, takes_bang, is_bang, in_code, by_place, by_before, step_at}
 use Rattle.starlark_syntax.proofs.Lists.{take_fits}
-use Rattle.starlark_syntax.proofs.Front.{front_sound}
+use Rattle.starlark_token.proofs.Front.{front_sound}
 use Rattle.starlark_syntax.proofs.Bodies.{StopFits, body_fits, starts_fits, character_fits}
 
 -- what is so of a piece or of a fault

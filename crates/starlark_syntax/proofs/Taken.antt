@@ -5,9 +5,9 @@ use Rattle.std.specs.List.{AllByRecursion}
 use Rattle.std.specs.Str.{IsCharBoundary, IsUtf8}
 use Rattle.std.proofs.lemmas.List.{length-drop, map-append}
 use Rattle.std.proofs.lemmas.Str.{IsCharBoundary-start, IsUtf8-drop}
-use Rattle.starlark_syntax.specs.Words.{Text, language}
-use Rattle.starlark_syntax.specs.Tokens.{Lexeme, Outcome, Spanned, moved}
-use Rattle.starlark_syntax.specs.Tokens as grammar
+use Rattle.starlark_token.specs.Words.{Text, language}
+use Rattle.starlark_token.specs.Tokens.{Lexeme, Outcome, Spanned, moved}
+use Rattle.starlark_token.specs.Tokens as grammar
 use Rattle.starlark_syntax.specs.Depths.{is_any_closing, is_any_opening, open_fstring}
 use Rattle.starlark_syntax.specs.Margins.{Margin, comment_lines, comments_from, fits, has_tab, indentation, is_content, is_widest, margin_len, margin_of, open_widths, width_of}
 use Rattle.starlark_syntax.specs.Pieces.{Before, Ends, Fails, Gap, Layout, Nothing, Other, Piece, Stands, first_margin, line_end, margin_step}
@@ -17,13 +17,13 @@ use Rattle.starlark_syntax.specs.LayoutViews.{IsRefused, IsTaken, Queued}
 use Rattle.starlark_syntax.specs.NestingViews.{Represents, bracket_count, change_by, closes, fstring_of, opens}
 use Rattle.starlark_syntax.specs.ReadingViews.{IsBehind}
 use Rattle.starlark_syntax.specs.ReaderViews.{IsAhead, IsKept, IsLeft, IsRead, left_here, left_to_read, outcome_from, step_here}
-use Rattle.starlark_syntax.specs.TokenViews.{TokenView, Whole}
+use Rattle.starlark_token.specs.TokenViews.{TokenView, Whole}
 use Rattle.starlark_error.specs.declared.lexeme_error.LexemeError.{LexemeError}
 use Rattle.starlark_syntax.specs.declared.lexer.nesting.Nesting.{Nesting}
 use Rattle.starlark_syntax.specs.declared.lexer.nesting.changes.Change.TheVariants as change
 use Rattle.starlark_syntax.specs.declared.lexer.reader.Reader.{Reader}
 use Rattle.starlark_syntax.specs.declared.lexer.reader.Stage.TheVariants as stage
-use Rattle.starlark_syntax.specs.declared.lexer.tokens.Token.{Token}
+use Rattle.starlark_token.specs.declared.tokens.Token.{Token}
 use Rattle.starlark_syntax.proofs.Bounded.{piece_bounded}
 use Rattle.starlark_syntax.proofs.CommentLines.{margin_comments}
 use Rattle.starlark_syntax.proofs.Edges.{boundary_shift}

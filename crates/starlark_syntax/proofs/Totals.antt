@@ -6,8 +6,8 @@ use Rattle.std.proofs.lemmas.List.{length-append, length-map, length-replicate, 
 use Rattle.std.proofs.Math.Seq.{take-append-add}
 use Rattle.std.proofs.lemmas.List.Folds.{sum_by-replicate}
 use Rattle.std.proofs.lemmas.List.Sums.{sum_by-cons, sum_by-append, sum_by-take-le}
-use Rattle.starlark_syntax.specs.Words.{Text, Table}
-use Rattle.starlark_syntax.specs.Tokens.{Lexeme, moved, Dedent, Newline, Fault, Spanned, Outcome}
+use Rattle.starlark_token.specs.Words.{Text, Table}
+use Rattle.starlark_token.specs.Tokens.{Lexeme, moved, Dedent, Newline, Fault, Spanned, Outcome}
 use Rattle.starlark_syntax.specs.Margins.{margin_of, open_widths}
 use Rattle.starlark_syntax.specs.Pieces.{Before, Nothing, Layout, Gap, Other, Piece, Step, Stands, Fails, Ends}
 use Rattle.starlark_syntax.specs.Reading.{History, nothing, after, after_all, IsReading, pieces_len, lexemes_along, closing, outcome_of, outcome_in, read}

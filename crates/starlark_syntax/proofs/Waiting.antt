@@ -1,10 +1,10 @@
 -- Lexemes that are put behind those that wait.
 use Rattle.std.proofs.Common.{◌≡◌, ℕ, List, [], ◌∷◌, ◌++◌, ap, sym, ◌∙◌, append_assoc, append-nil, map}
 use Rattle.std.proofs.lemmas.List.{map-append}
-use Rattle.starlark_syntax.specs.Tokens.{Lexeme}
+use Rattle.starlark_token.specs.Tokens.{Lexeme}
 use Rattle.starlark_syntax.specs.LexedViews.{lexeme_view, shown_lexeme}
 use Rattle.starlark_syntax.specs.LayoutViews.{Queued}
-use Rattle.starlark_syntax.specs.declared.lexer.tokens.Token.{Token}
+use Rattle.starlark_token.specs.declared.tokens.Token.{Token}
 
 pub queued_none : (waiting : List (ℕ × Token × ℕ)) → Queued waiting [] waiting
 queued_none waiting = sym (append-nil (map lexeme_view waiting))

@@ -5,7 +5,7 @@ use Rattle.std.specs.Char.{is_ascii, is_ascii_digit, is_ascii_hexdigit}
 use Rattle.std.specs.List.{list_all, prefix_len}
 use Rattle.std.proofs.lemmas.Bool.{and_parts, eqb-true}
 use Rattle.std.proofs.lemmas.Bool.Decides.{nat_tests}
-use Rattle.starlark_syntax.specs.Words.{Text, Class, Skipped, Comment, Tabs, LineEnd, Opener, Reserved, Identifier, Decimal, Hexadecimal, Octal, Binary, Float, Fixed, Table, class_in, openers, line_ends, symbols, names, patterns, language, is_run, is_in_name, is_identifier, is_comment, is_based, is_octal_digit, is_binary_digit, behind_digits, begins_with_digit, is_sign, unsigned, is_exponent, ends_float, is_fraction, is_float, is_pointed}
+use Rattle.starlark_token.specs.Words.{Text, Class, Skipped, Comment, Tabs, LineEnd, Opener, Reserved, Identifier, Decimal, Hexadecimal, Octal, Binary, Float, Fixed, Table, class_in, openers, line_ends, symbols, names, patterns, language, is_run, is_in_name, is_identifier, is_comment, is_based, is_octal_digit, is_binary_digit, behind_digits, begins_with_digit, is_sign, unsigned, is_exponent, ends_float, is_fraction, is_float, is_pointed}
 use Rattle.starlark_syntax.specs.Cuts.{is_gap_byte}
 use Rattle.starlark_syntax.proofs.WordClasses.{all_fit, all_more, language_all_fit, row_fits, none_found}
 use Rattle.starlark_syntax.proofs.Gaps.{all_gaps, blank_gap}
@@ -58,7 +58,7 @@ binary_plain b h = grind (arith, nat_tests)
 in_name_plain : (b : ℕ) → is_in_name b ≡ true → is_ascii b ≡ true
 in_name_plain b h = grind (arith, nat_tests)
 
-begins_name_plain : (b : ℕ) → Rattle.starlark_syntax.specs.Words.begins_name b ≡ true → is_ascii b ≡ true
+begins_name_plain : (b : ℕ) → Rattle.starlark_token.specs.Words.begins_name b ≡ true → is_ascii b ≡ true
 begins_name_plain b h = grind (arith, nat_tests)
 
 same_plain : (a b : ℕ) → is_ascii a ≡ true → (a == b) ≡ true → is_ascii b ≡ true
@@ -67,7 +67,7 @@ same_plain a b h e = subst (λ c. is_ascii c ≡ true) (eqb-true a b e) h
 identifier_plain : (word : Text) → is_identifier word ≡ true → is_plain word ≡ true
 identifier_plain [] h = refl
 identifier_plain (b ∷ bs) h =
-    let parts = and_parts (Rattle.starlark_syntax.specs.Words.begins_name b) (list_all is_in_name bs) h in
+    let parts = and_parts (Rattle.starlark_token.specs.Words.begins_name b) (list_all is_in_name bs) h in
     rw (begins_name_plain b parts.0) (all_more is_in_name is_ascii bs in_name_plain parts.1)
 
 spaces_fit : (word : Text) → is_run (nat_eq 32) word ≡ true → (all_gaps word && is_plain word) ≡ true

@@ -10,9 +10,9 @@ use Rattle.std.proofs.lemmas.Bool.{and_parts, eqb-true}
 use Rattle.std.proofs.lemmas.Bool.Decides.{nat_tests}
 use Rattle.std.proofs.lemmas.Slice.Eq.{bytes_eq-Decides}
 use Rattle.std.proofs.lemmas.Str.{IsCharBoundary-after_ascii}
-use Rattle.starlark_syntax.specs.Words.{Text, Class, Skipped, Comment, Tabs, Identifier, Decimal, Hexadecimal, Octal, Binary, Float, class_in, openers, line_ends, symbols, names, patterns, language, is_run, is_identifier, is_comment, is_based, is_octal_digit, is_binary_digit, is_float, is_pointed, is_sign, unsigned}
-use Rattle.starlark_syntax.specs.Numbers.{integer_of, integer_in}
-use Rattle.starlark_syntax.proofs.Words.{class_in-language}
+use Rattle.starlark_token.specs.Words.{Text, Class, Skipped, Comment, Tabs, Identifier, Decimal, Hexadecimal, Octal, Binary, Float, class_in, openers, line_ends, symbols, names, patterns, language, is_run, is_identifier, is_comment, is_based, is_octal_digit, is_binary_digit, is_float, is_pointed, is_sign, unsigned}
+use Rattle.starlark_token.specs.Numbers.{integer_of, integer_in}
+use Rattle.starlark_token.proofs.Words.{class_in-language}
 
 -- whether a test of a class and a word is passed by each row of a list
 abbrev pub all_fit : (Class → Text → Bool) → List (Text × Class) → Bool

@@ -2,8 +2,8 @@
 use Rattle.std.specs.Prelude.{◌≡◌, ◌≤◌, ◌<◌, ℕ, ◌-◌, Bool, true, false, ◌&&◌, ◌||◌, ◌==◌, if◌then◌else◌, nat_eq, nat_le, List, [], ◌∷◌, ◌++◌, map, length, take, drop, codes, flat_map}
 use Rattle.std.specs.List.{ends_with, starts_with}
 use Rattle.std.specs.Str.{byte}
-use Rattle.starlark_syntax.specs.Words.{Text, Table, language}
-use Rattle.starlark_syntax.specs.Tokens.{Lexeme, moved}
+use Rattle.starlark_token.specs.Words.{Text, Table, language}
+use Rattle.starlark_token.specs.Tokens.{Lexeme, moved}
 use Rattle.starlark_syntax.specs.Depths.{Where, Outside, where_after, is_balanced}
 use Rattle.starlark_syntax.specs.Margins.{is_blank, is_feed, open_widths}
 use Rattle.starlark_syntax.specs.Pieces.{Before, Layout, Step, Fails}

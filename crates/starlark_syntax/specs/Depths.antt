@@ -1,7 +1,7 @@
 -- How deep a place is in brackets and f-strings, counted over the tokens before it, the last of them first.
 use Rattle.std.specs.Prelude.{ℕ, zero, suc, ◌+◌, ◌-◌, max, Bool, true, false, ◌&&◌, ◌||◌, ◌==◌, if◌then◌else◌, List, [], ◌∷◌, map, fold, count_by, Option, Some, None, option_map}
-use Rattle.starlark_syntax.specs.Words as word
-use Rattle.starlark_syntax.specs.Tokens.{Token, Opening, FStringStart, FStringEnd, FStringExprStart, FStringExprEnd, Word}
+use Rattle.starlark_token.specs.Words as word
+use Rattle.starlark_token.specs.Tokens.{Token, Opening, FStringStart, FStringEnd, FStringExprStart, FStringExprEnd, Word}
 
 pub data Shape : Type 0 where
   Round : Shape

@@ -3,10 +3,11 @@ use Rattle.std.specs.Prelude.{ℕ, zero, suc, ◌+◌, ◌-◌, Bool, true, fals
 use Rattle.std.specs.Char.{is_ascii_hexdigit}
 use Rattle.std.specs.List.{prefix_len, starts_with}
 use Rattle.std.specs.Map.{lookup}
-use Rattle.std.specs.Str.{byte, continuation_len}
+use Rattle.std.specs.Str.{byte}
 use Rattle.std.specs.Str.Parse.{digits_value}
-use Rattle.starlark_syntax.specs.Words.{Text, Quote, SingleQuote, DoubleQuote, Kind, OfBytes, OfFString, is_octal_digit}
-use Rattle.starlark_syntax.specs.Tokens.{Opening}
+use Rattle.starlark_token.specs.Words.{Text, Quote, SingleQuote, DoubleQuote, Kind, OfBytes, OfFString, is_octal_digit}
+use Rattle.starlark_token.specs.Characters.{first_character}
+use Rattle.starlark_token.specs.Tokens.{Opening}
 
 -- a literal, as far as its body is read by it
 pub record Literal : Type 0 where
@@ -34,11 +35,6 @@ pub data Found : Type 0 where
 
 abbrev pub goes : ℕ → Text → Found
 goes len value = Goes (record { len = len; value = value })
-
--- the bytes of the character at the front
-abbrev pub first_character : Text → Text
-first_character [] = []
-first_character (b ∷ bs) = b ∷ take (continuation_len b) bs
 
 abbrev pub quote_byte : Quote → ℕ
 quote_byte SingleQuote = byte "'"

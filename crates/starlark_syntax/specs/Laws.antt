@@ -2,9 +2,9 @@
 use Rattle.std.specs.Prelude.{◌≡◌, ◌≤◌, ℕ, ◌+◌, ◌*◌, Bool, true, false, ◌⊎◌, List, ◌++◌, length, take, count_by, Some, None, option_map, option_to_list, IfSome}
 use Rattle.std.specs.List.{AllByRecursion}
 use Rattle.std.specs.Str.{IsUtf8, IsCharBoundary}
-use Rattle.starlark_syntax.specs.Words.{Text, Class, Table, class_in, language}
-use Rattle.starlark_syntax.specs.Front.{IsLongestFront, language_front}
-use Rattle.starlark_syntax.specs.Tokens.{Token, Indent, Dedent, Spanned, Lexeme, moved, Outcome}
+use Rattle.starlark_token.specs.Words.{Text, Class, Table, class_in, language}
+use Rattle.starlark_token.specs.Front.{IsLongestFront, language_front}
+use Rattle.starlark_token.specs.Tokens.{Token, Indent, Dedent, Spanned, Lexeme, moved, Outcome}
 use Rattle.starlark_syntax.specs.Pieces.{Piece, Stands}
 use Rattle.starlark_syntax.specs.Reading.{History, nothing, next_step, IsReading, pieces_len, outcome_in, outcome, IsOutcome}
 use Rattle.starlark_syntax.specs.Cuts.{InOrder, is_clean_cut, joined}

@@ -1,7 +1,7 @@
 -- What the code's margins, and the lexemes that wait, say as the grammar sees them.
 use Rattle.std.specs.Prelude.{◌≡◌, ℕ, ◌+◌, ◌<◌, ◌≤◌, List, [], ◌∷◌, ◌++◌, if◌then◌else◌, Option, Some, None, map, length, take, drop, option_to_list}
-use Rattle.starlark_syntax.specs.Words.{Text}
-use Rattle.starlark_syntax.specs.Tokens as grammar
+use Rattle.starlark_token.specs.Words.{Text}
+use Rattle.starlark_token.specs.Tokens as grammar
 use Rattle.starlark_syntax.specs.Margins as margins
 use Rattle.starlark_syntax.specs.Margins.{comment_lines, has_tab, indentation, is_content, margin_len, open_widths, width_of}
 use Rattle.starlark_syntax.specs.Pieces as pieces
@@ -10,7 +10,7 @@ use Rattle.starlark_syntax.specs.declared.lexer.layout.Laid.{Laid}
 use Rattle.starlark_syntax.specs.declared.lexer.layout.Laid.TheVariants as laid
 use Rattle.starlark_syntax.specs.declared.lexer.layout.margins.Margin.{Margin}
 use Rattle.starlark_error.specs.declared.lexeme_error.LexemeError.{LexemeError}
-use Rattle.starlark_syntax.specs.declared.lexer.tokens.Token.{Token}
+use Rattle.starlark_token.specs.declared.tokens.Token.{Token}
 
 -- a margin as the code has measured it
 pub record IsMargin (margin : margins.Margin) (found : Margin) : Type 0 where

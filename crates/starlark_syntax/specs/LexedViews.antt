@@ -1,13 +1,13 @@
 -- What stands at a place of a text, as the code and as the grammar say it.
 use Rattle.std.specs.Prelude.{◌≡◌, ℕ, ◌+◌, ◌++◌, ◌∷◌, [], Bool, true, false, Option, Some, None, string_bytes}
-use Rattle.starlark_syntax.specs.Tokens as grammar
+use Rattle.starlark_token.specs.Tokens as grammar
 use Rattle.starlark_syntax.specs.Depths.{Where, Outside}
 use Rattle.starlark_syntax.specs.Pieces as pieces
 use Rattle.starlark_error.specs.declared.lexeme_error.LexemeError.{LexemeError}
 use Rattle.starlark_error.specs.declared.lexeme_error.LexemeError.TheVariants as fault
-use Rattle.starlark_syntax.specs.TokenViews.{TokenView, Whole, token_view}
+use Rattle.starlark_token.specs.TokenViews.{TokenView, Whole, token_view}
 use Rattle.starlark_syntax.specs.declared.lexer.literal.pieces.Step.{Step}
-use Rattle.starlark_syntax.specs.declared.lexer.tokens.Token.{Token}
+use Rattle.starlark_token.specs.declared.tokens.Token.{Token}
 use Rattle.starlark_syntax.specs.declared.lexer.literal.pieces.Step.TheVariants as step
 
 -- The fault that an error is, if it is one of a text.

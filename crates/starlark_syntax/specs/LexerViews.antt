@@ -10,12 +10,12 @@ use Rattle.starlark_error.specs.declared.error.kinds.ErrorKind.{ErrorKind}
 use Rattle.starlark_error.specs.declared.error.kinds.ErrorKind.TheVariants.{Parser}
 use Rattle.starlark_error.specs.declared.error.kinds.ParserMessage.TheVariants.{Lexeme}
 use Rattle.starlark_error.specs.declared.lexeme_error.LexemeError.{LexemeError}
-use Rattle.starlark_syntax.specs.Words.{Text}
-use Rattle.starlark_syntax.specs.Tokens as grammar
+use Rattle.starlark_token.specs.Words.{Text}
+use Rattle.starlark_token.specs.Tokens as grammar
 use Rattle.starlark_syntax.specs.Reading.{outcome}
 use Rattle.starlark_syntax.specs.LexedViews.{fault_view, lexeme_view, shown_lexeme}
-use Rattle.starlark_syntax.specs.TokenViews.{TokenView}
-use Rattle.starlark_syntax.specs.declared.lexer.tokens.Token.{Token}
+use Rattle.starlark_token.specs.TokenViews.{TokenView}
+use Rattle.starlark_token.specs.declared.tokens.Token.{Token}
 
 -- A lexer: its text, the code map of its faults, how many items it has handed out, and whether an error has ended it.
 pub record LexerView : Type 0 where

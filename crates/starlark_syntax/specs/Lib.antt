@@ -1,15 +1,3 @@
-pub mod Words
-pub mod Front
-pub mod Lengths
-pub mod Numbers
-pub mod IntegerValues
-pub mod Tokens
-pub mod BigIntegers
-pub mod TokenInts
-pub mod TokenViews
-pub mod TokenTexts
-pub mod NumberRefusals
-pub mod Scanned
 pub mod Items
 pub mod Depths
 pub mod Margins
@@ -17,7 +5,6 @@ pub mod Pieces
 pub mod Reading
 pub mod Cuts
 pub mod Laws
-pub mod OneIdentifier
 pub mod LiteralViews
 pub mod LexedViews
 pub mod NestingViews

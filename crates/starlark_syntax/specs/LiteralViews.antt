@@ -1,9 +1,9 @@
 -- What the code's literals, items and stops say, as the grammar sees them.
 use Rattle.std.specs.Prelude.{◌≡◌, Bool, true, false, [], ◌∷◌, ⊤, encode_utf8, string_bytes}
-use Rattle.starlark_syntax.specs.Words.{Text}
-use Rattle.starlark_syntax.specs.Tokens as grammar
+use Rattle.starlark_token.specs.Words.{Text}
+use Rattle.starlark_token.specs.Tokens as grammar
 use Rattle.starlark_syntax.specs.Items as items
-use Rattle.starlark_syntax.specs.Scanned.{kind_view, quote_view}
+use Rattle.starlark_token.specs.Scanned.{kind_view, quote_view}
 use Rattle.starlark_syntax.specs.declared.lexer.literal.items.Opening.{Opening}
 use Rattle.starlark_syntax.specs.declared.lexer.literal.items.Literal.{Literal}
 use Rattle.starlark_syntax.specs.declared.lexer.literal.items.Value.{Value}

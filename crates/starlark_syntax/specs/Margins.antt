@@ -2,8 +2,8 @@
 use Rattle.std.specs.Prelude.{ℕ, suc, ◌+◌, Bool, false, ◌&&◌, ◌||◌, not, ◌==◌, if◌then◌else◌, nat_eq, nat_lt, List, [], ◌∷◌, length, take, drop, take_while, count_by, sum_by, replicate}
 use Rattle.std.specs.List.{list_all, list_any, onto_first, prefix_len}
 use Rattle.std.specs.Str.{byte}
-use Rattle.starlark_syntax.specs.Words.{Text}
-use Rattle.starlark_syntax.specs.Tokens.{Lexeme, Comment, Indent, Dedent}
+use Rattle.starlark_token.specs.Words.{Text}
+use Rattle.starlark_token.specs.Tokens.{Lexeme, Comment, Indent, Dedent}
 
 -- a space, a tab or a CR
 abbrev pub is_blank : ℕ → Bool

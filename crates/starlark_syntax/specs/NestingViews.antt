@@ -1,11 +1,11 @@
 -- What the code keeps of the tokens before a place, as the grammar sees it.
 use Rattle.std.specs.Prelude.{◌≡◌, ℕ, ◌+◌, List, count_by, Option, option_map, reverse}
 use Rattle.std.specs.List.{slice_get}
-use Rattle.starlark_syntax.specs.Words as word
-use Rattle.starlark_syntax.specs.Tokens as grammar
+use Rattle.starlark_token.specs.Words as word
+use Rattle.starlark_token.specs.Tokens as grammar
 use Rattle.starlark_syntax.specs.Depths.{Where, Outside, InText, AtTop, Deeper, Round, Square, Curly, is_opening, is_closing, is_any_opening, is_any_closing, open_fstring, expression_tokens, depth}
 use Rattle.starlark_syntax.specs.LiteralViews.{opening_view}
-use Rattle.starlark_syntax.specs.TokenViews.{TokenView, Whole}
+use Rattle.starlark_token.specs.TokenViews.{TokenView, Whole}
 use Rattle.starlark_syntax.specs.declared.lexer.nesting.Place.{Place}
 use Rattle.starlark_syntax.specs.declared.lexer.nesting.Place.TheVariants as place
 use Rattle.starlark_syntax.specs.declared.lexer.nesting.Nesting.{Nesting}

@@ -1,8 +1,8 @@
 -- What the reader of a text has in front of it, as the grammar sees it.
 use Rattle.std.specs.Prelude.{◌≡◌, ℕ, ◌+◌, ◌-◌, ◌≤◌, List, [], ◌∷◌, ◌++◌, map, length, drop, Option, Some, None}
 use Rattle.std.specs.Str.{IsCharBoundary}
-use Rattle.starlark_syntax.specs.Words.{Text, language}
-use Rattle.starlark_syntax.specs.Tokens as grammar
+use Rattle.starlark_token.specs.Words.{Text, language}
+use Rattle.starlark_token.specs.Tokens as grammar
 use Rattle.starlark_syntax.specs.Margins.{open_widths}
 use Rattle.starlark_syntax.specs.Pieces.{Step, Piece, Fails}
 use Rattle.starlark_syntax.specs.Reading.{History, Reading, after_all, pieces_len, lexemes_along, closing, next_step, read_from, outcome}
@@ -10,7 +10,7 @@ use Rattle.starlark_syntax.specs.LexedViews.{fault_view, lexeme_view, shown_lexe
 use Rattle.starlark_syntax.specs.LayoutViews.{Queued}
 use Rattle.starlark_syntax.specs.NestingViews.{Represents, bracket_count}
 use Rattle.starlark_syntax.specs.ReadingViews.{IsBehind}
-use Rattle.starlark_syntax.specs.TokenViews.{TokenView}
+use Rattle.starlark_token.specs.TokenViews.{TokenView}
 use Rattle.starlark_syntax.specs.declared.lexer.reader.Reader.{Reader}
 use Rattle.starlark_syntax.specs.declared.lexer.reader.Next.{Next}
 use Rattle.starlark_syntax.specs.declared.lexer.reader.Next.TheVariants as next

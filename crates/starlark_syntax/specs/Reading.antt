@@ -1,7 +1,7 @@
 -- Readings of a text, and the outcome.
 use Rattle.std.specs.Prelude.{◌≡◌, ℕ, zero, suc, ◌+◌, ◌-◌, List, [], ◌∷◌, ◌++◌, map, length, drop, sum_by, replicate, Some, None, option_to_list, ⊤}
-use Rattle.starlark_syntax.specs.Words.{Text, Table, language}
-use Rattle.starlark_syntax.specs.Tokens.{Token, Newline, Dedent, Lexeme, moved, Outcome}
+use Rattle.starlark_token.specs.Words.{Text, Table, language}
+use Rattle.starlark_token.specs.Tokens.{Token, Newline, Dedent, Lexeme, moved, Outcome}
 use Rattle.starlark_syntax.specs.Depths.{where_after, is_balanced}
 use Rattle.starlark_syntax.specs.Margins.{margin_of, open_widths}
 use Rattle.starlark_syntax.specs.Pieces.{Before, Nothing, Piece, Step, Stands, Fails, Situation, step_at}

@@ -1,8 +1,8 @@
 -- The pieces of the code, as the grammar sees them.
 use Rattle.std.specs.Prelude.{◌≡◌, ℕ, Bool, true, false, List, [], drop}
 use Rattle.std.specs.Str.{IsCharBoundary}
-use Rattle.starlark_syntax.specs.Words.{Text}
-use Rattle.starlark_syntax.specs.Tokens as tokens
+use Rattle.starlark_token.specs.Words.{Text}
+use Rattle.starlark_token.specs.Tokens as tokens
 use Rattle.starlark_syntax.specs.Pieces as grammar
 use Rattle.starlark_syntax.specs.LexedViews.{IsStep}
 use Rattle.starlark_syntax.specs.LiteralViews.{opening_view}

@@ -1,9 +1,9 @@
 //! Laws of the written grammar, for all texts. Each function here has a law as its contract and nothing to do;
 //! programs don't call them.
 
-ghost use Rattle.starlark_syntax.specs.IntegerValues.{IntegersKeepTheirValue};
+ghost use Rattle.starlark_token.specs.IntegerValues.{IntegersKeepTheirValue};
 ghost use Rattle.starlark_syntax.specs.Laws.{FrontIsLongest, LongestFrontIsOne, ReadingsAgree, ReadingsFit, OutcomeIs, OutcomeIsOne, DedentsFollow, BlocksClose, ItemsAreFew, LexemesInOrder, FaultlessInOrder, LexemesAtBoundaries, CutsJoin, FaultsInside, FaultAtBoundaries};
-ghost use Rattle.starlark_syntax.specs.TokenTexts.{PrintedWordsReadBack};
+ghost use Rattle.starlark_token.specs.TokenTexts.{PrintedWordsReadBack};
 
 /// The longest front of a text that is a word is the longest, and there is only one.
 pub fn one_longest_front()

@@ -2,10 +2,10 @@
 use Rattle.std.proofs.Common.{◌≡◌, refl}
 use Rattle.std.specs.Prelude.{true, false, [], codes}
 use Rattle.std.proofs.Math.Utf8.{encode}
-use Rattle.starlark_syntax.specs.Words.{class_in, openers, line_ends, symbols, names, patterns, language}
-use Rattle.starlark_syntax.specs.Front.{longest_front}
-use Rattle.starlark_syntax.specs.Numbers.{integer_of}
-use Rattle.starlark_syntax.specs.Words.{Text}
+use Rattle.starlark_token.specs.Words.{class_in, openers, line_ends, symbols, names, patterns, language}
+use Rattle.starlark_token.specs.Front.{longest_front}
+use Rattle.starlark_token.specs.Numbers.{integer_of}
+use Rattle.starlark_token.specs.Words.{Text}
 use Rattle.std.specs.Prelude.{◌++◌, length}
 use Rattle.starlark_syntax.specs.Items.{simple_escapes, escape, raw_pair, found_at, body_from, body_at}
 use Rattle.starlark_syntax.specs.Depths.{is_balanced, open_fstring, braces, depth, where_after}

@@ -2,11 +2,11 @@
 use Rattle.std.proofs.Common.{refl}
 use Rattle.std.specs.Prelude.{[], ◌∷◌, codes}
 use Rattle.std.proofs.Math.Utf8.{encode}
-use Rattle.starlark_syntax.specs.Words as word
-use Rattle.starlark_syntax.specs.Words.{class_in, openers, line_ends, symbols, names, patterns, language}
-use Rattle.starlark_syntax.specs.Front.{longest_front}
-use Rattle.starlark_syntax.specs.Numbers.{integer_of}
-use Rattle.starlark_syntax.specs.Tokens.{Newline, Identifier, String, Bytes, Word, UnfinishedStringLiteral, InvalidEscapeSequence, EmptyEscapeSequence}
+use Rattle.starlark_token.specs.Words as word
+use Rattle.starlark_token.specs.Words.{class_in, openers, line_ends, symbols, names, patterns, language}
+use Rattle.starlark_token.specs.Front.{longest_front}
+use Rattle.starlark_token.specs.Numbers.{integer_of}
+use Rattle.starlark_token.specs.Tokens.{Newline, Identifier, String, Bytes, Word, UnfinishedStringLiteral, InvalidEscapeSequence, EmptyEscapeSequence}
 use Rattle.starlark_syntax.specs.Items.{simple_escapes, escape, raw_pair, found_at, body_from, body_at}
 use Rattle.starlark_syntax.specs.Depths.{is_balanced, open_fstring, braces, depth, where_after}
 use Rattle.starlark_syntax.specs.Margins.{lines, margin_of, open_widths, fits, indentation}

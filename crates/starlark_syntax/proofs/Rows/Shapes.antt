@@ -1,8 +1,8 @@
 -- How the rows of worked texts are written.
 use Rattle.std.proofs.Common.{◌≡◌}
 use Rattle.std.specs.Prelude.{ℕ, Bool, true, false, Some, None, List, codes, encode_utf8_all}
-use Rattle.starlark_syntax.specs.Words.{Text, Quote, SingleQuote, DoubleQuote}
-use Rattle.starlark_syntax.specs.Tokens.{Token, FStringStart, Fault, Spanned, Lexeme}
+use Rattle.starlark_token.specs.Words.{Text, Quote, SingleQuote, DoubleQuote}
+use Rattle.starlark_token.specs.Tokens.{Token, FStringStart, Fault, Spanned, Lexeme}
 use Rattle.starlark_syntax.specs.Reading.{outcome}
 
 abbrev pub at : {A : Type 0} → ℕ → A → ℕ → Spanned A

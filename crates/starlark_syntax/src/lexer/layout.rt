@@ -4,7 +4,7 @@ ghost use Rattle.std.specs.Prelude.{◌≡◌, ◌+◌, ◌<◌, ◌≤◌, ◌^
 ghost use Rattle.starlark_syntax.specs.LayoutViews.{IsDecided, IsLaid, IsMargin, Queued, margin_lexemes, margin_piece, margin_width};
 ghost use Rattle.starlark_syntax.specs.Margins as grammar;
 ghost use Rattle.starlark_syntax.specs.Pieces as pieces;
-ghost use Rattle.starlark_syntax.specs.Tokens as tokens;
+ghost use Rattle.starlark_token.specs.Tokens as tokens;
 
 mod comments;
 mod indents;
@@ -13,13 +13,13 @@ mod margins;
 #[cfg(test)]
 mod tests;
 
-use crate::lexer::tokens::Token;
 use comments::push_comments;
 pub use indents::push_closing;
 use indents::push_indentation;
 pub use levels::Levels;
 use margins::{Margin, margin_of};
 use starlark_error::lexeme_error::LexemeError;
+use starlark_token::tokens::Token;
 use std::alloc::{AllocError, Global};
 use std::collections::VecDeque;
 

@@ -9,12 +9,12 @@ ghost use Rattle.starlark_syntax.specs.LexerViews.{AnswersNext, handed_out_by, i
 mod tests;
 
 use crate::lexer::reader::{Next, Reader};
-use crate::lexer::tokens::Token;
 use starlark_base::codemap::{CodeMap, OrMemory, Pos, SourceTooLong, Span};
 use starlark_base::dialect::Dialect;
 use starlark_error::error::{ErrorKind, ParserMessage, error_from_lexeme};
 use starlark_error::eval_exception::EvalException;
 use starlark_error::lexeme_error::LexemeError;
+use starlark_token::tokens::Token;
 use std::alloc::{AllocError, Global};
 use std::marker::Model;
 

@@ -10,13 +10,13 @@ ghost use Rattle.starlark_syntax.specs.Depths.{is_balanced, where_after};
 ghost use Rattle.starlark_syntax.specs.LexedViews.{begins_fstring};
 ghost use Rattle.starlark_syntax.specs.LiteralViews.{opening_view};
 ghost use Rattle.starlark_syntax.specs.NestingViews.{IsUnchanged, Represents, bracket_count, place_view};
-ghost use Rattle.starlark_syntax.specs.TokenViews.{Whole, token_view};
-ghost use Rattle.starlark_syntax.specs.Tokens as grammar;
+ghost use Rattle.starlark_token.specs.TokenViews.{Whole, token_view};
+ghost use Rattle.starlark_token.specs.Tokens as grammar;
 
 use crate::lexer::literal::Opening;
-use crate::lexer::tokens::Token;
 use changes::{Change, change_of};
 use counts::{Brackets, OpenFString};
+use starlark_token::tokens::Token;
 use std::alloc::{AllocError, Global};
 
 /// Where a place is: outside of f-strings, in the text of one, at the top of an expression of one, or deeper in

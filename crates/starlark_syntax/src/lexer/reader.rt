@@ -10,17 +10,17 @@ ghost use Rattle.starlark_syntax.specs.ReaderViews.{IsAhead, IsElsewhere, IsKept
 ghost use Rattle.starlark_syntax.specs.Reading.{History, outcome};
 ghost use Rattle.starlark_syntax.specs.LayoutViews.{Queued};
 ghost use Rattle.starlark_syntax.specs.NestingViews.{Represents, bracket_count};
-ghost use Rattle.starlark_syntax.specs.TokenViews.{TokenView, Whole, token_view};
-ghost use Rattle.starlark_syntax.specs.Tokens as grammar_token;
-ghost use Rattle.starlark_syntax.specs.Tokens.{FStringStart, Fault, Spanned, moved};
-ghost use Rattle.starlark_syntax.specs.Words.{Text};
+ghost use Rattle.starlark_token.specs.TokenViews.{TokenView, Whole, token_view};
+ghost use Rattle.starlark_token.specs.Tokens as grammar_token;
+ghost use Rattle.starlark_token.specs.Tokens.{FStringStart, Fault, Spanned, moved};
+ghost use Rattle.starlark_token.specs.Words.{Text};
 
 use crate::lexer::layout::{Laid, Levels, PlacedToken, first_margin, line_end, push_closing};
 use crate::lexer::literal::{Opening, Step};
 use crate::lexer::nesting::Nesting;
 use crate::lexer::reading::{Piece, piece_at};
-use crate::lexer::tokens::Token;
 use starlark_error::lexeme_error::LexemeError;
+use starlark_token::tokens::Token;
 use std::alloc::{AllocError, Global};
 use std::collections::VecDeque;
 use std::mem;

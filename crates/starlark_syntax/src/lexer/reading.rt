@@ -2,16 +2,16 @@
 
 ghost use Rattle.std.specs.Prelude.{◌≡◌, ◌+◌, ◌<◌, ◌^◌, ◌&&◌, Some, drop, length, IfOk};
 ghost use Rattle.std.specs.Str.{IsCharBoundary};
-ghost use Rattle.starlark_syntax.specs.Front.{language_front};
+ghost use Rattle.starlark_token.specs.Front.{language_front};
 ghost use Rattle.starlark_syntax.specs.LexedViews.{IsStep, is_outside};
 ghost use Rattle.starlark_syntax.specs.NestingViews.{place_view};
 ghost use Rattle.starlark_syntax.specs.Pieces as grammar;
 ghost use Rattle.starlark_syntax.specs.ReadingViews.{IsBehind, IsPiece};
-ghost use Rattle.starlark_syntax.specs.Scanned.{class_view, kind_view, quote_view};
-ghost use Rattle.starlark_syntax.specs.Tokens.{InvalidInput};
-ghost use Rattle.starlark_syntax.specs.Items.{first_character};
-ghost use Rattle.starlark_syntax.specs.Words as word;
-ghost use Rattle.starlark_syntax.specs.Words.{class_in, language};
+ghost use Rattle.starlark_token.specs.Scanned.{class_view, kind_view, quote_view};
+ghost use Rattle.starlark_token.specs.Tokens.{InvalidInput};
+ghost use Rattle.starlark_token.specs.Characters.{first_character};
+ghost use Rattle.starlark_token.specs.Words as word;
+ghost use Rattle.starlark_token.specs.Words.{class_in, language};
 
 mod terminals;
 #[cfg(test)]
@@ -20,9 +20,9 @@ mod words;
 
 use crate::lexer::literal::{Opening, Step, chunk_from, literal_piece, opening_of};
 use crate::lexer::nesting::Place;
-use crate::lexer::scanner::{Class, LiteralKind, Quote, first_character_len, first_word};
-use crate::lexer::tokens::Token;
 use starlark_error::lexeme_error::LexemeError;
+use starlark_token::scanner::{Class, LiteralKind, Quote, first_character_len, first_word};
+use starlark_token::tokens::Token;
 use std::alloc::{AllocError, Global};
 use terminals::terminal_token;
 

@@ -1,6 +1,6 @@
-use Rattle.starlark_syntax.specs.Words.{class_in, language}
-use Rattle.starlark_syntax.specs.Front.{language_front}
-use Rattle.starlark_syntax.proofs.Front.{longest_front_is, longest_front_found}
+use Rattle.starlark_token.specs.Words.{class_in, language}
+use Rattle.starlark_token.specs.Front.{language_front}
+use Rattle.starlark_token.proofs.Front.{longest_front_is, longest_front_found}
 use Rattle.starlark_syntax.proofs.laws.one_longest_front.Goals as goal
 
 -- src/laws.rt:9:1

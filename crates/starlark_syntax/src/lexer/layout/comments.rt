@@ -4,11 +4,11 @@ ghost use Rattle.std.specs.Prelude.{◌≡◌, ◌+◌, ◌-◌, ◌<◌, ◌≤
 ghost use Rattle.starlark_syntax.specs.Laws.{AtBoundaries};
 ghost use Rattle.starlark_syntax.specs.LayoutViews.{Queued};
 ghost use Rattle.starlark_syntax.specs.Margins as grammar;
-ghost use Rattle.starlark_syntax.specs.Tokens.{moved};
+ghost use Rattle.starlark_token.specs.Tokens.{moved};
 
 use super::PlacedToken;
 use super::margins::{before_feed_len, blanks_len, comment_line_len};
-use crate::lexer::tokens::Token;
+use starlark_token::tokens::Token;
 use std::alloc::{AllocError, Global};
 use std::collections::VecDeque;
 

@@ -4,10 +4,10 @@ ghost use Rattle.std.specs.Prelude.{◌≡◌, ◌+◌, ◌<◌, ◌≤◌, ◌^
 ghost use Rattle.starlark_syntax.specs.LayoutViews.{IsMargin, Queued};
 ghost use Rattle.starlark_syntax.specs.Margins as grammar;
 ghost use Rattle.starlark_syntax.specs.Reading.{History, closing};
-ghost use Rattle.starlark_syntax.specs.Tokens.{Dedent, Lexeme, moved};
+ghost use Rattle.starlark_token.specs.Tokens.{Dedent, Lexeme, moved};
 
 use super::{Levels, Margin, PlacedToken};
-use crate::lexer::tokens::Token;
+use starlark_token::tokens::Token;
 use std::alloc::AllocError;
 use std::collections::VecDeque;
 

@@ -1,6 +1,6 @@
 use super::margins::{Margin, margin_of};
 use super::{Laid, Levels, PlacedToken, first_margin, line_end, push_closing};
-use crate::lexer::tokens::Token;
+use starlark_token::tokens::Token;
 use std::alloc::{AllocError, Global};
 use std::collections::VecDeque;
 use std::process::Abort;

@@ -4,10 +4,10 @@ ghost use Rattle.std.specs.Prelude.{◌≡◌, ◌++◌, [], not, string_bytes, 
 ghost use Rattle.std.specs.Str.{IsCharBoundary};
 ghost use Rattle.starlark_syntax.specs.Items as grammar;
 ghost use Rattle.starlark_syntax.specs.LiteralViews.{IsBody, IsCharacters, Takes, bytes_of, holds_text, literal_view, value_view};
-ghost use Rattle.starlark_syntax.specs.Scanned.{kind_view};
+ghost use Rattle.starlark_token.specs.Scanned.{kind_view};
 
 use super::items::{Found, Literal, Stop, Value, found_at};
-use crate::lexer::scanner::LiteralKind;
+use starlark_token::scanner::LiteralKind;
 use std::alloc::{AllocError, Global};
 
 /// The value of a literal: characters, or bytes.

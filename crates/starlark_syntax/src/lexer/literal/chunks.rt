@@ -8,9 +8,9 @@ ghost use Rattle.starlark_syntax.specs.Pieces as grammar;
 use super::body::{Body, LiteralValue, read_body};
 use super::items::{Literal, Opening, Stop, closing_len};
 use super::pieces::Step;
-use crate::lexer::scanner::LiteralKind;
-use crate::lexer::tokens::Token;
 use starlark_error::lexeme_error::LexemeError;
+use starlark_token::scanner::LiteralKind;
+use starlark_token::tokens::Token;
 use std::alloc::{AllocError, Global};
 
 /// The text of an f-string up to its first stop.

@@ -4,13 +4,14 @@ ghost use Rattle.std.specs.Prelude.{◌≡◌, ◌≤◌, ◌<◌, ◌∷◌, fa
 ghost use Rattle.std.specs.Char.{is_ascii_hexdigit};
 ghost use Rattle.std.specs.List.{prefix_len};
 ghost use Rattle.std.specs.Map.{lookup};
+ghost use Rattle.starlark_token.specs.Characters as characters;
 ghost use Rattle.starlark_syntax.specs.Items as grammar;
 ghost use Rattle.starlark_syntax.specs.LiteralViews.{IsCharacters, IsText, found_view, value_view};
-ghost use Rattle.starlark_syntax.specs.Scanned.{kind_view};
-ghost use Rattle.starlark_syntax.specs.Words.{is_octal_digit};
+ghost use Rattle.starlark_token.specs.Scanned.{kind_view};
+ghost use Rattle.starlark_token.specs.Words.{is_octal_digit};
 
 use super::items::{Found, Item, Stop, Value, behind_first, part};
-use crate::lexer::scanner::{LiteralKind, first_character_len};
+use starlark_token::scanner::{LiteralKind, first_character_len};
 
 /// An escape that goes no further behind so many bytes: the character behind them is the last that is read.
 fn broken<'a>(good: usize, behind: &str) -> Found<'a>
@@ -165,7 +166,7 @@ fn simple_value(byte: u8) -> Option<char>
 /// the character stand for themselves.
 fn simple(first: u8, text: &str) -> Found<'_>
     requires { text.now ≡ 92 ∷ first ∷ drop 2 text.now }
-    ensures value { found_view result ≡ grammar.simple (lookup (nat_eq first) grammar.simple_escapes) (grammar.first_character (drop 1 text.now)) }
+    ensures value { found_view result ≡ grammar.simple (lookup (nat_eq first) grammar.simple_escapes) (characters.first_character (drop 1 text.now)) }
     ensures text { IsText result }
 {
     if let Some(value) = simple_value(first) {

@@ -1,15 +1,16 @@
 //! What stands at a place of a literal's body: an item, or why the body stops.
 
 ghost use Rattle.std.specs.Prelude.{◌≡◌, ◌<◌, ◌==◌, ◌&&◌, ◌∷◌, not, drop, false, get_or, length, true};
+ghost use Rattle.starlark_token.specs.Characters as characters;
 ghost use Rattle.starlark_syntax.specs.Items as grammar;
 ghost use Rattle.starlark_syntax.specs.LiteralViews.{IsText, found_view, literal_view, opening_view};
-ghost use Rattle.starlark_syntax.specs.Scanned.{kind_view, quote_view};
-ghost use Rattle.starlark_syntax.specs.TokenViews.{opening_view as token_opening};
-ghost use Rattle.starlark_syntax.specs.Words.{OfFString};
+ghost use Rattle.starlark_token.specs.Scanned.{kind_view, quote_view};
+ghost use Rattle.starlark_token.specs.TokenViews.{opening_view as token_opening};
+ghost use Rattle.starlark_token.specs.Words.{OfFString};
 
 use super::escapes::escape;
-use crate::lexer::fstring_style::FStringQuote;
-use crate::lexer::scanner::{LiteralKind, Quote, first_character_len};
+use starlark_token::fstring_style::FStringQuote;
+use starlark_token::scanner::{LiteralKind, Quote, first_character_len};
 
 /// How a literal begins: whether it is raw, its quote, and whether three of them close it.
 #[derive(Clone, Copy, Debug, PartialEq, Eq)]
@@ -133,7 +134,7 @@ pub fn behind_first(text: &str) -> &str
 
 /// The first character of a text; nothing where the text is empty.
 pub fn first_character(text: &str) -> &str
-    ensures { result.now ≡ grammar.first_character text.now }
+    ensures { result.now ≡ characters.first_character text.now }
 {
     &text[..first_character_len(text)]
 }

@@ -6,15 +6,15 @@ ghost use Rattle.starlark_syntax.specs.Items as items;
 ghost use Rattle.starlark_syntax.specs.LexedViews.{IsStep, begins_fstring, fault_view, is_outside};
 ghost use Rattle.starlark_syntax.specs.LiteralViews.{bytes_of, holds_text, opening_view};
 ghost use Rattle.starlark_syntax.specs.Pieces as grammar;
-ghost use Rattle.starlark_syntax.specs.Scanned.{kind_view, quote_view};
-ghost use Rattle.starlark_syntax.specs.TokenViews.{Whole, token_view};
-ghost use Rattle.starlark_syntax.specs.Words.{Kind, OfFString};
+ghost use Rattle.starlark_token.specs.Scanned.{kind_view, quote_view};
+ghost use Rattle.starlark_token.specs.TokenViews.{Whole, token_view};
+ghost use Rattle.starlark_token.specs.Words.{Kind, OfFString};
 
 use super::body::{LiteralValue, read_body};
 use super::items::{Literal, Opening, Stop, closing_len};
-use crate::lexer::scanner::{LiteralKind, Quote};
-use crate::lexer::tokens::Token;
 use starlark_error::lexeme_error::LexemeError;
+use starlark_token::scanner::{LiteralKind, Quote};
+use starlark_token::tokens::Token;
 use std::alloc::{AllocError, Global};
 
 /// What stands at a place: a token of so many bytes; a text of an f-string, of `text_len` bytes, which is no lexeme

@@ -1,7 +1,7 @@
 use super::body::{Body, LiteralValue, read_body};
 use super::{Literal, Opening, Step, Stop, chunk_from, literal_piece};
-use crate::lexer::scanner::{LiteralKind, Quote};
-use crate::lexer::tokens::Token;
+use starlark_token::scanner::{LiteralKind, Quote};
+use starlark_token::tokens::Token;
 use std::alloc::{AllocError, Global};
 use std::test::Fail;
 

@@ -2,9 +2,9 @@
 
 ghost use Rattle.std.specs.Prelude.{◌≡◌};
 ghost use Rattle.starlark_syntax.specs.NestingViews.{change_by};
-ghost use Rattle.starlark_syntax.specs.TokenViews.{token_view};
+ghost use Rattle.starlark_token.specs.TokenViews.{token_view};
 
-use crate::lexer::tokens::Token;
+use starlark_token::tokens::Token;
 
 /// What a token does: it opens or closes a bracket, begins or ends an expression of an f-string, ends an f-string, or
 /// does none of these.
@@ -22,7 +22,7 @@ pub enum Change {
     Nothing,
 }
 
-#[tactic(auto, unfolding(crate::specs::TokenViews::token_view, crate::specs::NestingViews::change_by))]
+#[tactic(auto, unfolding(starlark_token::specs::TokenViews::token_view, crate::specs::NestingViews::change_by))]
 /// What a token does to brackets and f-strings.
 pub fn change_of(token: &Token) -> Change
     ensures { result ≡ change_by (token_view token.now) }

@@ -4,8 +4,8 @@ ghost use Rattle.std.specs.Prelude.{◌≡◌, ◌+◌, ◌<◌, ◌^◌, ◌∷
 ghost use Rattle.starlark_syntax.specs.Depths as depths;
 ghost use Rattle.starlark_syntax.specs.LiteralViews.{opening_view};
 ghost use Rattle.starlark_syntax.specs.NestingViews.{brackets_of, change_by, closes, fstring_of, fstring_view, opens, place_view};
-ghost use Rattle.starlark_syntax.specs.TokenViews.{Whole};
-ghost use Rattle.starlark_syntax.specs.Tokens as grammar;
+ghost use Rattle.starlark_token.specs.TokenViews.{Whole};
+ghost use Rattle.starlark_token.specs.Tokens as grammar;
 
 use super::Place;
 use super::changes::Change;

@@ -1,7 +1,7 @@
 use super::{Nesting, Place};
 use crate::lexer::literal::Opening;
-use crate::lexer::scanner::Quote;
-use crate::lexer::tokens::Token;
+use starlark_token::scanner::Quote;
+use starlark_token::tokens::Token;
 use std::test::Fail;
 
 fn opening(quote: Quote) -> Opening {

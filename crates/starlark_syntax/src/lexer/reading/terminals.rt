@@ -4,15 +4,15 @@ ghost use Rattle.std.specs.Prelude.{◌≡◌, false};
 ghost use Rattle.starlark_syntax.specs.LexedViews.{begins_fstring};
 ghost use Rattle.starlark_syntax.specs.NestingViews.{place_view};
 ghost use Rattle.starlark_syntax.specs.Pieces as grammar;
-ghost use Rattle.starlark_syntax.specs.Scanned.{terminal_view};
-ghost use Rattle.starlark_syntax.specs.TokenViews.{Whole, token_view};
-ghost use Rattle.starlark_syntax.specs.Tokens.{Word};
+ghost use Rattle.starlark_token.specs.Scanned.{terminal_view};
+ghost use Rattle.starlark_token.specs.TokenViews.{Whole, token_view};
+ghost use Rattle.starlark_token.specs.Tokens.{Word};
 
 use crate::lexer::nesting::Place;
-use crate::lexer::scanner::Terminal;
-use crate::lexer::tokens::Token;
+use starlark_token::scanner::Terminal;
+use starlark_token::tokens::Token;
 
-#[tactic(auto, unfolding(crate::specs::TokenViews::token_view))]
+#[tactic(auto, unfolding(starlark_token::specs::TokenViews::token_view))]
 /// The token of a word that is one of its own.
 fn own_token(terminal: Terminal) -> Token
     ensures { token_view result ≡ Whole (Word (terminal_view terminal)) }
@@ -79,7 +79,7 @@ fn own_token(terminal: Terminal) -> Token
     }
 }
 
-#[tactic(auto, unfolding(crate::specs::TokenViews::token_view))]
+#[tactic(auto, unfolding(starlark_token::specs::TokenViews::token_view))]
 /// The token of such a word at a place. At the top of an expression of an f-string a closing brace ends the expression.
 pub fn terminal_token(place: Place, terminal: Terminal) -> Token
     ensures token { token_view result ≡ Whole (grammar.terminal_token (place_view place) (terminal_view terminal)) }

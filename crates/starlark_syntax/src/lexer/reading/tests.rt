@@ -1,7 +1,7 @@
 use super::{Piece, piece_at};
 use crate::lexer::literal::{Opening, Step};
 use crate::lexer::nesting::Place;
-use crate::lexer::scanner::Quote;
+use starlark_token::scanner::Quote;
 use std::alloc::{AllocError, Global};
 use std::process::Abort;
 use std::test::Fail;

@@ -3,16 +3,16 @@
 ghost use Rattle.std.specs.Prelude.{◌≡◌, ◌≤◌, Some, drop, length, true, IfOk};
 ghost use Rattle.std.specs.Char.{is_digit};
 ghost use Rattle.starlark_syntax.specs.LexedViews.{IsStep};
-ghost use Rattle.starlark_syntax.specs.Numbers.{integer_of};
+ghost use Rattle.starlark_token.specs.Numbers.{integer_of};
 ghost use Rattle.starlark_syntax.specs.Pieces as grammar;
-ghost use Rattle.starlark_syntax.specs.Tokens as tokens;
-ghost use Rattle.starlark_syntax.specs.Words as class;
-ghost use Rattle.starlark_syntax.specs.Words.{class_in, is_run, language};
+ghost use Rattle.starlark_token.specs.Tokens as tokens;
+ghost use Rattle.starlark_token.specs.Words as class;
+ghost use Rattle.starlark_token.specs.Words.{class_in, is_run, language};
 
 use crate::lexer::literal::Step;
-use crate::lexer::number_text::number_in;
-use crate::lexer::tokens::Token;
 use starlark_error::lexeme_error::LexemeError;
+use starlark_token::number_text::number_in;
+use starlark_token::tokens::Token;
 use std::alloc::{AllocError, Global};
 
 /// A comment, whose value leaves out the `#`.

@@ -1,30 +1,25 @@
-use Rattle.std.proofs.Common.{◌≡◌, ◌++◌, [], ◌∷◌, append_assoc, ◌∙◌, ℕ, List, refl, sym, string_bytes, arith}
+use Rattle.std.proofs.Common.{◌∙◌, ap}
 use Rattle.std.proofs.lemmas.Result.{err_from_is_err_and}
-use Rattle.starlark_lex.specs.Output.{lexeme_text}
-use Rattle.starlark_lex.proofs.Writing.{writes_refused}
+use Rattle.starlark_base.specs.Places.{place_at}
+use Rattle.starlark_lex.proofs.Writing.{writes_refused, writes_failed, writes_told}
 use Rattle.starlark_lex.proofs.printer.Printer.lexeme.Goals as goal
 
--- a list behind one more element
-append_assoc_one : (front : List ℕ) (x : ℕ) (rest : List ℕ) → (front ++ x ∷ []) ++ rest ≡ front ++ x ∷ rest
-append_assoc_one front x rest = append_assoc front (x ∷ []) rest
-
-pub returns-in_err-begin_lexeme : goal.returns-in_err-begin_lexeme
-returns-in_err-begin_lexeme g c =
+pub returns-in_err-lexeme_line-clause-writes : goal.returns-in_err-lexeme_line-clause-writes
+returns-in_err-lexeme_line-clause-writes g c =
     let p = err_from_is_err_and c.from_residual.result c.from_residual.ensures.1 in
-    rw (p.1, p.2) (writes_refused _ _ _ _ _ c.requires)
+    rw (p.1, p.2) (writes_refused _ _ _ _ _ c.requires.sound)
 
-pub returns-in_err-push : goal.returns-in_err-push
-returns-in_err-push g c =
-    let p = err_from_is_err_and c.from_residual-in_err-push.result c.from_residual-in_err-push.ensures.1 in
-    rw (p.1, p.2) (writes_refused _ _ _ _ _ c.requires)
+pub returns-in_err-put-clause-writes : goal.returns-in_err-put-clause-writes
+returns-in_err-put-clause-writes g c =
+    let p = err_from_is_err_and c.from_residual-in_err-put.result c.from_residual-in_err-put.ensures.1 in
+    let begin = c.moved-begin.ensures.place.position ∙ ap (place_at c.args.text.now) c.moved-begin.ensures.at in
+    let end = c.moved-end.ensures.place.position ∙ ap (place_at c.args.text.now) c.moved-end.ensures.at in
+    let line = rw (c.moved-begin.ensures.at, c.moved-end.ensures.at, begin, end) at c.in_ok-lexeme_line.ensures in
+    rw (p.1, p.2) (writes_failed _ _ _ _ _ _ _ _ _ (rw (c.as_bytes.ensures.value, line) at c.in_err-put.ensures.writes))
 
-pub returns-then-has_value : goal.returns-then-has_value
-unfolding lexeme_text
-returns-then-has_value g c =
-    let head : string_bytes c.push.new.self ≡ string_bytes c.begin_lexeme.new.self.head ++ 32 ∷ [] = c.in_ok-push.ensures.bytes ∙ rw (c.in_ok-push.ensures.ascii (omega arith)) refl in
-    let line = rw (head, append_assoc_one (string_bytes c.begin_lexeme.new.self.head) 32 c.args.word.now, c.in_ok-begin_lexeme.ensures.head, c.in_ok-begin_lexeme.ensures.buffer) at c.line.ensures in
-    rw (sym c.if-has_value.ensures) line
-
-pub returns : goal.returns
-unfolding lexeme_text
-returns g c = rw (sym c.if-has_value.ensures) (rw (c.in_ok-begin_lexeme.ensures.head, c.in_ok-begin_lexeme.ensures.buffer) at c.line-2.ensures)
+pub returns-clause-writes : goal.returns-clause-writes
+returns-clause-writes g c =
+    let begin = c.moved-begin.ensures.place.position ∙ ap (place_at c.args.text.now) c.moved-begin.ensures.at in
+    let end = c.moved-end.ensures.place.position ∙ ap (place_at c.args.text.now) c.moved-end.ensures.at in
+    let line = rw (c.moved-begin.ensures.at, c.moved-end.ensures.at, begin, end) at c.in_ok-lexeme_line.ensures in
+    writes_told _ _ _ _ _ _ _ _ (rw (c.as_bytes.ensures.value, line) at c.in_ok-put.ensures.writes)

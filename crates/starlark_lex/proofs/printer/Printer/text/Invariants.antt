@@ -1,17 +1,23 @@
-use Rattle.std.proofs.Common.{◌≡◌, ◌-◌, ◌++◌, length, drop, Ok}
-use Rattle.starlark_lex.specs.Outcome.{outcome_from, outcome}
+use Rattle.std.proofs.Common.{◌≡◌, ◌-◌, ◌≤◌, ◌++◌, ℕ, false, length, drop, Ok}
+use Rattle.starlark_syntax.specs.Cuts.{InOrder}
+use Rattle.starlark_syntax.specs.LexerViews.{items}
+use Rattle.starlark_syntax.specs.Reading.{outcome}
 use Rattle.starlark_lex.specs.Output.{lines_of, output}
 use Rattle.starlark_lex.specs.Places.{IsPlace}
 use Rattle.starlark_lex.specs.Writing.{Writes}
 use Rattle.starlark_lex.proofs.printer.Printer.text.Given as goal
 
--- the output is what was written, what waits, and the lines of what is left of the text
-abbrev pub invariant-loop-place : goal.invariant-loop-place
-invariant-loop-place g l = record {
+-- the output is what was written, what waits, and the lines of the items that are left; no lexeme that is left begins before the place
+abbrev pub invariant-loop-item : goal.invariant-loop-item
+invariant-loop-item g l = record {
   place : IsPlace l.text l.place;
-  written : Writes {T = Unit {0}} g.W.Write.contents l.fn.writer l.writer (l.fn.self.buffer ++ output l.name l.text) (l.self.buffer ++ lines_of l.name l.text (outcome_from 0 l.place.at (drop l.place.at l.text))) (Ok tt);
-  fault : (outcome_from 0 l.place.at (drop l.place.at l.text)).fault ≡ (outcome l.text).fault;
+  order : (to : ℕ) × InOrder l.text l.place.at (drop l.lexer.handed_out (outcome l.text).lexemes) to;
+  few : l.lexer.handed_out ≤ length (outcome l.text).lexemes;
+  going : l.lexer.has_ended ≡ false;
+  text : l.lexer.text ≡ l.text;
+  file : l.lexer.code_map ≡ l.fn.lexer.code_map;
+  written : Writes {T = Unit {0}} g.W.Write.contents l.fn.writer l.writer (l.fn.self.buffer ++ output l.fn.lexer.code_map.filename l.text) (l.self.buffer ++ lines_of l.fn.lexer.code_map.filename l.text (drop l.lexer.handed_out (items l.text))) (Ok tt);
 }
 
-abbrev pub decreases-loop-place : goal.decreases-loop-place
-decreases-loop-place g l = length l.text - l.place.at
+abbrev pub decreases-loop-item : goal.decreases-loop-item
+decreases-loop-item g l = length (items l.text) - l.lexer.handed_out

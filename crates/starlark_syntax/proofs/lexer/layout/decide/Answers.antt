@@ -1,6 +1,6 @@
 use Rattle.std.proofs.Common.{◌∙◌, refl, sym}
 use Rattle.std.proofs.lemmas.Bool.{not-false, not-true}
-use Rattle.starlark_syntax.specs.Tokens.{Indentation, InvalidTab}
+use Rattle.starlark_token.specs.Tokens.{Indentation, InvalidTab}
 use Rattle.starlark_syntax.proofs.Laid.{decided_blank, decided_fits, decided_misfit, decided_tab}
 use Rattle.starlark_syntax.proofs.lexer.layout.decide.Goals as goal
 

@@ -1,10 +1,10 @@
 use Rattle.std.proofs.Common.{◌≡◌, ℕ, Some, ap, sym, ◌∙◌, length, take, drop}
 use Rattle.std.specs.Str.{IsUtf8, IsCharBoundary}
-use Rattle.starlark_syntax.specs.Front.{language_front}
-use Rattle.starlark_syntax.specs.Scanned.{class_view}
-use Rattle.starlark_syntax.specs.Words.{Text, Class, class_in, language}
+use Rattle.starlark_token.specs.Front.{language_front}
+use Rattle.starlark_token.specs.Scanned.{class_view}
+use Rattle.starlark_token.specs.Words.{Text, Class, class_in, language}
 use Rattle.starlark_syntax.proofs.Bounded.{word_edge}
-use Rattle.starlark_syntax.proofs.Front.{front_sound}
+use Rattle.starlark_token.proofs.Front.{front_sound}
 use Rattle.starlark_syntax.proofs.LiteralPieces.{if_ok}
 use Rattle.starlark_syntax.proofs.lexer.reading.code_piece.Goals as goal
 

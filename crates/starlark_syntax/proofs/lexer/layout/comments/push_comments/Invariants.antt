@@ -3,7 +3,7 @@ use Rattle.std.specs.List.{AllByRecursion}
 use Rattle.starlark_syntax.specs.Laws.{AtBoundaries}
 use Rattle.starlark_syntax.specs.LexedViews.{lexeme_view, shown_lexeme}
 use Rattle.starlark_syntax.specs.Margins.{comment_lines, comments_from, margin_of}
-use Rattle.starlark_syntax.specs.Tokens.{moved}
+use Rattle.starlark_token.specs.Tokens.{moved}
 use Rattle.starlark_syntax.proofs.lexer.layout.comments.push_comments.Given as goal
 
 abbrev pub invariant-loop-len : goal.invariant-loop-len

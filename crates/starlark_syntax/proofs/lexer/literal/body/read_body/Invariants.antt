@@ -2,7 +2,7 @@ use Rattle.std.proofs.Common.{◌≡◌, ◌-◌, length, not}
 use Rattle.std.specs.Str.{IsCharBoundary}
 use Rattle.starlark_syntax.specs.Items as grammar
 use Rattle.starlark_syntax.specs.LiteralViews.{bytes_of, holds_text, literal_view}
-use Rattle.starlark_syntax.specs.Scanned.{kind_view}
+use Rattle.starlark_token.specs.Scanned.{kind_view}
 use Rattle.starlark_syntax.proofs.BodySteps.{IsFront}
 use Rattle.starlark_syntax.proofs.lexer.literal.body.read_body.Given as goal
 

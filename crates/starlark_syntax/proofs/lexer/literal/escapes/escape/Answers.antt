@@ -1,8 +1,8 @@
 use Rattle.std.proofs.Common.{◌≡◌, ◌∙◌, true, false, drop, sym, ap, Some, None, arith}
 use Rattle.std.specs.List.{slice_get}
 use Rattle.starlark_syntax.specs.Items.{escape, octal}
-use Rattle.starlark_syntax.specs.Scanned.{kind_view}
-use Rattle.starlark_syntax.specs.Words.{is_octal_digit}
+use Rattle.starlark_token.specs.Scanned.{kind_view}
+use Rattle.starlark_token.specs.Words.{is_octal_digit}
 use Rattle.starlark_syntax.proofs.Escapes.{with_first, escape_end, escape_feed, escape_return, escape_x, escape_u, escape_long, escape_octal, escape_other}
 use Rattle.starlark_syntax.proofs.lexer.literal.escapes.escape.Goals as goal
 

@@ -2,7 +2,7 @@ use Rattle.std.proofs.Common.{◌≡◌, ◌∙◌, true, false, sym, refl, Some
 use Rattle.std.specs.List.{slice_get}
 use Rattle.starlark_syntax.specs.Items.{is_brace}
 use Rattle.starlark_syntax.specs.LiteralViews.{literal_view}
-use Rattle.starlark_syntax.specs.Scanned.{kind_view}
+use Rattle.starlark_token.specs.Scanned.{kind_view}
 use Rattle.starlark_syntax.proofs.Found.{closes, ends_line, at_end, at_closing, at_line, at_return, at_raw, at_escape, at_brace, at_plain}
 use Rattle.starlark_syntax.proofs.lexer.literal.items.found_at.Goals as goal
 

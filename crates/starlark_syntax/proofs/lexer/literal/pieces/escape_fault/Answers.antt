@@ -1,5 +1,5 @@
 use Rattle.std.proofs.Common.{◌≡◌, ◌==◌, true, false, length, refl, sym, ◌∙◌}
-use Rattle.starlark_syntax.specs.Tokens.{EmptyEscapeSequence, InvalidEscapeSequence}
+use Rattle.starlark_token.specs.Tokens.{EmptyEscapeSequence, InvalidEscapeSequence}
 use Rattle.starlark_syntax.proofs.LiteralPieces.{escape_none, escape_some}
 use Rattle.starlark_syntax.proofs.lexer.literal.pieces.escape_fault.Goals as goal
 

@@ -1,6 +1,6 @@
 use Rattle.std.proofs.Common.{◌∷◌, List, subst, sym, ◌∙◌}
 use Rattle.std.specs.Prelude.{reverse}
-use Rattle.starlark_syntax.specs.Tokens.{FStringStart}
+use Rattle.starlark_token.specs.Tokens.{FStringStart}
 use Rattle.starlark_syntax.specs.LiteralViews.{opening_view}
 use Rattle.starlark_syntax.specs.declared.lexer.nesting.counts.OpenFString.{OpenFString}
 use Rattle.starlark_syntax.proofs.Represented.{AreOpen, begun, begun_opened, begun_closed, popped}

@@ -1,6 +1,6 @@
 use Rattle.std.proofs.Common.{◌≡◌, ◌<◌, ◌+◌, ◌-◌, ◌^◌, ◌∷◌, List, [], ap, length, refl, rules, subst, sym, take, ◌∙◌, arith}
 use Rattle.std.specs.Prelude.{reverse, vec_len}
-use Rattle.starlark_syntax.specs.TokenViews.{Whole}
+use Rattle.starlark_token.specs.TokenViews.{Whole}
 use Rattle.starlark_syntax.specs.NestingViews.{brackets_of, change_by}
 use Rattle.starlark_syntax.specs.contracts.lexer.nesting.changes.Change.{the_type}
 use Rattle.starlark_syntax.specs.declared.lexer.nesting.counts.OpenFString.{OpenFString}

@@ -3,12 +3,12 @@ use Rattle.starlark_syntax.specs.LexedViews.{lexeme_view, shown_lexeme}
 use Rattle.starlark_syntax.specs.LiteralViews.{opening_view}
 use Rattle.starlark_syntax.specs.Margins.{open_widths}
 use Rattle.starlark_syntax.specs.NestingViews.{bracket_count}
-use Rattle.starlark_syntax.specs.Tokens.{FStringStart, Lexeme, Opening, moved}
-use Rattle.starlark_syntax.specs.TokenViews.{token_view}
-use Rattle.starlark_syntax.specs.TokenViews as views
-use Rattle.starlark_syntax.specs.declared.lexer.fstring_style.FStringQuote.{FStringQuote}
+use Rattle.starlark_token.specs.Tokens.{FStringStart, Lexeme, Opening, moved}
+use Rattle.starlark_token.specs.TokenViews.{token_view}
+use Rattle.starlark_token.specs.TokenViews as views
+use Rattle.starlark_token.specs.declared.fstring_style.FStringQuote.{FStringQuote}
 use Rattle.starlark_syntax.specs.declared.lexer.reader.Reader.{Reader}
-use Rattle.starlark_syntax.specs.declared.lexer.tokens.Token.TheVariants as token
+use Rattle.starlark_token.specs.declared.tokens.Token.TheVariants as token
 use Rattle.starlark_syntax.proofs.Taken.{less_taken, piece_inside, took}
 use Rattle.starlark_syntax.proofs.Waiting.{queued_one}
 use Rattle.starlark_syntax.proofs.lexer.reader.Reader.begin_fstring.Goals as goal

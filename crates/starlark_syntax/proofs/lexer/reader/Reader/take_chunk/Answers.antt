@@ -1,9 +1,9 @@
 use Rattle.std.proofs.Common.{◌≡◌, ℕ, ◌+◌, ◌≤◌, ◌∷◌, [], ◌++◌, ap, append-nil, arith, length, refl, rules, sym, ◌∙◌, None, string_bytes}
-use Rattle.starlark_syntax.specs.Words.{Text}
+use Rattle.starlark_token.specs.Words.{Text}
 use Rattle.starlark_syntax.specs.Margins.{open_widths}
 use Rattle.starlark_syntax.specs.Pieces as grammar
 use Rattle.starlark_syntax.specs.Pieces.{Piece}
-use Rattle.starlark_syntax.specs.Tokens.{Token}
+use Rattle.starlark_token.specs.Tokens.{Token}
 use Rattle.starlark_syntax.specs.NestingViews.{Represents, bracket_count}
 use Rattle.starlark_syntax.specs.Reading.{tokens_onto}
 use Rattle.starlark_syntax.specs.declared.lexer.reader.Reader.{Reader}

@@ -2,7 +2,7 @@ use Rattle.std.proofs.Common.{◌≡◌, ◌+◌, ◌≤◌, ◌∷◌, [], ◌+
 use Rattle.starlark_syntax.specs.Margins.{open_widths}
 use Rattle.starlark_syntax.specs.Pieces as grammar
 use Rattle.starlark_syntax.specs.Pieces.{Piece}
-use Rattle.starlark_syntax.specs.Tokens.{Token}
+use Rattle.starlark_token.specs.Tokens.{Token}
 use Rattle.starlark_syntax.specs.declared.lexer.reader.Reader.{Reader}
 use Rattle.starlark_syntax.proofs.Here.{less_onward, piece_here, shown_here}
 use Rattle.starlark_syntax.proofs.Taken.{took}

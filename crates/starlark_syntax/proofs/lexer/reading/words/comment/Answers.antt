@@ -1,7 +1,7 @@
 use Rattle.std.proofs.Common.{ap, refl, ◌∙◌}
 use Rattle.std.specs.Prelude.{drop}
-use Rattle.starlark_syntax.specs.Tokens.{Comment}
-use Rattle.starlark_syntax.specs.TokenViews.{Whole, token_view}
+use Rattle.starlark_token.specs.Tokens.{Comment}
+use Rattle.starlark_token.specs.TokenViews.{Whole, token_view}
 use Rattle.starlark_syntax.proofs.WordClasses.{comment_boundary}
 use Rattle.starlark_syntax.proofs.lexer.reading.words.comment.Goals as goal
 

@@ -1,7 +1,7 @@
 use Rattle.std.proofs.Common.{◌≡◌, true, ap, refl, sym, ◌∙◌}
 use Rattle.std.specs.Prelude.{Some}
 use Rattle.starlark_syntax.specs.Pieces as grammar
-use Rattle.starlark_syntax.specs.Tokens.{StartsZero}
+use Rattle.starlark_token.specs.Tokens.{StartsZero}
 use Rattle.starlark_syntax.proofs.WordClasses.{decimal_digits}
 use Rattle.starlark_syntax.proofs.lexer.reading.words.decimal.Goals as goal
 

@@ -1,6 +1,6 @@
 use Rattle.std.proofs.Common.{ap, refl}
-use Rattle.starlark_syntax.specs.Tokens.{Identifier}
-use Rattle.starlark_syntax.specs.TokenViews.{Whole, token_view}
+use Rattle.starlark_token.specs.Tokens.{Identifier}
+use Rattle.starlark_token.specs.TokenViews.{Whole, token_view}
 use Rattle.starlark_syntax.proofs.lexer.reading.words.identifier.Goals as goal
 
 pub returns : goal.returns

@@ -1,0 +1,19 @@
+-- Why no number is read from a text.
+use Rattle.std.specs.Prelude.{◌≡◌, ℕ, None, string_bytes, IsSomeAnd, ◌⊎◌}
+use Rattle.starlark_base.specs.declared.codemap.refusals.OrMemory.{OrMemory}
+use Rattle.starlark_base.specs.declared.codemap.refusals.OrMemory.TheVariants.{Error, Memory}
+use Rattle.starlark_token.specs.Words.{Text}
+use Rattle.starlark_token.specs.Numbers.{integer_in}
+use Rattle.starlark_token.specs.TokenInts.{IsBig}
+use Rattle.starlark_error.specs.declared.lexeme_error.LexemeError.{LexemeError}
+use Rattle.starlark_error.specs.declared.lexeme_error.LexemeError.TheVariants.{CannotParse}
+
+-- the fault names this text and this base
+abbrev pub CannotParseText : ℕ → Text → LexemeError → Type 0
+CannotParseText base text (CannotParse named in_base) = (string_bytes named ≡ text) × (in_base ≡ base)
+CannotParseText base text fault = ⊥
+
+-- The text is no number and the fault says so, or memory was wanting, and not for a number of 32 bits.
+abbrev pub RefusesNumber : ℕ → Text → OrMemory LexemeError → Type 0
+RefusesNumber base text (Error fault) = (integer_in base text ≡ None) × CannotParseText base text fault
+RefusesNumber base text Memory = (integer_in base text ≡ None) ⊎ IsSomeAnd (integer_in base text) IsBig

@@ -1,0 +1,442 @@
+//! The tokens that a lexer tells apart.
+
+ghost use Rattle.std.specs.Prelude.{◌≡◌, IfOk};
+ghost use Rattle.starlark_token.specs.TokenTexts.{kind_of, fixed_text};
+ghost use Rattle.starlark_token.specs.TokenViews.{token_view};
+
+use crate::fstring_style::FStringQuote;
+use crate::token_int::TokenInt;
+use std::alloc::{AllocError, Global};
+use std::fmt;
+
+/// A token: what a lexeme is, with its value where it has one.
+///
+/// `Tabs`, `Reserved` and the tokens whose names begin with `Raw` are words that a text is first cut into; a lexer
+/// hands out none of them.
+#[derive(Debug, Drop, PartialEq)]
+pub enum Token {
+    /// A comment: the text between `#` and the end of its line.
+    Comment(String),
+    /// One tab or more.
+    Tabs,
+    /// A block begins.
+    Indent,
+    /// A block ends.
+    Dedent,
+    /// A line ends.
+    Newline,
+    /// The opening of a text literal in single quotes.
+    RawSingleQuote,
+    /// The opening of a text literal in double quotes.
+    RawDoubleQuote,
+    /// The opening of an f-string in single quotes.
+    RawFStringSingleQuote,
+    /// The opening of an f-string in double quotes.
+    RawFStringDoubleQuote,
+    /// The opening of a bytes literal in single quotes.
+    RawByteSingleQuote,
+    /// The opening of a bytes literal in double quotes.
+    RawByteDoubleQuote,
+    /// A bytes literal: the bytes that it denotes.
+    Bytes(Vec<u8>),
+    /// A word that the language keeps for itself.
+    Reserved,
+    /// A name.
+    Identifier(String),
+    /// An integer in decimal, its value not read.
+    RawDecInt,
+    /// An integer in hexadecimal, its value not read.
+    RawHexInt,
+    /// An integer in binary, its value not read.
+    RawBinInt,
+    /// An integer in octal, its value not read.
+    RawOctInt,
+    /// An integer.
+    Int(TokenInt),
+    /// A number with a point or an exponent: the literal as it was written.
+    Float(String),
+    /// A text literal: the text that it denotes.
+    String(String),
+    /// The opening of an f-string.
+    FStringStart(FStringQuote),
+    /// A piece of an f-string's text: what it denotes.
+    FStringText(String),
+    /// The brace before an expression in an f-string.
+    FStringExprStart,
+    /// The brace behind an expression in an f-string.
+    FStringExprEnd,
+    /// The mark before a conversion in an f-string.
+    FStringBang,
+    /// The closing of an f-string.
+    FStringEnd,
+
+    And,
+    Break,
+    Continue,
+    Def,
+    Elif,
+    Else,
+    For,
+    If,
+    In,
+    Lambda,
+    Load,
+    Not,
+    Or,
+    Pass,
+    Return,
+
+    Comma,
+    Semicolon,
+    Colon,
+    PlusEqual,
+    MinusEqual,
+    StarEqual,
+    SlashEqual,
+    SlashSlashEqual,
+    PercentEqual,
+    EqualEqual,
+    BangEqual,
+    LessEqual,
+    GreaterEqual,
+    StarStar,
+    MinusGreater,
+    Equal,
+    LessThan,
+    GreaterThan,
+    Minus,
+    Plus,
+    Star,
+    Percent,
+    Slash,
+    SlashSlash,
+    Dot,
+    Ampersand,
+    Pipe,
+    Caret,
+    LessLess,
+    GreaterGreater,
+    Tilde,
+    AmpersandEqual,
+    PipeEqual,
+    CaretEqual,
+    LessLessEqual,
+    GreaterGreaterEqual,
+    Ellipsis,
+    OpeningSquare,
+    OpeningCurly,
+    OpeningRound,
+    ClosingSquare,
+    ClosingCurly,
+    ClosingRound,
+}
+
+impl Token {
+    #[tactic(auto, unfolding(crate::specs::TokenViews::token_view, crate::specs::TokenTexts::kind_of, crate::specs::TokenTexts::whole_kind, crate::specs::TokenTexts::terminal_kind))]
+    /// The variant's name.
+    pub fn kind(&self) -> &'static str
+        ensures { result.now ≡ kind_of (token_view self.now) }
+    {
+        match self {
+            Token::Comment(_) => "Comment",
+            Token::Tabs => "Tabs",
+            Token::Indent => "Indent",
+            Token::Dedent => "Dedent",
+            Token::Newline => "Newline",
+            Token::RawSingleQuote => "RawSingleQuote",
+            Token::RawDoubleQuote => "RawDoubleQuote",
+            Token::RawFStringSingleQuote => "RawFStringSingleQuote",
+            Token::RawFStringDoubleQuote => "RawFStringDoubleQuote",
+            Token::RawByteSingleQuote => "RawByteSingleQuote",
+            Token::RawByteDoubleQuote => "RawByteDoubleQuote",
+            Token::Bytes(_) => "Bytes",
+            Token::Reserved => "Reserved",
+            Token::Identifier(_) => "Identifier",
+            Token::RawDecInt => "RawDecInt",
+            Token::RawHexInt => "RawHexInt",
+            Token::RawBinInt => "RawBinInt",
+            Token::RawOctInt => "RawOctInt",
+            Token::Int(_) => "Int",
+            Token::Float(_) => "Float",
+            Token::String(_) => "String",
+            Token::FStringStart(_) => "FStringStart",
+            Token::FStringText(_) => "FStringText",
+            Token::FStringExprStart => "FStringExprStart",
+            Token::FStringExprEnd => "FStringExprEnd",
+            Token::FStringBang => "FStringBang",
+            Token::FStringEnd => "FStringEnd",
+            Token::And => "And",
+            Token::Break => "Break",
+            Token::Continue => "Continue",
+            Token::Def => "Def",
+            Token::Elif => "Elif",
+            Token::Else => "Else",
+            Token::For => "For",
+            Token::If => "If",
+            Token::In => "In",
+            Token::Lambda => "Lambda",
+            Token::Load => "Load",
+            Token::Not => "Not",
+            Token::Or => "Or",
+            Token::Pass => "Pass",
+            Token::Return => "Return",
+            Token::Comma => "Comma",
+            Token::Semicolon => "Semicolon",
+            Token::Colon => "Colon",
+            Token::PlusEqual => "PlusEqual",
+            Token::MinusEqual => "MinusEqual",
+            Token::StarEqual => "StarEqual",
+            Token::SlashEqual => "SlashEqual",
+            Token::SlashSlashEqual => "SlashSlashEqual",
+            Token::PercentEqual => "PercentEqual",
+            Token::EqualEqual => "EqualEqual",
+            Token::BangEqual => "BangEqual",
+            Token::LessEqual => "LessEqual",
+            Token::GreaterEqual => "GreaterEqual",
+            Token::StarStar => "StarStar",
+            Token::MinusGreater => "MinusGreater",
+            Token::Equal => "Equal",
+            Token::LessThan => "LessThan",
+            Token::GreaterThan => "GreaterThan",
+            Token::Minus => "Minus",
+            Token::Plus => "Plus",
+            Token::Star => "Star",
+            Token::Percent => "Percent",
+            Token::Slash => "Slash",
+            Token::SlashSlash => "SlashSlash",
+            Token::Dot => "Dot",
+            Token::Ampersand => "Ampersand",
+            Token::Pipe => "Pipe",
+            Token::Caret => "Caret",
+            Token::LessLess => "LessLess",
+            Token::GreaterGreater => "GreaterGreater",
+            Token::Tilde => "Tilde",
+            Token::AmpersandEqual => "AmpersandEqual",
+            Token::PipeEqual => "PipeEqual",
+            Token::CaretEqual => "CaretEqual",
+            Token::LessLessEqual => "LessLessEqual",
+            Token::GreaterGreaterEqual => "GreaterGreaterEqual",
+            Token::Ellipsis => "Ellipsis",
+            Token::OpeningSquare => "OpeningSquare",
+            Token::OpeningCurly => "OpeningCurly",
+            Token::OpeningRound => "OpeningRound",
+            Token::ClosingSquare => "ClosingSquare",
+            Token::ClosingCurly => "ClosingCurly",
+            Token::ClosingRound => "ClosingRound",
+        }
+    }
+
+    #[tactic(auto, unfolding(crate::specs::TokenViews::token_view, crate::specs::TokenTexts::fixed_text, crate::specs::TokenTexts::word_of))]
+    /// What is printed of a token that has no value; nothing for one that has.
+    fn fixed_text(&self) -> &'static str
+        ensures { result.now ≡ fixed_text (token_view self.now) }
+    {
+        match self {
+            Token::Tabs => "",
+            Token::Indent => "new indentation block",
+            Token::Dedent => "end of indentation block",
+            Token::Newline => "new line",
+            Token::RawSingleQuote => "starting '",
+            Token::RawDoubleQuote => "starting \"",
+            Token::RawFStringSingleQuote => "starting f'",
+            Token::RawFStringDoubleQuote => "starting f\"",
+            Token::RawByteSingleQuote => "starting b'",
+            Token::RawByteDoubleQuote => "starting b\"",
+            Token::Reserved => "reserved keyword",
+            Token::RawDecInt => "decimal integer literal",
+            Token::RawHexInt => "hexadecimal integer literal",
+            Token::RawBinInt => "binary integer literal",
+            Token::RawOctInt => "octal integer literal",
+            Token::FStringStart(_) => "f-string start",
+            Token::FStringExprStart => "f-string expression start '{'",
+            Token::FStringExprEnd => "f-string expression end '}'",
+            Token::FStringBang => "f-string bang '!'",
+            Token::FStringEnd => "f-string end",
+            Token::And => "keyword 'and'",
+            Token::Break => "keyword 'break'",
+            Token::Continue => "keyword 'continue'",
+            Token::Def => "keyword 'def'",
+            Token::Elif => "keyword 'elif'",
+            Token::Else => "keyword 'else'",
+            Token::For => "keyword 'for'",
+            Token::If => "keyword 'if'",
+            Token::In => "keyword 'in'",
+            Token::Lambda => "keyword 'lambda'",
+            Token::Load => "keyword 'load'",
+            Token::Not => "keyword 'not'",
+            Token::Or => "keyword 'or'",
+            Token::Pass => "keyword 'pass'",
+            Token::Return => "keyword 'return'",
+            Token::Comma => "symbol ','",
+            Token::Semicolon => "symbol ';'",
+            Token::Colon => "symbol ':'",
+            Token::PlusEqual => "symbol '+='",
+            Token::MinusEqual => "symbol '-='",
+            Token::StarEqual => "symbol '*='",
+            Token::SlashEqual => "symbol '/='",
+            Token::SlashSlashEqual => "symbol '//='",
+            Token::PercentEqual => "symbol '%='",
+            Token::EqualEqual => "symbol '=='",
+            Token::BangEqual => "symbol '!='",
+            Token::LessEqual => "symbol '<='",
+            Token::GreaterEqual => "symbol '>='",
+            Token::StarStar => "symbol '**'",
+            Token::MinusGreater => "symbol '->'",
+            Token::Equal => "symbol '='",
+            Token::LessThan => "symbol '<'",
+            Token::GreaterThan => "symbol '>'",
+            Token::Minus => "symbol '-'",
+            Token::Plus => "symbol '+'",
+            Token::Star => "symbol '*'",
+            Token::Percent => "symbol '%'",
+            Token::Slash => "symbol '/'",
+            Token::SlashSlash => "symbol '//'",
+            Token::Dot => "symbol '.'",
+            Token::Ampersand => "symbol '&'",
+            Token::Pipe => "symbol '|'",
+            Token::Caret => "symbol '^'",
+            Token::LessLess => "symbol '<<'",
+            Token::GreaterGreater => "symbol '>>'",
+            Token::Tilde => "symbol '~'",
+            Token::AmpersandEqual => "symbol '&='",
+            Token::PipeEqual => "symbol '|='",
+            Token::CaretEqual => "symbol '^='",
+            Token::LessLessEqual => "symbol '<<='",
+            Token::GreaterGreaterEqual => "symbol '>>='",
+            Token::Ellipsis => "symbol '...'",
+            Token::OpeningSquare => "symbol '['",
+            Token::OpeningCurly => "symbol '{'",
+            Token::OpeningRound => "symbol '('",
+            Token::ClosingSquare => "symbol ']'",
+            Token::ClosingCurly => "symbol '}'",
+            Token::ClosingRound => "symbol ')'",
+            Token::Comment(_)
+            | Token::Bytes(_)
+            | Token::Identifier(_)
+            | Token::Int(_)
+            | Token::Float(_)
+            | Token::String(_)
+            | Token::FStringText(_) => "",
+        }
+    }
+
+    #[tactic(auto, unfolding(crate::specs::TokenViews::token_view))]
+    /// An equal token, its value in memory of its own.
+    pub fn clone(&self, alloc: Global) -> Result<Token, AllocError>
+        ensures { IfOk result (λ copy. token_view copy ≡ token_view self.now) }
+    {
+        match self {
+            Token::Comment(text) => Ok(Token::Comment(String::from_str(alloc, text.as_str())?)),
+            Token::Tabs => Ok(Token::Tabs),
+            Token::Indent => Ok(Token::Indent),
+            Token::Dedent => Ok(Token::Dedent),
+            Token::Newline => Ok(Token::Newline),
+            Token::RawSingleQuote => Ok(Token::RawSingleQuote),
+            Token::RawDoubleQuote => Ok(Token::RawDoubleQuote),
+            Token::RawFStringSingleQuote => Ok(Token::RawFStringSingleQuote),
+            Token::RawFStringDoubleQuote => Ok(Token::RawFStringDoubleQuote),
+            Token::RawByteSingleQuote => Ok(Token::RawByteSingleQuote),
+            Token::RawByteDoubleQuote => Ok(Token::RawByteDoubleQuote),
+            Token::Bytes(bytes) => Ok(Token::Bytes(Vec::from_slice(alloc, bytes.as_slice())?)),
+            Token::Reserved => Ok(Token::Reserved),
+            Token::Identifier(text) => Ok(Token::Identifier(String::from_str(
+                alloc,
+                text.as_str(),
+            )?)),
+            Token::RawDecInt => Ok(Token::RawDecInt),
+            Token::RawHexInt => Ok(Token::RawHexInt),
+            Token::RawBinInt => Ok(Token::RawBinInt),
+            Token::RawOctInt => Ok(Token::RawOctInt),
+            Token::Int(number) => Ok(Token::Int(number.clone(alloc)?)),
+            Token::Float(text) => Ok(Token::Float(String::from_str(alloc, text.as_str())?)),
+            Token::String(text) => Ok(Token::String(String::from_str(alloc, text.as_str())?)),
+            Token::FStringStart(quote) => Ok(Token::FStringStart(*quote)),
+            Token::FStringText(text) => Ok(Token::FStringText(String::from_str(
+                alloc,
+                text.as_str(),
+            )?)),
+            Token::FStringExprStart => Ok(Token::FStringExprStart),
+            Token::FStringExprEnd => Ok(Token::FStringExprEnd),
+            Token::FStringBang => Ok(Token::FStringBang),
+            Token::FStringEnd => Ok(Token::FStringEnd),
+            Token::And => Ok(Token::And),
+            Token::Break => Ok(Token::Break),
+            Token::Continue => Ok(Token::Continue),
+            Token::Def => Ok(Token::Def),
+            Token::Elif => Ok(Token::Elif),
+            Token::Else => Ok(Token::Else),
+            Token::For => Ok(Token::For),
+            Token::If => Ok(Token::If),
+            Token::In => Ok(Token::In),
+            Token::Lambda => Ok(Token::Lambda),
+            Token::Load => Ok(Token::Load),
+            Token::Not => Ok(Token::Not),
+            Token::Or => Ok(Token::Or),
+            Token::Pass => Ok(Token::Pass),
+            Token::Return => Ok(Token::Return),
+            Token::Comma => Ok(Token::Comma),
+            Token::Semicolon => Ok(Token::Semicolon),
+            Token::Colon => Ok(Token::Colon),
+            Token::PlusEqual => Ok(Token::PlusEqual),
+            Token::MinusEqual => Ok(Token::MinusEqual),
+            Token::StarEqual => Ok(Token::StarEqual),
+            Token::SlashEqual => Ok(Token::SlashEqual),
+            Token::SlashSlashEqual => Ok(Token::SlashSlashEqual),
+            Token::PercentEqual => Ok(Token::PercentEqual),
+            Token::EqualEqual => Ok(Token::EqualEqual),
+            Token::BangEqual => Ok(Token::BangEqual),
+            Token::LessEqual => Ok(Token::LessEqual),
+            Token::GreaterEqual => Ok(Token::GreaterEqual),
+            Token::StarStar => Ok(Token::StarStar),
+            Token::MinusGreater => Ok(Token::MinusGreater),
+            Token::Equal => Ok(Token::Equal),
+            Token::LessThan => Ok(Token::LessThan),
+            Token::GreaterThan => Ok(Token::GreaterThan),
+            Token::Minus => Ok(Token::Minus),
+            Token::Plus => Ok(Token::Plus),
+            Token::Star => Ok(Token::Star),
+            Token::Percent => Ok(Token::Percent),
+            Token::Slash => Ok(Token::Slash),
+            Token::SlashSlash => Ok(Token::SlashSlash),
+            Token::Dot => Ok(Token::Dot),
+            Token::Ampersand => Ok(Token::Ampersand),
+            Token::Pipe => Ok(Token::Pipe),
+            Token::Caret => Ok(Token::Caret),
+            Token::LessLess => Ok(Token::LessLess),
+            Token::GreaterGreater => Ok(Token::GreaterGreater),
+            Token::Tilde => Ok(Token::Tilde),
+            Token::AmpersandEqual => Ok(Token::AmpersandEqual),
+            Token::PipeEqual => Ok(Token::PipeEqual),
+            Token::CaretEqual => Ok(Token::CaretEqual),
+            Token::LessLessEqual => Ok(Token::LessLessEqual),
+            Token::GreaterGreaterEqual => Ok(Token::GreaterGreaterEqual),
+            Token::Ellipsis => Ok(Token::Ellipsis),
+            Token::OpeningSquare => Ok(Token::OpeningSquare),
+            Token::OpeningCurly => Ok(Token::OpeningCurly),
+            Token::OpeningRound => Ok(Token::OpeningRound),
+            Token::ClosingSquare => Ok(Token::ClosingSquare),
+            Token::ClosingCurly => Ok(Token::ClosingCurly),
+            Token::ClosingRound => Ok(Token::ClosingRound),
+        }
+    }
+}
+
+#[tactic(auto, unfolding(crate::specs::TokenViews::token_view, crate::specs::TokenTexts::token_text))]
+impl fmt::Display for Token {
+    ghost use Rattle.starlark_token.specs.TokenTexts.{token_text};
+
+    ghost output = { λ token. token_text (token_view token) };
+
+    fn fmt<W: fmt::Write>(&self, f: &mut fmt::Formatter<W>) -> fmt::Result {
+        match self {
+            Token::Comment(text) => write!(f, "comment '{text}'"),
+            Token::Bytes(bytes) => write!(f, "bytes literal ({} bytes)", bytes.len()),
+            Token::Identifier(name) => write!(f, "identifier '{name}'"),
+            Token::Int(number) => write!(f, "integer literal '{number}'"),
+            Token::Float(text) => write!(f, "float literal '{text}'"),
+            Token::String(text) => write!(f, "string literal {text:?}"),
+            Token::FStringText(text) => write!(f, "f-string text {text:?}"),
+            _ => f.write_str(self.fixed_text()),
+        }
+    }
+}
