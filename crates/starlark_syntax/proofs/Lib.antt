@@ -45,3 +45,7 @@ pub mod Onward
 pub mod PieceTaken
 pub mod NextLexeme
 pub mod LexerItems
+pub mod LaneRuns
+pub mod EndLanes
+pub mod RunBytes
+pub mod BodyRuns

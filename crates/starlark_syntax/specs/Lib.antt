@@ -12,3 +12,4 @@ pub mod ReadingViews
 pub mod LayoutViews
 pub mod ReaderViews
 pub mod LexerViews
+pub mod Runs
