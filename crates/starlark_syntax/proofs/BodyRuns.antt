@@ -1,6 +1,6 @@
 -- A body behind a run.
 use Rattle.std.proofs.Math.Utf8.{encode, encodes, scalar, scalars, scalar_cases}
-use Rattle.std.proofs.Common.{◌≡◌, ◌⊎◌, inl, inr, ℕ, suc, ◌+◌, ◌≤◌, ◌<◌, ◌==◌, ◌&&◌, ◌||◌, Bool, true, false, not, nat_eq, List, [], ◌∷◌, ◌++◌, length, take, drop, refl, ap, ◌∙◌, sym, subst, one-add, arith}
+use Rattle.std.proofs.Common.{◌≡◌, ◌⊎◌, inl, inr, ℕ, ◌+◌, ◌≤◌, ◌<◌, ◌==◌, ◌&&◌, ◌||◌, Bool, true, false, not, nat_eq, List, [], ◌∷◌, ◌++◌, length, take, drop, refl, ap, ◌∙◌, sym, subst, one-add, arith}
 use Rattle.std.proofs.lemmas.Bool.{and_parts, not-true}
 use Rattle.std.proofs.lemmas.Bool.Decides.{nat_tests}
 use Rattle.std.proofs.lemmas.List.{append_assoc, length-append, length-drop, take-append-drop, drop_at}
@@ -10,8 +10,8 @@ use Rattle.std.specs.Prelude.{if◌then◌else◌}
 use Rattle.std.specs.List.{list_all, prefix_len, starts_with}
 use Rattle.std.specs.Str.{IsCharBoundary, IsUtf8}
 use Rattle.starlark_token.specs.Characters.{first_character}
-use Rattle.starlark_token.specs.Words.{Text, Kind, Quote, SingleQuote, DoubleQuote}
-use Rattle.starlark_syntax.specs.Items.{Literal, Item, Goes, goes, closing_quotes, found_at, is_brace, quote_byte, body_at, body_len, body_value, Body}
+use Rattle.starlark_token.specs.Words.{Text, Quote}
+use Rattle.starlark_syntax.specs.Items.{Literal, Item, goes, closing_quotes, found_at, is_brace, quote_byte, body_at, body_value}
 use Rattle.starlark_syntax.specs.Runs.{is_in_run, is_special}
 use Rattle.starlark_syntax.proofs.BodySteps.{IsFront, front_more, front_none}
 use Rattle.starlark_syntax.proofs.Edges.{encoded}

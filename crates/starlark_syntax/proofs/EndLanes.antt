@@ -1,5 +1,5 @@
 -- The lanes that compare bytes with the ends of a run.
-use Rattle.std.proofs.Common.{◌≡◌, ℕ, ◌==◌, Bool, true, false, ◌||◌, cond, eqb, List, map, replicate, length, refl, ap, ◌∙◌, sym, bit_or}
+use Rattle.std.proofs.Common.{◌≡◌, ℕ, Bool, true, false, ◌||◌, eqb, List, map, replicate, length, refl, ◌∙◌, bit_or}
 use Rattle.std.proofs.lemmas.Simd.{zip2_splat, zip2_of_maps}
 use lib.Lanes.{zip2}
 use Rattle.starlark_syntax.specs.Runs.{is_end}

@@ -1,7 +1,7 @@
 -- Runs of bytes in parts, and runs that are found in sixteen bytes at once.
-use Rattle.std.proofs.Common.{◌≡◌, ℕ, ◌+◌, ◌≤◌, ◌<◌, ◌%◌, ◌^◌, Bool, true, false, cond, ◌||◌, not, eqb, List, ◌++◌, map, length, take, drop, refl, ap, ◌∙◌, sym, subst, bit_or, w8, arith}
+use Rattle.std.proofs.Common.{◌≡◌, ℕ, ◌+◌, ◌≤◌, ◌<◌, ◌%◌, ◌^◌, Bool, true, false, cond, ◌||◌, not, eqb, List, map, length, take, drop, refl, ap, ◌∙◌, sym, bit_or, arith}
 use Rattle.std.proofs.lemmas.Bool.{eq-eqb, ne_eqb, cond-true, cond-false}
-use Rattle.std.proofs.lemmas.List.{drop-drop, length-take-le, length-drop, length-map, take-append-drop}
+use Rattle.std.proofs.lemmas.List.{length-take-le, length-map, take-append-drop}
 use Rattle.std.proofs.lemmas.List.Folds.{prefix_len-append}
 use Rattle.std.proofs.lemmas.List.Sums.{prefix_len-le-length}
 use Rattle.std.proofs.lemmas.Simd.{map-map, mask_l-mod, first_set_mask_l}

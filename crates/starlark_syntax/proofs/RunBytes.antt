@@ -1,12 +1,12 @@
 -- The bytes that end a run.
-use Rattle.std.proofs.Common.{◌≡◌, ℕ, suc, ◌+◌, ◌≤◌, ◌<◌, ◌==◌, ◌&&◌, ◌||◌, Bool, true, false, cond, not, get_or, List, [], ◌∷◌, refl, ap, ◌∙◌, sym, nat_eq, arith}
-use Rattle.std.proofs.lemmas.Bool.{agree_below, agree_below_at, not-false}
+use Rattle.std.proofs.Common.{◌≡◌, ℕ, ◌+◌, ◌<◌, Bool, true, cond, get_or, List, [], ◌∷◌, refl, ap, ◌∙◌, arith}
+use Rattle.std.proofs.lemmas.Bool.{not-false}
 use Rattle.std.proofs.lemmas.Bool.Decides.{nat_tests}
 use Rattle.std.proofs.lemmas.List.Sums.{prefix_len-le-length, prefix_len_stops}
 use Rattle.std.specs.List.{prefix_len}
 use Rattle.std.specs.Str.{IsCharBoundary}
 use Rattle.starlark_token.specs.Words.{Kind, OfText, OfBytes, OfFString, Quote, SingleQuote, DoubleQuote}
-use Rattle.starlark_syntax.specs.Items.{Literal, is_brace, quote_byte}
+use Rattle.starlark_syntax.specs.Items.{Literal}
 use Rattle.starlark_syntax.specs.Runs.{is_in_run, is_special}
 
 -- two tests that agree on all bytes pass the same run

@@ -5,9 +5,8 @@ use Rattle.std.specs.Str.{IsCharBoundary}
 use Rattle.starlark_syntax.specs.Items as grammar
 use Rattle.starlark_token.specs.Words.{Text}
 use Rattle.starlark_syntax.specs.LiteralViews.{bytes_of, literal_view, stop_view, value_view}
-use Rattle.starlark_token.specs.Scanned.{kind_view}
 use Rattle.starlark_syntax.proofs.BodyRuns.{front_run}
-use Rattle.starlark_syntax.proofs.BodySteps.{IsFront, front_none, front_more, front_stops, item_fits, takes}
+use Rattle.starlark_syntax.proofs.BodySteps.{IsFront, front_none, front_more, front_stops, item_fits}
 use Rattle.starlark_syntax.proofs.Edges.{boundary_shift}
 use Rattle.starlark_syntax.proofs.ItemEdges.{item_edge}
 use Rattle.starlark_syntax.proofs.lexer.literal.body.read_body.Goals as goal
