@@ -1,6 +1,7 @@
 //! What stands at a place of a literal's body: an item, or why the body stops.
 
-ghost use Rattle.std.specs.Prelude.{◌≡◌, ◌<◌, ◌==◌, ◌&&◌, ◌∷◌, not, drop, false, get_or, length, true};
+ghost use Rattle.std.specs.Prelude.{◌≡◌, ◌<◌, ◌==◌, ◌&&◌, ◌∷◌, not, drop, false, get_or, length, nat_eq, true};
+ghost use Rattle.std.specs.List.{starts_with};
 ghost use Rattle.starlark_token.specs.Characters as characters;
 ghost use Rattle.starlark_syntax.specs.Items as grammar;
 ghost use Rattle.starlark_syntax.specs.LiteralViews.{IsText, found_view, literal_view, opening_view};
@@ -85,18 +86,6 @@ pub fn part(len: usize, value: &str) -> Found<'_>
     })
 }
 
-/// The quotes that close a literal.
-fn closing_quotes(opening: Opening) -> &'static str
-    ensures { result.now ≡ grammar.closing_quotes (opening_view opening) }
-{
-    match (opening.quote, opening.is_triple) {
-        (Quote::Single, false) => "'",
-        (Quote::Single, true) => "'''",
-        (Quote::Double, false) => "\"",
-        (Quote::Double, true) => "\"\"\"",
-    }
-}
-
 /// How many bytes close a literal.
 pub fn closing_len(opening: Opening) -> usize
     ensures { result ≡ length (grammar.closing_quotes (opening_view opening)) }
@@ -111,6 +100,20 @@ pub fn is_quote(quote: Quote, byte: u8) -> bool
     match quote {
         Quote::Single => byte == b'\'',
         Quote::Double => byte == b'"',
+    }
+}
+
+/// Whether the quotes that close a literal stand at the front of a text.
+fn closes(opening: Opening, text: &[u8]) -> bool
+    ensures { result ≡ starts_with nat_eq text.now (grammar.closing_quotes (opening_view opening)) }
+{
+    let quote = opening.quote;
+    match text {
+        [first, second, third, ..] if opening.is_triple => {
+            is_quote(quote, *first) && is_quote(quote, *second) && is_quote(quote, *third)
+        }
+        [first, ..] => !opening.is_triple && is_quote(quote, *first),
+        [] => false,
     }
 }
 
@@ -202,7 +205,7 @@ pub fn found_at(literal: Literal, text: &str) -> Found<'_>
         return Found::Stops(Stop::Ended);
     };
     let byte = *first;
-    if bytes.starts_with(closing_quotes(literal.opening).as_bytes()) {
+    if closes(literal.opening, bytes) {
         return Found::Stops(Stop::Closing);
     }
     if ends_line(literal.opening, byte) {

@@ -52,10 +52,11 @@ fn is_in_run(literal: Literal, byte: u8) -> bool
 fn short_run_len(literal: Literal, bytes: &[u8]) -> usize
     ensures { result ≡ prefix_len (is_in_run (literal_view literal)) bytes.now }
 {
-    bytes
-        .iter()
-        .take_while(|byte| is_in_run(literal, **byte))
-        .count()
+    let mut len = 0;
+    while len < bytes.len() && is_in_run(literal, bytes[len]) {
+        len += 1;
+    }
+    len
 }
 
 /// The length of the run at the front of some bytes. Sixteen are looked at together once as many were passed one by
