@@ -1,5 +1,6 @@
 //! Tokens, and the faults of a text that has none.
 
+mod lanes;
 mod layout;
 mod lexemes;
 mod literal;

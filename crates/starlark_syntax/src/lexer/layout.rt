@@ -7,6 +7,7 @@ ghost use Rattle.starlark_syntax.specs.Pieces as pieces;
 ghost use Rattle.starlark_token.specs.Tokens as tokens;
 
 mod comments;
+mod feeds;
 mod indents;
 mod levels;
 mod margins;

@@ -7,7 +7,8 @@ ghost use Rattle.starlark_syntax.specs.Margins as grammar;
 ghost use Rattle.starlark_token.specs.Tokens.{moved};
 
 use super::PlacedToken;
-use super::margins::{before_feed_len, blanks_len, comment_line_len};
+use super::feeds::before_feed_len;
+use super::margins::{blanks_len, comment_line_len};
 use starlark_token::tokens::Token;
 use std::alloc::{AllocError, Global};
 use std::collections::VecDeque;

@@ -5,6 +5,8 @@ ghost use Rattle.std.specs.List.{list_any, prefix_len};
 ghost use Rattle.starlark_syntax.specs.LayoutViews.{IsFirstComment, IsMargin};
 ghost use Rattle.starlark_syntax.specs.Margins as grammar;
 
+use super::feeds::before_feed_len;
+
 /// A margin: where its last line begins behind its comment-only lines, how many blanks stand there, how many of them
 /// are spaces, whether one is a tab, and whether content follows.
 #[derive(Clone, Copy, Debug, PartialEq, Eq)]
@@ -24,14 +26,6 @@ pub fn blanks_len(text: &[u8]) -> usize
     text.iter()
         .take_while(|byte| matches!(**byte, b' ' | b'\t' | b'\r'))
         .count()
-}
-
-/// The length of the front of a text that its first LF ends.
-pub fn before_feed_len(text: &[u8]) -> usize
-    ensures value { result ≡ prefix_len (λ b. not (grammar.is_feed b)) text.now }
-    ensures within { result ≤ length text.now }
-{
-    text.iter().take_while(|byte| **byte != b'\n').count()
 }
 
 /// The length of the first line of a text, with its LF.

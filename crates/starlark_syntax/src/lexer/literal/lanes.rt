@@ -1,7 +1,6 @@
 //! Runs of sixteen bytes that are looked at together.
 
-ghost use Rattle.std.specs.Prelude.{◌≡◌, ℕ, ◌+◌, ◌≤◌, ◌==◌, drop, if◌then◌else◌, length, not, take};
-ghost use Rattle.std.specs.Int.{trailing_zeros, w64};
+ghost use Rattle.std.specs.Prelude.{◌≡◌, ℕ, ◌+◌, ◌≤◌, drop, length, not, take};
 ghost use Rattle.std.specs.List.{prefix_len};
 ghost use Rattle.starlark_syntax.specs.Items.{quote_byte};
 ghost use Rattle.starlark_syntax.specs.LiteralViews.{literal_view};
@@ -9,11 +8,9 @@ ghost use Rattle.starlark_syntax.specs.Runs.{is_end, is_special};
 ghost use Rattle.starlark_token.specs.Scanned.{quote_view};
 
 use super::items::Literal;
+use crate::lexer::lanes::lowest_bit;
 use starlark_token::scanner::{LiteralKind, Quote};
 use std::simd::prelude::*;
-
-/// How many bytes are looked at together.
-pub const LANES: usize = 16;
 
 /// The bytes that end a run in a literal, beside a backslash and a CR. Where a rule speaks of no LF or of no braces,
 /// the quote stands in their place.
@@ -53,18 +50,6 @@ impl Ends {
             opening_brace,
             closing_brace,
         }
-    }
-}
-
-/// The place of the lowest bit that is set, or the number of lanes where none is.
-#[inline(always)]
-fn lowest_bit(mask: u64) -> usize
-    ensures { result ≡ (if mask == 0 then 16 else trailing_zeros w64 mask) }
-{
-    if mask == 0 {
-        LANES
-    } else {
-        mask.trailing_zeros() as usize
     }
 }
 

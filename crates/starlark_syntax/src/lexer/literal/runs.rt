@@ -8,7 +8,8 @@ ghost use Rattle.starlark_syntax.specs.LiteralViews.{literal_view};
 ghost use Rattle.starlark_syntax.specs.Runs.{is_in_run, is_special};
 
 use super::items::{Literal, ends_line, is_brace, is_quote};
-use super::lanes::{Ends, LANES, lanes_run_len};
+use super::lanes::{Ends, lanes_run_len};
+use crate::lexer::lanes::LANES;
 
 // A point stands at each byte of which no rule of any literal speaks.
 static ORDINARY: [u8; 256] = *b"\
