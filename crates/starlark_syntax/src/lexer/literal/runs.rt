@@ -60,19 +60,13 @@ fn short_run_len(literal: Literal, bytes: &[u8]) -> usize
     len
 }
 
-/// The length of the run at the front of some bytes. Sixteen are looked at together once as many were passed one by
-/// one.
-fn run_len(literal: Literal, bytes: &[u8]) -> usize
+/// The length of the run at the front of some bytes, sixteen of which are looked at together.
+#[inline(never)]
+fn long_run_len(literal: Literal, bytes: &[u8]) -> usize
     ensures { result ≡ prefix_len (is_in_run (literal_view literal)) bytes.now }
 {
-    if bytes.len() < LANES {
-        return short_run_len(literal, bytes);
-    }
-    let mut at = short_run_len(literal, &bytes[..LANES]);
-    if at < LANES {
-        return at;
-    }
     let ends = Ends::of(literal);
+    let mut at = 0;
     while at + LANES <= bytes.len() {
         let len = lanes_run_len(ends, bytes, at);
         at += len;
@@ -81,6 +75,21 @@ fn run_len(literal: Literal, bytes: &[u8]) -> usize
         }
     }
     at + short_run_len(literal, &bytes[at..])
+}
+
+/// The length of the run at the front of some bytes. Sixteen are looked at together once as many were passed one by
+/// one.
+fn run_len(literal: Literal, bytes: &[u8]) -> usize
+    ensures { result ≡ prefix_len (is_in_run (literal_view literal)) bytes.now }
+{
+    if bytes.len() < LANES {
+        return short_run_len(literal, bytes);
+    }
+    let len = short_run_len(literal, &bytes[..LANES]);
+    if len < LANES {
+        return len;
+    }
+    LANES + long_run_len(literal, &bytes[LANES..])
 }
 
 /// The run at the front of the rest of a body.

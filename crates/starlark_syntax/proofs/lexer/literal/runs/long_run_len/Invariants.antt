@@ -2,7 +2,7 @@ use Rattle.std.proofs.Common.{length, ◌+◌, ◌-◌, ◌≡◌, ◌≤◌, dr
 use Rattle.std.specs.List.{prefix_len}
 use Rattle.starlark_syntax.specs.Runs.{is_in_run}
 use Rattle.starlark_syntax.specs.LiteralViews.{literal_view}
-use Rattle.starlark_syntax.proofs.lexer.literal.runs.run_len.Given as goal
+use Rattle.starlark_syntax.proofs.lexer.literal.runs.long_run_len.Given as goal
 
 abbrev pub invariant-loop-at : goal.invariant-loop-at
 invariant-loop-at l = record {
