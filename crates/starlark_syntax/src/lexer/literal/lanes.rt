@@ -32,6 +32,7 @@ fn quote_byte(quote: Quote) -> u8
 }
 
 impl Ends {
+    /// The bytes that end a run in such a literal.
     pub fn of(literal: Literal) -> Self
         ensures { (b : ℕ) → is_end result b ≡ is_special (literal_view literal) b }
     {
