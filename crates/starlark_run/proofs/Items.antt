@@ -1,6 +1,6 @@
 -- The items of a text one after another, and their lines.
 use Rattle.std.proofs.Common.{◌≡◌, ℕ, zero, suc, ◌+◌, ◌≤◌, List, [], ◌∷◌, ◌++◌, map, length, drop, refl, ap, sym, subst, ◌∙◌, arith, None, Some, Ok, Err, slice_get, option_to_list, length-append}
-use Rattle.std.specs.Prelude.{Option}
+use Rattle.std.specs.Prelude.{Option, IfSome}
 use Rattle.std.specs.List.{AllByRecursion}
 use Rattle.std.proofs.lemmas.List.{length-map}
 use Rattle.std.proofs.lemmas.List.Concat.{flat_map-cons}
@@ -8,7 +8,7 @@ use Rattle.std.specs.Prelude.{string_bytes}
 use Rattle.std.specs.Str.{IsUtf8, IsCharBoundary}
 use Rattle.starlark_base.specs.Diagnostics.{Diagnosed, place_in}
 use Rattle.starlark_base.specs.Places.{Text}
-use Rattle.starlark_base.specs.Sources.{SourceFile, file_span_text}
+use Rattle.starlark_base.specs.Sources.{SourceFile}
 use Rattle.starlark_base.specs.Spans.{ByteSpan}
 use Rattle.starlark_base.specs.declared.codemap.file_span.FileSpan.{FileSpan}
 use Rattle.starlark_base.specs.declared.codemap.refusals.OrMemory.TheVariants as refusal
@@ -27,10 +27,12 @@ use Rattle.starlark_token.specs.TokenViews.{TokenView}
 use Rattle.starlark_syntax.specs.LexedViews.{fault_view, lexeme_view, shown_lexeme}
 use Rattle.starlark_syntax.specs.LexerViews.{AnswersNext, Given, IsException, Item, Refused, items}
 use Rattle.starlark_token.specs.declared.tokens.Token.{Token}
-use Rattle.starlark_syntax.proofs.Bounded.{outcome_edges}
+use Rattle.starlark_syntax.proofs.Bounded.{outcome_edges, fault_edges}
+use Rattle.starlark_syntax.proofs.Faults.{outcome_fault}
+use Rattle.starlark_token.specs.Words.{language}
 use Rattle.starlark_syntax.proofs.LexerItems.{one_more}
 use Rattle.starlark_run.specs.Output as output
-use Rattle.starlark_run.specs.Output.{item_line, lines_of, message_of}
+use Rattle.starlark_run.specs.Output.{item_line, lines_of, message_of, place_text}
 
 abbrev given : Lexeme → Item
 given lexeme = Given (shown_lexeme lexeme)
@@ -191,15 +193,27 @@ message_is error.CommentSpanComputedIncorrectly node e = cc
 message_is (error.CannotParse text base) node e = cc
 message_is error.UnfinishedFStringExpression node e = let same : token.UnfinishedFStringExpression ≡ node = cc in subst (λ n. kind_text (Parser (message.Lexeme error.UnfinishedFStringExpression)) ≡ message_of n) same refl
 
--- the number of a source file isn't printed
-same_place : (file : SourceFile) (name text : Text) (span : ByteSpan) → file.filename ≡ name → file.source ≡ text → file_span_text file span ≡ file_span_text (record { id = 0; filename = name; source = text }) span
-unfolding file_span_text
-same_place file name text span named sourced = rw (named, sourced) refl
+-- the fault of a text of characters lies inside of it, between characters
+pub record IsPlaced (text : Text) (span : ByteSpan) : Type 0 where
+  pub order : span.begin ≤ span.end
+  pub begin : IsCharBoundary text span.begin
+  pub end : IsCharBoundary text span.end
 
-pub exception_line : (file : SourceFile) (name text : Text) (fault : Spanned Fault) (exception : Diagnosed ErrorKind) (place : FileSpan) (kind : ErrorKind) → IsException file fault exception → exception.span ≡ Some place → kind ≡ exception.value → file.filename ≡ name → file.source ≡ text → output.fault_text place.span.begin place.span.end (file_span_text place.file place.span) (kind_text kind) ≡ item_line name text (Refused fault)
-exception_line file name text fault exception place kind is known valued named sourced =
+pub fault_placed : (file : SourceFile) (text : Text) (h : ℕ) (exception : Diagnosed ErrorKind) (place : FileSpan) → IsUtf8 text → IsNextFault file text h exception → exception.span ≡ Some place → IsPlaced text place.span
+unfolding outcome
+fault_placed file text h exception place utf8 next known =
+    let fault = next.fault in
+    let span : ByteSpan = record { begin = fault.begin; end = fault.end } in
+    let there : Some place ≡ Some (place_in file span) = sym known ∙ ap (λ (d : Diagnosed ErrorKind). d.span) next.thrown.2 in
+    let at : place ≡ place_in file span = cc in
+    let inside = subst (λ (f : Option (Spanned Fault)). IfSome f (λ fault. (fault.begin ≤ fault.end) × (fault.end ≤ length text))) next.is (outcome_fault language text) in
+    let edges = subst (λ (f : Option (Spanned Fault)). IfSome f (AtBoundaries text)) next.is (fault_edges text utf8) in
+    rw at (record { order = inside.0; begin = edges.0; end = edges.1 })
+
+pub exception_line : (file : SourceFile) (name text : Text) (fault : Spanned Fault) (exception : Diagnosed ErrorKind) (place : FileSpan) (kind : ErrorKind) → IsException file fault exception → exception.span ≡ Some place → kind ≡ exception.value → output.fault_text place.span.begin place.span.end name (place_text text place.span.begin place.span.end) (kind_text kind) ≡ item_line name text (Refused fault)
+exception_line file name text fault exception place kind is known valued =
     let span : ByteSpan = record { begin = fault.begin; end = fault.end } in
     let there : Some place ≡ Some (place_in file span) = sym known ∙ ap (λ (d : Diagnosed ErrorKind). d.span) is.2 in
     let at : place ≡ place_in file span = cc in
     let said : kind_text kind ≡ message_of fault.node = ap kind_text (valued ∙ ap (λ (d : Diagnosed ErrorKind). d.value) is.2) ∙ message_is is.0 fault.node is.1 in
-    rw (at, said, same_place file name text span named sourced) refl
+    rw (at, said) refl

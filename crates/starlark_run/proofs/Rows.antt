@@ -37,6 +37,6 @@ unfolding encode
 shown = (refl, refl, refl)
 
 -- the line of a fault
-told : fault_text 4 6 (codes "a:1:5-7") (message_of (grammar.StartsZero (codes "01"))) ≡ codes "fault 4-6 a:1:5-7 Parse error: integer cannot have leading 0, got `01`\n"
+told : fault_text 4 6 (codes "a") (codes "1:5-7") (message_of (grammar.StartsZero (codes "01"))) ≡ codes "fault 4-6 a:1:5-7 Parse error: integer cannot have leading 0, got `01`\n"
 unfolding fault_text message_of digits
 told = refl

@@ -4,7 +4,6 @@ use Rattle.std.specs.List.{flat_map}
 use Rattle.std.specs.Char.{digit_char}
 use Rattle.std.specs.Fmt.{decimal}
 use Rattle.starlark_base.specs.Places.{Text, place_at, span_text}
-use Rattle.starlark_base.specs.Sources.{file_span_text}
 use Rattle.starlark_token.specs.Words.{Quote, SingleQuote, DoubleQuote}
 use Rattle.starlark_token.specs.Tokens as grammar
 use Rattle.starlark_token.specs.TokenInts.{integer_text}
@@ -65,16 +64,18 @@ message_of (grammar.StartsZero word) = codes "Parse error: integer cannot have l
 message_of grammar.UnfinishedFStringExpression = codes "Parse error: f-string expression is missing closing `}`"
 
 -- `fault begin-end name:place message`
-unfoldable pub fault_text : (begin end : ℕ) → (place message : Text) → Text
-fault_text begin end place message =
-    codes "fault " ++ decimal begin ++ codes "-" ++ decimal end ++ codes " " ++ place ++ codes " " ++ message ++ codes "\n"
+unfoldable pub fault_text : (begin end : ℕ) → (name place message : Text) → Text
+fault_text begin end name place message =
+    codes "fault " ++ decimal begin ++ codes "-" ++ decimal end ++ codes " " ++ name ++ codes ":" ++ place ++ codes " " ++ message ++ codes "\n"
+
+-- the lines and columns of a span of a text, as a code map resolves it
+abbrev pub place_text : Text → (begin end : ℕ) → Text
+place_text text begin end = span_text (place_at text begin) (place_at text end)
 
 -- the line of an item of a text that has this name
 abbrev pub item_line : (name text : Text) → Item → Text
-item_line name text (Given lexeme) =
-    lexeme_text lexeme.begin lexeme.end (span_text (place_at text lexeme.begin) (place_at text lexeme.end)) lexeme.node
-item_line name text (Refused fault) =
-    fault_text fault.begin fault.end (file_span_text (record { id = 0; filename = name; source = text }) (record { begin = fault.begin; end = fault.end })) (message_of fault.node)
+item_line name text (Given lexeme) = lexeme_text lexeme.begin lexeme.end (place_text text lexeme.begin lexeme.end) lexeme.node
+item_line name text (Refused fault) = fault_text fault.begin fault.end name (place_text text fault.begin fault.end) (message_of fault.node)
 
 unfoldable pub lines_of : (name text : Text) → List Item → Text
 lines_of name text list = flat_map (item_line name text) list

@@ -3,13 +3,12 @@
 ghost use Rattle.std.specs.Prelude.{◌≡◌, ◌<◌, ◌++◌, OnOk, codes, string_bytes};
 ghost use Rattle.std.specs.Char.{digit_char};
 ghost use Rattle.starlark_base.specs.Places.{span_text};
-ghost use Rattle.starlark_base.specs.Sources.{file_span_text};
 ghost use Rattle.starlark_error.specs.FaultTexts.{kind_text};
 ghost use Rattle.starlark_run.specs.Output.{fault_text, hex, lexeme_text, quotes_name, value_text};
 ghost use Rattle.starlark_token.specs.TokenViews.{opening_view, token_view};
 
 use crate::place::Place;
-use starlark_base::codemap::{FileSpan, ResolvedSpan};
+use starlark_base::codemap::ResolvedSpan;
 use starlark_error::error::ErrorKind;
 use starlark_syntax::lexer::{FStringQuote, Token};
 use std::alloc::AllocError;
@@ -95,16 +94,21 @@ pub fn lexeme_line(
 }
 
 #[tactic(auto, unfolding(crate::specs::Output::fault_text))]
-/// Makes the line of a fault at a place.
-pub fn fault_line(line: &mut String, place: &FileSpan, kind: &ErrorKind) -> Result<(), AllocError>
-    ensures { OnOk result (string_bytes line.new ≡ fault_text place.now.span.begin place.now.span.end (file_span_text place.now.file place.now.span) (kind_text kind.now)) }
+/// Makes the line of a fault between two places of a text that has this name.
+pub fn fault_line(
+    line: &mut String,
+    name: &str,
+    begin: Place,
+    end: Place,
+    kind: &ErrorKind,
+) -> Result<(), AllocError>
+    ensures { OnOk result (string_bytes line.new ≡ fault_text begin.at end.at name.now (span_text begin.position end.position) (kind_text kind.now)) }
 {
-    let span = place.span;
+    let place = ResolvedSpan {
+        begin: begin.position,
+        end: end.position,
+    };
     line.clear();
-    write!(
-        line,
-        "fault {}-{} {place} {kind}\n",
-        span.begin().get(),
-        span.end().get()
-    )
+    write!(line, "fault {}-{} {name}:", begin.at, end.at)?;
+    writeln!(line, "{place} {kind}")
 }

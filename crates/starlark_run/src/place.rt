@@ -35,6 +35,20 @@ impl Place {
             position: position_behind(self.position, &text[self.at..to]),
         }
     }
+
+    /// The place at any byte. Where that is earlier, the text is gone through from its begin.
+    pub fn moved_to(self, text: &str, to: usize) -> Place
+        requires here { IsPlace text.now self }
+        requires boundary { IsCharBoundary text.now to }
+        ensures at { result.at ≡ to }
+        ensures place { IsPlace text.now result }
+    {
+        if to < self.at {
+            Place::START.moved(text, to)
+        } else {
+            self.moved(text, to)
+        }
+    }
 }
 
 /// The line and column behind a text that stands at a line and column.

@@ -2,9 +2,8 @@
 
 ghost use Rattle.std.specs.Prelude.{◌≡◌, ◌<◌, ◌≤◌, ◌++◌, [], length, false, Some, IfOk, IfErr, IsSome};
 ghost use Rattle.std.specs.Str.{IsCharBoundary};
-ghost use Rattle.starlark_base.specs.Sources.{file_span_text};
 ghost use Rattle.starlark_error.specs.FaultTexts.{kind_text};
-ghost use Rattle.starlark_run.specs.Output.{fault_text, item_line, output};
+ghost use Rattle.starlark_run.specs.Output.{fault_text, item_line, output, place_text};
 ghost use Rattle.starlark_run.specs.Places.{IsPlace};
 ghost use Rattle.starlark_run.specs.Runs.{status_of};
 ghost use Rattle.starlark_run.specs.Writing.{Writes};
@@ -19,7 +18,7 @@ use crate::lines::{fault_line, lexeme_line};
 use crate::place::Place;
 use crate::runs::{RunFault, RunStatus};
 use crate::watched::Watched;
-use starlark_base::codemap::{CodeMap, FileSpan, OrMemory, SourceTooLong};
+use starlark_base::codemap::{CodeMap, CodeMapId, FileSpan, OrMemory, SourceTooLong, Span};
 use starlark_error::error::ErrorKind;
 use starlark_error::eval_exception::EvalException;
 use starlark_syntax::lexer::{Lexer, Token};
@@ -72,19 +71,27 @@ impl Printer {
         Ok(end)
     }
 
-    /// Puts the line of a fault at a place.
+    /// Puts the line of a fault of a text that has this name. The fault may begin before the place.
     fn fault<W: Write>(
         &mut self,
         writer: &mut Watched<W>,
-        place: &FileSpan,
+        name: &str,
+        text: &str,
+        place: Place,
+        span: Span,
         kind: &ErrorKind,
     ) -> Result<(), RunFault>
-        requires { writer.old.failed ≡ false }
+        requires sound { writer.old.failed ≡ false }
+        requires here { IsPlace text.now place }
+        requires order { span.begin ≤ span.end }
+        requires begin { IsCharBoundary text.now span.begin }
+        requires end { IsCharBoundary text.now span.end }
         ensures { Writes W.contents writer.old writer.new
-            (self.old.buffer ++ fault_text place.now.span.begin place.now.span.end (file_span_text place.now.file place.now.span) (kind_text kind.now))
-            self.new.buffer result }
+            (self.old.buffer ++ fault_text span.begin span.end name.now (place_text text.now span.begin span.end) (kind_text kind.now)) self.new.buffer result }
     {
-        fault_line(&mut self.line, place, kind)?;
+        let begin = place.moved_to(text, span.begin().get() as usize);
+        let end = begin.moved(text, span.end().get() as usize);
+        fault_line(&mut self.line, name, begin, end, kind)?;
         self.buffer.put(writer, self.line.as_bytes())
     }
 
@@ -92,14 +99,13 @@ impl Printer {
     fn text<W: Write>(
         &mut self,
         writer: &mut Watched<W>,
+        name: &str,
         text: &str,
         lexer: &mut Lexer<'_>,
     ) -> Result<RunStatus, RunFault>
         requires sound { writer.old.failed ≡ false }
         requires fresh { lexer.old ≡ record { text = text.now; code_map = lexer.old.code_map; handed_out = 0; has_ended = false } }
-        requires source { lexer.old.code_map.source ≡ text.now }
-        ensures writes { Writes W.contents writer.old writer.new
-            (self.old.buffer ++ output lexer.old.code_map.filename text.now) self.new.buffer result }
+        ensures writes { Writes W.contents writer.old writer.new (self.old.buffer ++ output name.now text.now) self.new.buffer result }
         ensures status { IfOk result (λ status. status ≡ status_of (outcome text.now).fault) }
     {
         let mut place = Place::START;
@@ -107,7 +113,8 @@ impl Printer {
             match item {
                 Ok(lexeme) => place = self.lexeme(writer, text, place, lexeme)?,
                 Err(OrMemory::Error(exception)) => {
-                    self.fault(writer, place_of(&exception), exception.error().kind())?;
+                    let span = place_of(&exception).span;
+                    self.fault(writer, name, text, place, span, exception.error().kind())?;
                     return Ok(RunStatus::Fault);
                 }
                 Err(OrMemory::Memory) => return Err(RunFault::Memory),
@@ -128,32 +135,43 @@ fn place_of(exception: &EvalException) -> &FileSpan
     place
 }
 
-/// A lexer of the source of a code map. No text is too long for one that a code map has.
-fn lexer_of(alloc: Global, file: &CodeMap) -> Result<Lexer<'_>, RunFault>
-    requires { length file.now.source ≤ GREATEST_LEN }
-    ensures made { IfOk result (λ lexer. lexer ≡ record { text = file.now.source; code_map = file.now; handed_out = 0; has_ended = false }) }
+/// A lexer of a text. Its faults lie in a code map of no text, since only the bytes of their spans are asked for.
+fn lexer_of(alloc: Global, text: &str) -> Result<Lexer<'_>, RunFault>
+    requires { length text.now ≤ GREATEST_LEN }
+    ensures made { IfOk result (λ lexer. lexer ≡ record { text = text.now; code_map = record { id = 0; filename = []; source = [] }; handed_out = 0; has_ended = false }) }
     ensures refused { IfErr result (λ fault. fault ≡ Memory) }
 {
-    match Lexer::new(alloc, file.source(), &Dialect::Extended, file.dupe()?) {
+    let file = match CodeMap::new(
+        alloc,
+        CodeMapId::EMPTY,
+        String::new(alloc),
+        String::new(alloc),
+    ) {
+        Ok(file) => file,
+        Err(OrMemory::Error(SourceTooLong)) => return Err(RunFault::TooLong),
+        Err(OrMemory::Memory) => return Err(RunFault::Memory),
+    };
+    match Lexer::new(alloc, text, &Dialect::Extended, file) {
         Ok(lexer) => Ok(lexer),
         Err(SourceTooLong) => Err(RunFault::TooLong),
     }
 }
 
-/// Prints the output for the source of a code map, and says whether it has a fault.
+/// Prints the output for a text that has this name, and says whether it has a fault.
 pub fn print<W: Write>(
     alloc: Global,
-    file: &CodeMap,
+    name: &str,
+    text: &str,
     writer: &mut Watched<W>,
 ) -> Result<RunStatus, RunFault>
     requires sound { writer.old.failed ≡ false }
-    requires fits { length file.now.source ≤ GREATEST_LEN }
-    ensures writes { Writes W.contents writer.old writer.new (output file.now.filename file.now.source) [] result }
-    ensures status { IfOk result (λ status. status ≡ status_of (outcome file.now.source).fault) }
+    requires fits { length text.now ≤ GREATEST_LEN }
+    ensures writes { Writes W.contents writer.old writer.new (output name.now text.now) [] result }
+    ensures status { IfOk result (λ status. status ≡ status_of (outcome text.now).fault) }
 {
-    let mut lexer = lexer_of(alloc, file)?;
+    let mut lexer = lexer_of(alloc, text)?;
     let mut printer = Printer::new(alloc)?;
-    let status = printer.text(writer, file.source(), &mut lexer)?;
+    let status = printer.text(writer, name, text, &mut lexer)?;
     printer.buffer.finish(writer)?;
     Ok(status)
 }

@@ -9,7 +9,6 @@ ghost use Rattle.starlark_run.specs.declared.runs.TheConstants.{GREATEST_LEN};
 
 use crate::printer::print;
 use crate::watched::Watched;
-use starlark_base::codemap::{CodeMap, CodeMapId, OrMemory, SourceTooLong};
 use std::alloc::{AllocError, Global};
 use std::io;
 use std::io::{Read, Write};
@@ -119,20 +118,6 @@ fn read_text<R: Read>(alloc: Global, reader: &mut Watched<R>) -> Result<String, 
     String::from_utf8(bytes).map_err(|_| RunFault::NotUtf8)
 }
 
-/// The code map of a text under a name. No text is too long for one that `read_text` gives.
-fn code_map(alloc: Global, name: &str, text: String) -> Result<CodeMap, RunFault>
-    requires { length (string_bytes text) ≤ GREATEST_LEN }
-    ensures made { IfOk result (λ map. map ≡ record { id = 0; filename = name.now; source = string_bytes text }) }
-    ensures refused { IfErr result (λ fault. fault ≡ Memory) }
-{
-    let filename = String::from_str(alloc, name)?;
-    match CodeMap::new(alloc, CodeMapId::EMPTY, filename, text) {
-        Ok(map) => Ok(map),
-        Err(OrMemory::Error(SourceTooLong)) => Err(RunFault::TooLong),
-        Err(OrMemory::Memory) => Err(RunFault::Memory),
-    }
-}
-
 /// Reads a text to its end, and prints a line for each lexeme and one for the first fault, which
 /// names the text as `name`.
 ///
@@ -159,6 +144,5 @@ pub fn run<R: Read, W: Write>(
     ensures ended { OnOk result (reader.new.ended ≡ true) }
 {
     let text = read_text(alloc, reader)?;
-    let map = code_map(alloc, name, text)?;
-    print(alloc, &map, writer)
+    print(alloc, name, text.as_str(), writer)
 }
