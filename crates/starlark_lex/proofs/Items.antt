@@ -18,17 +18,17 @@ use Rattle.starlark_error.specs.declared.error.kinds.ErrorKind.TheVariants.{Pars
 use Rattle.starlark_error.specs.declared.error.kinds.ParserMessage.TheVariants as message
 use Rattle.starlark_error.specs.declared.lexeme_error.LexemeError.{LexemeError}
 use Rattle.starlark_error.specs.declared.lexeme_error.LexemeError.TheVariants as error
-use Rattle.starlark_syntax.specs.Cuts.{InOrder}
-use Rattle.starlark_syntax.specs.Laws.{AtBoundaries}
-use Rattle.starlark_syntax.specs.Reading.{outcome}
-use Rattle.starlark_token.specs.Tokens as token
-use Rattle.starlark_token.specs.Tokens.{Fault, Lexeme, Spanned}
+use Rattle.starlark_grammar.specs.Cuts.{InOrder}
+use Rattle.starlark_grammar.specs.Laws.{AtBoundaries}
+use Rattle.starlark_grammar.specs.Reading.{outcome}
+use Rattle.starlark_grammar.specs.Tokens as token
+use Rattle.starlark_grammar.specs.Tokens.{Fault, Lexeme, Spanned}
 use Rattle.starlark_token.specs.TokenViews.{TokenView}
-use Rattle.starlark_syntax.specs.LexedViews.{fault_view, lexeme_view, shown_lexeme}
-use Rattle.starlark_syntax.specs.LexerViews.{AnswersNext, Given, IsException, Item, Refused, items}
+use Rattle.starlark_syntax.specs.Lexemes.{fault_view, lexeme_view, shown_lexeme}
+use Rattle.starlark_syntax.specs.Lexer.{AnswersNext, Given, IsException, Item, Refused, items}
 use Rattle.starlark_token.specs.declared.tokens.Token.{Token}
-use Rattle.starlark_syntax.proofs.Bounded.{outcome_edges}
-use Rattle.starlark_syntax.proofs.LexerItems.{one_more}
+use Rattle.starlark_grammar.proofs.Order.WholeTexts.{outcome_edges}
+use Rattle.starlark_syntax.proofs.Reader.LexerItems.{one_more}
 use Rattle.starlark_lex.specs.Output as output
 use Rattle.starlark_lex.specs.Output.{item_line, lines_of, message_of}
 

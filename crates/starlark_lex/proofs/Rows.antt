@@ -5,16 +5,16 @@ use Rattle.std.proofs.Math.Utf8.{encode}
 use Rattle.std.specs.Str.{chars}
 use Rattle.std.specs.Fmt.{digits}
 use Rattle.starlark_base.specs.Places.{Text, place_after, span_text}
-use Rattle.starlark_token.specs.Words.{class_in, openers, line_ends, symbols, names, patterns, language}
-use Rattle.starlark_token.specs.Front.{longest_front}
-use Rattle.starlark_token.specs.Numbers.{integer_of}
-use Rattle.starlark_syntax.specs.Items.{simple_escapes, escape, raw_pair, found_at, body_from, body_at}
-use Rattle.starlark_syntax.specs.Depths.{is_balanced, open_fstring, braces, depth, where_after}
-use Rattle.starlark_syntax.specs.Margins.{lines, margin_of, open_widths, fits, indentation}
-use Rattle.starlark_syntax.specs.Pieces.{margin_step, chunk, step_at}
-use Rattle.starlark_syntax.specs.Reading.{after, situation, next_step, read_from, read, outcome_in, outcome}
-use Rattle.starlark_syntax.specs.LexerViews.{items}
-use Rattle.starlark_token.specs.Tokens as grammar
+use Rattle.starlark_grammar.specs.Words.{class_in, openers, line_ends, symbols, names, patterns, language}
+use Rattle.starlark_grammar.specs.Front.{longest_front}
+use Rattle.starlark_grammar.specs.Numbers.{integer_of}
+use Rattle.starlark_grammar.specs.Items.{simple_escapes, escape, raw_pair, found_at, body_from, body_at}
+use Rattle.starlark_grammar.specs.Depths.{is_balanced, open_fstring, braces, depth, where_after}
+use Rattle.starlark_grammar.specs.Margins.{lines, margin_of, open_widths, fits, indentation}
+use Rattle.starlark_grammar.specs.Pieces.{margin_step, chunk, step_at}
+use Rattle.starlark_grammar.specs.Reading.{after, situation, next_step, read_from, read, outcome_in, outcome}
+use Rattle.starlark_syntax.specs.Lexer.{items}
+use Rattle.starlark_grammar.specs.Tokens as grammar
 use Rattle.starlark_token.specs.TokenTexts.{kind_of, terminal_kind, whole_kind}
 use Rattle.starlark_lex.specs.Output.{fault_text, hex, lexeme_text, lines_of, message_of, output, value_text}
 

@@ -5,12 +5,12 @@ use Rattle.std.specs.Char.{digit_char}
 use Rattle.std.specs.Fmt.{decimal}
 use Rattle.starlark_base.specs.Places.{Text, place_at, span_text}
 use Rattle.starlark_base.specs.Sources.{file_span_text}
-use Rattle.starlark_token.specs.Words.{Quote, SingleQuote, DoubleQuote}
-use Rattle.starlark_token.specs.Tokens as grammar
+use Rattle.starlark_grammar.specs.Words.{Quote, SingleQuote, DoubleQuote}
+use Rattle.starlark_grammar.specs.Tokens as grammar
 use Rattle.starlark_token.specs.TokenInts.{integer_text}
 use Rattle.starlark_token.specs.TokenTexts.{kind_of}
 use Rattle.starlark_token.specs.TokenViews.{TokenView, Whole}
-use Rattle.starlark_syntax.specs.LexerViews.{Item, Given, Refused, items}
+use Rattle.starlark_syntax.specs.Lexer.{Item, Given, Refused, items}
 
 -- each byte as two hexadecimal digits
 abbrev pub hex : Text → Text

@@ -4,8 +4,8 @@ use Rattle.std.specs.Char.{is_digit, is_ascii_uppercase}
 use Rattle.std.specs.List.{list_all}
 use Rattle.std.specs.Str.Parse.{digits_value}
 use Rattle.std.specs.Fmt.{sign_text, decimal}
-use Rattle.starlark_token.specs.Words.{Text}
-use Rattle.starlark_token.specs.Numbers.{is_small}
+use Rattle.starlark_grammar.specs.Words.{Text}
+use Rattle.starlark_grammar.specs.Numbers.{is_small}
 
 -- an integer written down: its sign, its digits, and the base that they are written in
 pub record BigInteger : Type 0 where

@@ -1,8 +1,8 @@
 -- What the tokens of the code are to the grammar.
 use Rattle.std.specs.Prelude.{true, false, string_bytes}
-use Rattle.starlark_token.specs.Words as terminal
-use Rattle.starlark_token.specs.Words.{Quote, SingleQuote, DoubleQuote, Kind, OfText, OfBytes, OfFString}
-use Rattle.starlark_token.specs.Tokens as grammar
+use Rattle.starlark_grammar.specs.Words as terminal
+use Rattle.starlark_grammar.specs.Words.{Quote, SingleQuote, DoubleQuote, Kind, OfText, OfBytes, OfFString}
+use Rattle.starlark_grammar.specs.Tokens as grammar
 use Rattle.starlark_token.specs.TokenInts.{integer_view}
 use Rattle.starlark_token.specs.declared.fstring_style.FStringQuote.{FStringQuote}
 use Rattle.starlark_token.specs.declared.fstring_style.FStringQuote.TheVariants.{Single, Double, TripleSingle, TripleDouble}

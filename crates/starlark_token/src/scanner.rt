@@ -4,10 +4,10 @@ ghost use Rattle.std.specs.Prelude.{◌≡◌, false, ◌≤◌, ◌==◌, ◌�
 ghost use Rattle.std.specs.List.{prefix_len, slice_get};
 ghost use Rattle.std.specs.Option.{option_map};
 ghost use Rattle.std.specs.Str.{IsCharBoundary};
-ghost use Rattle.starlark_token.specs.Front.{language_front};
-ghost use Rattle.starlark_token.specs.Characters.{first_character};
-ghost use Rattle.starlark_token.specs.Scanned.{begins_number, quote_view, word_view};
-ghost use Rattle.starlark_token.specs.Words as grammar;
+ghost use Rattle.starlark_grammar.specs.Front.{language_front};
+ghost use Rattle.starlark_grammar.specs.Characters.{first_character};
+ghost use Rattle.starlark_token.specs.Joints.Words.{begins_number, quote_view, word_view};
+ghost use Rattle.starlark_grammar.specs.Words as grammar;
 
 mod class;
 mod marks;

@@ -6,12 +6,12 @@ mod counts;
 mod tests;
 
 ghost use Rattle.std.specs.Prelude.{◌≡◌, ◌+◌, ◌<◌, ◌≤◌, ◌^◌, ◌∷◌, [], List, false, OnErr, OnOk};
-ghost use Rattle.starlark_syntax.specs.Depths.{is_balanced, where_after};
-ghost use Rattle.starlark_syntax.specs.LexedViews.{begins_fstring};
-ghost use Rattle.starlark_syntax.specs.LiteralViews.{opening_view};
-ghost use Rattle.starlark_syntax.specs.NestingViews.{IsUnchanged, Represents, bracket_count, place_view};
+ghost use Rattle.starlark_grammar.specs.Depths.{is_balanced, where_after};
+ghost use Rattle.starlark_syntax.specs.Joints.Steps.{begins_fstring};
+ghost use Rattle.starlark_syntax.specs.Joints.Literals.{opening_view};
+ghost use Rattle.starlark_syntax.specs.Joints.Nesting.{IsUnchanged, Represents, bracket_count, place_view};
 ghost use Rattle.starlark_token.specs.TokenViews.{Whole, token_view};
-ghost use Rattle.starlark_token.specs.Tokens as grammar;
+ghost use Rattle.starlark_grammar.specs.Tokens as grammar;
 
 use crate::lexer::literal::Opening;
 use changes::{Change, change_of};

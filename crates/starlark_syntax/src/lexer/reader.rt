@@ -2,18 +2,19 @@
 
 ghost use Rattle.std.specs.Prelude.{◌≡◌, ◌<◌, ◌≤◌, ◌+◌, ◌^◌, ◌∷◌, ◌++◌, [], ℕ, false, List, Option, drop, length, map, string_bytes, OnErr, OnOk, IfOk};
 ghost use Rattle.std.specs.Str.{IsCharBoundary};
-ghost use Rattle.starlark_syntax.specs.LexedViews.{IsStep, begins_fstring, shown_lexeme};
-ghost use Rattle.starlark_syntax.specs.LiteralViews.{opening_view};
-ghost use Rattle.starlark_syntax.specs.Margins.{open_widths};
-ghost use Rattle.starlark_syntax.specs.Pieces as grammar;
-ghost use Rattle.starlark_syntax.specs.ReaderViews.{IsAhead, IsElsewhere, IsKept, IsNext, IsRead, IsReady, IsSomething, left_here, left_to_read, step_here};
-ghost use Rattle.starlark_syntax.specs.Reading.{History, outcome};
-ghost use Rattle.starlark_syntax.specs.LayoutViews.{Queued};
-ghost use Rattle.starlark_syntax.specs.NestingViews.{Represents, bracket_count};
+ghost use Rattle.starlark_syntax.specs.Joints.Steps.{IsStep, begins_fstring};
+ghost use Rattle.starlark_syntax.specs.Lexemes.{shown_lexeme};
+ghost use Rattle.starlark_syntax.specs.Joints.Literals.{opening_view};
+ghost use Rattle.starlark_grammar.specs.Margins.{open_widths};
+ghost use Rattle.starlark_grammar.specs.Pieces as grammar;
+ghost use Rattle.starlark_syntax.specs.Joints.Reader.{IsAhead, IsElsewhere, IsKept, IsNext, IsRead, IsReady, IsSomething, left_here, left_to_read, step_here};
+ghost use Rattle.starlark_grammar.specs.Reading.{History, outcome};
+ghost use Rattle.starlark_syntax.specs.Joints.Layout.{Queued};
+ghost use Rattle.starlark_syntax.specs.Joints.Nesting.{Represents, bracket_count};
 ghost use Rattle.starlark_token.specs.TokenViews.{TokenView, Whole, token_view};
-ghost use Rattle.starlark_token.specs.Tokens as grammar_token;
-ghost use Rattle.starlark_token.specs.Tokens.{FStringStart, Fault, Spanned, moved};
-ghost use Rattle.starlark_token.specs.Words.{Text};
+ghost use Rattle.starlark_grammar.specs.Tokens as grammar_token;
+ghost use Rattle.starlark_grammar.specs.Tokens.{FStringStart, Fault, Spanned, moved};
+ghost use Rattle.starlark_grammar.specs.Words.{Text};
 
 use crate::lexer::layout::{Laid, Levels, PlacedToken, first_margin, line_end, push_closing};
 use crate::lexer::literal::{Opening, Step};

@@ -2,16 +2,17 @@
 
 ghost use Rattle.std.specs.Prelude.{◌≡◌, ◌+◌, ◌<◌, ◌^◌, ◌&&◌, Some, drop, length, IfOk};
 ghost use Rattle.std.specs.Str.{IsCharBoundary};
-ghost use Rattle.starlark_token.specs.Front.{language_front};
-ghost use Rattle.starlark_syntax.specs.LexedViews.{IsStep, is_outside};
-ghost use Rattle.starlark_syntax.specs.NestingViews.{place_view};
-ghost use Rattle.starlark_syntax.specs.Pieces as grammar;
-ghost use Rattle.starlark_syntax.specs.ReadingViews.{IsBehind, IsPiece};
-ghost use Rattle.starlark_token.specs.Scanned.{class_view, kind_view, quote_view};
-ghost use Rattle.starlark_token.specs.Tokens.{InvalidInput};
-ghost use Rattle.starlark_token.specs.Characters.{first_character};
-ghost use Rattle.starlark_token.specs.Words as word;
-ghost use Rattle.starlark_token.specs.Words.{class_in, language};
+ghost use Rattle.starlark_grammar.specs.Front.{language_front};
+ghost use Rattle.starlark_syntax.specs.Joints.Steps.{IsStep};
+ghost use Rattle.starlark_grammar.specs.Cuts.{is_outside};
+ghost use Rattle.starlark_syntax.specs.Joints.Nesting.{place_view};
+ghost use Rattle.starlark_grammar.specs.Pieces as grammar;
+ghost use Rattle.starlark_syntax.specs.Joints.Pieces.{IsBehind, IsPiece};
+ghost use Rattle.starlark_token.specs.Joints.Words.{class_view, kind_view, quote_view};
+ghost use Rattle.starlark_grammar.specs.Tokens.{InvalidInput};
+ghost use Rattle.starlark_grammar.specs.Characters.{first_character};
+ghost use Rattle.starlark_grammar.specs.Words as word;
+ghost use Rattle.starlark_grammar.specs.Words.{class_in, language};
 
 mod terminals;
 #[cfg(test)]

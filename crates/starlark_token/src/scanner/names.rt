@@ -5,9 +5,9 @@ ghost use Rattle.std.specs.List.{prefix_len};
 ghost use Rattle.std.specs.Map.{lookup};
 ghost use Rattle.std.specs.Option.{option_map};
 ghost use Rattle.std.specs.Str.{bytes_eq};
-ghost use Rattle.starlark_token.specs.Front.{language_front};
-ghost use Rattle.starlark_token.specs.Scanned.{class_view, is_quote, word_view};
-ghost use Rattle.starlark_token.specs.Words as grammar;
+ghost use Rattle.starlark_grammar.specs.Front.{language_front};
+ghost use Rattle.starlark_token.specs.Joints.Words.{class_view, is_quote, word_view};
+ghost use Rattle.starlark_grammar.specs.Words as grammar;
 
 use super::class::{Class, Terminal, Word};
 use super::openers::opener_class;

@@ -4,8 +4,8 @@ ghost use Rattle.std.specs.Prelude.{◌≡◌};
 ghost use Rattle.std.specs.Map.{lookup};
 ghost use Rattle.std.specs.Option.{option_map};
 ghost use Rattle.std.specs.Str.{bytes_eq};
-ghost use Rattle.starlark_token.specs.Scanned.{class_view, kind_view, quote_view};
-ghost use Rattle.starlark_token.specs.Words as grammar;
+ghost use Rattle.starlark_token.specs.Joints.Words.{class_view, kind_view, quote_view};
+ghost use Rattle.starlark_grammar.specs.Words as grammar;
 
 use super::class::{Class, LiteralKind, Quote};
 

@@ -2,9 +2,9 @@
 
 ghost use Rattle.std.specs.Prelude.{◌≡◌, ◌++◌, [], not, string_bytes, IfOk, OnOk};
 ghost use Rattle.std.specs.Str.{IsCharBoundary};
-ghost use Rattle.starlark_syntax.specs.Items as grammar;
-ghost use Rattle.starlark_syntax.specs.LiteralViews.{IsBody, IsCharacters, Takes, bytes_of, holds_text, literal_view, value_view};
-ghost use Rattle.starlark_token.specs.Scanned.{kind_view};
+ghost use Rattle.starlark_grammar.specs.Items as grammar;
+ghost use Rattle.starlark_syntax.specs.Joints.Literals.{IsBody, IsCharacters, Takes, bytes_of, holds_text, literal_view, value_view};
+ghost use Rattle.starlark_token.specs.Joints.Words.{kind_view};
 
 use super::items::{Found, Literal, Stop, Value, found_at};
 use starlark_token::scanner::LiteralKind;

@@ -4,11 +4,11 @@ ghost use Rattle.std.specs.Prelude.{◌≡◌, ◌≤◌, ◌<◌, ◌∷◌, fa
 ghost use Rattle.std.specs.Char.{is_ascii_hexdigit};
 ghost use Rattle.std.specs.List.{prefix_len};
 ghost use Rattle.std.specs.Map.{lookup};
-ghost use Rattle.starlark_token.specs.Characters as characters;
-ghost use Rattle.starlark_syntax.specs.Items as grammar;
-ghost use Rattle.starlark_syntax.specs.LiteralViews.{IsCharacters, IsText, found_view, value_view};
-ghost use Rattle.starlark_token.specs.Scanned.{kind_view};
-ghost use Rattle.starlark_token.specs.Words.{is_octal_digit};
+ghost use Rattle.starlark_grammar.specs.Characters as characters;
+ghost use Rattle.starlark_grammar.specs.Items as grammar;
+ghost use Rattle.starlark_syntax.specs.Joints.Literals.{IsCharacters, IsText, found_view, value_view};
+ghost use Rattle.starlark_token.specs.Joints.Words.{kind_view};
+ghost use Rattle.starlark_grammar.specs.Words.{is_octal_digit};
 
 use super::items::{Found, Item, Stop, Value, behind_first, part};
 use starlark_token::scanner::{LiteralKind, first_character_len};
@@ -141,7 +141,7 @@ fn escaped_feed<'a>(behind: &str) -> Found<'a>
     }
 }
 
-#[tactic(auto, unfolding(crate::specs::Items::simple_escapes))]
+#[tactic(auto, unfolding(starlark_grammar::specs::Items::simple_escapes))]
 /// What one byte behind a backslash denotes, where that is another character.
 fn simple_value(byte: u8) -> Option<char>
     ensures value { result ≡ lookup (nat_eq byte) grammar.simple_escapes }

@@ -1,12 +1,12 @@
 //! What stands at a place of a literal's body: an item, or why the body stops.
 
 ghost use Rattle.std.specs.Prelude.{◌≡◌, ◌<◌, ◌==◌, ◌&&◌, ◌∷◌, not, drop, false, get_or, length, true};
-ghost use Rattle.starlark_token.specs.Characters as characters;
-ghost use Rattle.starlark_syntax.specs.Items as grammar;
-ghost use Rattle.starlark_syntax.specs.LiteralViews.{IsText, found_view, literal_view, opening_view};
-ghost use Rattle.starlark_token.specs.Scanned.{kind_view, quote_view};
+ghost use Rattle.starlark_grammar.specs.Characters as characters;
+ghost use Rattle.starlark_grammar.specs.Items as grammar;
+ghost use Rattle.starlark_syntax.specs.Joints.Literals.{IsText, found_view, literal_view, opening_view};
+ghost use Rattle.starlark_token.specs.Joints.Words.{kind_view, quote_view};
 ghost use Rattle.starlark_token.specs.TokenViews.{opening_view as token_opening};
-ghost use Rattle.starlark_token.specs.Words.{OfFString};
+ghost use Rattle.starlark_grammar.specs.Words.{OfFString};
 
 use super::escapes::escape;
 use starlark_token::fstring_style::FStringQuote;

@@ -1,14 +1,16 @@
 //! String and bytes literals as lexemes.
 
 ghost use Rattle.std.specs.Prelude.{◌≡◌, ◌≢◌, ◌+◌, ◌<◌, ◌^◌, Some, false, length, not, IfOk};
-ghost use Rattle.starlark_syntax.specs.Depths.{Where};
-ghost use Rattle.starlark_syntax.specs.Items as items;
-ghost use Rattle.starlark_syntax.specs.LexedViews.{IsStep, begins_fstring, fault_view, is_outside};
-ghost use Rattle.starlark_syntax.specs.LiteralViews.{bytes_of, holds_text, opening_view};
-ghost use Rattle.starlark_syntax.specs.Pieces as grammar;
-ghost use Rattle.starlark_token.specs.Scanned.{kind_view, quote_view};
+ghost use Rattle.starlark_grammar.specs.Depths.{Where};
+ghost use Rattle.starlark_grammar.specs.Items as items;
+ghost use Rattle.starlark_syntax.specs.Joints.Steps.{IsStep, begins_fstring};
+ghost use Rattle.starlark_syntax.specs.Lexemes.{fault_view};
+ghost use Rattle.starlark_grammar.specs.Cuts.{is_outside};
+ghost use Rattle.starlark_syntax.specs.Joints.Literals.{bytes_of, holds_text, opening_view};
+ghost use Rattle.starlark_grammar.specs.Pieces as grammar;
+ghost use Rattle.starlark_token.specs.Joints.Words.{kind_view, quote_view};
 ghost use Rattle.starlark_token.specs.TokenViews.{Whole, token_view};
-ghost use Rattle.starlark_token.specs.Words.{Kind, OfFString};
+ghost use Rattle.starlark_grammar.specs.Words.{Kind, OfFString};
 
 use super::body::{LiteralValue, read_body};
 use super::items::{Literal, Opening, Stop, closing_len};

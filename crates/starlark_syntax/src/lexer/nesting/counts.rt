@@ -1,11 +1,11 @@
 //! Counts of brackets: of a whole text, and of one f-string.
 
 ghost use Rattle.std.specs.Prelude.{◌≡◌, ◌+◌, ◌<◌, ◌^◌, ◌∷◌, [], List};
-ghost use Rattle.starlark_syntax.specs.Depths as depths;
-ghost use Rattle.starlark_syntax.specs.LiteralViews.{opening_view};
-ghost use Rattle.starlark_syntax.specs.NestingViews.{brackets_of, change_by, closes, fstring_of, fstring_view, opens, place_view};
+ghost use Rattle.starlark_grammar.specs.Depths as depths;
+ghost use Rattle.starlark_syntax.specs.Joints.Literals.{opening_view};
+ghost use Rattle.starlark_syntax.specs.Joints.Nesting.{brackets_of, change_by, closes, fstring_of, fstring_view, opens, place_view};
 ghost use Rattle.starlark_token.specs.TokenViews.{Whole};
-ghost use Rattle.starlark_token.specs.Tokens as grammar;
+ghost use Rattle.starlark_grammar.specs.Tokens as grammar;
 
 use super::Place;
 use super::changes::Change;

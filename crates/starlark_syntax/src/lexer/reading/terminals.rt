@@ -1,12 +1,12 @@
 //! Keywords and symbols as tokens.
 
 ghost use Rattle.std.specs.Prelude.{◌≡◌, false};
-ghost use Rattle.starlark_syntax.specs.LexedViews.{begins_fstring};
-ghost use Rattle.starlark_syntax.specs.NestingViews.{place_view};
-ghost use Rattle.starlark_syntax.specs.Pieces as grammar;
-ghost use Rattle.starlark_token.specs.Scanned.{terminal_view};
+ghost use Rattle.starlark_syntax.specs.Joints.Steps.{begins_fstring};
+ghost use Rattle.starlark_syntax.specs.Joints.Nesting.{place_view};
+ghost use Rattle.starlark_grammar.specs.Pieces as grammar;
+ghost use Rattle.starlark_token.specs.Joints.Words.{terminal_view};
 ghost use Rattle.starlark_token.specs.TokenViews.{Whole, token_view};
-ghost use Rattle.starlark_token.specs.Tokens.{Word};
+ghost use Rattle.starlark_grammar.specs.Tokens.{Word};
 
 use crate::lexer::nesting::Place;
 use starlark_token::scanner::Terminal;

@@ -1,11 +1,11 @@
 use Rattle.std.proofs.Common.{◌≡◌, ℕ, Some, ap, sym, ◌∙◌, length, take, drop}
 use Rattle.std.specs.Str.{IsUtf8, IsCharBoundary}
-use Rattle.starlark_token.specs.Front.{language_front}
-use Rattle.starlark_token.specs.Scanned.{class_view}
-use Rattle.starlark_token.specs.Words.{Text, Class, class_in, language}
-use Rattle.starlark_syntax.proofs.Bounded.{word_edge}
-use Rattle.starlark_token.proofs.Front.{front_sound}
-use Rattle.starlark_syntax.proofs.LiteralPieces.{if_ok}
+use Rattle.starlark_grammar.specs.Front.{language_front}
+use Rattle.starlark_token.specs.Joints.Words.{class_view}
+use Rattle.starlark_grammar.specs.Words.{Text, Class, class_in, language}
+use Rattle.starlark_grammar.proofs.Order.WholeTexts.{word_edge}
+use Rattle.starlark_grammar.proofs.Words.Fronts.{front_sound}
+use Rattle.starlark_syntax.proofs.Literals.Pieces.{if_ok}
 use Rattle.starlark_syntax.proofs.lexer.reading.code_piece.Goals as goal
 
 edge : (text : Text) (class : Class) (len : ℕ) → IsUtf8 text → Some (class, len) ≡ language_front text → IsCharBoundary text len

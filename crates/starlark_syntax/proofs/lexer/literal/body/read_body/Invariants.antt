@@ -1,9 +1,9 @@
 use Rattle.std.proofs.Common.{◌≡◌, ◌-◌, length, not}
 use Rattle.std.specs.Str.{IsCharBoundary}
-use Rattle.starlark_syntax.specs.Items as grammar
-use Rattle.starlark_syntax.specs.LiteralViews.{bytes_of, holds_text, literal_view}
-use Rattle.starlark_token.specs.Scanned.{kind_view}
-use Rattle.starlark_syntax.proofs.BodySteps.{IsFront}
+use Rattle.starlark_grammar.specs.Items as grammar
+use Rattle.starlark_syntax.specs.Joints.Literals.{bytes_of, holds_text, literal_view}
+use Rattle.starlark_token.specs.Joints.Words.{kind_view}
+use Rattle.starlark_syntax.proofs.Literals.BodySteps.{IsFront}
 use Rattle.starlark_syntax.proofs.lexer.literal.body.read_body.Given as goal
 
 abbrev pub invariant-loop-item : goal.invariant-loop-item

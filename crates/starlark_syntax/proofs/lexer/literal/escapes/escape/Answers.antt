@@ -1,9 +1,9 @@
 use Rattle.std.proofs.Common.{◌≡◌, ◌∙◌, true, false, drop, sym, ap, Some, None, arith}
 use Rattle.std.specs.List.{slice_get}
-use Rattle.starlark_syntax.specs.Items.{escape, octal}
-use Rattle.starlark_token.specs.Scanned.{kind_view}
-use Rattle.starlark_token.specs.Words.{is_octal_digit}
-use Rattle.starlark_syntax.proofs.Escapes.{with_first, escape_end, escape_feed, escape_return, escape_x, escape_u, escape_long, escape_octal, escape_other}
+use Rattle.starlark_grammar.specs.Items.{escape, octal}
+use Rattle.starlark_token.specs.Joints.Words.{kind_view}
+use Rattle.starlark_grammar.specs.Words.{is_octal_digit}
+use Rattle.starlark_syntax.proofs.Literals.Escapes.{with_first, escape_end, escape_feed, escape_return, escape_x, escape_u, escape_long, escape_octal, escape_other}
 use Rattle.starlark_syntax.proofs.lexer.literal.escapes.escape.Goals as goal
 
 pub returns-in_default-clause-value : goal.returns-in_default-clause-value

@@ -1,9 +1,9 @@
 use Rattle.std.proofs.Common.{◌≡◌, ◌∙◌, true, false, sym, refl, Some, None}
 use Rattle.std.specs.List.{slice_get}
-use Rattle.starlark_syntax.specs.Items.{is_brace}
-use Rattle.starlark_syntax.specs.LiteralViews.{literal_view}
-use Rattle.starlark_token.specs.Scanned.{kind_view}
-use Rattle.starlark_syntax.proofs.Found.{closes, ends_line, at_end, at_closing, at_line, at_return, at_raw, at_escape, at_brace, at_plain}
+use Rattle.starlark_grammar.specs.Items.{is_brace}
+use Rattle.starlark_syntax.specs.Joints.Literals.{literal_view}
+use Rattle.starlark_token.specs.Joints.Words.{kind_view}
+use Rattle.starlark_syntax.proofs.Literals.Found.{closes, ends_line, at_end, at_closing, at_line, at_return, at_raw, at_escape, at_brace, at_plain}
 use Rattle.starlark_syntax.proofs.lexer.literal.items.found_at.Goals as goal
 
 pub returns-in_default-clause-value : goal.returns-in_default-clause-value

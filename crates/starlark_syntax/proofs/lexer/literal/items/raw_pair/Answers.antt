@@ -1,9 +1,9 @@
 use Rattle.std.proofs.Common.{◌≡◌, ◌∙◌, true, false, drop, sym, Some, None}
 use Rattle.std.proofs.Math.Nat.{sub-zero}
 use Rattle.std.specs.List.{slice_get}
-use Rattle.starlark_syntax.specs.Items.{drops_backslash}
-use Rattle.starlark_token.specs.Scanned.{kind_view, quote_view}
-use Rattle.starlark_syntax.proofs.Found.{raw_end, raw_dropped, raw_kept, cut_behind}
+use Rattle.starlark_grammar.specs.Items.{drops_backslash}
+use Rattle.starlark_token.specs.Joints.Words.{kind_view, quote_view}
+use Rattle.starlark_syntax.proofs.Literals.Found.{raw_end, raw_dropped, raw_kept, cut_behind}
 use Rattle.starlark_syntax.proofs.lexer.literal.items.raw_pair.Goals as goal
 
 pub returns-in_default-clause-value : goal.returns-in_default-clause-value

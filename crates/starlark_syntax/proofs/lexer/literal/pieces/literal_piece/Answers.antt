@@ -1,7 +1,7 @@
 use Rattle.std.proofs.Common.{◌≡◌, ◌∙◌, false, sym}
-use Rattle.starlark_syntax.specs.Pieces.{opening_of}
-use Rattle.starlark_token.specs.Scanned.{kind_view, quote_view}
-use Rattle.starlark_syntax.proofs.LiteralPieces.{if_ok, opener_plain, triple_edge}
+use Rattle.starlark_grammar.specs.Pieces.{opening_of}
+use Rattle.starlark_token.specs.Joints.Words.{kind_view, quote_view}
+use Rattle.starlark_syntax.proofs.Literals.Pieces.{if_ok, opener_plain, triple_edge}
 use Rattle.starlark_syntax.proofs.lexer.literal.pieces.literal_piece.Goals as goal
 
 pub range_from-requires : goal.range_from-requires

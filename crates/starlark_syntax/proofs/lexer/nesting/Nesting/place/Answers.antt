@@ -1,9 +1,9 @@
 use Rattle.std.proofs.Common.{◌≡◌, ◌-◌, List, None, Some, length, subst, take}
 use Rattle.std.specs.Prelude.{reverse}
 use Rattle.std.specs.List.{slice_get}
-use Rattle.starlark_syntax.specs.NestingViews.{place_view}
+use Rattle.starlark_syntax.specs.Joints.Nesting.{place_view}
 use Rattle.starlark_syntax.specs.declared.lexer.nesting.counts.OpenFString.{OpenFString}
-use Rattle.starlark_syntax.proofs.Represented.{AreOpen, last_none, last_some, outside_is, place_is}
+use Rattle.starlark_syntax.proofs.Nesting.FStrings.{AreOpen, last_none, last_some, outside_is, place_is}
 use Rattle.starlark_syntax.proofs.lexer.nesting.Nesting.place.Goals as goal
 
 pub returns-in-None : goal.returns-in-None

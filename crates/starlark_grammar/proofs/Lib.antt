@@ -1,0 +1,8 @@
+pub mod Lists
+pub mod Words
+pub mod Literals
+pub mod Indentation
+pub mod Reading
+pub mod Order
+pub mod Joining
+mod Rows
