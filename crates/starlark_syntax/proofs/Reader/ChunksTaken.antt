@@ -7,7 +7,7 @@ use Rattle.starlark_grammar.specs.Tokens as grammar
 use Rattle.starlark_grammar.specs.Tokens.{Lexeme, moved}
 use Rattle.starlark_grammar.specs.Pieces.{chunk_text}
 use Rattle.starlark_grammar.specs.Reading.{tokens_onto}
-use Rattle.starlark_syntax.specs.Joints.Steps.{begins_fstring}
+use Rattle.starlark_syntax.specs.Joints.Steps.{is_fstring_start}
 use Rattle.starlark_syntax.specs.Lexemes.{lexeme_view}
 use Rattle.starlark_syntax.specs.Joints.Layout.{Queued}
 use Rattle.starlark_syntax.specs.Joints.Nesting.{Represents}
@@ -43,7 +43,7 @@ text_waits waiting at len end text some e = rw e (go (string_bytes text) refl so
         (ap (λ n. record { begin = n; node = Whole (grammar.FStringText (string_bytes text)); end = at + len }) none ∙ ap (λ v. record { begin = at + 0; node = Whole (grammar.FStringText v); end = at + len }) same)
 
 -- the text of a chunk, and the token behind it
-pub chunk_waits : (before between : List (ℕ × Token × ℕ)) (at len more : ℕ) (value : Text) (found : Token) (node : grammar.Token) → token_view found ≡ Whole node → begins_fstring node ≡ false
+pub chunk_waits : (before between : List (ℕ × Token × ℕ)) (at len more : ℕ) (value : Text) (found : Token) (node : grammar.Token) → token_view found ≡ Whole node → is_fstring_start node ≡ false
     → Queued before (map (moved at) (chunk_text len value)) between
     → Queued before (map (moved at) (chunk_text len value ++ record { begin = len; node = node; end = len + more } ∷ [])) (between ++ (at + len, found, at + len + more) ∷ [])
 chunk_waits before between at len more value found node view own queued =

@@ -7,6 +7,7 @@ ghost use Rattle.starlark_grammar.specs.Numbers.{integer_of};
 ghost use Rattle.starlark_grammar.specs.Pieces as grammar;
 ghost use Rattle.starlark_grammar.specs.Tokens as tokens;
 ghost use Rattle.starlark_grammar.specs.Words as class;
+ghost use Rattle.starlark_grammar.specs.declared.class.Class.TheVariants as class;
 ghost use Rattle.starlark_grammar.specs.Words.{class_in, is_run, language};
 
 use crate::lexer::literal::Step;
