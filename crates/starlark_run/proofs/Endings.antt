@@ -3,7 +3,7 @@ use Rattle.std.proofs.Common.{◌≡◌, ◌↔◌, [], true, refl, sym, subst, 
 use Rattle.std.specs.Io.KnownBytes.{Appends}
 use Rattle.std.specs.Str.{IsUtf8}
 use Rattle.starlark_base.specs.Places.{Text}
-use Rattle.starlark_syntax.specs.Reading.{outcome}
+use Rattle.starlark_grammar.specs.Reading.{outcome}
 use Rattle.starlark_run.specs.Output.{output}
 use Rattle.starlark_run.specs.Watch.{Watch}
 use Rattle.starlark_run.specs.Writing.{Writes}

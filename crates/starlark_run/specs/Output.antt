@@ -4,12 +4,12 @@ use Rattle.std.specs.List.{flat_map}
 use Rattle.std.specs.Char.{digit_char}
 use Rattle.std.specs.Fmt.{decimal}
 use Rattle.starlark_base.specs.Places.{Text, place_at, span_text}
-use Rattle.starlark_token.specs.Words.{Quote, SingleQuote, DoubleQuote}
-use Rattle.starlark_token.specs.Tokens as grammar
+use Rattle.starlark_grammar.specs.Words.{Quote, SingleQuote, DoubleQuote}
+use Rattle.starlark_grammar.specs.Tokens as grammar
 use Rattle.starlark_token.specs.TokenInts.{integer_text}
 use Rattle.starlark_token.specs.TokenTexts.{kind_of}
 use Rattle.starlark_token.specs.TokenViews.{TokenView, Whole}
-use Rattle.starlark_syntax.specs.LexerViews.{Item, Given, Refused, items}
+use Rattle.starlark_syntax.specs.Lexer.{LexerItem, Given, Refused, items}
 
 -- each byte as two hexadecimal digits
 abbrev pub hex : Text → Text
@@ -77,7 +77,7 @@ abbrev pub item_line : (name text : Text) → Item → Text
 item_line name text (Given lexeme) = lexeme_text lexeme.begin lexeme.end (place_text text lexeme.begin lexeme.end) lexeme.node
 item_line name text (Refused fault) = fault_text fault.begin fault.end name (place_text text fault.begin fault.end) (message_of fault.node)
 
-unfoldable pub lines_of : (name text : Text) → List Item → Text
+unfoldable pub lines_of : (name text : Text) → List LexerItem → Text
 lines_of name text list = flat_map (item_line name text) list
 
 -- The whole output for a text: a line for each lexeme, and one for the fault where there is one.

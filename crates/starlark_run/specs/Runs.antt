@@ -3,8 +3,8 @@ use Rattle.std.specs.Prelude.{◌≡◌, ◌≤◌, ◌<◌, ℕ, true, false, �
 use Rattle.std.specs.Io.KnownBytes.{Appends}
 use Rattle.std.specs.Str.{IsUtf8}
 use Rattle.starlark_base.specs.Places.{Text}
-use Rattle.starlark_syntax.specs.Reading.{outcome}
-use Rattle.starlark_token.specs.Tokens as grammar
+use Rattle.starlark_grammar.specs.Reading.{outcome}
+use Rattle.starlark_grammar.specs.Tokens as grammar
 use Rattle.starlark_run.specs.Output.{output}
 use Rattle.starlark_run.specs.Watch.{Watch}
 use Rattle.starlark_run.specs.Writing.{TakesBeginning}

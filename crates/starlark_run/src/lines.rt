@@ -45,7 +45,7 @@ fn push_literal(line: &mut String, bytes: &[u8]) -> Result<(), AllocError>
 
 /// The name of the quotes of an f-string.
 fn quotes_of(quote: FStringQuote) -> &'static str
-    ensures { result.now ≡ quotes_name (opening_view quote) }
+    ensures { result.now ≡ quotes_name (fstring_quote_view quote) }
 {
     match quote {
         FStringQuote::Single => "Single",

@@ -1,14 +1,3 @@
-pub mod Items
-pub mod Depths
-pub mod Margins
-pub mod Pieces
-pub mod Reading
-pub mod Cuts
-pub mod Laws
-pub mod LiteralViews
-pub mod LexedViews
-pub mod NestingViews
-pub mod ReadingViews
-pub mod LayoutViews
-pub mod ReaderViews
-pub mod LexerViews
+pub mod Lexemes
+pub mod Lexer
+pub mod Joints

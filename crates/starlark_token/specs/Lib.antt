@@ -1,14 +1,7 @@
-pub mod Words
-pub mod Characters
-pub mod Front
-pub mod Lengths
-pub mod Numbers
-pub mod IntegerValues
-pub mod Tokens
 pub mod BigIntegers
 pub mod TokenInts
 pub mod TokenViews
 pub mod TokenTexts
 pub mod NumberRefusals
-pub mod Scanned
 pub mod OneIdentifier
+pub mod Joints

@@ -2,9 +2,9 @@
 
 ghost use Rattle.std.specs.Prelude.{◌≡◌, ◌↔◌, Some, None, string_bytes, IfOk, OnErr, IfSome};
 ghost use Rattle.std.specs.Option.{option_map};
-ghost use Rattle.starlark_token.specs.Front.{language_front};
+ghost use Rattle.starlark_grammar.specs.Front.{language_front};
 ghost use Rattle.starlark_token.specs.OneIdentifier as spec;
-ghost use Rattle.starlark_token.specs.Words.{Text};
+ghost use Rattle.starlark_grammar.specs.Words.{Text};
 
 use crate::scanner::{Class, Word, first_word};
 use std::alloc::{AllocError, Global};

@@ -4,12 +4,12 @@ ghost use Rattle.std.specs.Prelude.{◌≡◌, ◌≤◌, ◌<◌, ◌+◌, ◌^
 ghost use Rattle.std.specs.Char.{is_ascii_digit, is_ascii_hexdigit};
 ghost use Rattle.std.specs.List.{prefix_len};
 ghost use Rattle.std.specs.Option.{option_map};
-ghost use Rattle.starlark_token.specs.Front.{language_front, longest_front};
-ghost use Rattle.starlark_token.specs.Lengths.{longest_len};
-ghost use Rattle.starlark_token.specs.Scanned.{begins_number, word_view};
-ghost use Rattle.starlark_token.specs.Words as grammar;
+ghost use Rattle.starlark_grammar.specs.Front.{language_front, longest_front};
+ghost use Rattle.starlark_grammar.specs.Lengths.{longest_len};
+ghost use Rattle.starlark_token.specs.Joints.Words.{begins_number, word_view};
+ghost use Rattle.starlark_grammar.specs.Words as grammar;
 
-use super::class::{Class, Word};
+use super::{Class, Word};
 
 fn digits_len(text: &[u8]) -> usize
     ensures value { result ≡ prefix_len is_ascii_digit text.now }

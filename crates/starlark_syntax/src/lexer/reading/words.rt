@@ -2,12 +2,13 @@
 
 ghost use Rattle.std.specs.Prelude.{◌≡◌, ◌≤◌, Some, drop, length, true, IfOk};
 ghost use Rattle.std.specs.Char.{is_digit};
-ghost use Rattle.starlark_syntax.specs.LexedViews.{IsStep};
-ghost use Rattle.starlark_token.specs.Numbers.{integer_of};
-ghost use Rattle.starlark_syntax.specs.Pieces as grammar;
-ghost use Rattle.starlark_token.specs.Tokens as tokens;
-ghost use Rattle.starlark_token.specs.Words as class;
-ghost use Rattle.starlark_token.specs.Words.{class_in, is_run, language};
+ghost use Rattle.starlark_syntax.specs.Joints.Steps.{IsStep};
+ghost use Rattle.starlark_grammar.specs.Numbers.{integer_of};
+ghost use Rattle.starlark_grammar.specs.Pieces as grammar;
+ghost use Rattle.starlark_grammar.specs.Tokens as tokens;
+ghost use Rattle.starlark_grammar.specs.Words as class;
+ghost use Rattle.starlark_grammar.specs.declared.class.Class.TheVariants as class;
+ghost use Rattle.starlark_grammar.specs.Words.{class_in, is_run, language};
 
 use crate::lexer::literal::Step;
 use starlark_error::lexeme_error::LexemeError;

@@ -1,6 +1,6 @@
 use Rattle.std.proofs.Common.{[], refl, sym, subst}
 use Rattle.starlark_token.specs.OneIdentifier.{IsBehindSkipped}
-use Rattle.starlark_token.proofs.OneIdentifier.{behind_more}
+use Rattle.starlark_token.proofs.Identifiers.OneIdentifier.{behind_more}
 use Rattle.starlark_token.proofs.one_identifier.behind_skipped.Goals as goal
 
 pub loop-len-init : goal.loop-len-init

@@ -1,7 +1,7 @@
 use Rattle.std.proofs.Common.{◌≡◌, Some, sym, rules}
-use Rattle.starlark_token.specs.Front.{language_front}
+use Rattle.starlark_grammar.specs.Front.{language_front}
 use Rattle.starlark_token.specs.OneIdentifier.{if_identifier}
-use Rattle.starlark_token.proofs.WordBoundaries.{identifier_is_cut}
+use Rattle.starlark_token.proofs.Identifiers.WordBoundaries.{identifier_is_cut}
 use Rattle.starlark_token.proofs.one_identifier.identifier_len.Goals as goal
 
 pub returns-in-Some-Identifier-clause-cut : goal.returns-in-Some-Identifier-clause-cut

@@ -1,8 +1,8 @@
 use Rattle.std.proofs.Common.{◌≡◌, ◌==◌, true, false, length, take, drop, sym, rules}
 use Rattle.std.proofs.Math.Nat.{sub-zero}
-use Rattle.starlark_token.specs.Words.{Text}
+use Rattle.starlark_grammar.specs.Words.{Text}
 use Rattle.starlark_token.specs.OneIdentifier.{IsOneIdentifier}
-use Rattle.starlark_token.proofs.OneIdentifier.{IsRest, no_identifier, more_behind, one_found, one_alone}
+use Rattle.starlark_token.proofs.Identifiers.OneIdentifier.{IsRest, no_identifier, more_behind, one_found, one_alone}
 use Rattle.starlark_token.proofs.one_identifier.lex_exactly_one_identifier.Goals as goal
 
 pub returns-in_default-clause-value : goal.returns-in_default-clause-value

@@ -1,6 +1,6 @@
 use Rattle.std.proofs.Common.{◌≡◌, ◌++◌, length, sym, ap, ◌∙◌}
 use Rattle.std.proofs.Math.Utf8.{encode}
-use Rattle.starlark_token.proofs.FirstCharacter.{first_of_text, taken, boundary_behind}
+use Rattle.starlark_token.proofs.Scan.FirstCharacter.{first_of_text, taken, boundary_behind}
 use Rattle.starlark_token.proofs.scanner.first_character_len.Goals as goal
 
 pub returns-in-Some-clause-character : goal.returns-in-Some-clause-character

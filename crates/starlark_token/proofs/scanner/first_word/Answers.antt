@@ -2,10 +2,10 @@
 use Rattle.std.proofs.Common.{◌≡◌, ◌<◌, false, refl, sym, ap, ◌∙◌, arith, Some, None}
 use Rattle.std.proofs.lemmas.Option.{get_or_from_slice_get}
 use Rattle.std.specs.List.{slice_get}
-use Rattle.starlark_token.specs.Words.{class_in}
-use Rattle.starlark_token.specs.Front.{longest_front}
-use Rattle.starlark_token.specs.Scanned.{begins_number, marks}
-use Rattle.starlark_token.proofs.ByFirst.{front_empty, front_blank, front_tab, front_hash, front_single_quote, front_double_quote, front_mark}
+use Rattle.starlark_grammar.specs.Words.{class_in}
+use Rattle.starlark_grammar.specs.Front.{longest_front}
+use Rattle.starlark_token.specs.Joints.Words.{begins_number, marks}
+use Rattle.starlark_token.proofs.Scan.ByFirst.{front_empty, front_blank, front_tab, front_hash, front_single_quote, front_double_quote, front_mark}
 use Rattle.starlark_token.proofs.scanner.first_word.Goals as goal
 
 pub returns-in_err-first : goal.returns-in_err-first
@@ -58,4 +58,4 @@ returns-in_default c =
     let number : begins_number c.args.text.now ≡ false = sym (ap begins_number c.as_bytes-bytes.ensures.value) ∙ sym c.if-begins_number.ensures in
     c.mark_from.ensures
     ∙ ap (longest_front (class_in marks)) c.as_bytes-bytes.ensures.value
-    ∙ sym (front_mark c.args.text.now b first small (omega arith) (omega arith) (omega arith) (omega arith) (omega arith) (sym c.if-begins_name.ensures) number)
+    ∙ sym (front_mark c.args.text.now b first small (omega arith) (omega arith) (omega arith) (omega arith) (omega arith) (sym c.if-is_name_start.ensures) number)

@@ -4,11 +4,11 @@ use Rattle.starlark_base.specs.Diagnostics.{Diagnosed}
 use Rattle.starlark_base.specs.Sources.{SourceFile}
 use Rattle.starlark_error.specs.FaultTexts.{kind_text}
 use Rattle.starlark_error.specs.declared.error.kinds.ErrorKind.{ErrorKind}
-use Rattle.starlark_syntax.specs.Cuts.{InOrder}
-use Rattle.starlark_syntax.specs.LexedViews.{lexeme_view}
-use Rattle.starlark_syntax.specs.LexerViews.{Given, LexerView, Refused, items}
-use Rattle.starlark_syntax.specs.Reading.{outcome}
-use Rattle.starlark_syntax.proofs.Order.{outcome_order}
+use Rattle.starlark_grammar.specs.Cuts.{InOrder}
+use Rattle.starlark_syntax.specs.Lexemes.{lexeme_view}
+use Rattle.starlark_syntax.specs.Lexer.{Given, LexerView, Refused, items}
+use Rattle.starlark_grammar.specs.Reading.{outcome}
+use Rattle.starlark_grammar.proofs.Order.Lexemes.{outcome_order}
 use Rattle.starlark_run.specs.Output.{fault_text, item_line, lines_of, output, place_text}
 use Rattle.starlark_run.specs.Runs.{status_of}
 use Rattle.starlark_run.specs.Writing.{Writes}

@@ -1,5 +1,5 @@
 use Rattle.std.proofs.Common.{refl}
-use Rattle.starlark_token.proofs.Marks.{front_one}
+use Rattle.starlark_token.proofs.Scan.Marks.{front_one}
 use Rattle.starlark_token.proofs.scanner.marks.longest_of_one.Goals as goal
 
 pub returns-in-Some : goal.returns-in-Some

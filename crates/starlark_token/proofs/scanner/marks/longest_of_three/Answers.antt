@@ -1,6 +1,6 @@
 use Rattle.std.proofs.Common.{refl}
 use Rattle.std.specs.Prelude.{[]}
-use Rattle.starlark_token.proofs.Marks.{front_two, front_three}
+use Rattle.starlark_token.proofs.Scan.Marks.{front_two, front_three}
 use Rattle.starlark_token.proofs.scanner.marks.longest_of_three.Goals as goal
 
 pub returns-in-Some : goal.returns-in-Some

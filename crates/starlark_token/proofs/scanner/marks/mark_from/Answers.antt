@@ -1,5 +1,5 @@
 use Rattle.std.proofs.Common.{sym, ◌∙◌}
-use Rattle.starlark_token.proofs.Marks.{front_long, front_empty}
+use Rattle.starlark_token.proofs.Scan.Marks.{front_long, front_empty}
 use Rattle.starlark_token.proofs.scanner.marks.mark_from.Goals as goal
 
 pub returns-in-empty : goal.returns-in-empty

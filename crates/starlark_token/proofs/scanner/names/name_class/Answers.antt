@@ -1,7 +1,7 @@
 -- Each arm's word is looked up by computing; the last arm's is no word of the list.
 use Rattle.std.proofs.Common.{sym, ap}
-use Rattle.starlark_token.specs.Words.{names}
-use Rattle.starlark_token.proofs.Listed.{class_of_name, no_listed_name}
+use Rattle.starlark_grammar.specs.Words.{names}
+use Rattle.starlark_token.proofs.Scan.Listed.{class_of_name, no_listed_name}
 use Rattle.starlark_token.proofs.scanner.names.name_class.Goals as goal
 
 pub returns-in-and : goal.returns-in-and

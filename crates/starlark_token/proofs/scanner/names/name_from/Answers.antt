@@ -1,9 +1,9 @@
 use Rattle.std.proofs.Common.{◌≡◌, refl, ap, ◌∙◌, arith}
 use Rattle.std.proofs.Math.Nat.{sub-zero}
 use Rattle.std.specs.List.{prefix_len}
-use Rattle.starlark_token.specs.Words.{is_in_name}
-use Rattle.starlark_token.proofs.Ascii.{boundary_after_run}
-use Rattle.starlark_token.proofs.ByFirst.{front_named, in_name_is_ascii}
+use Rattle.starlark_grammar.specs.Words.{is_in_name}
+use Rattle.starlark_token.proofs.Scan.Ascii.{boundary_after_run}
+use Rattle.starlark_token.proofs.Scan.ByFirst.{front_named, in_name_is_ascii}
 use Rattle.starlark_token.proofs.scanner.names.name_from.Goals as goal
 
 pub returns-in-Some : goal.returns-in-Some

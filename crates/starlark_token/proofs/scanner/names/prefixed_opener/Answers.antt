@@ -1,7 +1,7 @@
 use Rattle.std.proofs.Common.{◌≡◌, ℕ, List, true, sym, ap, ◌∙◌, arith, get_or}
 use Rattle.std.proofs.lemmas.Str.{IsCharBoundary-after_ascii}
-use Rattle.starlark_token.specs.Scanned.{is_quote}
-use Rattle.starlark_token.proofs.Openers.{long_name_is_no_prefix, unquoted_is_no_opener, quote_is_within, quote_is_ascii}
+use Rattle.starlark_token.specs.Joints.Words.{is_quote}
+use Rattle.starlark_token.proofs.Scan.Openers.{long_name_is_no_prefix, unquoted_is_no_opener, quote_is_within, quote_is_ascii}
 use Rattle.starlark_token.proofs.scanner.names.prefixed_opener.Goals as goal
 
 pub returns-then-len-gt-PREFIX_LEN-clause-opener : goal.returns-then-len-gt-PREFIX_LEN-clause-opener

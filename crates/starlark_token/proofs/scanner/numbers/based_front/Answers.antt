@@ -1,7 +1,7 @@
 -- The digits behind a base.
 use Rattle.std.proofs.Common.{sym}
 use Rattle.std.proofs.lemmas.List.{take_rest}
-use Rattle.starlark_token.proofs.NumberLemmas.{hexadecimal_base, octal_base, binary_base, no_base, if_based_word}
+use Rattle.starlark_token.proofs.Scan.Numbers.{hexadecimal_base, octal_base, binary_base, no_base, if_based_word}
 use Rattle.starlark_token.proofs.scanner.numbers.based_front.Goals as goal
 
 pub returns-then-has_base : goal.returns-then-has_base

@@ -1,7 +1,7 @@
 -- The length of an exponent, by its letter, its sign and its digits.
 use Rattle.std.proofs.Common.{refl, sym, ◌∙◌}
 use Rattle.std.proofs.lemmas.List.{take_rest}
-use Rattle.starlark_token.proofs.NumberLemmas.{exponent_none, exponent_some, exponent_of_some}
+use Rattle.starlark_token.proofs.Scan.Numbers.{exponent_none, exponent_some, exponent_of_some}
 use Rattle.starlark_token.proofs.scanner.numbers.exponent_len.Goals as goal
 
 pub returns-then-not-begins_exponent-clause-value : goal.returns-then-not-begins_exponent-clause-value

@@ -1,6 +1,6 @@
 -- A fraction goes before an exponent.
 use Rattle.std.proofs.Common.{refl, sym, ◌∙◌}
-use Rattle.starlark_token.proofs.NumberLemmas.{float_end, first_some_some}
+use Rattle.starlark_token.proofs.Scan.Numbers.{float_end, first_some_some}
 use Rattle.starlark_token.proofs.scanner.numbers.float_end_len.Goals as goal
 
 pub returns-then-fraction-eq0-clause-value : goal.returns-then-fraction-eq0-clause-value

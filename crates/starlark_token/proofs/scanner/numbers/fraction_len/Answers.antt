@@ -1,7 +1,7 @@
 -- The length of a fraction, by its digits and its exponent.
 use Rattle.std.proofs.Common.{sym, arith}
 use Rattle.std.proofs.lemmas.List.{take_rest}
-use Rattle.starlark_token.proofs.NumberLemmas.{fraction_none, fraction_some}
+use Rattle.starlark_token.proofs.Scan.Numbers.{fraction_none, fraction_some}
 use Rattle.starlark_token.proofs.scanner.numbers.fraction_len.Goals as goal
 
 pub returns-then-not-begins_fraction-clause-value : goal.returns-then-not-begins_fraction-clause-value

@@ -1,7 +1,7 @@
 -- A base with digits goes before digits with what makes them a float.
 use Rattle.std.proofs.Common.{refl, sym, ◌∙◌, arith}
 use Rattle.std.proofs.lemmas.List.{take_rest}
-use Rattle.starlark_token.proofs.NumberLemmas.{number_language, digits_only, digits_and_more}
+use Rattle.starlark_token.proofs.Scan.Numbers.{number_language, digits_only, digits_and_more}
 use Rattle.starlark_token.proofs.scanner.numbers.number_from.Goals as goal
 use Rattle.starlark_token.proofs.scanner.numbers.number_from.Goals.{then-more-eq0, else-more-eq0}
 

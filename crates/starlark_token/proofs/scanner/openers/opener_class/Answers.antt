@@ -1,7 +1,7 @@
 -- Each arm's word is looked up by computing; the last arm's is no word of the list.
 use Rattle.std.proofs.Common.{sym, ap, ◌∙◌, Some}
-use Rattle.starlark_token.specs.Words.{openers}
-use Rattle.starlark_token.proofs.Listed.{opener_of, no_listed_opener}
+use Rattle.starlark_grammar.specs.Words.{openers}
+use Rattle.starlark_token.proofs.Scan.Listed.{opener_of, no_listed_opener}
 use Rattle.starlark_token.proofs.scanner.openers.opener_class.Goals as goal
 
 pub returns-in-text : goal.returns-in-text

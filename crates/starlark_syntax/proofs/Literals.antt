@@ -1,0 +1,8 @@
+-- Bodies of literals, item by item.
+pub mod DigitRuns
+pub mod Escapes
+pub mod Found
+pub mod ItemEdges
+pub mod BodySteps
+pub mod Pieces
+pub mod Chunks
