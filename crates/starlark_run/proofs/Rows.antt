@@ -9,6 +9,7 @@ use Rattle.starlark_syntax.specs.Lexer.{items}
 use Rattle.starlark_grammar.specs.Tokens as grammar
 use Rattle.starlark_token.specs.TokenTexts.{kind_of, terminal_kind, whole_kind}
 use Rattle.starlark_run.specs.Output.{fault_text, hex, lexeme_text, lines_of, message_of, output, value_text}
+use Rattle.starlark_grammar.proofs.Rows.Shapes.{all_definitions}
 
 -- what is printed of a text
 abbrev Prints : Text → Text → Type 0

@@ -4,7 +4,8 @@ use Rattle.std.specs.List.{flat_map}
 use Rattle.std.specs.Char.{digit_char}
 use Rattle.std.specs.Fmt.{decimal}
 use Rattle.starlark_base.specs.Places.{Text, place_at, span_text}
-use Rattle.starlark_grammar.specs.Words.{Quote, SingleQuote, DoubleQuote}
+use Rattle.starlark_grammar.specs.declared.class.Quote.{Quote}
+use Rattle.starlark_grammar.specs.declared.class.Quote.TheVariants.{Single as SingleQuote, Double as DoubleQuote}
 use Rattle.starlark_grammar.specs.Tokens as grammar
 use Rattle.starlark_token.specs.TokenInts.{integer_text}
 use Rattle.starlark_token.specs.TokenTexts.{kind_of}
@@ -73,7 +74,7 @@ abbrev pub place_text : Text → (begin end : ℕ) → Text
 place_text text begin end = span_text (place_at text begin) (place_at text end)
 
 -- the line of an item of a text that has this name
-abbrev pub item_line : (name text : Text) → Item → Text
+abbrev pub item_line : (name text : Text) → LexerItem → Text
 item_line name text (Given lexeme) = lexeme_text lexeme.begin lexeme.end (place_text text lexeme.begin lexeme.end) lexeme.node
 item_line name text (Refused fault) = fault_text fault.begin fault.end name (place_text text fault.begin fault.end) (message_of fault.node)
 
