@@ -6,3 +6,7 @@ pub mod ItemEdges
 pub mod BodySteps
 pub mod Pieces
 pub mod Chunks
+pub mod LaneRuns
+pub mod EndLanes
+pub mod RunBytes
+pub mod BodyRuns

@@ -69,7 +69,7 @@ starts_split text needle h =
 lead : (a : ℕ) (bs rest : Text) → continuation_len a ≡ length bs → first_character (a ∷ (bs ++ rest)) ≡ a ∷ bs
 lead a bs rest e = ap (λ n. a ∷ take n (bs ++ rest)) e ∙ ap (λ (t : Text). a ∷ t) (take-append_seam bs rest)
 
-encoded : (c : ℕ) (rest : Text) → c < 1114112 → first_character (encode c ++ rest) ≡ encode c
+pub encoded : (c : ℕ) (rest : Text) → c < 1114112 → first_character (encode c ++ rest) ≡ encode c
 unfolding encode
 encoded c rest small = go (cases_lt c 128) (cases_lt c 2048) (cases_lt c 65536)
   where

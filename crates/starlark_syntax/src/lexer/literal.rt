@@ -4,7 +4,9 @@ mod body;
 mod chunks;
 mod escapes;
 mod items;
+mod lanes;
 mod pieces;
+mod runs;
 #[cfg(test)]
 mod tests;
 

@@ -6,6 +6,7 @@ ghost use Rattle.starlark_grammar.specs.Items as grammar;
 ghost use Rattle.starlark_syntax.specs.Joints.Literals.{IsBody, IsCharacters, Takes, bytes_of, holds_text, literal_view, value_view};
 
 use super::items::{Found, Literal, Stop, Value, found_at};
+use super::runs::first_run;
 use starlark_token::scanner::LiteralKind;
 use std::alloc::{AllocError, Global};
 
@@ -80,6 +81,9 @@ pub fn read_body(alloc: Global, literal: Literal, text: &str) -> Result<Body, Al
     let mut value = LiteralValue::new(alloc, literal.kind);
     let mut len = 0;
     loop {
+        let run = first_run(literal, &text[len..]);
+        value.append(Value::Part(run))?;
+        len += run.len();
         match found_at(literal, &text[len..]) {
             Found::Goes(item) => {
                 value.append(item.value)?;

@@ -103,7 +103,8 @@ pub fn closing_len(opening: Opening) -> usize
     if opening.is_triple { 3 } else { 1 }
 }
 
-fn is_quote(quote: Quote, byte: u8) -> bool
+/// Whether a byte is a quote.
+pub fn is_quote(quote: Quote, byte: u8) -> bool
     ensures { result ≡ (byte == grammar.quote_byte quote) }
 {
     match quote {
@@ -173,7 +174,8 @@ fn brace(first: u8, text: &str) -> Found<'_>
     }
 }
 
-fn is_brace(kind: LiteralKind, byte: u8) -> bool
+/// Whether a byte is a brace of which a rule of such a literal speaks.
+pub fn is_brace(kind: LiteralKind, byte: u8) -> bool
     ensures { result ≡ grammar.is_brace kind byte }
 {
     match kind {
@@ -183,7 +185,7 @@ fn is_brace(kind: LiteralKind, byte: u8) -> bool
 }
 
 /// Whether a byte is a line feed that the literal may not have.
-fn ends_line(opening: Opening, byte: u8) -> bool
+pub fn ends_line(opening: Opening, byte: u8) -> bool
     ensures { result ≡ (byte == 10 && not opening.is_triple) }
 {
     byte == b'\n' && !opening.is_triple

@@ -1,0 +1,88 @@
+//! `starlark_bench [--bench N]` lexes the Starlark text on standard input N times, or once, and prints a line each
+//! time: the text's bytes, its lexemes, its faults (0 or 1) and a checksum over their places. With `--bench` the
+//! line also has the nanoseconds from making the lexer to letting go of the last lexeme.
+//!
+//! Reading the text, checking that it is UTF-8 and making its code map are not measured.
+//!
+//! The exit status is 2 where the arguments are wrong or the run gave up: then standard error says why.
+#![tactic(auto)]
+
+mod tally;
+
+use crate::tally::{BenchFault, tally_of};
+use starlark_base::codemap::{CodeMap, CodeMapId};
+use std::process::ExitCode;
+use std::rt::Env;
+use std::time::Instant;
+use std::{env, io};
+
+/// The exit status for wrong arguments, and where a run gave up.
+const TROUBLE: u8 = 2;
+
+/// What a call asks for: one line without a time, or so many lines with theirs.
+#[derive(Clone, Copy)]
+enum Request {
+    Once,
+    Timed(u32),
+}
+
+/// What the arguments ask for; `None` where they are wrong.
+fn read_request<R: Env + AllocGlobal>(rt: &R) -> Option<Request> {
+    let mut arguments = env::args(rt).ok()?;
+    let _program = arguments.next();
+    let Some(flag) = arguments.next() else {
+        return Some(Request::Once);
+    };
+    let count = arguments.next()?;
+    if flag.as_str() != "--bench" || arguments.next().is_some() {
+        return None;
+    }
+    Some(Request::Timed(count.as_str().parse().ok()?))
+}
+
+/// Reads the text on standard input, and makes its code map.
+fn read_code_map(rt: &HostRuntime) -> Result<CodeMap, BenchFault> {
+    let alloc = rt.alloc();
+    let text = io::read_to_string(alloc, rt.stdin())?;
+    let filename = String::from_str(alloc, "<stdin>")?;
+    Ok(CodeMap::new(alloc, CodeMapId::EMPTY, filename, text)?)
+}
+
+/// Lexes the source of a code map once, and prints a line without a time.
+fn print_once(rt: &HostRuntime, file: &CodeMap) -> Result<(), BenchFault> {
+    let tally = tally_of(rt.alloc(), file)?;
+    Ok(println!(rt; "{} {tally}", file.source().len())?)
+}
+
+/// Lexes the source of a code map so many times, and prints a line each time.
+fn print_timed(rt: &HostRuntime, file: &CodeMap, count: u32) -> Result<(), BenchFault> {
+    for _ in 0..count {
+        let start = Instant::now(rt)?;
+        let tally = tally_of(rt.alloc(), file)?;
+        let elapsed = start.elapsed(rt)?;
+        println!(rt; "{} {tally} {}", file.source().len(), elapsed.as_nanos())?;
+    }
+    Ok(())
+}
+
+fn bench(rt: &HostRuntime, request: Request) -> Result<(), BenchFault> {
+    let file = read_code_map(rt)?;
+    match request {
+        Request::Once => print_once(rt, &file),
+        Request::Timed(count) => print_timed(rt, &file, count),
+    }
+}
+
+fn main(rt: HostRuntime) -> ExitCode {
+    let Some(request) = read_request(&rt) else {
+        let _ = eprintln!(rt; "usage: starlark_bench [--bench N]");
+        return ExitCode::from(TROUBLE);
+    };
+    match bench(&rt, request) {
+        Ok(()) => ExitCode::SUCCESS,
+        Err(fault) => {
+            let _ = eprintln!(rt; "{fault}");
+            ExitCode::from(TROUBLE)
+        }
+    }
+}

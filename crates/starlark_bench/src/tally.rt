@@ -1,0 +1,86 @@
+//! Counts what a lexer hands out.
+
+use starlark_base::codemap::{CodeMap, OrMemory, SourceTooLong};
+use starlark_syntax::lexer::{Lexeme, Lexer};
+use starlark_text::dialect::Dialect;
+use std::alloc::{AllocError, Global};
+use std::{fmt, io};
+use thiserror::Error;
+
+/// Why there is no line.
+#[derive(Debug, Drop, Error)]
+pub enum BenchFault {
+    #[error("cannot read, write or tell the time: {0}")]
+    Device(#[from] io::Error),
+    #[error("input is longer than 4294967295 bytes")]
+    TooLong,
+    #[error("out of memory")]
+    Memory,
+}
+
+impl From<AllocError> for BenchFault {
+    fn from(_error: AllocError) -> BenchFault {
+        BenchFault::Memory
+    }
+}
+
+impl From<SourceTooLong> for BenchFault {
+    fn from(_error: SourceTooLong) -> BenchFault {
+        BenchFault::TooLong
+    }
+}
+
+impl From<OrMemory<SourceTooLong>> for BenchFault {
+    fn from(error: OrMemory<SourceTooLong>) -> BenchFault {
+        match error {
+            OrMemory::Error(_) => BenchFault::TooLong,
+            OrMemory::Memory => BenchFault::Memory,
+        }
+    }
+}
+
+/// How many lexemes and faults came, and a sum over the lexemes' places.
+#[derive(Clone, Copy, Debug, PartialEq, Eq)]
+pub struct Tally {
+    lexemes: u64,
+    faults: u64,
+    checksum: u64,
+}
+
+impl Tally {
+    const NONE: Tally = Tally {
+        lexemes: 0,
+        faults: 0,
+        checksum: 0,
+    };
+
+    /// Counts what came next. Want of memory is no fault of the text.
+    fn add(&mut self, item: &Lexeme) -> Result<(), AllocError> {
+        match item {
+            Ok((begin, _, end)) => {
+                self.lexemes = self.lexemes.wrapping_add(1);
+                let places = (*begin as u64).wrapping_mul(3).wrapping_add(*end as u64);
+                self.checksum = self.checksum.rotate_left(5).wrapping_add(places);
+            }
+            Err(OrMemory::Error(_)) => self.faults = self.faults.wrapping_add(1),
+            Err(OrMemory::Memory) => return Err(AllocError),
+        }
+        Ok(())
+    }
+}
+
+impl fmt::Display for Tally {
+    fn fmt<W: fmt::Write>(&self, f: &mut fmt::Formatter<W>) -> fmt::Result {
+        write!(f, "{} {} {}", self.lexemes, self.faults, self.checksum)
+    }
+}
+
+/// Lexes the source of a code map, and counts what comes.
+pub fn tally_of(alloc: Global, file: &CodeMap) -> Result<Tally, BenchFault> {
+    let lexer = Lexer::new(alloc, file.source(), &Dialect::Extended, file.dupe()?)?;
+    let mut tally = Tally::NONE;
+    for item in lexer {
+        tally.add(&item)?;
+    }
+    Ok(tally)
+}
