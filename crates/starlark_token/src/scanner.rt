@@ -14,8 +14,6 @@ mod marks;
 mod names;
 mod numbers;
 mod openers;
-#[cfg(test)]
-mod tests;
 
 pub use class::{Class, LiteralKind, Quote, Terminal, Word};
 

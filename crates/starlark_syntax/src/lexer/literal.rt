@@ -5,8 +5,6 @@ mod chunks;
 mod escapes;
 mod items;
 mod pieces;
-#[cfg(test)]
-mod tests;
 
 pub use chunks::chunk_from;
 pub use items::{Literal, Opening, Stop};

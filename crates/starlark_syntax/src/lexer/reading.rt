@@ -14,8 +14,6 @@ ghost use Rattle.starlark_token.specs.Words as word;
 ghost use Rattle.starlark_token.specs.Words.{class_in, language};
 
 mod terminals;
-#[cfg(test)]
-mod tests;
 mod words;
 
 use crate::lexer::literal::{Opening, Step, chunk_from, literal_piece, opening_of};
