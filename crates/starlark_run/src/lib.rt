@@ -7,8 +7,6 @@ mod lines;
 mod place;
 mod printer;
 mod runs;
-#[cfg(test)]
-mod tests;
 pub mod watched;
 
 pub use runs::{GREATEST_LEN, RunFault, RunStatus, run};

@@ -6,8 +6,6 @@ pub mod fstring_style;
 pub mod number_text;
 pub mod one_identifier;
 pub mod scanner;
-#[cfg(test)]
-mod tests;
 pub mod token_int;
 pub mod tokens;
 

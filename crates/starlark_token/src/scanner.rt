@@ -15,8 +15,6 @@ mod marks;
 mod names;
 mod numbers;
 mod openers;
-#[cfg(test)]
-mod tests;
 mod word;
 
 pub use starlark_grammar::class::{Class, LiteralKind, Quote, Terminal};

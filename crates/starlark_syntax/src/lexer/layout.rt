@@ -10,8 +10,6 @@ mod comments;
 mod indents;
 mod levels;
 mod margins;
-#[cfg(test)]
-mod tests;
 
 use comments::push_comments;
 pub use indents::push_closing;

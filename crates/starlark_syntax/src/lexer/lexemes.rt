@@ -5,9 +5,6 @@ ghost use Rattle.std.specs.List.{slice_get};
 ghost use Rattle.starlark_base.specs.Diagnostics.{place_in, unplaced, with_span};
 ghost use Rattle.starlark_syntax.specs.Lexer.{AnswersNext, handed_out_by, is_ended_by, items};
 
-#[cfg(test)]
-mod tests;
-
 use crate::lexer::reader::{Next, Reader};
 use starlark_base::codemap::{CodeMap, OrMemory, Pos, SourceTooLong, Span};
 use starlark_base::dialect::Dialect;

@@ -2,8 +2,6 @@
 
 mod changes;
 mod counts;
-#[cfg(test)]
-mod tests;
 
 ghost use Rattle.std.specs.Prelude.{◌≡◌, ◌+◌, ◌<◌, ◌≤◌, ◌^◌, ◌∷◌, [], List, false, OnErr, OnOk};
 ghost use Rattle.starlark_grammar.specs.Depths.{is_balanced, mode_after};

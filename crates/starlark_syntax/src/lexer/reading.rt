@@ -16,8 +16,6 @@ ghost use Rattle.starlark_grammar.specs.declared.class.LiteralKind.TheVariants a
 ghost use Rattle.starlark_grammar.specs.Words.{class_in, language};
 
 mod terminals;
-#[cfg(test)]
-mod tests;
 mod words;
 
 use crate::lexer::literal::{Opening, Step, chunk_from, literal_piece, opening_of};
