@@ -6,3 +6,4 @@ pub mod Bytes
 pub mod Lines
 pub mod Printed
 pub mod IntegerValues
+pub mod Ascii

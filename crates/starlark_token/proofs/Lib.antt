@@ -1,4 +1,2 @@
-pub mod Scan
 pub mod Integers
-pub mod Identifiers
 mod Rows

@@ -3,8 +3,6 @@ pub mod TokenInts
 pub mod TokenViews
 pub mod TokenTexts
 pub mod NumberRefusals
-pub mod OneIdentifier
-pub mod Joints
 pub use Rattle.starlark_grammar.specs.Words
 pub use Rattle.starlark_grammar.specs.Front
 pub use Rattle.starlark_grammar.specs.Lengths

@@ -7,7 +7,7 @@ ghost use Rattle.starlark_syntax.specs.Joints.Literals.{IsBody, IsCharacters, Ta
 
 use super::items::{Found, Literal, Stop, Value, found_at};
 use super::runs::first_run;
-use starlark_token::scanner::LiteralKind;
+use starlark_scanner::scanner::LiteralKind;
 use std::alloc::{AllocError, Global};
 
 /// The value of a literal: characters, or bytes.

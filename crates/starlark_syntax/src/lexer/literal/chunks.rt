@@ -9,7 +9,7 @@ use super::body::{Body, LiteralValue, read_body};
 use super::items::{Literal, Opening, Stop, closing_len};
 use super::pieces::Step;
 use starlark_error::lexeme_error::LexemeError;
-use starlark_token::scanner::LiteralKind;
+use starlark_scanner::scanner::LiteralKind;
 use starlark_token::tokens::Token;
 use std::alloc::{AllocError, Global};
 

@@ -10,7 +10,7 @@ ghost use Rattle.starlark_syntax.specs.Joints.Literals.{IsCharacters, IsText, fo
 ghost use Rattle.starlark_grammar.specs.Words.{is_octal_digit};
 
 use super::items::{Found, Item, Stop, Value, behind_first, part};
-use starlark_token::scanner::{LiteralKind, first_character_len};
+use starlark_scanner::scanner::{LiteralKind, first_character_len};
 
 /// An escape that goes no further behind so many bytes: the character behind them is the last that is read.
 fn broken<'a>(good: usize, behind: &str) -> Found<'a>

@@ -9,7 +9,7 @@ ghost use Rattle.starlark_grammar.specs.declared.class.LiteralKind.TheVariants.{
 
 use super::escapes::escape;
 use starlark_token::fstring_style::FStringQuote;
-use starlark_token::scanner::{LiteralKind, Quote, first_character_len};
+use starlark_scanner::scanner::{LiteralKind, Quote, first_character_len};
 
 /// How a literal begins: whether it is raw, its quote, and whether three of them close it.
 #[derive(Clone, Copy, Debug, PartialEq, Eq)]

@@ -8,7 +8,7 @@ ghost use Rattle.starlark_syntax.specs.Joints.Literals.{literal_view};
 ghost use Rattle.starlark_syntax.specs.Joints.Runs.{is_end, is_special};
 
 use super::items::Literal;
-use starlark_token::scanner::{LiteralKind, Quote};
+use starlark_scanner::scanner::{LiteralKind, Quote};
 use std::simd::prelude::*;
 
 /// How many bytes are looked at together.

@@ -15,7 +15,7 @@ ghost use Rattle.starlark_grammar.specs.declared.class.LiteralKind.TheVariants.{
 use super::body::{LiteralValue, read_body};
 use super::items::{Literal, Opening, Stop, closing_len};
 use starlark_error::lexeme_error::LexemeError;
-use starlark_token::scanner::{LiteralKind, Quote};
+use starlark_scanner::scanner::{LiteralKind, Quote};
 use starlark_token::tokens::Token;
 use std::alloc::{AllocError, Global};
 

@@ -8,7 +8,7 @@ ghost use Rattle.starlark_token.specs.TokenViews.{Whole, token_view};
 ghost use Rattle.starlark_grammar.specs.Tokens.{Word};
 
 use crate::lexer::nesting::Place;
-use starlark_token::scanner::Terminal;
+use starlark_scanner::scanner::Terminal;
 use starlark_token::tokens::Token;
 
 #[tactic(auto, unfolding(starlark_token::specs::TokenViews::token_view))]
