@@ -93,3 +93,47 @@ added_all es rs ns os new reserved is puts =
     joins es ns (map.from_entries os) (λ q. puts q ∙ ap (λ o. option_or o (lookup (eqb q) new)) (reserved q)
     ∙ ap (option_or (lookup (eqb q) es)) (ap (lookup (eqb q)) is ∙ lookup-filter-keys (eqb q) (λ k. not (is_some (lookup (eqb k) es))) (not (is_some (lookup (eqb q) es))) (λ k tie. ap (λ n. not (is_some (lookup (eqb n) es))) (sym (eqb-true q k tie))) os)
     ∙ or_new (lookup (eqb q) es) (lookup (eqb q) os) ∙ ap (option_or (lookup (eqb q) es)) (sym (seen q os)))
+
+-- a number that no entry has
+pub none_at : (es : List (ℕ × SourceFile)) (sources : SourceFiles) (id number : ℕ) → id ≡ number → map.from_entries es ≡ sources → is_some (lookup (eqb id) es) ≡ false → map.get sources number ≡ None
+none_at es sources id number same view absent =
+    sym (ap (λ m. map.get m number) view) ∙ seen number es ∙ go (lookup (eqb number) es) (sym (ap (λ n. is_some (lookup (eqb n) es)) same) ∙ absent)
+  where
+    go : (o : Option SourceFile) → is_some o ≡ false → o ≡ None
+    go None is = refl
+    go (Some x) is = absurd (false≢true (sym is))
+
+or_none : {X : Type 0} (o : Option X) → o ≡ option_or o None
+or_none None = refl
+or_none (Some x) = refl
+
+-- where no file is new, all are there
+pub none_added : (es os new : List (ℕ × SourceFile)) → new ≡ filter (λ e. not (is_some (lookup (eqb e.0) es))) os → new ≡ [] → map.from_entries {R = nat_cmp} es ≡ joined (map.from_entries es) (map.from_entries os)
+none_added es os new is none =
+    added_all es es es os new (λ q. refl) is (λ q. or_none (lookup (eqb q) es) ∙ ap (λ (l : List (ℕ × SourceFile)). option_or (lookup (eqb q) es) (lookup (eqb q) l)) (sym none))
+
+kept_some : {X : Type 0} (b : Bool) (x : X) (o : Option X) → is_some o ≡ true → is_some (cond b (Some x) o) ≡ true
+kept_some true x o is = refl
+kept_some false x o is = is
+
+own_tie : (q : ℕ) → eqb q q ≡ true
+own_tie q = grind (arith, nat_tests)
+
+none_new : (es os : List (ℕ × SourceFile)) → ((q : ℕ) → is_some (lookup (eqb q) os) ≡ true → is_some (lookup (eqb q) es) ≡ true) → filter (λ e. not (is_some (lookup (eqb e.0) es))) os ≡ []
+none_new es [] all = refl
+none_new es (e ∷ os) all =
+    rw (all e.0 (rw (own_tie e.0) refl)) (none_new es os (λ q some. all q (kept_some (eqb q e.0) e.1 (lookup (eqb q) os) some)))
+
+was_some : {X : Type 0} (o p : Option X) → option_or o p ≡ o → is_some p ≡ true → is_some o ≡ true
+was_some None p same some = ap is_some (sym same) ∙ some
+was_some (Some x) p same some = refl
+
+-- where a file is new, joining adds it
+pub grows : (es os : List (ℕ × SourceFile)) → (filter (λ e. not (is_some (lookup (eqb e.0) es))) os ≡ [] → ⊥) → joined (map.from_entries es) (map.from_entries os) ≡ map.from_entries {R = nat_cmp} es → ⊥
+grows es os some same =
+    some (none_new es os (λ q. was_some (lookup (eqb q) es) (lookup (eqb q) os)
+    (ap (λ o. option_or o (lookup (eqb q) os)) (sym (seen q es)) ∙ ap (option_or (map.get (map.from_entries es) q)) (sym (seen q os)) ∙ sym (get-joined (map.from_entries es) (map.from_entries os) q) ∙ ap (λ m. map.get m q) same ∙ seen q es)))
+
+pub grows_as : (es os : List (ℕ × SourceFile)) (first second : SourceFiles) → map.from_entries es ≡ first → map.from_entries os ≡ second → (filter (λ e. not (is_some (lookup (eqb e.0) es))) os ≡ [] → ⊥) → joined first second ≡ first → ⊥
+grows_as es os first second seen_first seen_second some same =
+    grows es os some (ap (λ m. joined m (map.from_entries os)) seen_first ∙ ap (joined first) seen_second ∙ same ∙ sym seen_first)

@@ -69,31 +69,3 @@ impl PartialEq for CallStack {
         self.frames() == other.frames()
     }
 }
-
-#[cfg(test)]
-mod tests {
-    use super::*;
-    use std::test::Fail;
-
-    #[test]
-    fn no_frames_are_the_empty_stack(rt: HostRuntime) {
-        let stack = CallStack::from_frames(Vec::new(rt.alloc()));
-        assert!(rt; stack.is_empty());
-        assert!(rt; CallStack::empty().is_empty());
-        assert!(rt; stack == CallStack::empty());
-    }
-
-    #[test]
-    fn frames_are_kept_in_order(rt: HostRuntime) -> Result<(), Fail> {
-        let alloc = rt.alloc();
-        let outer = "outer".to_string(alloc)?;
-        let inner = "inner".to_string(alloc)?;
-        let stack = CallStack::from_frames(vec![in alloc; outer, inner]?);
-        assert!(rt; !stack.is_empty());
-        assert!(rt; stack != CallStack::empty());
-        assert_eq!(rt; stack.frames().len(), 2);
-        assert_eq!(rt; stack.frames()[0].as_str(), "outer");
-        assert_eq!(rt; stack.frames()[1].as_str(), "inner");
-        Ok(())
-    }
-}

@@ -6,7 +6,5 @@ pub mod call_stack;
 pub mod codemap;
 pub mod diagnostic;
 pub mod laws;
-#[cfg(test)]
-mod tests;
 
 pub use starlark_text::{convert_indices, cursors, dialect, dot_format_parser, fast_string};

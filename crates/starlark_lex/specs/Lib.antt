@@ -1,5 +1,1 @@
-pub mod Watch
-pub mod Places
-pub mod Output
-pub mod Writing
-pub mod Runs
+pub mod ExitStatus

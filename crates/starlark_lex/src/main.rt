@@ -6,20 +6,10 @@
 //! wrong or the run gave up: then standard error says why.
 #![tactic(auto)]
 
-mod buffer;
-mod lines;
-mod place;
-mod printer;
-mod run;
-#[cfg(test)]
-mod tests;
-mod watched;
-
 ghost use Rattle.std.specs.Prelude.{◌≡◌};
-ghost use Rattle.starlark_lex.specs.Runs.{exit_status as exit_status_of};
+ghost use Rattle.starlark_lex.specs.ExitStatus.{exit_status as exit_status_of};
 
-use crate::run::{RunFault, RunStatus, run};
-use crate::watched::Watched;
+use starlark_run::{RunFault, RunStatus, Watched, run};
 use std::env;
 use std::process::ExitCode;
 use std::rt::Env;

@@ -8,5 +8,3 @@ pub mod dialect;
 pub mod dot_format_parser;
 pub mod fast_string;
 pub mod laws;
-#[cfg(test)]
-mod tests;

@@ -4,8 +4,8 @@ use Rattle.std.specs.Char.{is_digit, is_ascii_uppercase}
 use Rattle.std.specs.List.{list_all}
 use Rattle.std.specs.Str.Parse.{digits_value}
 use Rattle.std.specs.Fmt.{sign_text, decimal}
-use Rattle.starlark_token.specs.Words.{Text}
-use Rattle.starlark_token.specs.Numbers.{is_small}
+use Rattle.starlark_grammar.specs.Words.{Text}
+use Rattle.starlark_grammar.specs.Numbers.{is_small}
 
 -- an integer written down: its sign, its digits, and the base that they are written in
 pub record BigInteger : Type 0 where
@@ -18,7 +18,7 @@ abbrev pub are_plain : ℕ → Text → Bool
 are_plain base digits = list_all (λ digit. is_digit digit base && not (is_ascii_uppercase digit)) digits && not (slice_index digits 0 == 48)
 
 -- what is so of each that is kept: its digits are plain, and 32 bits don't hold its value
-pub record IsKept (n : BigInteger) : Type 0 where
+pub record IsCanonical (n : BigInteger) : Type 0 where
   pub least : 2 ≤ n.radix
   pub most : n.radix ≤ 36
   pub plain : are_plain n.radix n.digits ≡ true

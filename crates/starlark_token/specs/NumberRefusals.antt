@@ -2,8 +2,8 @@
 use Rattle.std.specs.Prelude.{◌≡◌, ℕ, None, string_bytes, IsSomeAnd, ◌⊎◌}
 use Rattle.starlark_base.specs.declared.codemap.refusals.OrMemory.{OrMemory}
 use Rattle.starlark_base.specs.declared.codemap.refusals.OrMemory.TheVariants.{Error, Memory}
-use Rattle.starlark_token.specs.Words.{Text}
-use Rattle.starlark_token.specs.Numbers.{integer_in}
+use Rattle.starlark_grammar.specs.Words.{Text}
+use Rattle.starlark_grammar.specs.Numbers.{integer_in}
 use Rattle.starlark_token.specs.TokenInts.{IsBig}
 use Rattle.starlark_error.specs.declared.lexeme_error.LexemeError.{LexemeError}
 use Rattle.starlark_error.specs.declared.lexeme_error.LexemeError.TheVariants.{CannotParse}

@@ -1,8 +1,8 @@
 -- The value of an integer token, and how it is printed.
 use Rattle.std.specs.Prelude.{⊤}
 use Rattle.std.specs.Fmt.{signed_decimal}
-use Rattle.starlark_token.specs.Words.{Text}
-use Rattle.starlark_token.specs.Numbers.{Integer, Small, Big}
+use Rattle.starlark_grammar.specs.Words.{Text}
+use Rattle.starlark_grammar.specs.Numbers.{Integer, Small, Big}
 use Rattle.starlark_token.specs.BigIntegers.{big_text}
 use Rattle.starlark_token.specs.declared.token_int.TokenInt.{TokenInt}
 use Rattle.starlark_token.specs.declared.token_int.TokenInt.TheVariants.{I32, BigInt}

@@ -2,76 +2,18 @@
 use Rattle.std.specs.Prelude.{◌≡◌, [], ◌++◌, if◌then◌else◌, length, slice_index, Option, Some, codes}
 use Rattle.std.specs.Char.{is_ascii_alphabetic}
 use Rattle.std.specs.Fmt.{decimal, debug_str, ◌++?◌}
-use Rattle.starlark_token.specs.Words as terminal
-use Rattle.starlark_token.specs.Words.{Text, Terminal, Fixed, Quote, SingleQuote, DoubleQuote, Kind, OfText, OfBytes, OfFString, class_in, language}
-use Rattle.starlark_token.specs.Tokens as grammar
+use Rattle.starlark_grammar.specs.PrintedWords.{word_of}
+use Rattle.starlark_grammar.specs.declared.class.Terminal.TheVariants as terminal
+use Rattle.starlark_grammar.specs.Words.{Text, class_in, language}
+use Rattle.starlark_grammar.specs.declared.class.Terminal.{Terminal}
+use Rattle.starlark_grammar.specs.declared.class.Class.TheVariants.{Fixed}
+use Rattle.starlark_grammar.specs.declared.class.Quote.{Quote}
+use Rattle.starlark_grammar.specs.declared.class.Quote.TheVariants.{Single as SingleQuote, Double as DoubleQuote}
+use Rattle.starlark_grammar.specs.declared.class.LiteralKind.{LiteralKind as Kind}
+use Rattle.starlark_grammar.specs.declared.class.LiteralKind.TheVariants.{Text as OfText, Bytes as OfBytes, FString as OfFString}
+use Rattle.starlark_grammar.specs.Tokens as grammar
 use Rattle.starlark_token.specs.TokenInts.{integer_text}
 use Rattle.starlark_token.specs.TokenViews.{TokenView, Whole, Tabs, Reserved, Opener, Decimal, Hexadecimal, Binary, Octal}
-
--- The words of the keywords and the symbols.
-unfoldable pub word_of : Terminal → Text
-word_of terminal.And = codes "and"
-word_of terminal.Break = codes "break"
-word_of terminal.Continue = codes "continue"
-word_of terminal.Def = codes "def"
-word_of terminal.Elif = codes "elif"
-word_of terminal.Else = codes "else"
-word_of terminal.For = codes "for"
-word_of terminal.If = codes "if"
-word_of terminal.In = codes "in"
-word_of terminal.Lambda = codes "lambda"
-word_of terminal.Load = codes "load"
-word_of terminal.Not = codes "not"
-word_of terminal.Or = codes "or"
-word_of terminal.Pass = codes "pass"
-word_of terminal.Return = codes "return"
-word_of terminal.Comma = codes ","
-word_of terminal.Semicolon = codes ";"
-word_of terminal.Colon = codes ":"
-word_of terminal.PlusEqual = codes "+="
-word_of terminal.MinusEqual = codes "-="
-word_of terminal.StarEqual = codes "*="
-word_of terminal.SlashEqual = codes "/="
-word_of terminal.SlashSlashEqual = codes "//="
-word_of terminal.PercentEqual = codes "%="
-word_of terminal.EqualEqual = codes "=="
-word_of terminal.BangEqual = codes "!="
-word_of terminal.LessEqual = codes "<="
-word_of terminal.GreaterEqual = codes ">="
-word_of terminal.StarStar = codes "**"
-word_of terminal.MinusGreater = codes "->"
-word_of terminal.Equal = codes "="
-word_of terminal.LessThan = codes "<"
-word_of terminal.GreaterThan = codes ">"
-word_of terminal.Minus = codes "-"
-word_of terminal.Plus = codes "+"
-word_of terminal.Star = codes "*"
-word_of terminal.Percent = codes "%"
-word_of terminal.Slash = codes "/"
-word_of terminal.SlashSlash = codes "//"
-word_of terminal.Dot = codes "."
-word_of terminal.Ampersand = codes "&"
-word_of terminal.Pipe = codes "|"
-word_of terminal.Caret = codes "^"
-word_of terminal.LessLess = codes "<<"
-word_of terminal.GreaterGreater = codes ">>"
-word_of terminal.Tilde = codes "~"
-word_of terminal.AmpersandEqual = codes "&="
-word_of terminal.PipeEqual = codes "|="
-word_of terminal.CaretEqual = codes "^="
-word_of terminal.LessLessEqual = codes "<<="
-word_of terminal.GreaterGreaterEqual = codes ">>="
-word_of terminal.Ellipsis = codes "..."
-word_of terminal.OpeningSquare = codes "["
-word_of terminal.OpeningCurly = codes "{"
-word_of terminal.OpeningRound = codes "("
-word_of terminal.ClosingSquare = codes "]"
-word_of terminal.ClosingCurly = codes "}"
-word_of terminal.ClosingRound = codes ")"
-
--- Each of them is read as the keyword or symbol whose word it is.
-abbrev pub PrintedWordsReadBack : Type 0
-PrintedWordsReadBack = (terminal : Terminal) → class_in language (word_of terminal) ≡ Some (Fixed terminal)
 
 -- The names of the keywords and the symbols.
 unfoldable pub terminal_kind : Terminal → Text

@@ -1,13 +1,9 @@
-//! Tokens, integers, and the scanner of one word.
+//! Tokens, and the integers of tokens.
 #![tactic(auto)]
 
 pub mod big_int;
 pub mod fstring_style;
 pub mod number_text;
-pub mod one_identifier;
-pub mod scanner;
-#[cfg(test)]
-mod tests;
 pub mod token_int;
 pub mod tokens;
 

@@ -4,10 +4,10 @@ ghost use Rattle.std.specs.Prelude.{◌≡◌, ◌≤◌, nat_eq, slice_index, s
 ghost use Rattle.std.specs.Char.{is_digit};
 ghost use Rattle.std.specs.List.{list_all, prefix_len};
 ghost use Rattle.std.specs.Option.{option_map};
-ghost use Rattle.starlark_token.specs.Numbers as grammar;
-ghost use Rattle.starlark_token.specs.Numbers.{integer_in};
+ghost use Rattle.starlark_grammar.specs.Numbers as grammar;
+ghost use Rattle.starlark_grammar.specs.Numbers.{integer_in};
 ghost use Rattle.starlark_token.specs.TokenInts.{IsBig, integer_view};
-ghost use Rattle.starlark_token.specs.Words.{is_run, is_sign, unsigned};
+ghost use Rattle.starlark_grammar.specs.Words.{is_run, is_sign, unsigned};
 
 use crate::big_int::BigInt;
 use crate::token_int::TokenInt;

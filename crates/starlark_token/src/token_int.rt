@@ -2,7 +2,7 @@
 
 ghost use Rattle.std.specs.Prelude.{◌≡◌, ◌≤◌, IfOk, IfErr, OnErr, Some};
 ghost use Rattle.starlark_token.specs.NumberRefusals.{RefusesNumber};
-ghost use Rattle.starlark_token.specs.Numbers.{integer_in};
+ghost use Rattle.starlark_grammar.specs.Numbers.{integer_in};
 ghost use Rattle.starlark_token.specs.TokenInts.{IsBig, integer_view};
 
 use crate::big_int::BigInt;

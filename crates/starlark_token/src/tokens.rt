@@ -226,7 +226,7 @@ impl Token {
         }
     }
 
-    #[tactic(auto, unfolding(crate::specs::TokenViews::token_view, crate::specs::TokenTexts::fixed_text, crate::specs::TokenTexts::word_of))]
+    #[tactic(auto, unfolding(crate::specs::TokenViews::token_view, crate::specs::TokenTexts::fixed_text, starlark_grammar::specs::PrintedWords::word_of))]
     /// What is printed of a token that has no value; nothing for one that has.
     fn fixed_text(&self) -> &'static str
         ensures { result.now ≡ fixed_text (token_view self.now) }

@@ -1,6 +1,6 @@
 //! Code maps by their numbers.
 
-ghost use Rattle.std.specs.Prelude.{◌≡◌, ◌<◌, ◌≤◌, ◌+◌, ℕ, Some, None, IfOk, IsOk, OnOk, OnErr, IfErr, filter, not, length, is_some, nat_eq, if◌then◌else◌, ◌==◌};
+ghost use Rattle.std.specs.Prelude.{◌≡◌, ◌≢◌, [], ◌<◌, ◌≤◌, ◌+◌, ℕ, Some, None, IfOk, IsOk, OnOk, OnErr, IfErr, filter, not, length, is_some, nat_eq, if◌then◌else◌, ◌==◌};
 ghost use Rattle.std.specs.FinMap as map;
 ghost use Rattle.std.specs.HashMap.{get, IsUnchanged, spare};
 ghost use Rattle.std.specs.Map.{lookup};
@@ -39,7 +39,8 @@ fn shared_new(
     codemaps: &HashMap<CodeMapId, CodeMap>,
     others: &HashMap<CodeMapId, CodeMap>,
 ) -> Result<Vec<(CodeMapId, CodeMap)>, AllocError>
-    ensures { IfOk result (λ new. new.items ≡ filter (λ e. not (is_some (get nat_eq codemaps.now e.0))) others.now.entries) }
+    ensures new { IfOk result (λ new. new.items ≡ filter (λ e. not (is_some (get nat_eq codemaps.now e.0))) others.now.entries) }
+    ensures wanted { OnErr result (filter (λ e. not (is_some (get nat_eq codemaps.now e.0))) others.now.entries ≢ []) }
 {
     let mut new = Vec::new(alloc);
     for (id, codemap) in others {
@@ -105,6 +106,7 @@ impl CodeMaps {
     pub fn add(&mut self, codemap: &CodeMap) -> Result<(), AllocError>
         ensures ok { OnOk result (self.new ≡ joined self.old (only codemap.now)) }
         ensures err { OnErr result (self.new ≡ self.old) }
+        ensures wanted { OnErr result (map.get self.old codemap.now.id ≡ None) }
     {
         let id = codemap.id();
         if self.codemaps.contains_key(&id) {
@@ -119,8 +121,12 @@ impl CodeMaps {
     pub fn add_all(&mut self, codemaps: &CodeMaps) -> Result<(), AllocError>
         ensures ok { OnOk result (self.new ≡ joined self.old codemaps.now) }
         ensures err { OnErr result (self.new ≡ self.old) }
+        ensures wanted { OnErr result (joined self.old codemaps.now ≢ self.old) }
     {
         let new = shared_new(self.alloc, &self.codemaps, &codemaps.codemaps)?;
+        if new.is_empty() {
+            return Ok(());
+        }
         self.codemaps.reserve(new.len())?;
         put_all_new(&mut self.codemaps, new)
     }

@@ -1,18 +1,16 @@
 //! Reads margins, which stand at the begin of lines, and keeps the widths that are open.
 
 ghost use Rattle.std.specs.Prelude.{◌≡◌, ◌+◌, ◌<◌, ◌≤◌, ◌^◌, ◌++◌, ℕ, List, [], length, map, option_to_list, IfOk, OnOk};
-ghost use Rattle.starlark_syntax.specs.LayoutViews.{IsDecided, IsLaid, IsMargin, Queued, margin_lexemes, margin_piece, margin_width};
-ghost use Rattle.starlark_syntax.specs.Margins as grammar;
-ghost use Rattle.starlark_syntax.specs.Pieces as pieces;
-ghost use Rattle.starlark_token.specs.Tokens as tokens;
+ghost use Rattle.starlark_syntax.specs.Joints.Layout.{IsDecided, IsLaid, IsMargin, Queued, margin_lexemes, margin_piece, margin_width};
+ghost use Rattle.starlark_grammar.specs.Margins as grammar;
+ghost use Rattle.starlark_grammar.specs.Pieces as pieces;
+ghost use Rattle.starlark_grammar.specs.Tokens as tokens;
 
 mod comments;
 mod feeds;
 mod indents;
 mod levels;
 mod margins;
-#[cfg(test)]
-mod tests;
 
 use comments::push_comments;
 pub use indents::push_closing;

@@ -3,10 +3,7 @@
 ghost use Rattle.std.specs.Prelude.{◌≡◌, ◌<◌, ◌≤◌, ◌+◌, ◌^◌, ◌↔◌, ◌||◌, None, length, true, false, IfOk, IsErr};
 ghost use Rattle.std.specs.List.{slice_get};
 ghost use Rattle.starlark_base.specs.Diagnostics.{place_in, unplaced, with_span};
-ghost use Rattle.starlark_syntax.specs.LexerViews.{AnswersNext, handed_out_by, is_ended_by, items};
-
-#[cfg(test)]
-mod tests;
+ghost use Rattle.starlark_syntax.specs.Lexer.{AnswersNext, handed_out_by, is_ended_by, items};
 
 use crate::lexer::reader::{Next, Reader};
 use starlark_base::codemap::{CodeMap, OrMemory, Pos, SourceTooLong, Span};
@@ -35,10 +32,10 @@ pub struct Lexer<'a> {
 
 impl<'a> Model for Lexer<'a> {
     ghost use Rattle.std.specs.Prelude.{◌≡◌, ◌<◌, ◌≤◌, ◌^◌, false, drop, length, map};
-    ghost use Rattle.starlark_syntax.specs.LexedViews.{shown_lexeme};
-    ghost use Rattle.starlark_syntax.specs.LexerViews.{LexerView};
-    ghost use Rattle.starlark_syntax.specs.ReaderViews.{IsAhead};
-    ghost use Rattle.starlark_syntax.specs.Reading.{outcome};
+    ghost use Rattle.starlark_syntax.specs.Lexemes.{shown_lexeme};
+    ghost use Rattle.starlark_syntax.specs.Lexer.{LexerView};
+    ghost use Rattle.starlark_syntax.specs.Joints.Reader.{IsAhead};
+    ghost use Rattle.starlark_grammar.specs.Reading.{outcome};
 
     ghost Value = { LexerView };
 
@@ -127,7 +124,7 @@ impl<'a> Lexer<'a> {
 }
 
 impl<'a> Iterator for Lexer<'a> {
-    ghost use Rattle.starlark_syntax.specs.LexerViews.{IsNextOf, items_left};
+    ghost use Rattle.starlark_syntax.specs.Lexer.{IsNextOf, items_left};
 
     type Item = Lexeme;
 

@@ -7,8 +7,6 @@ mod items;
 mod lanes;
 mod pieces;
 mod runs;
-#[cfg(test)]
-mod tests;
 
 pub use chunks::chunk_from;
 pub use items::{Literal, Opening, Stop};

@@ -2,18 +2,19 @@
 
 ghost use Rattle.std.specs.Prelude.{◌≡◌, ◌<◌, ◌≤◌, ◌+◌, ◌^◌, ◌∷◌, ◌++◌, [], ℕ, false, List, Option, drop, length, map, string_bytes, OnErr, OnOk, IfOk};
 ghost use Rattle.std.specs.Str.{IsCharBoundary};
-ghost use Rattle.starlark_syntax.specs.LexedViews.{IsStep, begins_fstring, shown_lexeme};
-ghost use Rattle.starlark_syntax.specs.LiteralViews.{opening_view};
-ghost use Rattle.starlark_syntax.specs.Margins.{open_widths};
-ghost use Rattle.starlark_syntax.specs.Pieces as grammar;
-ghost use Rattle.starlark_syntax.specs.ReaderViews.{IsAhead, IsElsewhere, IsKept, IsNext, IsRead, IsReady, IsSomething, left_here, left_to_read, step_here};
-ghost use Rattle.starlark_syntax.specs.Reading.{History, outcome};
-ghost use Rattle.starlark_syntax.specs.LayoutViews.{Queued};
-ghost use Rattle.starlark_syntax.specs.NestingViews.{Represents, bracket_count};
+ghost use Rattle.starlark_syntax.specs.Joints.Steps.{IsStep, is_fstring_start};
+ghost use Rattle.starlark_syntax.specs.Lexemes.{shown_lexeme};
+ghost use Rattle.starlark_syntax.specs.Joints.Literals.{opening_view};
+ghost use Rattle.starlark_grammar.specs.Margins.{open_widths};
+ghost use Rattle.starlark_grammar.specs.Pieces as grammar;
+ghost use Rattle.starlark_syntax.specs.Joints.Reader.{IsAhead, IsElsewhere, IsStateAfter, IsNext, IsRead, IsReady, IsSomething, left_here, left_to_read, step_here};
+ghost use Rattle.starlark_grammar.specs.Reading.{History, outcome};
+ghost use Rattle.starlark_syntax.specs.Joints.Layout.{Queued};
+ghost use Rattle.starlark_syntax.specs.Joints.Nesting.{Represents, bracket_count};
 ghost use Rattle.starlark_token.specs.TokenViews.{TokenView, Whole, token_view};
-ghost use Rattle.starlark_token.specs.Tokens as grammar_token;
-ghost use Rattle.starlark_token.specs.Tokens.{FStringStart, Fault, Spanned, moved};
-ghost use Rattle.starlark_token.specs.Words.{Text};
+ghost use Rattle.starlark_grammar.specs.Tokens as grammar_token;
+ghost use Rattle.starlark_grammar.specs.Tokens.{FStringStart, Fault, Spanned, moved};
+ghost use Rattle.starlark_grammar.specs.Words.{Text};
 
 use crate::lexer::layout::{Laid, Levels, PlacedToken, first_margin, line_end, push_closing};
 use crate::lexer::literal::{Opening, Step};
@@ -119,9 +120,9 @@ impl Reader {
     /// Reads a line end that counts, and the margin behind it.
     fn read_line_end(&mut self, text: &str, len: usize) -> Result<(), AllocError>
         requires fits { length text.now < 2 ^ 32 }
-        requires stands { (history : History) × IsKept text.now history self.old × (step_here text.now history self.old ≡ grammar.line_end len (open_widths history.widths) (drop len (drop self.old.at text.now))) }
+        requires stands { (history : History) × IsStateAfter text.now history self.old × (step_here text.now history self.old ≡ grammar.line_end len (open_widths history.widths) (drop len (drop self.old.at text.now))) }
         requires cut { IsCharBoundary text.now (self.old.at + len) }
-        ensures read { OnOk result ((history : History) → IsKept text.now history self.old → step_here text.now history self.old ≡ grammar.line_end len (open_widths history.widths) (drop len (drop self.old.at text.now)) →
+        ensures read { OnOk result ((history : History) → IsStateAfter text.now history self.old → step_here text.now history self.old ≡ grammar.line_end len (open_widths history.widths) (drop len (drop self.old.at text.now)) →
             IsRead text.now (left_here text.now history self.old) self.old self.new) }
         ensures less { OnOk result (left_to_read text.now self.new self.new.stage < left_to_read text.now self.old Stage.Onward) }
     {
@@ -144,8 +145,8 @@ impl Reader {
     /// Takes the start of an f-string.
     fn begin_fstring(&mut self, opening: Opening, len: usize, text: &str) -> Result<(), AllocError>
         requires fits { length text.now < 2 ^ 32 }
-        requires stands { (history : History) × IsKept text.now history self.old × (step_here text.now history self.old ≡ grammar.token len (FStringStart (opening_view opening))) }
-        ensures read { OnOk result ((history : History) → IsKept text.now history self.old → step_here text.now history self.old ≡ grammar.token len (FStringStart (opening_view opening)) →
+        requires stands { (history : History) × IsStateAfter text.now history self.old × (step_here text.now history self.old ≡ grammar.token len (FStringStart (opening_view opening))) }
+        ensures read { OnOk result ((history : History) → IsStateAfter text.now history self.old → step_here text.now history self.old ≡ grammar.token len (FStringStart (opening_view opening)) →
             IsRead text.now (left_here text.now history self.old) self.old self.new) }
         ensures less { OnOk result (left_to_read text.now self.new self.new.stage < left_to_read text.now self.old Stage.Onward) }
     {
@@ -159,7 +160,7 @@ impl Reader {
     /// Puts a token, from one place to another, behind those that wait.
     fn push(&mut self, begin: usize, token: Token, end: usize) -> Result<(), AllocError>
         requires room { bracket_count self.old.nesting + 1 < 2 ^ 64 }
-        ensures passes { OnOk result ((tokens : List grammar_token.Token) (node : grammar_token.Token) → token_view token ≡ Whole node → begins_fstring node ≡ false → Represents tokens self.old.nesting → Represents (node ∷ tokens) self.new.nesting) }
+        ensures passes { OnOk result ((tokens : List grammar_token.Token) (node : grammar_token.Token) → token_view token ≡ Whole node → is_fstring_start node ≡ false → Represents tokens self.old.nesting → Represents (node ∷ tokens) self.new.nesting) }
         ensures count { OnOk result (bracket_count self.new.nesting ≤ bracket_count self.old.nesting + 1) }
         ensures waits { OnOk result (self.new.waiting.items ≡ self.old.waiting.items ++ (begin, token, end) ∷ []) }
         ensures stays { OnOk result (IsElsewhere self.old self.new) }
@@ -172,8 +173,8 @@ impl Reader {
     /// Takes a token that was read here.
     fn take_token(&mut self, token: Token, len: usize, text: &str) -> Result<(), AllocError>
         requires fits { length text.now < 2 ^ 32 }
-        requires stands { (history : History) × IsKept text.now history self.old × IsStep (step_here text.now history self.old) (Step.Token token len) }
-        ensures read { OnOk result ((history : History) → IsKept text.now history self.old → IsStep (step_here text.now history self.old) (Step.Token token len) →
+        requires stands { (history : History) × IsStateAfter text.now history self.old × IsStep (step_here text.now history self.old) (Step.Token token len) }
+        ensures read { OnOk result ((history : History) → IsStateAfter text.now history self.old → IsStep (step_here text.now history self.old) (Step.Token token len) →
             IsRead text.now (left_here text.now history self.old) self.old self.new) }
         ensures less { OnOk result (left_to_read text.now self.new self.new.stage < left_to_read text.now self.old Stage.Onward) }
     {
@@ -205,8 +206,8 @@ impl Reader {
         text: &str,
     ) -> Result<(), AllocError>
         requires fits { length text.now < 2 ^ 32 }
-        requires stands { (history : History) × IsKept text.now history self.old × IsStep (step_here text.now history self.old) (Step.Text chunk chunk_len token len) }
-        ensures read { OnOk result ((history : History) → IsKept text.now history self.old → IsStep (step_here text.now history self.old) (Step.Text chunk chunk_len token len) →
+        requires stands { (history : History) × IsStateAfter text.now history self.old × IsStep (step_here text.now history self.old) (Step.Text chunk chunk_len token len) }
+        ensures read { OnOk result ((history : History) → IsStateAfter text.now history self.old → IsStep (step_here text.now history self.old) (Step.Text chunk chunk_len token len) →
             IsRead text.now (left_here text.now history self.old) self.old self.new) }
         ensures less { OnOk result (left_to_read text.now self.new self.new.stage < left_to_read text.now self.old Stage.Onward) }
     {
@@ -220,8 +221,8 @@ impl Reader {
     /// Takes a token or a fault that was read here.
     fn take(&mut self, step: Step, text: &str) -> Result<(), AllocError>
         requires fits { length text.now < 2 ^ 32 }
-        requires stands { (history : History) × IsKept text.now history self.old × IsStep (step_here text.now history self.old) step }
-        ensures read { OnOk result ((history : History) → IsKept text.now history self.old → IsStep (step_here text.now history self.old) step →
+        requires stands { (history : History) × IsStateAfter text.now history self.old × IsStep (step_here text.now history self.old) step }
+        ensures read { OnOk result ((history : History) → IsStateAfter text.now history self.old → IsStep (step_here text.now history self.old) step →
             IsRead text.now (left_here text.now history self.old) self.old self.new) }
         ensures less { OnOk result (left_to_read text.now self.new self.new.stage < left_to_read text.now self.old Stage.Onward) }
     {
@@ -242,7 +243,7 @@ impl Reader {
 
     /// Closes a text without fault at its end.
     fn close(&mut self, text: &str) -> Result<(), AllocError>
-        ensures read { OnOk result ((history : History) → IsKept text.now history self.old → step_here text.now history self.old ≡ grammar.Ends → IsRead text.now (left_here text.now history self.old) self.old self.new) }
+        ensures read { OnOk result ((history : History) → IsStateAfter text.now history self.old → step_here text.now history self.old ≡ grammar.Ends → IsRead text.now (left_here text.now history self.old) self.old self.new) }
         ensures less { OnOk result (left_to_read text.now self.new self.new.stage < left_to_read text.now self.old Stage.Onward) }
     {
         push_closing(&mut self.waiting, &self.levels, self.at)?;

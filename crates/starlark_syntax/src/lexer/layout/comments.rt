@@ -1,10 +1,10 @@
 //! Comments of the comment-only lines of a margin.
 
 ghost use Rattle.std.specs.Prelude.{◌≡◌, ◌+◌, ◌-◌, ◌<◌, ◌≤◌, ◌==◌, ◌^◌, ◌∷◌, [], drop, get_or, length, map, take, true, OnOk};
-ghost use Rattle.starlark_syntax.specs.Laws.{AtBoundaries};
-ghost use Rattle.starlark_syntax.specs.LayoutViews.{Queued};
-ghost use Rattle.starlark_syntax.specs.Margins as grammar;
-ghost use Rattle.starlark_token.specs.Tokens.{moved};
+ghost use Rattle.starlark_grammar.specs.Laws.{AtBoundaries};
+ghost use Rattle.starlark_syntax.specs.Joints.Layout.{Queued};
+ghost use Rattle.starlark_grammar.specs.Margins as grammar;
+ghost use Rattle.starlark_grammar.specs.Tokens.{moved};
 
 use super::PlacedToken;
 use super::feeds::before_feed_len;

@@ -1,10 +1,10 @@
 //! Indents and dedents as lexemes.
 
 ghost use Rattle.std.specs.Prelude.{◌≡◌, ◌+◌, ◌<◌, ◌≤◌, ◌^◌, List, ℕ, length, map, replicate, OnOk};
-ghost use Rattle.starlark_syntax.specs.LayoutViews.{IsMargin, Queued};
-ghost use Rattle.starlark_syntax.specs.Margins as grammar;
-ghost use Rattle.starlark_syntax.specs.Reading.{History, closing};
-ghost use Rattle.starlark_token.specs.Tokens.{Dedent, Lexeme, moved};
+ghost use Rattle.starlark_syntax.specs.Joints.Layout.{IsMargin, Queued};
+ghost use Rattle.starlark_grammar.specs.Margins as grammar;
+ghost use Rattle.starlark_grammar.specs.Reading.{History, closing};
+ghost use Rattle.starlark_grammar.specs.Tokens.{Dedent, Lexeme, moved};
 
 use super::{Levels, Margin, PlacedToken};
 use starlark_token::tokens::Token;

@@ -2,7 +2,7 @@
 
 ghost use Rattle.std.specs.Prelude.{◌≡◌, ◌&&◌, ◌∷◌, ◌++◌, ℕ, List, [], count_by, filter, nat_eq, nat_lt, length, OnOk};
 ghost use Rattle.std.specs.List.{list_any};
-ghost use Rattle.starlark_syntax.specs.Margins as grammar;
+ghost use Rattle.starlark_grammar.specs.Margins as grammar;
 
 use std::alloc::{AllocError, Global};
 use std::marker::Model;
@@ -52,7 +52,7 @@ impl Levels {
     }
 
     /// Whether a content line may have a width: 0, one that is open, or one that is greater than every open one.
-    #[tactic(auto, unfolding(crate::specs::Margins::fits))]
+    #[tactic(auto, unfolding(starlark_grammar::specs::Margins::fits))]
     pub fn fits(&self, width: usize) -> bool
         ensures { result ≡ grammar.fits width self.now }
     {

@@ -2,8 +2,8 @@
 
 ghost use Rattle.std.specs.Prelude.{◌≡◌, ◌+◌, ◌≤◌, ◌<◌, ◌∷◌, count_by, drop, length, nat_eq, not, sum_by, take};
 ghost use Rattle.std.specs.List.{list_any, prefix_len};
-ghost use Rattle.starlark_syntax.specs.LayoutViews.{IsFirstComment, IsMargin};
-ghost use Rattle.starlark_syntax.specs.Margins as grammar;
+ghost use Rattle.starlark_syntax.specs.Joints.Layout.{IsFirstComment, IsMargin};
+ghost use Rattle.starlark_grammar.specs.Margins as grammar;
 
 use super::feeds::before_feed_len;
 

@@ -11,7 +11,7 @@ ghost use Rattle.starlark_token.specs.Words.{OfFString};
 
 use super::escapes::escape;
 use starlark_token::fstring_style::FStringQuote;
-use starlark_token::scanner::{LiteralKind, Quote, first_character_len};
+use starlark_scanner::scanner::{LiteralKind, Quote, first_character_len};
 
 /// How a literal begins: whether it is raw, its quote, and whether three of them close it.
 #[derive(Clone, Copy, Debug, PartialEq, Eq)]
@@ -24,7 +24,7 @@ pub struct Opening {
 impl Opening {
     /// The quotes, which a token tells.
     pub fn quotes(self) -> FStringQuote
-        ensures { token_opening result ≡ record { is_raw = false; quote = quote_view self.quote; is_triple = self.is_triple } }
+        ensures { fstring_quote_view result ≡ record { is_raw = false; quote = self.quote; is_triple = self.is_triple } }
     {
         match (self.quote, self.is_triple) {
             (Quote::Single, false) => FStringQuote::Single,
@@ -95,7 +95,7 @@ pub fn closing_len(opening: Opening) -> usize
 
 /// Whether a byte is a quote.
 pub fn is_quote(quote: Quote, byte: u8) -> bool
-    ensures { result ≡ (byte == grammar.quote_byte (quote_view quote)) }
+    ensures { result ≡ (byte == grammar.quote_byte quote) }
 {
     match quote {
         Quote::Single => byte == b'\'',
@@ -119,7 +119,7 @@ fn closes(opening: Opening, text: &[u8]) -> bool
 
 /// Whether a raw backslash is dropped before a byte.
 fn drops_backslash(kind: LiteralKind, quote: Quote, byte: u8) -> bool
-    ensures { result ≡ grammar.drops_backslash (kind_view kind) (quote_view quote) byte }
+    ensures { result ≡ grammar.drops_backslash kind quote byte }
 {
     match kind {
         LiteralKind::FString => is_quote(quote, byte),
@@ -146,7 +146,7 @@ pub fn first_character(text: &str) -> &str
 /// A backslash that stands for itself or is dropped, and the character that it takes, by the text behind it.
 fn raw_pair(literal: Literal, text: &str) -> Found<'_>
     requires { text.now ≡ 92 ∷ drop 1 text.now }
-    ensures value { found_view result ≡ grammar.raw_pair (kind_view literal.kind) (quote_view literal.opening.quote) (drop 1 text.now) }
+    ensures value { found_view result ≡ grammar.raw_pair literal.kind literal.opening.quote (drop 1 text.now) }
     ensures text { IsText result }
 {
     let behind = behind_first(text);
@@ -180,7 +180,7 @@ fn brace(first: u8, text: &str) -> Found<'_>
 
 /// Whether a byte is a brace of which a rule of such a literal speaks.
 pub fn is_brace(kind: LiteralKind, byte: u8) -> bool
-    ensures { result ≡ grammar.is_brace (kind_view kind) byte }
+    ensures { result ≡ grammar.is_brace kind byte }
 {
     match kind {
         LiteralKind::FString => byte == b'{' || byte == b'}',
@@ -198,7 +198,7 @@ pub fn ends_line(opening: Opening, byte: u8) -> bool
 /// What stands at the front of the rest of a body.
 pub fn found_at(literal: Literal, text: &str) -> Found<'_>
     ensures value { found_view result ≡ grammar.found_at (literal_view literal) text.now }
-    ensures text { grammar.is_of_bytes (kind_view literal.kind) ≡ false → IsText result }
+    ensures text { grammar.is_of_bytes literal.kind ≡ false → IsText result }
 {
     let bytes = text.as_bytes();
     let Some(first) = bytes.first() else {

@@ -2,10 +2,9 @@
 
 ghost use Rattle.std.specs.Prelude.{◌≡◌, ℕ, ◌+◌, ◌≤◌, drop, length, not, take};
 ghost use Rattle.std.specs.List.{prefix_len};
-ghost use Rattle.starlark_syntax.specs.Items.{quote_byte};
-ghost use Rattle.starlark_syntax.specs.LiteralViews.{literal_view};
-ghost use Rattle.starlark_syntax.specs.Runs.{is_end, is_special};
-ghost use Rattle.starlark_token.specs.Scanned.{quote_view};
+ghost use Rattle.starlark_grammar.specs.Items.{quote_byte};
+ghost use Rattle.starlark_syntax.specs.Joints.Literals.{literal_view};
+ghost use Rattle.starlark_syntax.specs.Joints.Runs.{is_end, is_special};
 
 use super::items::Literal;
 use crate::lexer::lanes::lowest_bit;
@@ -23,7 +22,7 @@ pub struct Ends {
 }
 
 fn quote_byte(quote: Quote) -> u8
-    ensures { result ≡ quote_byte (quote_view quote) }
+    ensures { result ≡ quote_byte quote }
 {
     match quote {
         Quote::Single => b'\'',

@@ -3,9 +3,9 @@
 ghost use Rattle.std.specs.Prelude.{◌≡◌, ℕ, length, take, true, false};
 ghost use Rattle.std.specs.List.{prefix_len};
 ghost use Rattle.std.specs.Str.{IsCharBoundary};
-ghost use Rattle.starlark_syntax.specs.Items as grammar;
-ghost use Rattle.starlark_syntax.specs.LiteralViews.{literal_view};
-ghost use Rattle.starlark_syntax.specs.Runs.{is_in_run, is_special};
+ghost use Rattle.starlark_grammar.specs.Items as grammar;
+ghost use Rattle.starlark_syntax.specs.Joints.Literals.{literal_view};
+ghost use Rattle.starlark_syntax.specs.Joints.Runs.{is_in_run, is_special};
 
 use super::items::{Literal, ends_line, is_brace, is_quote};
 use super::lanes::{Ends, lanes_run_len};

@@ -1,7 +1,7 @@
 //! What a token does to brackets and f-strings.
 
 ghost use Rattle.std.specs.Prelude.{◌≡◌};
-ghost use Rattle.starlark_syntax.specs.NestingViews.{change_by};
+ghost use Rattle.starlark_syntax.specs.Joints.Nesting.{change_by};
 ghost use Rattle.starlark_token.specs.TokenViews.{token_view};
 
 use starlark_token::tokens::Token;
@@ -22,7 +22,7 @@ pub enum Change {
     Nothing,
 }
 
-#[tactic(auto, unfolding(starlark_token::specs::TokenViews::token_view, crate::specs::NestingViews::change_by))]
+#[tactic(auto, unfolding(starlark_token::specs::TokenViews::token_view, crate::specs::Joints::Nesting::change_by))]
 /// What a token does to brackets and f-strings.
 pub fn change_of(token: &Token) -> Change
     ensures { result ≡ change_by (token_view token.now) }

@@ -2,9 +2,9 @@ use Rattle.std.proofs.Common.{◌≡◌, true, false, refl, sym, rules}
 use Rattle.std.proofs.lemmas.Int.{to_z-of_z}
 use Rattle.std.specs.Int.{w32}
 use Rattle.std.specs.Prelude.{FitsSigned, IsSomeAnd}
-use Rattle.starlark_token.specs.Numbers.{is_number, integer_in}
+use Rattle.starlark_grammar.specs.Numbers.{is_number, integer_in}
 use Rattle.starlark_token.specs.TokenInts.{IsBig}
-use Rattle.starlark_token.proofs.Integers.{no_number, parsed, not_parsed, is_kept}
+use Rattle.starlark_token.proofs.Integers.Parsed.{no_number, parsed, not_parsed, is_kept}
 use Rattle.starlark_token.proofs.number_text.number_in.Goals as goal
 
 pub returns-then-not-is_numeral-clause-value : goal.returns-then-not-is_numeral-clause-value

@@ -1,6 +1,6 @@
 -- Zeros are ASCII, so the text may be cut behind them.
 use Rattle.std.proofs.Common.{◌≡◌, ℕ, ◌<◌, true, nat_eq, arith}
-use Rattle.starlark_token.proofs.Ascii.{boundary_after_run}
+use Rattle.starlark_grammar.proofs.Words.Ascii.{boundary_after_run}
 use Rattle.starlark_token.proofs.number_text.plain_digits.Goals as goal
 
 zero_is_ascii : (b : ℕ) → nat_eq 48 b ≡ true → b < 128

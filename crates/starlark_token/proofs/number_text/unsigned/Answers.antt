@@ -1,6 +1,6 @@
 use Rattle.std.proofs.Common.{◌≡◌, true, false, get_or}
-use Rattle.starlark_token.specs.Words.{is_sign}
-use Rattle.starlark_token.proofs.NumberTexts.{unsigned_signed, unsigned_plain, boundary_behind_sign}
+use Rattle.starlark_grammar.specs.Words.{is_sign}
+use Rattle.starlark_token.proofs.Integers.Signs.{unsigned_signed, unsigned_plain, boundary_behind_sign}
 use Rattle.starlark_token.proofs.number_text.unsigned.Goals as goal
 
 pub range_from-requires : goal.range_from-requires

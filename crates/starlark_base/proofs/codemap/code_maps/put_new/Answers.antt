@@ -1,7 +1,5 @@
-use Rattle.std.proofs.Common.{◌≡◌, ℕ, false, eqb, cond, is_some, List, ap, ◌∙◌, Some, None, rules}
+use Rattle.std.proofs.Common.{◌≡◌, false, eqb, is_some, rules}
 use Rattle.std.specs.Map.{lookup}
-use Rattle.std.specs.Option.{option_or}
-use Rattle.starlark_base.specs.Sources.{SourceFile}
 use Rattle.starlark_base.proofs.Numbered.{put_where_absent}
 use Rattle.starlark_base.proofs.codemap.code_maps.put_new.Goals as goal
 

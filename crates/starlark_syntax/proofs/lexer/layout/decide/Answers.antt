@@ -1,7 +1,7 @@
 use Rattle.std.proofs.Common.{◌∙◌, refl, sym}
 use Rattle.std.proofs.lemmas.Bool.{not-false, not-true}
-use Rattle.starlark_token.specs.Tokens.{Indentation, InvalidTab}
-use Rattle.starlark_syntax.proofs.Laid.{decided_blank, decided_fits, decided_misfit, decided_tab}
+use Rattle.starlark_grammar.specs.Tokens.{Indentation, InvalidTab}
+use Rattle.starlark_syntax.proofs.Indentation.Laid.{decided_blank, decided_fits, decided_misfit, decided_tab}
 use Rattle.starlark_syntax.proofs.lexer.layout.decide.Goals as goal
 
 pub returns-then-not-margin : goal.returns-then-not-margin

@@ -1,6 +1,6 @@
 use Rattle.std.proofs.Common.{[]}
-use Rattle.starlark_syntax.specs.Margins.{margin_of}
-use Rattle.starlark_syntax.proofs.Laid.{first_refused, first_taken}
+use Rattle.starlark_grammar.specs.Margins.{margin_of}
+use Rattle.starlark_syntax.proofs.Indentation.Laid.{first_refused, first_taken}
 use Rattle.starlark_syntax.proofs.lexer.layout.first_margin.Goals as goal
 
 pub returns-in_ok-take_margin-in-Taken : goal.returns-in_ok-take_margin-in-Taken

@@ -1,9 +1,9 @@
 use Rattle.std.proofs.Common.{[], ◌∷◌, refl}
-use Rattle.starlark_syntax.specs.Margins.{margin_of}
+use Rattle.starlark_grammar.specs.Margins.{margin_of}
 use Rattle.starlark_token.specs.TokenViews.{token_view}
-use Rattle.starlark_token.specs.Tokens.{Newline}
+use Rattle.starlark_grammar.specs.Tokens.{Newline}
 use Rattle.starlark_token.specs.declared.tokens.Token.TheVariants as token
-use Rattle.starlark_syntax.proofs.Laid.{end_refused, end_taken}
+use Rattle.starlark_syntax.proofs.Indentation.Laid.{end_refused, end_taken}
 use Rattle.starlark_syntax.proofs.lexer.layout.line_end.Goals as goal
 
 pub returns-in_ok-take_margin-in-Taken : goal.returns-in_ok-take_margin-in-Taken

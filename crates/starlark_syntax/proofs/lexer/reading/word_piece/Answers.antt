@@ -1,5 +1,5 @@
 use Rattle.std.proofs.Common.{refl}
-use Rattle.starlark_syntax.proofs.LiteralPieces.{if_ok}
+use Rattle.starlark_syntax.proofs.Literals.Pieces.{if_ok}
 use Rattle.starlark_syntax.proofs.lexer.reading.word_piece.Goals as goal
 
 pub returns-in-LineEnd : goal.returns-in-LineEnd

@@ -1,7 +1,7 @@
 use Rattle.std.proofs.Common.{◌≡◌, true, false, refl, eqb, is_some, sym, ap, ◌∙◌, rules}
 use Rattle.std.specs.Map.{lookup}
 use Rattle.starlark_base.specs.SourceFiles.{joined, only}
-use Rattle.starlark_base.proofs.Numbered.{added_present, added_new, put_where_absent}
+use Rattle.starlark_base.proofs.Numbered.{added_present, added_new, none_at, put_where_absent}
 use Rattle.starlark_base.proofs.codemap.code_maps.CodeMaps.add.Goals as goal
 
 pub returns-then-contains_key-clause-ok : goal.returns-then-contains_key-clause-ok
@@ -18,3 +18,17 @@ returns-clause-ok c =
     let shared = c.in_ok-dupe.field-0 in
     let absent : is_some (lookup (eqb c.id-id.result) es) ≡ false = search rules in
     added_new es es ns file shared c.id-id.result (λ q. refl) c.in_ok-dupe.ensures c.id-id.ensures (λ q. put_where_absent es ns c.id-id.result q shared absent (c.in_ok-insert.ensures.updates.0 q)) ∙ ap (λ m. joined m (only file)) c.self.view_is
+
+pub returns-in_err-dupe-clause-wanted : goal.returns-in_err-dupe-clause-wanted
+returns-in_err-dupe-clause-wanted c =
+    let es = c.self.inside.codemaps.entries in
+    let absent : is_some (lookup (eqb c.id-id.result) es) ≡ false = search rules in
+    let none = none_at es c.args.self.now c.id-id.result c.args.codemap.now.id c.id-id.ensures c.self.view_is absent in
+    search (rules, none)
+
+pub returns-in_err-insert-clause-wanted : goal.returns-in_err-insert-clause-wanted
+returns-in_err-insert-clause-wanted c =
+    let es = c.self.inside.codemaps.entries in
+    let absent : is_some (lookup (eqb c.id-id.result) es) ≡ false = search rules in
+    let none = none_at es c.args.self.now c.id-id.result c.args.codemap.now.id c.id-id.ensures c.self.view_is absent in
+    search (rules, none)

@@ -1,5 +1,5 @@
 use Rattle.std.proofs.Common.{◌∙◌, sym, refl, take}
-use Rattle.starlark_syntax.proofs.CommentLines.{part_end}
+use Rattle.starlark_syntax.proofs.Indentation.CommentLines.{part_end}
 use Rattle.starlark_syntax.proofs.lexer.layout.comments.comment_end.Goals as goal
 
 pub returns-then-ends_with_return : goal.returns-then-ends_with_return

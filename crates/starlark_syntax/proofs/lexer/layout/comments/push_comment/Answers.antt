@@ -1,10 +1,10 @@
 use Rattle.std.proofs.Common.{◌≡◌, ◌+◌, ◌-◌, ◌∙◌, arith, drop, length, refl, take}
-use Rattle.starlark_syntax.specs.Margins.{blanks_len, comment_of, comment_part}
-use Rattle.starlark_token.specs.Tokens.{moved}
+use Rattle.starlark_grammar.specs.Margins.{blanks_len, comment_of, comment_part}
+use Rattle.starlark_grammar.specs.Tokens.{moved}
 use Rattle.starlark_token.specs.declared.tokens.Token.TheVariants as token
 use Rattle.starlark_token.specs.TokenViews.{token_view}
-use Rattle.starlark_syntax.proofs.CommentLines.{comment_begin, comment_inside, comment_lexeme, comment_value}
-use Rattle.starlark_syntax.proofs.Waiting.{queued_one}
+use Rattle.starlark_syntax.proofs.Indentation.CommentLines.{comment_begin, comment_inside, comment_lexeme, comment_value}
+use Rattle.starlark_syntax.proofs.Reader.Waiting.{queued_one}
 use Rattle.starlark_syntax.proofs.lexer.layout.comments.push_comment.Goals as goal
 use Rattle.starlark_syntax.proofs.lexer.layout.comments.push_comment.Goals.{After-comment_end}
 

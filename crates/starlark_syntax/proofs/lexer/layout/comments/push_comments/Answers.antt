@@ -1,9 +1,9 @@
 use Rattle.std.proofs.Common.{arith, drop, refl, subst}
 use Rattle.std.specs.List.{AllByRecursion}
 use Rattle.std.proofs.lemmas.List.{take_rest}
-use Rattle.starlark_syntax.specs.Laws.{AtBoundaries}
-use Rattle.starlark_syntax.proofs.Boundaries.{margin_edges}
-use Rattle.starlark_syntax.proofs.CommentLines.{first_passes, margin_comments}
+use Rattle.starlark_grammar.specs.Laws.{AtBoundaries}
+use Rattle.starlark_grammar.proofs.Order.Boundaries.{margin_edges}
+use Rattle.starlark_syntax.proofs.Indentation.CommentLines.{first_passes, margin_comments}
 use Rattle.starlark_syntax.proofs.lexer.layout.comments.push_comments.Goals as goal
 
 pub loop-len-init : goal.loop-len-init

@@ -1,9 +1,9 @@
 use Rattle.std.proofs.Common.{◌≡◌, ◌-◌, ◌≤◌, ◌++◌, drop, length, map}
 use Rattle.std.specs.List.{AllByRecursion}
-use Rattle.starlark_syntax.specs.Laws.{AtBoundaries}
-use Rattle.starlark_syntax.specs.LexedViews.{lexeme_view, shown_lexeme}
-use Rattle.starlark_syntax.specs.Margins.{comment_lines, comments_from, margin_of}
-use Rattle.starlark_token.specs.Tokens.{moved}
+use Rattle.starlark_grammar.specs.Laws.{AtBoundaries}
+use Rattle.starlark_syntax.specs.Lexemes.{lexeme_view, shown_lexeme}
+use Rattle.starlark_grammar.specs.Margins.{comment_lines, comments_from, margin_of}
+use Rattle.starlark_grammar.specs.Tokens.{moved}
 use Rattle.starlark_syntax.proofs.lexer.layout.comments.push_comments.Given as goal
 
 abbrev pub invariant-loop-len : goal.invariant-loop-len

@@ -2,7 +2,7 @@ use Rattle.std.proofs.Common.{refl}
 use Rattle.std.proofs.lemmas.Result.{on_ok_weaker}
 use Rattle.starlark_token.specs.TokenViews.{token_view}
 use Rattle.starlark_token.specs.declared.tokens.Token.TheVariants as token
-use Rattle.starlark_syntax.proofs.LevelsKept.{queued_closing}
+use Rattle.starlark_syntax.proofs.Indentation.Levels.{queued_closing}
 use Rattle.starlark_syntax.proofs.lexer.layout.indents.push_closing.Goals as goal
 
 pub returns : goal.returns

@@ -2,9 +2,9 @@ use Rattle.std.proofs.Common.{refl}
 use Rattle.std.specs.Prelude.{replicate}
 use Rattle.std.proofs.lemmas.List.{replicate_more}
 use Rattle.starlark_token.specs.TokenViews.{token_view}
-use Rattle.starlark_token.specs.Tokens.{Dedent, Lexeme}
+use Rattle.starlark_grammar.specs.Tokens.{Dedent, Lexeme}
 use Rattle.starlark_token.specs.declared.tokens.Token.TheVariants as token
-use Rattle.starlark_syntax.proofs.Waiting.{queued_more}
+use Rattle.starlark_syntax.proofs.Reader.Waiting.{queued_more}
 use Rattle.starlark_syntax.proofs.lexer.layout.indents.push_dedents.Goals as goal
 
 pub loop-preserved : goal.loop-preserved

@@ -1,6 +1,6 @@
 use Rattle.std.specs.Prelude.{replicate}
-use Rattle.starlark_syntax.specs.LayoutViews.{Queued}
-use Rattle.starlark_token.specs.Tokens.{Dedent}
+use Rattle.starlark_syntax.specs.Joints.Layout.{Queued}
+use Rattle.starlark_grammar.specs.Tokens.{Dedent}
 use Rattle.starlark_syntax.proofs.lexer.layout.indents.push_dedents.Given as goal
 
 abbrev pub invariant-loop : goal.invariant-loop

@@ -2,7 +2,7 @@ use Rattle.std.proofs.Common.{◌∙◌, refl, sym}
 use Rattle.std.proofs.lemmas.Result.{on_ok_weaker}
 use Rattle.starlark_token.specs.TokenViews.{token_view}
 use Rattle.starlark_token.specs.declared.tokens.Token.TheVariants as token
-use Rattle.starlark_syntax.proofs.LevelsKept.{queued_dedents, queued_indent}
+use Rattle.starlark_syntax.proofs.Indentation.Levels.{queued_dedents, queued_indent}
 use Rattle.starlark_syntax.proofs.lexer.layout.indents.push_indentation.Goals as goal
 
 pub returns-in_ok-push_back : goal.returns-in_ok-push_back

@@ -1,6 +1,6 @@
 use Rattle.std.proofs.Common.{◌∙◌, sym}
 use Rattle.std.proofs.lemmas.List.{take_rest}
-use Rattle.starlark_syntax.proofs.MarginsRead.{read_comment, read_other}
+use Rattle.starlark_syntax.proofs.Indentation.Margins.{read_comment, read_other}
 use Rattle.starlark_syntax.proofs.lexer.layout.margins.comment_line_len.Goals as goal
 
 pub returns-then-begins_comment : goal.returns-then-begins_comment

@@ -1,5 +1,5 @@
 use Rattle.std.proofs.Common.{◌≡◌, ◌≤◌, ◌+◌, ◌-◌, drop, length, sum_by}
-use Rattle.starlark_syntax.specs.Margins.{comment_lines}
+use Rattle.starlark_grammar.specs.Margins.{comment_lines}
 use Rattle.starlark_syntax.proofs.lexer.layout.margins.comment_lines_len.Given as goal
 
 abbrev pub invariant-loop-len : goal.invariant-loop-len

@@ -1,5 +1,5 @@
 use Rattle.std.proofs.Common.{add-one, arith}
-use Rattle.starlark_syntax.proofs.MarginsRead.{line_to_feed, line_whole}
+use Rattle.starlark_syntax.proofs.Indentation.Margins.{line_to_feed, line_whole}
 use Rattle.starlark_syntax.proofs.lexer.layout.margins.line_len.Goals as goal
 
 pub returns-then-len-text-clause-line : goal.returns-then-len-text-clause-line

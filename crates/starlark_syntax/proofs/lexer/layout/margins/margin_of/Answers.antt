@@ -1,6 +1,6 @@
 use Rattle.std.proofs.Common.{refl}
 use Rattle.std.proofs.lemmas.List.{take_rest}
-use Rattle.starlark_syntax.proofs.MarginsRead.{is_margin}
+use Rattle.starlark_syntax.proofs.Indentation.Margins.{is_margin}
 use Rattle.starlark_syntax.proofs.lexer.layout.margins.margin_of.Goals as goal
 
 pub returns-clause-margin : goal.returns-clause-margin

@@ -1,11 +1,11 @@
 use Rattle.std.proofs.Common.{◌+◌, ◌≤◌, ◌^◌, arith, drop, map, refl, rules, subst}
 use Rattle.std.proofs.lemmas.List.{length-map}
-use Rattle.starlark_syntax.specs.LexedViews.{shown_lexeme}
-use Rattle.starlark_syntax.specs.Reading.{outcome}
-use Rattle.starlark_syntax.specs.ReaderViews.{IsNext}
+use Rattle.starlark_syntax.specs.Lexemes.{shown_lexeme}
+use Rattle.starlark_grammar.specs.Reading.{outcome}
+use Rattle.starlark_syntax.specs.Joints.Reader.{IsNext}
 use Rattle.starlark_syntax.specs.declared.lexer.reader.Next.{Next}
 use Rattle.starlark_syntax.specs.declared.lexer.reader.Next.TheVariants as next
-use Rattle.starlark_syntax.proofs.LexerItems.{fault_item, fault_within, lexeme_item, lexemes_few, nothing_item, one_more, some_item}
+use Rattle.starlark_syntax.proofs.Reader.LexerItems.{fault_item, fault_within, lexeme_item, lexemes_few, nothing_item, one_more, some_item}
 use Rattle.starlark_syntax.proofs.lexer.lexemes.Lexer.next.Goals as goal
 
 pub overflow_add-self : goal.overflow_add-self

@@ -2,13 +2,13 @@ use Rattle.std.proofs.Common.{◌≡◌, ℕ, ◌+◌, ◌++◌, ◌∙◌, ap, 
 use Rattle.std.proofs.lemmas.List.{length-drop}
 use Rattle.std.proofs.lemmas.Str.{IsCharBoundary-start, IsUtf8-drop}
 use Rattle.std.specs.Str.{IsCharBoundary}
-use Rattle.starlark_syntax.specs.Items as grammar
-use Rattle.starlark_token.specs.Words.{Text}
-use Rattle.starlark_syntax.specs.LiteralViews.{bytes_of, literal_view, stop_view, value_view}
-use Rattle.starlark_syntax.proofs.BodyRuns.{front_run}
-use Rattle.starlark_syntax.proofs.BodySteps.{IsFront, front_none, front_more, front_stops, item_fits}
-use Rattle.starlark_syntax.proofs.Edges.{boundary_shift}
-use Rattle.starlark_syntax.proofs.ItemEdges.{item_edge}
+use Rattle.starlark_grammar.specs.Items as grammar
+use Rattle.starlark_grammar.specs.Words.{Text}
+use Rattle.starlark_syntax.specs.Joints.Literals.{bytes_of, literal_view, stop_view, value_view}
+use Rattle.starlark_syntax.proofs.Literals.BodyRuns.{front_run}
+use Rattle.starlark_syntax.proofs.Literals.BodySteps.{IsFront, front_none, front_more, front_stops, item_fits}
+use Rattle.starlark_grammar.proofs.Order.Edges.{boundary_shift}
+use Rattle.starlark_syntax.proofs.Literals.ItemEdges.{item_edge}
 use Rattle.starlark_syntax.proofs.lexer.literal.body.read_body.Goals as goal
 
 pub loop-value-init : goal.loop-value-init

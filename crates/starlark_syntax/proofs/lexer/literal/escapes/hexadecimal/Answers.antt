@@ -3,7 +3,7 @@ use Rattle.std.proofs.Math.Nat.{sub-zero}
 use Rattle.std.specs.Char.{is_ascii_hexdigit}
 use Rattle.std.specs.List.{prefix_len}
 use Rattle.std.specs.Str.Parse.{AllDigits}
-use Rattle.starlark_syntax.proofs.DigitRuns.{hex_edge, hex_run, run_parses, run_short}
+use Rattle.starlark_syntax.proofs.Literals.DigitRuns.{hex_edge, hex_run, run_parses, run_short}
 use Rattle.starlark_syntax.proofs.lexer.literal.escapes.hexadecimal.Goals as goal
 
 pub range-digits-requires-clause-end_boundary : goal.range-digits-requires-clause-end_boundary

@@ -2,8 +2,8 @@ use Rattle.std.proofs.Common.{◌≡◌, length, take, refl, arith}
 use Rattle.std.proofs.Math.Nat.{sub-zero}
 use Rattle.std.specs.List.{prefix_len}
 use Rattle.std.specs.Str.Parse.{AllDigits}
-use Rattle.starlark_token.specs.Words.{is_octal_digit}
-use Rattle.starlark_syntax.proofs.DigitRuns.{octal_edge, octal_run, octal_some, run_parses, run_short}
+use Rattle.starlark_grammar.specs.Words.{is_octal_digit}
+use Rattle.starlark_syntax.proofs.Literals.DigitRuns.{octal_edge, octal_run, octal_some, run_parses, run_short}
 use Rattle.starlark_syntax.proofs.lexer.literal.escapes.octal.Goals as goal
 
 pub range-requires-clause-end_boundary : goal.range-requires-clause-end_boundary

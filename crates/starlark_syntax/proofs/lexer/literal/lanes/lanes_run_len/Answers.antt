@@ -1,9 +1,9 @@
 use Rattle.std.proofs.Common.{length, ◌≡◌}
 use Rattle.std.proofs.lemmas.Simd.{length-chunk}
 use lib.Lanes.{chunk}
-use Rattle.starlark_syntax.specs.Runs.{is_end}
-use Rattle.starlark_syntax.proofs.LaneRuns.{lanes_counted}
-use Rattle.starlark_syntax.proofs.EndLanes.{end_lanes}
+use Rattle.starlark_syntax.specs.Joints.Runs.{is_end}
+use Rattle.starlark_syntax.proofs.Literals.LaneRuns.{lanes_counted}
+use Rattle.starlark_syntax.proofs.Literals.EndLanes.{end_lanes}
 use Rattle.starlark_syntax.proofs.lexer.literal.lanes.lanes_run_len.Goals as goal
 
 pub returns : goal.returns

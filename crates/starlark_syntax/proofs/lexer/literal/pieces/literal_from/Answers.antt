@@ -1,7 +1,7 @@
 use Rattle.std.proofs.Common.{◌≡◌, ◌∙◌, ap, arith, sym}
-use Rattle.starlark_syntax.specs.Items as grammar
-use Rattle.starlark_syntax.specs.LiteralViews.{literal_view, stop_view}
-use Rattle.starlark_syntax.proofs.LiteralPieces.{bad_edges, bad_fits, bad_literal, closing_fits, if_ok, read_behind}
+use Rattle.starlark_grammar.specs.Items as grammar
+use Rattle.starlark_syntax.specs.Joints.Literals.{literal_view, stop_view}
+use Rattle.starlark_syntax.proofs.Literals.Pieces.{bad_edges, bad_fits, bad_literal, closing_fits, if_ok, read_behind}
 use Rattle.starlark_syntax.proofs.lexer.literal.pieces.literal_from.Goals as goal
 
 pub overflow_add-result-in-Closing : goal.overflow_add-result-in-Closing

@@ -1,9 +1,9 @@
 use Rattle.std.proofs.Common.{◌∷◌, List, subst, sym, ◌∙◌}
 use Rattle.std.specs.Prelude.{reverse}
-use Rattle.starlark_token.specs.Tokens.{FStringStart}
-use Rattle.starlark_syntax.specs.LiteralViews.{opening_view}
+use Rattle.starlark_grammar.specs.Tokens.{FStringStart}
+use Rattle.starlark_syntax.specs.Joints.Literals.{opening_view}
 use Rattle.starlark_syntax.specs.declared.lexer.nesting.counts.OpenFString.{OpenFString}
-use Rattle.starlark_syntax.proofs.Represented.{AreOpen, begun, begun_opened, begun_closed, popped}
+use Rattle.starlark_syntax.proofs.Nesting.FStrings.{AreOpen, begun, begun_opened, begun_closed, popped}
 use Rattle.starlark_syntax.proofs.lexer.nesting.Nesting.begin_fstring.Goals as goal
 
 pub returns-clause-begins : goal.returns-clause-begins

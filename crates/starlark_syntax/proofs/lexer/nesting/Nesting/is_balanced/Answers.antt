@@ -1,5 +1,5 @@
 use Rattle.std.proofs.Common.{refl}
-use Rattle.starlark_syntax.specs.Depths.{is_balanced}
+use Rattle.starlark_grammar.specs.Depths.{is_balanced}
 use Rattle.starlark_syntax.proofs.lexer.nesting.Nesting.is_balanced.Goals as goal
 
 pub returns : goal.returns

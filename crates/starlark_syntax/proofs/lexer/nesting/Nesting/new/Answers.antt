@@ -2,7 +2,7 @@ use Rattle.std.proofs.Common.{List, [], ap, subst, sym}
 use Rattle.std.specs.Prelude.{reverse}
 use Rattle.starlark_syntax.specs.declared.lexer.nesting.counts.Brackets.{Brackets}
 use Rattle.starlark_syntax.specs.declared.lexer.nesting.counts.OpenFString.{OpenFString}
-use Rattle.starlark_syntax.proofs.Represented.{AreOpen, none_at_start}
+use Rattle.starlark_syntax.proofs.Nesting.FStrings.{AreOpen, none_at_start}
 use Rattle.starlark_syntax.proofs.lexer.nesting.Nesting.new.Goals as goal
 
 pub returns-clause-begins : goal.returns-clause-begins

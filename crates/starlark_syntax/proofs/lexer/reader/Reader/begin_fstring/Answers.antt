@@ -1,16 +1,16 @@
 use Rattle.std.proofs.Common.{◌≡◌, ℕ, ◌+◌, ◌≤◌, false, add-zero, ap, append-nil, arith, refl, rules, sym, ◌∙◌}
-use Rattle.starlark_syntax.specs.LexedViews.{lexeme_view, shown_lexeme}
-use Rattle.starlark_syntax.specs.LiteralViews.{opening_view}
-use Rattle.starlark_syntax.specs.Margins.{open_widths}
-use Rattle.starlark_syntax.specs.NestingViews.{bracket_count}
-use Rattle.starlark_token.specs.Tokens.{FStringStart, Lexeme, Opening, moved}
+use Rattle.starlark_syntax.specs.Lexemes.{lexeme_view, shown_lexeme}
+use Rattle.starlark_syntax.specs.Joints.Literals.{opening_view}
+use Rattle.starlark_grammar.specs.Margins.{open_widths}
+use Rattle.starlark_syntax.specs.Joints.Nesting.{bracket_count}
+use Rattle.starlark_grammar.specs.Tokens.{FStringStart, Lexeme, Opening, moved}
 use Rattle.starlark_token.specs.TokenViews.{token_view}
 use Rattle.starlark_token.specs.TokenViews as views
 use Rattle.starlark_token.specs.declared.fstring_style.FStringQuote.{FStringQuote}
 use Rattle.starlark_syntax.specs.declared.lexer.reader.Reader.{Reader}
 use Rattle.starlark_token.specs.declared.tokens.Token.TheVariants as token
-use Rattle.starlark_syntax.proofs.Taken.{less_taken, piece_inside, took}
-use Rattle.starlark_syntax.proofs.Waiting.{queued_one}
+use Rattle.starlark_syntax.proofs.Reader.Taken.{less_taken, piece_inside, took}
+use Rattle.starlark_syntax.proofs.Reader.Waiting.{queued_one}
 use Rattle.starlark_syntax.proofs.lexer.reader.Reader.begin_fstring.Goals as goal
 
 pub overflow_add-self : goal.overflow_add-self
@@ -29,7 +29,7 @@ step_over-requires c =
 abbrev start : ℕ → Opening → Lexeme
 start len opening = record { begin = 0; node = FStringStart opening; end = len }
 
-start_shown : (at len : ℕ) (opening : Opening) (quotes : FStringQuote) → views.opening_view quotes ≡ record { is_raw = false; quote = opening.quote; is_triple = opening.is_triple } → lexeme_view (at, token.FStringStart quotes, at + len) ≡ shown_lexeme (moved at (start len opening))
+start_shown : (at len : ℕ) (opening : Opening) (quotes : FStringQuote) → views.fstring_quote_view quotes ≡ record { is_raw = false; quote = opening.quote; is_triple = opening.is_triple } → lexeme_view (at, token.FStringStart quotes, at + len) ≡ shown_lexeme (moved at (start len opening))
 unfolding token_view
 start_shown at len opening quotes e = rw (e, add-zero at) refl
 

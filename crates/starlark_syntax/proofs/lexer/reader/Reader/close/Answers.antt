@@ -1,5 +1,5 @@
 use Rattle.std.proofs.Common.{refl}
-use Rattle.starlark_syntax.proofs.Taken.{closed}
+use Rattle.starlark_syntax.proofs.Reader.Taken.{closed}
 use Rattle.starlark_syntax.proofs.lexer.reader.Reader.close.Goals as goal
 
 pub returns-clause-read : goal.returns-clause-read

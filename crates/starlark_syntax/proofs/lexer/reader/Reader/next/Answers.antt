@@ -1,9 +1,9 @@
 use Rattle.std.proofs.Common.{◌≡◌, List, refl, rules, sym, ◌∙◌}
 use Rattle.std.specs.Prelude.{Option}
-use Rattle.starlark_syntax.specs.ReaderViews.{IsAhead}
+use Rattle.starlark_syntax.specs.Joints.Reader.{IsAhead}
 use Rattle.starlark_token.specs.TokenViews.{TokenView}
-use Rattle.starlark_token.specs.Tokens.{Fault, Spanned}
-use Rattle.starlark_syntax.proofs.NextLexeme.{after_error, ahead_here, begin_something, fault_next, lexeme_next, nothing_next, onward_something}
+use Rattle.starlark_grammar.specs.Tokens.{Fault, Spanned}
+use Rattle.starlark_syntax.proofs.Reader.NextLexeme.{after_error, ahead_here, begin_something, fault_next, lexeme_next, nothing_next, onward_something}
 use Rattle.starlark_syntax.proofs.lexer.reader.Reader.next.Goals as goal
 
 pub returns-in-Some-clause-next : goal.returns-in-Some-clause-next

@@ -1,8 +1,8 @@
 use Rattle.std.proofs.Common.{List}
 use Rattle.std.specs.Prelude.{Option}
-use Rattle.starlark_syntax.specs.ReaderViews.{IsAhead, IsReady, left_to_read}
+use Rattle.starlark_syntax.specs.Joints.Reader.{IsAhead, IsReady, left_to_read}
 use Rattle.starlark_token.specs.TokenViews.{TokenView}
-use Rattle.starlark_token.specs.Tokens.{Fault, Spanned}
+use Rattle.starlark_grammar.specs.Tokens.{Fault, Spanned}
 use Rattle.starlark_syntax.proofs.lexer.reader.Reader.next.Given as goal
 
 abbrev pub invariant-loop-lexeme : goal.invariant-loop-lexeme

@@ -1,5 +1,5 @@
 use Rattle.std.proofs.Common.{rules}
-use Rattle.starlark_syntax.proofs.ChunksTaken.{text_waits}
+use Rattle.starlark_syntax.proofs.Reader.ChunksTaken.{text_waits}
 use Rattle.starlark_syntax.proofs.lexer.reader.Reader.push_text.Goals as goal
 
 pub returns-in_ok-push_back-clause-waits : goal.returns-in_ok-push_back-clause-waits

@@ -1,6 +1,6 @@
 use Rattle.std.proofs.Common.{ap}
 use Rattle.starlark_syntax.specs.declared.lexer.reader.Reader.{Reader}
-use Rattle.starlark_syntax.proofs.Taken.{first_ahead, margin_refused, margin_taken, new_ahead}
+use Rattle.starlark_syntax.proofs.Reader.Taken.{first_ahead, margin_refused, margin_taken, new_ahead}
 use Rattle.starlark_syntax.proofs.lexer.reader.Reader.read_first_margin.Goals as goal
 
 pub returns-in-Taken-clause-ahead : goal.returns-in-Taken-clause-ahead

@@ -1,6 +1,6 @@
 use Rattle.std.proofs.Common.{ap, arith}
 use Rattle.starlark_syntax.specs.declared.lexer.reader.Reader.{Reader}
-use Rattle.starlark_syntax.proofs.Taken.{line_fault_inside, line_inside, line_less, line_refused, line_taken}
+use Rattle.starlark_syntax.proofs.Reader.Taken.{line_fault_inside, line_inside, line_less, line_refused, line_taken}
 use Rattle.starlark_syntax.proofs.lexer.reader.Reader.read_line_end.Goals as goal
 
 pub step_over-requires : goal.step_over-requires

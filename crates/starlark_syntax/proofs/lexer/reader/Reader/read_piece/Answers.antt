@@ -1,13 +1,13 @@
 use Rattle.std.proofs.Common.{ap, arith, drop, subst}
 use Rattle.std.proofs.lemmas.Result.{on_ok_weaker}
-use Rattle.starlark_syntax.specs.Margins.{open_widths}
-use Rattle.starlark_syntax.specs.ReadingViews.{IsPiece}
-use Rattle.starlark_syntax.specs.ReaderViews.{step_here}
+use Rattle.starlark_grammar.specs.Margins.{open_widths}
+use Rattle.starlark_syntax.specs.Joints.Pieces.{IsPiece}
+use Rattle.starlark_syntax.specs.Joints.Reader.{step_here}
 use Rattle.starlark_syntax.specs.declared.lexer.reader.Reader.{Reader}
 use Rattle.starlark_syntax.specs.declared.lexer.reading.Piece.TheVariants as piece
-use Rattle.starlark_syntax.proofs.Edges.{boundary_shift}
-use Rattle.starlark_syntax.proofs.Here.{less_onward}
-use Rattle.starlark_syntax.proofs.PieceTaken.{nothing_here, nothing_taken, onward_ahead, piece_read}
+use Rattle.starlark_grammar.proofs.Order.Edges.{boundary_shift}
+use Rattle.starlark_syntax.proofs.Reader.Here.{less_onward}
+use Rattle.starlark_syntax.proofs.Reader.PieceTaken.{nothing_here, nothing_taken, onward_ahead, piece_read}
 use Rattle.starlark_syntax.proofs.lexer.reader.Reader.read_piece.Goals as goal
 
 pub step_over-requires : goal.step_over-requires

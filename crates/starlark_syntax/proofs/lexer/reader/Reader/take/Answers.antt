@@ -1,8 +1,8 @@
 use Rattle.std.proofs.Common.{arith, refl, subst}
-use Rattle.starlark_syntax.proofs.Here.{fault_here}
-use Rattle.starlark_syntax.proofs.Taken.{failed}
-use Rattle.starlark_syntax.specs.LexedViews.{IsStep}
-use Rattle.starlark_syntax.specs.ReaderViews.{step_here}
+use Rattle.starlark_syntax.proofs.Reader.Here.{fault_here}
+use Rattle.starlark_syntax.proofs.Reader.Taken.{failed}
+use Rattle.starlark_syntax.specs.Joints.Steps.{IsStep}
+use Rattle.starlark_syntax.specs.Joints.Reader.{step_here}
 use Rattle.starlark_syntax.specs.declared.lexer.literal.pieces.Step.TheVariants as step
 use Rattle.starlark_syntax.proofs.lexer.reader.Reader.take.Goals as goal
 

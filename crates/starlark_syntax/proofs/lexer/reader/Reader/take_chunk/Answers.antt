@@ -1,15 +1,15 @@
 use Rattle.std.proofs.Common.{◌≡◌, ℕ, ◌+◌, ◌≤◌, ◌∷◌, [], ◌++◌, ap, append-nil, arith, length, refl, rules, sym, ◌∙◌, None, string_bytes}
-use Rattle.starlark_token.specs.Words.{Text}
-use Rattle.starlark_syntax.specs.Margins.{open_widths}
-use Rattle.starlark_syntax.specs.Pieces as grammar
-use Rattle.starlark_syntax.specs.Pieces.{Piece}
-use Rattle.starlark_token.specs.Tokens.{Token}
-use Rattle.starlark_syntax.specs.NestingViews.{Represents, bracket_count}
-use Rattle.starlark_syntax.specs.Reading.{tokens_onto}
+use Rattle.starlark_grammar.specs.Words.{Text}
+use Rattle.starlark_grammar.specs.Margins.{open_widths}
+use Rattle.starlark_grammar.specs.Pieces as grammar
+use Rattle.starlark_grammar.specs.Pieces.{Piece}
+use Rattle.starlark_grammar.specs.Tokens.{Token}
+use Rattle.starlark_syntax.specs.Joints.Nesting.{Represents, bracket_count}
+use Rattle.starlark_grammar.specs.Reading.{tokens_onto}
 use Rattle.starlark_syntax.specs.declared.lexer.reader.Reader.{Reader}
-use Rattle.starlark_syntax.proofs.ChunksTaken.{chunk_waits, onto_last, text_onto}
-use Rattle.starlark_syntax.proofs.Here.{less_onward, piece_here}
-use Rattle.starlark_syntax.proofs.Taken.{took}
+use Rattle.starlark_syntax.proofs.Reader.ChunksTaken.{chunk_waits, onto_last, text_onto}
+use Rattle.starlark_syntax.proofs.Reader.Here.{less_onward, piece_here}
+use Rattle.starlark_syntax.proofs.Reader.Taken.{took}
 use Rattle.starlark_syntax.proofs.lexer.reader.Reader.take_chunk.Goals as goal
 
 abbrev two : Text → ℕ → ℕ → Token → Piece

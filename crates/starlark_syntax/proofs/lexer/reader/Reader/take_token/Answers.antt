@@ -1,12 +1,12 @@
 use Rattle.std.proofs.Common.{◌≡◌, ◌+◌, ◌≤◌, ◌∷◌, [], ◌++◌, ap, append-nil, arith, length, refl, rules, sym, ◌∙◌, None}
-use Rattle.starlark_syntax.specs.Margins.{open_widths}
-use Rattle.starlark_syntax.specs.Pieces as grammar
-use Rattle.starlark_syntax.specs.Pieces.{Piece}
-use Rattle.starlark_token.specs.Tokens.{Token}
+use Rattle.starlark_grammar.specs.Margins.{open_widths}
+use Rattle.starlark_grammar.specs.Pieces as grammar
+use Rattle.starlark_grammar.specs.Pieces.{Piece}
+use Rattle.starlark_grammar.specs.Tokens.{Token}
 use Rattle.starlark_syntax.specs.declared.lexer.reader.Reader.{Reader}
-use Rattle.starlark_syntax.proofs.Here.{less_onward, piece_here, shown_here}
-use Rattle.starlark_syntax.proofs.Taken.{took}
-use Rattle.starlark_syntax.proofs.Waiting.{queued_one}
+use Rattle.starlark_syntax.proofs.Reader.Here.{less_onward, piece_here, shown_here}
+use Rattle.starlark_syntax.proofs.Reader.Taken.{took}
+use Rattle.starlark_syntax.proofs.Reader.Waiting.{queued_one}
 use Rattle.starlark_syntax.proofs.lexer.reader.Reader.take_token.Goals as goal
 
 abbrev one : Rattle.std.proofs.Common.ℕ → Token → Piece

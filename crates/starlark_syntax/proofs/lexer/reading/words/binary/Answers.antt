@@ -1,4 +1,4 @@
-use Rattle.starlark_syntax.proofs.WordClasses.{binary_digits}
+use Rattle.starlark_grammar.proofs.Words.Classes.{binary_digits}
 use Rattle.starlark_syntax.proofs.lexer.reading.words.binary.Goals as goal
 
 pub range_from-requires : goal.range_from-requires

@@ -1,8 +1,8 @@
 use Rattle.std.proofs.Common.{ap, refl, ◌∙◌}
 use Rattle.std.specs.Prelude.{drop}
-use Rattle.starlark_token.specs.Tokens.{Comment}
+use Rattle.starlark_grammar.specs.Tokens.{Comment}
 use Rattle.starlark_token.specs.TokenViews.{Whole, token_view}
-use Rattle.starlark_syntax.proofs.WordClasses.{comment_boundary}
+use Rattle.starlark_grammar.proofs.Words.Classes.{comment_boundary}
 use Rattle.starlark_syntax.proofs.lexer.reading.words.comment.Goals as goal
 
 pub range_from-requires : goal.range_from-requires

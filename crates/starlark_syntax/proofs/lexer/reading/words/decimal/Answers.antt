@@ -1,8 +1,8 @@
 use Rattle.std.proofs.Common.{◌≡◌, true, ap, refl, sym, ◌∙◌}
 use Rattle.std.specs.Prelude.{Some}
-use Rattle.starlark_syntax.specs.Pieces as grammar
-use Rattle.starlark_token.specs.Tokens.{StartsZero}
-use Rattle.starlark_syntax.proofs.WordClasses.{decimal_digits}
+use Rattle.starlark_grammar.specs.Pieces as grammar
+use Rattle.starlark_grammar.specs.Tokens.{StartsZero}
+use Rattle.starlark_grammar.proofs.Words.Classes.{decimal_digits}
 use Rattle.starlark_syntax.proofs.lexer.reading.words.decimal.Goals as goal
 
 pub returns-then-starts_zero : goal.returns-then-starts_zero

@@ -1,4 +1,4 @@
-use Rattle.starlark_syntax.proofs.WordClasses.{hexadecimal_digits}
+use Rattle.starlark_grammar.proofs.Words.Classes.{hexadecimal_digits}
 use Rattle.starlark_syntax.proofs.lexer.reading.words.hexadecimal.Goals as goal
 
 pub range_from-requires : goal.range_from-requires

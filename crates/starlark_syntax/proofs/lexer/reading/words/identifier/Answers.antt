@@ -1,5 +1,5 @@
 use Rattle.std.proofs.Common.{ap, refl}
-use Rattle.starlark_token.specs.Tokens.{Identifier}
+use Rattle.starlark_grammar.specs.Tokens.{Identifier}
 use Rattle.starlark_token.specs.TokenViews.{Whole, token_view}
 use Rattle.starlark_syntax.proofs.lexer.reading.words.identifier.Goals as goal
 

@@ -1,10 +1,10 @@
 use Rattle.std.proofs.Common.{◌≡◌, Option, Some, None, ap, arith, refl, sym, ◌∙◌}
 use Rattle.std.specs.Option.{option_map}
-use Rattle.starlark_token.specs.Numbers.{Integer, integer_of}
+use Rattle.starlark_grammar.specs.Numbers.{Integer, integer_of}
 use Rattle.starlark_token.specs.TokenInts.{integer_view}
-use Rattle.starlark_token.specs.Tokens.{Int}
+use Rattle.starlark_grammar.specs.Tokens.{Int}
 use Rattle.starlark_token.specs.TokenViews.{Whole, token_view}
-use Rattle.starlark_syntax.proofs.WordClasses.{digits_are_number}
+use Rattle.starlark_grammar.proofs.Words.Classes.{digits_are_number}
 use Rattle.starlark_syntax.proofs.lexer.reading.words.integer.Goals as goal
 
 pub unreachable-requires : goal.unreachable-requires

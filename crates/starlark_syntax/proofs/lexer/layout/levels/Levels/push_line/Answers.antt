@@ -1,6 +1,6 @@
 use Rattle.std.proofs.Common.{◌∙◌, ap, arith, nat_lt}
 use Rattle.std.specs.Prelude.{filter}
-use Rattle.starlark_syntax.proofs.LevelsKept.{kept_more, kept_none}
+use Rattle.starlark_syntax.proofs.Indentation.Levels.{kept_more, kept_none}
 use Rattle.starlark_syntax.proofs.lexer.layout.levels.Levels.push_line.Goals as goal
 
 pub returns-in_ok-push : goal.returns-in_ok-push

@@ -1,7 +1,7 @@
 use Rattle.std.proofs.Common.{◌∙◌, ap, arith, inl, inr, refl, Some, None}
-use Rattle.starlark_syntax.specs.NestingViews.{fstring_view}
+use Rattle.starlark_syntax.specs.Joints.Nesting.{fstring_view}
 use Rattle.starlark_syntax.specs.declared.lexer.nesting.counts.Brackets.{Brackets}
-use Rattle.starlark_syntax.proofs.Nested.{fstring_onward, has_room, map_opened, map_closed}
+use Rattle.starlark_syntax.proofs.Nesting.Counts.{fstring_onward, has_room, map_opened, map_closed}
 use Rattle.starlark_syntax.proofs.lexer.nesting.counts.OpenFString.after.Goals as goal
 
 pub returns-in-OpensRound : goal.returns-in-OpensRound

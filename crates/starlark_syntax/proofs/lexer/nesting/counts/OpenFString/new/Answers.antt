@@ -1,6 +1,6 @@
 use Rattle.std.proofs.Common.{refl}
-use Rattle.starlark_syntax.specs.Depths.{depth}
-use Rattle.starlark_syntax.specs.NestingViews.{fstring_of}
+use Rattle.starlark_grammar.specs.Depths.{depth}
+use Rattle.starlark_syntax.specs.Joints.Nesting.{fstring_of}
 use Rattle.starlark_syntax.proofs.lexer.nesting.counts.OpenFString.new.Goals as goal
 
 pub returns : goal.returns

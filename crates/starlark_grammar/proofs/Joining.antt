@@ -1,0 +1,8 @@
+-- Texts joined at clean cuts.
+pub mod Followed
+pub mod FollowedBodies
+pub mod FollowedPieces
+pub mod FollowedMargins
+pub mod Settled
+pub mod Joined
+pub mod CleanCuts

@@ -1,0 +1,3 @@
+-- Bodies of literals.
+pub mod Bodies
+pub mod Silent

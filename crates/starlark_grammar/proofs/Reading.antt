@@ -1,0 +1,4 @@
+-- Pieces, readings and outcomes.
+pub mod Steps
+pub mod Readings
+pub mod Faults

@@ -1,0 +1,9 @@
+-- Words and numbers: longest fronts, the table of the language, and the words of each class.
+pub mod Fronts
+pub mod Tables
+pub mod Classes
+pub mod Bytes
+pub mod Lines
+pub mod Printed
+pub mod IntegerValues
+pub mod Ascii

@@ -1,0 +1,98 @@
+-- What the laws of the grammar say.
+use Rattle.std.specs.Prelude.{◌≡◌, ◌≤◌, ℕ, ◌+◌, ◌*◌, Bool, true, false, ◌⊎◌, List, ◌++◌, length, take, count_by, Some, None, option_map, option_to_list, IfSome}
+use Rattle.std.specs.List.{AllByRecursion}
+use Rattle.std.specs.Str.{IsUtf8, IsCharBoundary}
+use Rattle.starlark_grammar.specs.Words.{Text, Class, Table, class_in, language}
+use Rattle.starlark_grammar.specs.Front.{IsLongestFront, language_front}
+use Rattle.starlark_grammar.specs.Tokens.{Token, Indent, Dedent, Spanned, Lexeme, moved, Outcome}
+use Rattle.starlark_grammar.specs.Pieces.{Piece, Stands}
+use Rattle.starlark_grammar.specs.Reading.{History, nothing, next_step, IsReading, pieces_len, outcome_in, outcome, IsOutcome}
+use Rattle.starlark_grammar.specs.Cuts.{InOrder, is_clean_cut, joined}
+
+-- What is computed as the longest front of a text is one, …
+abbrev pub FrontIsLongest : Type 0
+FrontIsLongest = (text : Text) (class : Class) (len : ℕ) → language_front text ≡ Some (class, len) → IsLongestFront (class_in language) text class len
+
+-- … and there is no other.
+abbrev pub LongestFrontIsOne : Type 0
+LongestFrontIsOne = (text : Text) (class : Class) (len : ℕ) → IsLongestFront (class_in language) text class len → language_front text ≡ Some (class, len)
+
+-- one list begins another
+abbrev pub Begins : List Piece → List Piece → Type 0
+Begins front whole = (more : List Piece) × (whole ≡ front ++ more)
+
+-- Of two readings of fronts of one text one begins the other, by any table of words …
+abbrev pub ReadingsAgree : Type 0
+ReadingsAgree = (table : Table) (history : History) (text : Text) (one other : List Piece) → IsReading table history text one → IsReading table history text other → Begins one other ⊎ Begins other one
+
+-- … and each lies inside of the text.
+abbrev pub ReadingsFit : Type 0
+ReadingsFit = (table : Table) (history : History) (text : Text) (pieces : List Piece) → IsReading table history text pieces → pieces_len pieces ≤ length text
+
+-- What is computed as the outcome of a text is one, …
+abbrev pub OutcomeIs : Type 0
+OutcomeIs = (table : Table) (text : Text) → IsOutcome table text (outcome_in table text)
+
+-- … and there is no other.
+abbrev pub OutcomeIsOne : Type 0
+OutcomeIsOne = (table : Table) (text : Text) (found : Outcome) → IsOutcome table text found → found ≡ outcome_in table text
+
+-- The lexemes of a text are in order, with nothing but gaps before and between them, up to a place in it. …
+abbrev pub LexemesInOrder : Type 0
+LexemesInOrder = (text : Text) → (to : ℕ) × (to ≤ length text) × InOrder text 0 (outcome text).lexemes to
+
+-- … In a text without fault nothing but a gap stands behind them either.
+abbrev pub FaultlessInOrder : Type 0
+FaultlessInOrder = (text : Text) → (outcome text).fault ≡ None → InOrder text 0 (outcome text).lexemes (length text)
+
+-- The fault of a text lies inside of it.
+abbrev pub FaultsInside : Type 0
+FaultsInside = (table : Table) (text : Text) → IfSome (outcome_in table text).fault (λ fault. (fault.begin ≤ fault.end) × (fault.end ≤ length text))
+
+-- both ends of something lie between characters of the text
+abbrev pub AtBoundaries : {A : Type 0} → Text → Spanned A → Type 0
+AtBoundaries text x = IsCharBoundary text x.begin × IsCharBoundary text x.end
+
+-- The lexemes of a text of characters begin and end between characters, …
+abbrev pub LexemesAtBoundaries : Type 0
+LexemesAtBoundaries = (text : Text) → IsUtf8 text → AllByRecursion (AtBoundaries text) (outcome text).lexemes
+
+-- … and so does its fault.
+abbrev pub FaultAtBoundaries : Type 0
+FaultAtBoundaries = (text : Text) → IsUtf8 text → IfSome (outcome text).fault (AtBoundaries text)
+
+abbrev pub is_indent : Token → Bool
+is_indent Indent = true
+is_indent token = false
+
+abbrev pub is_dedent : Token → Bool
+is_dedent Dedent = true
+is_dedent token = false
+
+abbrev pub indents : List Lexeme → ℕ
+indents lexemes = count_by (λ (lexeme : Lexeme). is_indent lexeme.node) lexemes
+
+abbrev pub dedents : List Lexeme → ℕ
+dedents lexemes = count_by (λ (lexeme : Lexeme). is_dedent lexeme.node) lexemes
+
+-- In each beginning of the lexemes of a text there are at most as many `Dedent` as `Indent`.
+abbrev pub DedentsFollow : Type 0
+DedentsFollow = (table : Table) (text : Text) (n : ℕ) → dedents (take n (outcome_in table text).lexemes) ≤ indents (take n (outcome_in table text).lexemes)
+
+-- A text without fault has as many of each.
+abbrev pub BlocksClose : Type 0
+BlocksClose = (table : Table) (text : Text) → (outcome_in table text).fault ≡ None → dedents (outcome_in table text).lexemes ≡ indents (outcome_in table text).lexemes
+
+-- Of n bytes there are at most 2n + 1 lexemes and faults.
+abbrev pub ItemsAreFew : Type 0
+ItemsAreFew = (table : Table) (text : Text) → length (outcome_in table text).lexemes + length (option_to_list (outcome_in table text).fault) ≤ 2 * length text + 1
+
+-- the first margin of a text stands
+abbrev pub HasFirstMargin : Table → Text → Type 0
+HasFirstMargin table text = (piece : Piece) × (next_step table nothing text ≡ Stands piece)
+
+-- Where a text is a clean cut, it and a text behind it come to the joined list, and to the second text's fault, moved
+-- along, where that isn't its first margin's.
+abbrev pub CutsJoin : Type 0
+CutsJoin = (first second : Text) → is_clean_cut first ≡ true → HasFirstMargin language second
+    → outcome (first ++ second) ≡ record { lexemes = joined (length first) (outcome first).lexemes (outcome second).lexemes; fault = option_map (moved (length first)) (outcome second).fault }

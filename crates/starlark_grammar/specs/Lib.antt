@@ -1,0 +1,15 @@
+pub mod Words
+pub mod Front
+pub mod Lengths
+pub mod Characters
+pub mod Numbers
+pub mod IntegerValues
+pub mod PrintedWords
+pub mod Tokens
+pub mod Items
+pub mod Depths
+pub mod Margins
+pub mod Pieces
+pub mod Reading
+pub mod Cuts
+pub mod Laws

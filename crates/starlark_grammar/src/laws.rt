@@ -1,0 +1,60 @@
+//! Laws of the written grammar, for all texts. Each function here has a law as its contract and nothing to do;
+//! programs don't call them.
+
+ghost use Rattle.starlark_grammar.specs.IntegerValues.{IntegersKeepTheirValue};
+ghost use Rattle.starlark_grammar.specs.Laws.{FrontIsLongest, LongestFrontIsOne, ReadingsAgree, ReadingsFit, OutcomeIs, OutcomeIsOne, DedentsFollow, BlocksClose, ItemsAreFew, LexemesInOrder, FaultlessInOrder, LexemesAtBoundaries, CutsJoin, FaultsInside, FaultAtBoundaries};
+ghost use Rattle.starlark_grammar.specs.PrintedWords.{PrintedWordsReadBack};
+
+/// The longest front of a text that is a word is the longest, and there is only one.
+pub fn one_longest_front()
+    ensures is_longest { FrontIsLongest }
+    ensures only { LongestFrontIsOne }
+{}
+
+/// Of two readings of fronts of one text one begins the other, and both lie inside of the text.
+pub fn one_reading()
+    ensures agree { ReadingsAgree }
+    ensures inside { ReadingsFit }
+{}
+
+/// Each text has exactly one outcome: that of its longest reading.
+pub fn one_outcome()
+    ensures is_outcome { OutcomeIs }
+    ensures only { OutcomeIsOne }
+{}
+
+/// In each beginning of the lexemes there are at most as many `Dedent` as `Indent`, and in those of a text without
+/// fault as many of each. Of n bytes there are at most 2n + 1 lexemes and faults.
+pub fn balanced_layout()
+    ensures front { DedentsFollow }
+    ensures whole { BlocksClose }
+    ensures few { ItemsAreFew }
+{}
+
+/// Lexemes are in order, with nothing but gaps before and between them, and where the text has no fault behind them
+/// too. They lie inside of the text, and in a text of characters they begin and end between
+/// characters. A fault does so too.
+pub fn ordered_lexemes()
+    ensures order { LexemesInOrder }
+    ensures whole { FaultlessInOrder }
+    ensures boundaries { LexemesAtBoundaries }
+    ensures fault { FaultsInside }
+    ensures fault_boundaries { FaultAtBoundaries }
+{}
+
+/// At a clean cut the lexemes of two texts joined are the joined list. A fault of the second text stays the same fault,
+/// that much later, unless it is its first margin's.
+pub fn joins_at_clean_cuts()
+    ensures { CutsJoin }
+{}
+
+/// The integer that a number's text writes has the text's value: neither zeros at the front nor the case of letters
+/// change it.
+pub fn integers_keep_their_value()
+    ensures { IntegersKeepTheirValue }
+{}
+
+/// The word that is printed of a keyword or a symbol is read as that keyword or symbol.
+pub fn printed_words_read_back()
+    ensures { PrintedWordsReadBack }
+{}

@@ -1,0 +1,11 @@
+-- The exit status of the program.
+use Rattle.std.specs.Prelude.{ℕ, Result, Ok, Err}
+use Rattle.starlark_run.specs.declared.runs.RunFault.{RunFault}
+use Rattle.starlark_run.specs.declared.runs.RunStatus.{RunStatus}
+use Rattle.starlark_run.specs.declared.runs.RunStatus.TheVariants.{Clean, Fault}
+
+-- 0 for a text without fault, 1 for one with a fault, and 2 where the run gave up
+abbrev pub exit_status : Result RunStatus RunFault → ℕ
+exit_status (Ok Clean) = 0
+exit_status (Ok Fault) = 1
+exit_status (Err fault) = 2

@@ -1,0 +1,45 @@
+//! Calls the libraries as the rows on standard input say, and prints what they answer.
+//!
+//! A row is a line of fields, parted by tabs: the group of calls, the call, and what it is given. A
+//! number that isn't given is an empty field. The answer is printed on a line of its own, as
+//! `{:?}` shows it, or as it prints where that is what the row asks for.
+#![tactic(auto)]
+
+mod code_maps;
+mod formats;
+mod places;
+mod rows;
+mod strings;
+mod words;
+
+use crate::rows::{Answer, Row};
+use starlark_syntax::codemap::OrMemory;
+use std::alloc::Global;
+use std::io;
+use std::io::{BufRead, BufReader, BufWriter, ErrorKind, Write};
+
+/// What the libraries answer to a row.
+fn answer(alloc: Global, row: &Row) -> Answer {
+    match row.text(0) {
+        "codemap" => code_maps::answer(alloc, row),
+        "format" => formats::answer(alloc, row),
+        "places" => places::answer(alloc, row),
+        "strings" => strings::answer(alloc, row),
+        "words" => words::answer(alloc, row),
+        group => Ok(format!(in alloc; "no group {group}")?),
+    }
+}
+
+fn main(rt: HostRuntime) -> io::Result<()> {
+    let alloc = rt.alloc();
+    let mut out = BufWriter::new(alloc, rt.stdout())?;
+    for line in BufReader::new(alloc, rt.stdin())?.lines(alloc) {
+        let row = Row::new(alloc, line?.as_str())?;
+        match answer(alloc, &row) {
+            Ok(answer) => write!(out, "{answer}\n")?,
+            Err(OrMemory::Error(_)) => write!(out, "source too long\n")?,
+            Err(OrMemory::Memory) => return Err(io::Error::from(ErrorKind::OutOfMemory)),
+        }
+    }
+    out.flush()
+}

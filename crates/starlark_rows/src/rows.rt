@@ -1,0 +1,78 @@
+//! Rows of a call and what it is given.
+
+use starlark_syntax::codemap::{OrMemory, SourceTooLong};
+use std::alloc::{AllocError, Global};
+use std::fmt::Debug;
+
+/// What is printed of an answer; no row has a text that is too long for a code map.
+pub type Answer = Result<String, OrMemory<SourceTooLong>>;
+
+/// The fields of a row.
+#[derive(Drop)]
+pub struct Row {
+    fields: Vec<String>,
+}
+
+/// A field as it is meant: `\n`, `\r`, `\t` and `\\` stand for these characters.
+fn unescaped(alloc: Global, field: &str) -> Result<String, AllocError> {
+    let mut text = String::new(alloc);
+    let mut is_escaped = false;
+    for character in field.chars() {
+        if character == '\\' && !is_escaped {
+            is_escaped = true;
+            continue;
+        }
+        text.push(match (is_escaped, character) {
+            (true, 'n') => '\n',
+            (true, 'r') => '\r',
+            (true, 't') => '\t',
+            (_, character) => character,
+        })?;
+        is_escaped = false;
+    }
+    Ok(text)
+}
+
+impl Row {
+    /// The row that a line has.
+    pub fn new(alloc: Global, line: &str) -> Result<Row, AllocError> {
+        let mut fields = Vec::new(alloc);
+        for field in line.split('\t') {
+            fields.push(unescaped(alloc, field)?)?;
+        }
+        Ok(Row { fields })
+    }
+
+    /// A field, or the empty text where there is none.
+    pub fn text(&self, index: usize) -> &str {
+        match self.fields.get(index) {
+            Some(field) => field.as_str(),
+            None => "",
+        }
+    }
+
+    /// A field that is a number with a sign, if there is one.
+    pub fn number(&self, index: usize) -> Option<i32> {
+        self.text(index).parse().ok()
+    }
+
+    /// A field that is a count or a place; 0 where there is none.
+    pub fn count(&self, index: usize) -> u32 {
+        self.text(index).parse().unwrap_or(0)
+    }
+
+    /// A field that is a byte; 0 where there is none.
+    pub fn byte(&self, index: usize) -> u8 {
+        self.text(index).parse().unwrap_or(0)
+    }
+}
+
+/// A value as `{:?}` shows it.
+pub fn shown<T: Debug>(alloc: Global, value: &T) -> Answer {
+    Ok(format!(in alloc; "{value:?}")?)
+}
+
+/// What is said where a row asks for a call that its group doesn't have.
+pub fn unknown(alloc: Global, row: &Row) -> Answer {
+    Ok(format!(in alloc; "no call {}", row.text(1))?)
+}

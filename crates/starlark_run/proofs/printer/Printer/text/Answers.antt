@@ -1,0 +1,187 @@
+use Rattle.std.proofs.Common.{◌≡◌, ◌+◌, ◌≤◌, ◌++◌, [], Ok, append-nil, ap, arith, drop, false, length, refl, subst, sym, ◌∙◌}
+use Rattle.std.proofs.lemmas.Result.{err_from_is_err_and}
+use Rattle.starlark_base.specs.Diagnostics.{Diagnosed}
+use Rattle.starlark_base.specs.Sources.{SourceFile}
+use Rattle.starlark_error.specs.FaultTexts.{kind_text}
+use Rattle.starlark_error.specs.declared.error.kinds.ErrorKind.{ErrorKind}
+use Rattle.starlark_grammar.specs.Cuts.{InOrder}
+use Rattle.starlark_syntax.specs.Lexemes.{lexeme_view}
+use Rattle.starlark_syntax.specs.Lexer.{Given, LexerView, Refused, items}
+use Rattle.starlark_grammar.specs.Reading.{outcome}
+use Rattle.starlark_grammar.proofs.Order.Lexemes.{outcome_order}
+use Rattle.starlark_run.specs.Output.{fault_text, item_line, lines_of, output, place_text}
+use Rattle.starlark_run.specs.Runs.{status_of}
+use Rattle.starlark_run.specs.Writing.{Writes}
+use Rattle.starlark_run.specs.declared.runs.RunStatus.TheVariants as RunStatus
+use Rattle.starlark_run.proofs.Items.{all_given, exception_line, fault_placed, lines_cons, lines_nil, next_edges, next_fault, next_few, next_lexeme, next_order}
+use Rattle.starlark_run.proofs.Places.{place_start}
+use Rattle.starlark_run.proofs.Writing.{writes_given_up, writes_on, writes_on_stopped, writes_sound, writes_told, writes_waiting}
+use Rattle.starlark_run.proofs.printer.Printer.text.Goals as goal
+
+pub loop-item-init : goal.loop-item-init
+unfolding output
+loop-item-init g c =
+    let text = c.args.text.now in
+    let name = c.args.name.now in
+    let buffer = c.args.self.now.buffer in
+    let fresh = c.requires.fresh in
+    let handed : c.args.lexer.now.handed_out ≡ 0 = ap (λ (l : LexerView). l.handed_out) fresh in
+    let all = (outcome_order text).0 in
+    let waiting = writes_waiting g.W.Write.contents c.args.writer.now (buffer ++ lines_of name text (items text)) (tt {0}) c.requires.sound in
+    record {
+      place = place_start text c.utf8.text;
+      order = (all.0, subst (λ n. InOrder text 0 (drop n (outcome text).lexemes) all.0) (sym handed) all.2);
+      few = subst (λ n. n ≤ length (outcome text).lexemes) (sym handed) (omega arith);
+      going = ap (λ (l : LexerView). l.has_ended) fresh;
+      text = ap (λ (l : LexerView). l.text) fresh;
+      written = subst (λ n. Writes {T = Unit {0}} g.W.Write.contents c.args.writer.now c.args.writer.now (buffer ++ lines_of name text (items text)) (buffer ++ lines_of name text (drop n (items text))) (Ok tt)) (sym handed) waiting;
+    }
+
+pub lexeme-requires-clause-sound : goal.lexeme-requires-clause-sound
+lexeme-requires-clause-sound g c = writes_sound _ _ _ _ _ _ c.loop-item.invariant.written
+
+pub lexeme-requires-clause-onward : goal.lexeme-requires-clause-onward
+lexeme-requires-clause-onward g c =
+    let inv = c.loop-item.invariant in
+    let next = next_lexeme c.loop-item.lexer.code_map c.args.text.now c.loop-item.lexer.handed_out c.in-Ok.lexeme (rw (c.in-Ok.is, inv.text) at (c.in-Some.ensures.item inv.going)) in
+    (next_order c.args.text.now _ _ c.in-Ok.lexeme _ inv.order.1 next).0
+
+pub lexeme-requires-clause-order : goal.lexeme-requires-clause-order
+lexeme-requires-clause-order g c =
+    let inv = c.loop-item.invariant in
+    let next = next_lexeme c.loop-item.lexer.code_map c.args.text.now c.loop-item.lexer.handed_out c.in-Ok.lexeme (rw (c.in-Ok.is, inv.text) at (c.in-Some.ensures.item inv.going)) in
+    (next_order c.args.text.now _ _ c.in-Ok.lexeme _ inv.order.1 next).1
+
+pub lexeme-requires-clause-begin : goal.lexeme-requires-clause-begin
+lexeme-requires-clause-begin g c =
+    let inv = c.loop-item.invariant in
+    let next = next_lexeme c.loop-item.lexer.code_map c.args.text.now c.loop-item.lexer.handed_out c.in-Ok.lexeme (rw (c.in-Ok.is, inv.text) at (c.in-Some.ensures.item inv.going)) in
+    (next_edges c.args.text.now _ c.in-Ok.lexeme c.utf8.text next).0
+
+pub lexeme-requires-clause-end : goal.lexeme-requires-clause-end
+lexeme-requires-clause-end g c =
+    let inv = c.loop-item.invariant in
+    let next = next_lexeme c.loop-item.lexer.code_map c.args.text.now c.loop-item.lexer.handed_out c.in-Ok.lexeme (rw (c.in-Ok.is, inv.text) at (c.in-Some.ensures.item inv.going)) in
+    (next_edges c.args.text.now _ c.in-Ok.lexeme c.utf8.text next).1
+
+pub returns-in_err-place-in-Ok-clause-writes : goal.returns-in_err-place-in-Ok-clause-writes
+returns-in_err-place-in-Ok-clause-writes g c =
+    let p = err_from_is_err_and c.from_residual.result c.from_residual.ensures.1 in
+    let inv = c.loop-item.invariant in
+    let text = c.args.text.now in
+    let h = c.loop-item.lexer.handed_out in
+    let name = c.args.name.now in
+    let next = next_lexeme c.loop-item.lexer.code_map text h c.in-Ok.lexeme (rw (c.in-Ok.is, inv.text) at (c.in-Some.ensures.item inv.going)) in
+    let item = Given (lexeme_view c.in-Ok.lexeme) in
+    let before = rw (next.items, lines_cons name text item (drop (h + 1) (items text))) at inv.written in
+    rw (p.1, p.2) (writes_on_stopped _ _ _ _ _ _ _ c.loop-item.self.buffer (item_line name text item) (lines_of name text (drop (h + 1) (items text))) c.lexeme.new.self.buffer _ _ _ before c.in_err-place-in-Ok.ensures.writes)
+
+pub loop-item-smaller : goal.loop-item-smaller
+loop-item-smaller g c =
+    let inv = c.loop-item.invariant in
+    let h = c.loop-item.lexer.handed_out in
+    let next = next_lexeme c.loop-item.lexer.code_map c.args.text.now h c.in-Ok.lexeme (rw (c.in-Ok.is, inv.text) at (c.in-Some.ensures.item inv.going)) in
+    let handed : c.next.new.self.handed_out ≡ h + 1 = ap (λ (l : LexerView). l.handed_out) (rw c.in-Ok.is at c.in-Some.ensures.after) in
+    omega (arith, handed, (next_few c.args.text.now h c.in-Ok.lexeme next).1)
+
+pub loop-item-preserved : goal.loop-item-preserved
+loop-item-preserved g c =
+    let inv = c.loop-item.invariant in
+    let text = c.args.text.now in
+    let h = c.loop-item.lexer.handed_out in
+    let name = c.args.name.now in
+    let next = next_lexeme c.loop-item.lexer.code_map text h c.in-Ok.lexeme (rw (c.in-Ok.is, inv.text) at (c.in-Some.ensures.item inv.going)) in
+    let after = rw c.in-Ok.is at c.in-Some.ensures.after in
+    let handed : c.next.new.self.handed_out ≡ h + 1 = ap (λ (l : LexerView). l.handed_out) after in
+    let ended : c.next.new.self.has_ended ≡ false = ap (λ (l : LexerView). l.has_ended) after ∙ rw inv.going refl in
+    let item = Given (lexeme_view c.in-Ok.lexeme) in
+    let rest = lines_of name text (drop (h + 1) (items text)) in
+    let before = rw (next.items, lines_cons name text item (drop (h + 1) (items text))) at inv.written in
+    let on = writes_on _ (Unit {0}) _ _ _ _ c.loop-item.self.buffer (item_line name text item) rest c.lexeme.new.self.buffer _ _ (tt {0}) before c.in_ok-place-in-Ok.ensures.writes in
+    let order = (next_order text _ _ c.in-Ok.lexeme _ inv.order.1 next).2 in
+    rw handed (record {
+      place = c.in_ok-place-in-Ok.ensures.place;
+      order = (inv.order.0, rw c.in_ok-place-in-Ok.ensures.at order);
+      few = (next_few text h c.in-Ok.lexeme next).0;
+      going = ended;
+      text = ap (λ (l : LexerView). l.text) after ∙ inv.text;
+      written = on;
+    })
+
+pub fault-requires-clause-sound : goal.fault-requires-clause-sound
+fault-requires-clause-sound g c = writes_sound _ _ _ _ _ _ c.loop-item.invariant.written
+
+pub fault-requires-clause-order : goal.fault-requires-clause-order
+fault-requires-clause-order g c =
+    let inv = c.loop-item.invariant in
+    let next = next_fault c.loop-item.lexer.code_map c.args.text.now c.loop-item.lexer.handed_out c.in-Err-Error.exception (rw (c.in-Err-Error.is, c.in-Err-Error.field-0-is, inv.text) at (c.in-Some.ensures.item inv.going)) in
+    (fault_placed c.loop-item.lexer.code_map c.args.text.now c.loop-item.lexer.handed_out c.in-Err-Error.exception c.place_of.result.now c.utf8.text next c.place_of.ensures).order
+
+pub fault-requires-clause-begin : goal.fault-requires-clause-begin
+fault-requires-clause-begin g c =
+    let inv = c.loop-item.invariant in
+    let next = next_fault c.loop-item.lexer.code_map c.args.text.now c.loop-item.lexer.handed_out c.in-Err-Error.exception (rw (c.in-Err-Error.is, c.in-Err-Error.field-0-is, inv.text) at (c.in-Some.ensures.item inv.going)) in
+    (fault_placed c.loop-item.lexer.code_map c.args.text.now c.loop-item.lexer.handed_out c.in-Err-Error.exception c.place_of.result.now c.utf8.text next c.place_of.ensures).begin
+
+pub fault-requires-clause-end : goal.fault-requires-clause-end
+fault-requires-clause-end g c =
+    let inv = c.loop-item.invariant in
+    let next = next_fault c.loop-item.lexer.code_map c.args.text.now c.loop-item.lexer.handed_out c.in-Err-Error.exception (rw (c.in-Err-Error.is, c.in-Err-Error.field-0-is, inv.text) at (c.in-Some.ensures.item inv.going)) in
+    (fault_placed c.loop-item.lexer.code_map c.args.text.now c.loop-item.lexer.handed_out c.in-Err-Error.exception c.place_of.result.now c.utf8.text next c.place_of.ensures).end
+
+pub returns-in-Err-Error-clause-writes : goal.returns-in-Err-Error-clause-writes
+returns-in-Err-Error-clause-writes g c =
+    let inv = c.loop-item.invariant in
+    let text = c.args.text.now in
+    let name = c.args.name.now in
+    let file = c.loop-item.lexer.code_map in
+    let exception = c.in-Err-Error.exception in
+    let place = c.place_of.result.now in
+    let next = next_fault file text c.loop-item.lexer.handed_out exception (rw (c.in-Err-Error.is, c.in-Err-Error.field-0-is, inv.text) at (c.in-Some.ensures.item inv.going)) in
+    let item = Refused next.fault in
+    let kind : c.kind.result.now ≡ exception.value = c.kind.ensures ∙ ap (λ (d : Diagnosed ErrorKind). d.value) c.error.ensures in
+    let line : fault_text place.span.begin place.span.end name (place_text text place.span.begin place.span.end) (kind_text c.kind.result.now) ≡ item_line name text item = exception_line file name text next.fault exception place c.kind.result.now next.thrown c.place_of.ensures kind in
+    let before = rw (next.items, lines_cons name text item [], lines_nil name text) at inv.written in
+    let step = rw line at c.in_ok-fault-in-Err-Error.ensures in
+    let on = writes_on _ _ _ _ _ _ c.loop-item.self.buffer (item_line name text item) [] c.fault.new.self.buffer _ _ RunStatus.Fault before step in
+    rw (append-nil c.fault.new.self.buffer) at on
+
+pub returns-in_err-fault-in-Err-Error-clause-writes : goal.returns-in_err-fault-in-Err-Error-clause-writes
+returns-in_err-fault-in-Err-Error-clause-writes g c =
+    let p = err_from_is_err_and c.from_residual-in_err-fault-in-Err-Error.result c.from_residual-in_err-fault-in-Err-Error.ensures.1 in
+    let inv = c.loop-item.invariant in
+    let text = c.args.text.now in
+    let name = c.args.name.now in
+    let file = c.loop-item.lexer.code_map in
+    let exception = c.in-Err-Error.exception in
+    let place = c.place_of.result.now in
+    let next = next_fault file text c.loop-item.lexer.handed_out exception (rw (c.in-Err-Error.is, c.in-Err-Error.field-0-is, inv.text) at (c.in-Some.ensures.item inv.going)) in
+    let item = Refused next.fault in
+    let kind : c.kind.result.now ≡ exception.value = c.kind.ensures ∙ ap (λ (d : Diagnosed ErrorKind). d.value) c.error.ensures in
+    let line : fault_text place.span.begin place.span.end name (place_text text place.span.begin place.span.end) (kind_text c.kind.result.now) ≡ item_line name text item = exception_line file name text next.fault exception place c.kind.result.now next.thrown c.place_of.ensures kind in
+    let before = rw (next.items, lines_cons name text item [], lines_nil name text) at inv.written in
+    let step = rw line at c.in_err-fault-in-Err-Error.ensures in
+    rw (p.1, p.2) (writes_on_stopped _ _ _ _ _ _ _ c.loop-item.self.buffer (item_line name text item) [] c.fault.new.self.buffer _ _ _ before step)
+
+pub returns-in-Err-Error-clause-status : goal.returns-in-Err-Error-clause-status
+returns-in-Err-Error-clause-status g c =
+    let inv = c.loop-item.invariant in
+    let next = next_fault c.loop-item.lexer.code_map c.args.text.now c.loop-item.lexer.handed_out c.in-Err-Error.exception (rw (c.in-Err-Error.is, c.in-Err-Error.field-0-is, inv.text) at (c.in-Some.ensures.item inv.going)) in
+    sym (ap status_of next.is)
+
+pub returns-in-Err-Memory-clause-writes : goal.returns-in-Err-Memory-clause-writes
+returns-in-Err-Memory-clause-writes g c = writes_given_up _ _ _ _ _ _ _ _ c.loop-item.invariant.written
+
+pub returns-clause-writes : goal.returns-clause-writes
+returns-clause-writes g c =
+    let inv = c.loop-item.invariant in
+    let text = c.args.text.now in
+    let name = c.args.name.now in
+    let all = all_given c.loop-item.lexer.code_map text c.loop-item.lexer.handed_out (rw inv.text at (c.in_default.ensures.item inv.going)) inv.few in
+    writes_told _ _ _ _ _ _ _ _ (rw (all.0, lines_nil name text, append-nil c.loop-item.self.buffer) at inv.written)
+
+pub returns-clause-status : goal.returns-clause-status
+returns-clause-status g c =
+    let inv = c.loop-item.invariant in
+    let all = all_given c.loop-item.lexer.code_map c.args.text.now c.loop-item.lexer.handed_out (rw inv.text at (c.in_default.ensures.item inv.going)) inv.few in
+    sym (ap status_of all.1)

@@ -1,0 +1,5 @@
+pub mod Watch
+pub mod Places
+pub mod Output
+pub mod Writing
+pub mod Runs

@@ -1,0 +1,3 @@
+-- Texts that are one identifier.
+pub mod WordBoundaries
+pub mod OneIdentifier

@@ -1,0 +1,9 @@
+-- The longest front of a text, as the scanner finds it.
+pub mod Fronts
+pub mod Residuals
+pub mod Listed
+pub mod Marks
+pub mod Numbers
+pub mod ByFirst
+pub mod Openers
+pub mod FirstCharacter

@@ -1,0 +1,52 @@
+-- Which names may stand before the quote of an opener.
+use Rattle.std.proofs.Common.{◌≡◌, ℕ, zero, suc, ◌+◌, ◌<◌, Bool, true, false, nat_le, [], ◌∷◌, length, take, get_or, refl, ap, None, arith}
+use Rattle.std.proofs.lemmas.Bool.Decides.{nat_tests}
+use Rattle.std.proofs.lemmas.List.{get_or-take}
+use Rattle.std.specs.List.{prefix_len}
+use Rattle.starlark_grammar.specs.Words.{Text, openers, is_in_name}
+use Rattle.starlark_scanner.specs.Joints.Words.{is_quote}
+use Rattle.starlark_scanner.proofs.Scan.Listed.{opener_of, all_pass, lookup_fails}
+use Rattle.starlark_scanner.proofs.Scan.Fronts.{take_behind}
+
+prefixes_are_short : all_pass (λ word. nat_le (prefix_len is_in_name word) 2) openers ≡ true
+unfolding openers
+prefixes_are_short = refl
+
+-- whether a quote stands behind the name that a word begins with
+abbrev is_quoted : Text → Bool
+is_quoted word = is_quote (get_or word (prefix_len is_in_name word) 0)
+
+openers_are_quoted : all_pass is_quoted openers ≡ true
+unfolding openers
+openers_are_quoted = refl
+
+-- a name and the byte behind it begin with the same name
+name_of_opener : (text : Text) → prefix_len is_in_name (take (prefix_len is_in_name text + 1) text) ≡ prefix_len is_in_name text
+name_of_opener [] = refl
+name_of_opener (b ∷ rest) = go (is_in_name b) refl (name_of_opener rest)
+  where
+    go : (passes : Bool) → is_in_name b ≡ passes
+        → prefix_len is_in_name (take (prefix_len is_in_name rest + 1) rest) ≡ prefix_len is_in_name rest
+        → prefix_len is_in_name (take (prefix_len is_in_name (b ∷ rest) + 1) (b ∷ rest)) ≡ prefix_len is_in_name (b ∷ rest)
+    go true e more = rw (e, take_behind b rest (1 + prefix_len is_in_name rest + 1) (prefix_len is_in_name rest + 1) (omega arith), e) (ap (λ n. 1 + n) more)
+    go false e more = rw (e, e) refl
+
+pub long_name_is_no_prefix : (text : Text) (n : ℕ) → n ≡ prefix_len is_in_name text → 2 < n → opener_of (take (n + 1) text) ≡ None
+long_name_is_no_prefix text n e long =
+    lookup_fails (λ word. nat_le (prefix_len is_in_name word) 2) (take (n + 1) text) openers prefixes_are_short (rw (e, name_of_opener text) (too_long _ (omega arith)))
+  where
+    too_long : (k : ℕ) → 2 < k → nat_le k 2 ≡ false
+    too_long k h = grind (arith, nat_tests)
+
+pub unquoted_is_no_opener : (text : Text) (n : ℕ) → n ≡ prefix_len is_in_name text → is_quote (get_or text n 0) ≡ false → opener_of (take (n + 1) text) ≡ None
+unquoted_is_no_opener text n e other =
+    lookup_fails is_quoted (take (n + 1) text) openers openers_are_quoted (rw (e, name_of_opener text, get_or-take (prefix_len is_in_name text + 1) text (prefix_len is_in_name text) 0 (omega arith), ← e) other)
+
+-- a quote is a byte of the text
+pub quote_is_within : (text : Text) (n : ℕ) → is_quote (get_or text n 0) ≡ true → n < length text
+quote_is_within [] n e = cc
+quote_is_within (b ∷ rest) zero e = omega arith
+quote_is_within (b ∷ rest) (suc n) e = let h = quote_is_within rest n e in omega arith
+
+pub quote_is_ascii : (b : ℕ) → is_quote b ≡ true → b < 128
+quote_is_ascii b h = grind (arith, nat_tests)

@@ -1,0 +1,9 @@
+use Rattle.std.proofs.Common.{sym, ◌∙◌}
+use Rattle.starlark_scanner.proofs.Scan.Marks.{front_long, front_empty}
+use Rattle.starlark_scanner.proofs.scanner.marks.mark_from.Goals as goal
+
+pub returns-in-empty : goal.returns-in-empty
+returns-in-empty c = sym (front_empty c.args.text.now c.in-empty.len_below)
+
+pub returns-in-len3-up : goal.returns-in-len3-up
+returns-in-len3-up c = c.longest_of_three.ensures ∙ sym (front_long c.args.text.now c.in-len3-up.len_at_least)

@@ -1,0 +1,2 @@
+-- What only the scanner's contracts and proofs speak of.
+pub mod Words

@@ -1,0 +1,2 @@
+pub mod OneIdentifier
+pub mod Joints

@@ -1,0 +1,40 @@
+-- A text that is one identifier, with nothing but skipped pieces round it.
+use Rattle.std.specs.Prelude.{◌≡◌, ◌≤◌, ℕ, List, [], ◌∷◌, ◌++◌, length, map, Option, Some, None}
+use Rattle.std.specs.Str.{IsCharBoundary}
+use Rattle.starlark_grammar.specs.Words.{Text}
+use Rattle.starlark_grammar.specs.declared.class.Class.{Class}
+use Rattle.starlark_grammar.specs.declared.class.Class.TheVariants.{Skipped, Identifier}
+use Rattle.starlark_grammar.specs.Front.{language_front}
+
+-- Words one behind another, each the longest front of what is left, and what is left behind them.
+abbrev pub Reads : Text → List (Class × Text) → Text → Type 0
+Reads text [] rest = text ≡ rest
+Reads text (word ∷ words) rest = (more : Text) × (text ≡ word.1 ++ more) × (language_front text ≡ Some (word.0, length word.1)) × Reads more words rest
+
+abbrev pub skipped : Text → Class × Text
+skipped piece = (Skipped, piece)
+
+-- The words of a text are skipped pieces, one identifier, and skipped pieces.
+pub record IsOneIdentifier (text name : Text) : Type 0 where
+  pub before : List Text
+  pub behind : List Text
+  pub words : Reads text (map skipped before ++ (Identifier, name) ∷ map skipped behind) []
+
+-- skipped pieces and what is left behind them
+abbrev pub IsBehindSkipped : Text → Text → Type 0
+IsBehindSkipped text rest = (pieces : List Text) × Reads text (map skipped pieces) rest
+
+-- the length of a front, if it is skipped, and if it is an identifier
+abbrev pub if_skipped : Option (Class × ℕ) → Option ℕ
+if_skipped (Some (Skipped, len)) = Some len
+if_skipped front = None
+
+abbrev pub if_identifier : Option (Class × ℕ) → Option ℕ
+if_identifier (Some (Identifier, len)) = Some len
+if_identifier front = None
+
+-- a text may be cut behind so many bytes, and they are some
+pub record IsCut (text : Text) (len : ℕ) : Type 0 where
+  pub some : 1 ≤ len
+  pub inside : len ≤ length text
+  pub boundary : IsCharBoundary text len

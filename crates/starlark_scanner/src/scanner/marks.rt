@@ -1,0 +1,128 @@
+//! Marks: symbols, line ends and escaped line ends, which are words of one to three bytes.
+
+ghost use Rattle.std.specs.Prelude.{◌≡◌, ◌∷◌, []};
+ghost use Rattle.std.specs.Option.{option_map};
+ghost use Rattle.starlark_grammar.specs.Front.{longest_front};
+ghost use Rattle.starlark_scanner.specs.Joints.Words.{marks, word_view};
+ghost use Rattle.starlark_grammar.specs.Words.{class_in};
+
+use super::{Class, Terminal, Word};
+
+#[tactic(auto, unfolding(starlark_grammar::specs::Words::class_in, starlark_grammar::specs::Words::line_ends, starlark_grammar::specs::Words::symbols))]
+/// The class of a mark of one byte.
+fn single(byte: u8) -> Option<Class>
+    ensures { result ≡ class_in marks (byte ∷ []) }
+{
+    match byte {
+        b'\n' => Some(Class::LineEnd),
+        b',' => Some(Class::Fixed(Terminal::Comma)),
+        b';' => Some(Class::Fixed(Terminal::Semicolon)),
+        b':' => Some(Class::Fixed(Terminal::Colon)),
+        b'=' => Some(Class::Fixed(Terminal::Equal)),
+        b'<' => Some(Class::Fixed(Terminal::LessThan)),
+        b'>' => Some(Class::Fixed(Terminal::GreaterThan)),
+        b'-' => Some(Class::Fixed(Terminal::Minus)),
+        b'+' => Some(Class::Fixed(Terminal::Plus)),
+        b'*' => Some(Class::Fixed(Terminal::Star)),
+        b'%' => Some(Class::Fixed(Terminal::Percent)),
+        b'/' => Some(Class::Fixed(Terminal::Slash)),
+        b'.' => Some(Class::Fixed(Terminal::Dot)),
+        b'&' => Some(Class::Fixed(Terminal::Ampersand)),
+        b'|' => Some(Class::Fixed(Terminal::Pipe)),
+        b'^' => Some(Class::Fixed(Terminal::Caret)),
+        b'~' => Some(Class::Fixed(Terminal::Tilde)),
+        b'[' => Some(Class::Fixed(Terminal::OpeningSquare)),
+        b'{' => Some(Class::Fixed(Terminal::OpeningCurly)),
+        b'(' => Some(Class::Fixed(Terminal::OpeningRound)),
+        b']' => Some(Class::Fixed(Terminal::ClosingSquare)),
+        b'}' => Some(Class::Fixed(Terminal::ClosingCurly)),
+        b')' => Some(Class::Fixed(Terminal::ClosingRound)),
+        _ => None,
+    }
+}
+
+#[tactic(auto, unfolding(starlark_grammar::specs::Words::class_in, starlark_grammar::specs::Words::line_ends, starlark_grammar::specs::Words::symbols))]
+/// The class of a mark of two bytes.
+fn double(first: u8, second: u8) -> Option<Class>
+    ensures { result ≡ class_in marks (first ∷ second ∷ []) }
+{
+    match (first, second) {
+        (b'\r', b'\n') => Some(Class::LineEnd),
+        (b'\\', b'\n') => Some(Class::Skipped),
+        (b'+', b'=') => Some(Class::Fixed(Terminal::PlusEqual)),
+        (b'-', b'=') => Some(Class::Fixed(Terminal::MinusEqual)),
+        (b'*', b'=') => Some(Class::Fixed(Terminal::StarEqual)),
+        (b'/', b'=') => Some(Class::Fixed(Terminal::SlashEqual)),
+        (b'%', b'=') => Some(Class::Fixed(Terminal::PercentEqual)),
+        (b'=', b'=') => Some(Class::Fixed(Terminal::EqualEqual)),
+        (b'!', b'=') => Some(Class::Fixed(Terminal::BangEqual)),
+        (b'<', b'=') => Some(Class::Fixed(Terminal::LessEqual)),
+        (b'>', b'=') => Some(Class::Fixed(Terminal::GreaterEqual)),
+        (b'&', b'=') => Some(Class::Fixed(Terminal::AmpersandEqual)),
+        (b'|', b'=') => Some(Class::Fixed(Terminal::PipeEqual)),
+        (b'^', b'=') => Some(Class::Fixed(Terminal::CaretEqual)),
+        (b'*', b'*') => Some(Class::Fixed(Terminal::StarStar)),
+        (b'/', b'/') => Some(Class::Fixed(Terminal::SlashSlash)),
+        (b'<', b'<') => Some(Class::Fixed(Terminal::LessLess)),
+        (b'>', b'>') => Some(Class::Fixed(Terminal::GreaterGreater)),
+        (b'-', b'>') => Some(Class::Fixed(Terminal::MinusGreater)),
+        _ => None,
+    }
+}
+
+#[tactic(auto, unfolding(starlark_grammar::specs::Words::class_in, starlark_grammar::specs::Words::line_ends, starlark_grammar::specs::Words::symbols))]
+/// The class of a mark of three bytes.
+fn triple(first: u8, second: u8, third: u8) -> Option<Class>
+    ensures { result ≡ class_in marks (first ∷ second ∷ third ∷ []) }
+{
+    match (first, second, third) {
+        (b'\\', b'\r', b'\n') => Some(Class::Skipped),
+        (b'/', b'/', b'=') => Some(Class::Fixed(Terminal::SlashSlashEqual)),
+        (b'<', b'<', b'=') => Some(Class::Fixed(Terminal::LessLessEqual)),
+        (b'>', b'>', b'=') => Some(Class::Fixed(Terminal::GreaterGreaterEqual)),
+        (b'.', b'.', b'.') => Some(Class::Fixed(Terminal::Ellipsis)),
+        _ => None,
+    }
+}
+
+/// The mark of one byte, as a word.
+fn longest_of_one(first: u8) -> Option<Word>
+    ensures { option_map word_view result ≡ longest_front (class_in marks) (first ∷ []) }
+{
+    match single(first) {
+        Some(class) => Some(Word { class, len: 1 }),
+        None => None,
+    }
+}
+
+/// The longest mark at the front of two bytes.
+fn longest_of_two(first: u8, second: u8) -> Option<Word>
+    ensures { option_map word_view result ≡ longest_front (class_in marks) (first ∷ second ∷ []) }
+{
+    match double(first, second) {
+        Some(class) => Some(Word { class, len: 2 }),
+        None => longest_of_one(first),
+    }
+}
+
+/// The longest mark at the front of three bytes.
+fn longest_of_three(first: u8, second: u8, third: u8) -> Option<Word>
+    ensures { option_map word_view result ≡ longest_front (class_in marks) (first ∷ second ∷ third ∷ []) }
+{
+    match triple(first, second, third) {
+        Some(class) => Some(Word { class, len: 3 }),
+        None => longest_of_two(first, second),
+    }
+}
+
+/// The longest mark at the front of a text, or `None` where no mark stands there.
+pub fn mark_from(text: &[u8]) -> Option<Word>
+    ensures { option_map word_view result ≡ longest_front (class_in marks) text.now }
+{
+    match text {
+        [] => None,
+        [first] => longest_of_one(*first),
+        [first, second] => longest_of_two(*first, *second),
+        [first, second, third, ..] => longest_of_three(*first, *second, *third),
+    }
+}

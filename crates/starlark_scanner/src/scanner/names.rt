@@ -1,0 +1,120 @@
+//! Words that begin with a letter or `_`: keywords, reserved words, identifiers, and openers that have a prefix.
+
+ghost use Rattle.std.specs.Prelude.{◌≡◌, ◌≤◌, ◌<◌, ◌+◌, IfSome, get_or, Some, length, take, true, unwrap_or};
+ghost use Rattle.std.specs.List.{prefix_len};
+ghost use Rattle.std.specs.Map.{lookup};
+ghost use Rattle.std.specs.Option.{option_map};
+ghost use Rattle.std.specs.Str.{bytes_eq};
+ghost use Rattle.starlark_grammar.specs.Front.{language_front};
+ghost use Rattle.starlark_scanner.specs.Joints.Words.{is_quote, word_view};
+ghost use Rattle.starlark_grammar.specs.Words as grammar;
+ghost use Rattle.starlark_grammar.specs.declared.class.Class.TheVariants as class;
+
+use super::openers::opener_class;
+use super::{Class, Terminal, Word};
+
+/// The greatest length of a literal's prefix.
+const PREFIX_LEN: usize = 2;
+
+/// Whether a name may begin with the byte.
+pub fn is_name_start(byte: u8) -> bool
+    ensures { result ≡ grammar.is_name_start byte }
+{
+    byte.is_ascii_alphabetic() || byte == b'_'
+}
+
+/// The length of the run of letters, digits and `_` at the front of a text.
+fn name_len(text: &[u8]) -> usize
+    ensures value { result ≡ prefix_len grammar.is_in_name text.now }
+    ensures within { result ≤ length text.now }
+{
+    text.iter()
+        .take_while(|byte| is_name_start(**byte) || byte.is_ascii_digit())
+        .count()
+}
+
+/// The class of a name.
+fn name_class(name: &str) -> Class
+    ensures { result ≡ unwrap_or (lookup (bytes_eq name.now) grammar.names) class.Identifier }
+{
+    match name {
+        "and" => Class::Fixed(Terminal::And),
+        "break" => Class::Fixed(Terminal::Break),
+        "continue" => Class::Fixed(Terminal::Continue),
+        "def" => Class::Fixed(Terminal::Def),
+        "elif" => Class::Fixed(Terminal::Elif),
+        "else" => Class::Fixed(Terminal::Else),
+        "for" => Class::Fixed(Terminal::For),
+        "if" => Class::Fixed(Terminal::If),
+        "in" => Class::Fixed(Terminal::In),
+        "lambda" => Class::Fixed(Terminal::Lambda),
+        "load" => Class::Fixed(Terminal::Load),
+        "not" => Class::Fixed(Terminal::Not),
+        "or" => Class::Fixed(Terminal::Or),
+        "pass" => Class::Fixed(Terminal::Pass),
+        "return" => Class::Fixed(Terminal::Return),
+        "as"
+        | "assert"
+        | "async"
+        | "await"
+        | "class"
+        | "del"
+        | "except"
+        | "finally"
+        | "from"
+        | "global"
+        | "import"
+        | "is"
+        | "nonlocal"
+        | "raise"
+        | "try"
+        | "while"
+        | "with"
+        | "yield" => Class::Reserved,
+        _ => Class::Identifier,
+    }
+}
+
+/// Whether a quote stands at a place of a text.
+fn is_quote_at(text: &[u8], at: usize) -> bool
+    ensures { result ≡ is_quote (get_or text.now at 0) }
+{
+    match text.get(at) {
+        Some(byte) => *byte == b'\'' || *byte == b'"',
+        None => false,
+    }
+}
+
+/// What opens a literal at the front of a text that begins with a name of the given length: that
+/// name as a prefix, and a quote.
+fn prefixed_opener(text: &str, len: usize) -> Option<Class>
+    requires { len ≡ prefix_len grammar.is_in_name text.now }
+    ensures opener { result ≡ lookup (bytes_eq (take (len + 1) text.now)) grammar.openers }
+    ensures within { IfSome result (λ class. len < length text.now) }
+{
+    if len > PREFIX_LEN {
+        return None;
+    }
+    if !is_quote_at(text.as_bytes(), len) {
+        return None;
+    }
+    opener_class(&text[..len + 1])
+}
+
+/// The longest word at the front of a text that begins with a letter or `_`.
+pub fn name_from(text: &str) -> Word
+    requires { grammar.begins grammar.is_name_start text.now ≡ true }
+    ensures { Some (word_view result) ≡ language_front text.now }
+{
+    let len = name_len(text.as_bytes());
+    match prefixed_opener(text, len) {
+        Some(class) => Word {
+            class,
+            len: len + 1,
+        },
+        None => Word {
+            class: name_class(&text[..len]),
+            len,
+        },
+    }
+}

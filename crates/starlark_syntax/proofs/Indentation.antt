@@ -1,0 +1,5 @@
+-- Margins, and the open widths that are kept.
+pub mod Margins
+pub mod CommentLines
+pub mod Levels
+pub mod Laid

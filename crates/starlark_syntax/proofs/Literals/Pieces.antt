@@ -1,0 +1,114 @@
+-- String and bytes literals, by what was read of them.
+use Rattle.std.proofs.Common.{◌≡◌, ◌≢◌, ℕ, zero, suc, ◌+◌, ◌-◌, ◌≤◌, ◌==◌, true, false, not, [], ◌∷◌, length, take, drop, get_or, nat_eq, refl, sym, ap, subst, ◌∙◌, arith, Ok, Err}
+use Rattle.std.proofs.lemmas.List.{get_or-drop, length-drop}
+use Rattle.std.proofs.lemmas.Str.{IsCharBoundary-after_ascii, IsUtf8-drop}
+use Rattle.std.specs.List.{starts_with}
+use Rattle.std.specs.Prelude.{IfOk, Result}
+use Rattle.std.specs.Str.{IsUtf8, IsCharBoundary}
+use Rattle.starlark_grammar.specs.Words.{Text}
+use Rattle.starlark_grammar.specs.declared.class.Quote.{Quote}
+use Rattle.starlark_grammar.specs.declared.class.Quote.TheVariants.{Single as SingleQuote, Double as DoubleQuote}
+use Rattle.starlark_grammar.specs.declared.class.LiteralKind.{LiteralKind as Kind}
+use Rattle.starlark_grammar.specs.declared.class.LiteralKind.TheVariants.{Text as OfText, Bytes as OfBytes, FString as OfFString}
+use Rattle.starlark_grammar.specs.Tokens.{String, Bytes, Opening, EmptyEscapeSequence, InvalidEscapeSequence}
+use Rattle.starlark_grammar.specs.Items.{Literal, Closing, BadEscape, body_at, body_len, closing_quotes, is_of_bytes, quote_byte}
+use Rattle.starlark_grammar.specs.Depths.{Mode}
+use Rattle.starlark_grammar.specs.Pieces as pieces
+use Rattle.starlark_grammar.specs.Pieces.{Step, fault, literal_token, escape_fault}
+use Rattle.starlark_grammar.proofs.Lists.{drop-sum}
+use Rattle.starlark_grammar.proofs.Literals.Bodies.{StopFits, body_fits}
+use Rattle.starlark_grammar.proofs.Order.Edges.{StopAt, behind_plain, boundary_shift, starts_split, stop_at}
+
+pub token_of_text : (kind : Kind) (value : Text) → true ≡ not (is_of_bytes kind) → String value ≡ literal_token kind value
+token_of_text OfText value h = refl
+token_of_text OfFString value h = refl
+token_of_text OfBytes value h = cc
+
+pub token_of_bytes : (kind : Kind) (value : Text) → false ≡ not (is_of_bytes kind) → Bytes value ≡ literal_token kind value
+token_of_bytes OfBytes value h = refl
+token_of_bytes OfText value h = cc
+token_of_bytes OfFString value h = cc
+
+pub escape_none : (begin : ℕ) (read : Text) → (length read == 0) ≡ true → escape_fault begin read ≡ fault begin EmptyEscapeSequence (begin + 1)
+escape_none begin [] h = let same : 1 + begin ≡ begin + 1 = omega arith in ap (fault begin EmptyEscapeSequence) same
+escape_none begin (b ∷ bs) h = grind arith
+
+pub escape_some : (begin : ℕ) (read : Text) → (length read == 0) ≡ false → escape_fault begin read ≡ fault begin (InvalidEscapeSequence read) (begin + 1 + length read)
+escape_some begin [] h = grind arith
+escape_some begin (b ∷ bs) h = let same : begin + length (92 ∷ b ∷ bs) ≡ begin + 1 + length (b ∷ bs) = omega arith in ap (fault begin (InvalidEscapeSequence (b ∷ bs))) same
+
+-- Where a body of this length stops, its stop has its bytes inside.
+pub closing_fits : (literal : Literal) (text : Text) (len : ℕ) → len ≡ body_len (body_at literal text) → (body_at literal text).stop ≡ Closing → len + length (closing_quotes literal.opening) ≤ length text
+closing_fits literal text len same closing =
+    let fits = body_fits literal text in
+    let inside : length (closing_quotes literal.opening) ≤ length (drop (body_len (body_at literal text)) text) = subst (StopFits literal.opening (drop (body_len (body_at literal text)) text)) closing fits.1 in
+    omega (arith, fits.0, inside, same, length-drop (body_len (body_at literal text)) text)
+
+pub bad_fits : (literal : Literal) (text : Text) (len read last : ℕ) → len ≡ body_len (body_at literal text) → (body_at literal text).stop ≡ BadEscape read last → (1 ≤ read) × (len + read ≤ length text)
+bad_fits literal text len read last same bad =
+    let fits = body_fits literal text in
+    let inside = subst (StopFits literal.opening (drop (body_len (body_at literal text)) text)) bad fits.1 in
+    (omega (arith, inside.0, inside.1), omega (arith, fits.0, inside.2, same, length-drop (body_len (body_at literal text)) text))
+
+-- The backslash of a bad escape and its last character end between characters.
+pub bad_edges : (literal : Literal) (text : Text) (len read last : ℕ) → IsUtf8 text → IsCharBoundary text len → len ≡ body_len (body_at literal text) → (body_at literal text).stop ≡ BadEscape read last
+    → IsCharBoundary text (len + 1) × IsCharBoundary text (len + read)
+bad_edges literal text len read last utf8 here same bad =
+    let stop : StopAt literal.opening (drop len text) (BadEscape read last) =
+    subst (λ n. StopAt literal.opening (drop n text) (BadEscape read last)) (sym same) (subst (StopAt literal.opening (drop (body_len (body_at literal text)) text)) bad (stop_at literal text)) in
+    let first : get_or text len 0 ≡ 92 = ap (λ n. get_or text n 0) no_more ∙ sym (get_or-drop len text 0 0) ∙ ap (λ (t : Text). get_or t 0 0) stop.1 in
+    let fits = bad_fits literal text len read last same bad in (
+      IsCharBoundary-after_ascii text len utf8 (omega (arith, fits.0, fits.1)) (omega (arith, first)),
+      boundary_shift text len read here (stop.2 (IsUtf8-drop text len utf8 here)).0,
+    )
+  where
+    no_more : len ≡ len + 0
+    no_more = omega arith
+
+-- what was read behind the backslash, cut out in one step
+take-none : (n : ℕ) → ◌≡◌ {A = Text} (take n []) []
+take-none zero = refl
+take-none (suc n) = refl
+
+drop_take : (n : ℕ) (text : Text) → drop 1 (take n text) ≡ take (n - 1) (drop 1 text)
+drop_take zero text = refl
+drop_take (suc n) [] = sym (take-none (suc n - 1))
+drop_take (suc n) (b ∷ bs) = let same : n ≡ suc n - 1 = omega arith in ap (λ k. take k bs) same
+
+pub read_behind : (text : Text) (len read : ℕ) → take (len + read - (len + 1)) (drop (len + 1) text) ≡ drop 1 (take read (drop len text))
+read_behind text len read =
+    let less : len + read - (len + 1) ≡ read - 1 = omega arith in
+    rw (less, drop-sum len 1 text) (sym (drop_take read (drop len text)))
+
+-- a literal that stops at a bad escape
+pub bad_literal : (place : Mode) (literal : Literal) (begin len read last : ℕ) (text : Text) → len ≡ body_len (body_at literal text) → (body_at literal text).stop ≡ BadEscape read last
+    → pieces.literal place literal.kind literal.opening begin text ≡ escape_fault (begin + len) (drop 1 (take read (drop len text)))
+bad_literal place literal begin len read last text same bad = rw (bad, same) refl
+
+-- what holds of each good result
+pub if_ok : {A E : Type 0} (P Q : A → Type 0) (result : Result A E) → ((value : A) → P value → Q value) → IfOk result P → IfOk result Q
+if_ok P Q (Ok value) more h = more value h
+if_ok P Q (Err e) more h = tt
+
+-- behind two more quotes
+pub triple_edge : (text : Text) (quote : Quote) → IsUtf8 text → starts_with nat_eq text (quote_byte quote ∷ quote_byte quote ∷ []) ≡ true → IsCharBoundary text 2
+triple_edge text SingleQuote utf8 h = behind_plain text (39 ∷ 39 ∷ []) (drop 2 text) utf8 (starts_split text (39 ∷ 39 ∷ []) h) refl
+triple_edge text DoubleQuote utf8 h = behind_plain text (34 ∷ 34 ∷ []) (drop 2 text) utf8 (starts_split text (34 ∷ 34 ∷ []) h) refl
+
+-- without two more quotes the literal begins right behind its opener
+pub opener_plain : (place : Mode) (kind : Kind) (opening : Opening) (len : ℕ) (behind : Text) → kind ≢ OfFString → opening.is_triple ≡ false → pieces.opener place kind opening len behind ≡ pieces.literal place kind opening len behind
+opener_plain place kind opening len behind other single = by_kind kind other
+  where
+    none_more : pieces.more_quotes opening ≡ 0
+    none_more = rw single refl
+
+    same : len + 0 ≡ len
+    same = omega arith
+
+    right_behind : (kind : Kind) → pieces.literal place kind opening (len + pieces.more_quotes opening) (drop (pieces.more_quotes opening) behind) ≡ pieces.literal place kind opening len behind
+    right_behind kind = ap (λ n. pieces.literal place kind opening (len + n) (drop n behind)) none_more ∙ ap (λ n. pieces.literal place kind opening n behind) same
+
+    by_kind : (kind : Kind) → kind ≢ OfFString → pieces.opener place kind opening len behind ≡ pieces.literal place kind opening len behind
+    by_kind OfText other = right_behind OfText
+    by_kind OfBytes other = right_behind OfBytes
+    by_kind OfFString other = absurd (other refl)

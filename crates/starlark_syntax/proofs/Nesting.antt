@@ -1,0 +1,3 @@
+-- The stack of open f-strings and the counts of brackets.
+pub mod Counts
+pub mod FStrings

@@ -1,0 +1,9 @@
+-- What a reader keeps, takes and hands out.
+pub mod Waiting
+pub mod Here
+pub mod Onward
+pub mod Taken
+pub mod ChunksTaken
+pub mod PieceTaken
+pub mod NextLexeme
+pub mod LexerItems

@@ -1,0 +1,356 @@
+-- A reader before and after a piece.
+use Rattle.std.proofs.Common.{◌≡◌, ℕ, zero, suc, ◌+◌, ◌≤◌, ◌<◌, Bool, true, false, not, List, [], ◌∷◌, ◌++◌, length, drop, map, refl, ap, ◌∙◌, sym, subst, Option, Some, None, arith, append_assoc, append-nil, nat_lt}
+use Rattle.std.specs.Prelude.{⊤, ◌&&◌, if◌then◌else◌, count_by, option_map, option_to_list, replicate}
+use Rattle.std.specs.List.{AllByRecursion}
+use Rattle.std.specs.Str.{IsCharBoundary, IsUtf8}
+use Rattle.std.proofs.lemmas.List.{length-drop, map-append}
+use Rattle.std.proofs.lemmas.Str.{IsCharBoundary-start, IsUtf8-drop}
+use Rattle.starlark_grammar.specs.Words.{Text, language}
+use Rattle.starlark_grammar.specs.Tokens.{Lexeme, Outcome, Spanned, moved}
+use Rattle.starlark_grammar.specs.Tokens as grammar
+use Rattle.starlark_grammar.specs.Depths.{is_any_closing, is_any_opening, open_fstring}
+use Rattle.starlark_grammar.specs.Margins.{Margin, comment_lines, comments_from, fits, has_tab, indentation, is_content, is_widest, margin_len, margin_of, open_widths, width_of}
+use Rattle.starlark_grammar.specs.Pieces.{Before, Ends, Fails, Gap, Layout, Nothing, Other, Piece, Stands, first_margin, line_end, margin_step}
+use Rattle.starlark_grammar.specs.Reading.{History, after, closing, next_step, nothing, outcome, tokens_onto}
+use Rattle.starlark_syntax.specs.Lexemes.{fault_view, lexeme_view, shown_lexeme}
+use Rattle.starlark_syntax.specs.Joints.Layout.{IsRefused, IsTaken, Queued}
+use Rattle.starlark_syntax.specs.Joints.Nesting.{Represents, bracket_count, change_by, closes, fstring_of, opens}
+use Rattle.starlark_syntax.specs.Joints.Pieces.{IsBehind}
+use Rattle.starlark_syntax.specs.Joints.Reader.{IsAhead, IsStateAfter, IsLeft, IsRead, left_here, left_to_read, remaining_outcome, step_here}
+use Rattle.starlark_token.specs.TokenViews.{TokenView, Whole}
+use Rattle.starlark_error.specs.declared.lexeme_error.LexemeError.{LexemeError}
+use Rattle.starlark_syntax.specs.declared.lexer.nesting.Nesting.{Nesting}
+use Rattle.starlark_syntax.specs.declared.lexer.nesting.changes.Change.TheVariants as change
+use Rattle.starlark_syntax.specs.declared.lexer.reader.Reader.{Reader}
+use Rattle.starlark_syntax.specs.declared.lexer.reader.Stage.TheVariants as stage
+use Rattle.starlark_token.specs.declared.tokens.Token.{Token}
+use Rattle.starlark_grammar.proofs.Order.WholeTexts.{piece_bounded}
+use Rattle.starlark_syntax.proofs.Indentation.CommentLines.{margin_comments}
+use Rattle.starlark_grammar.proofs.Order.Edges.{boundary_shift}
+use Rattle.starlark_grammar.proofs.Lists.{drop-sum}
+use Rattle.starlark_syntax.proofs.Nesting.Counts.{closed_onward, fstring_onward, opened_onward}
+use Rattle.starlark_syntax.proofs.Reader.Onward.{GoesOn, first_fails, first_stands, margin_first, onward_ends, onward_fails, onward_stands}
+use Rattle.starlark_grammar.proofs.Reading.Readings.{fault_fits, one_least, piece_fits}
+use Rattle.starlark_syntax.proofs.Nesting.FStrings.{innermost_onward, keeps, outer_onward}
+use Rattle.starlark_grammar.proofs.Reading.Steps.{Each, is_nothing}
+use Rattle.starlark_grammar.proofs.Choices.{either}
+use Rattle.starlark_syntax.proofs.Reader.Waiting.{queued_none}
+
+-- What is kept is kept behind the text's first margin.
+pub begun : (follows_gap : Bool) (before : Before) → IsBehind follows_gap before → is_nothing before ≡ false
+begun follows_gap Nothing h = absurd h
+begun follows_gap Layout h = refl
+begun follows_gap Gap h = refl
+begun follows_gap Other h = refl
+
+-- Layout
+
+-- a token that changes neither brackets nor f-strings: one of layout, or a text of an f-string
+abbrev pub is_quiet : grammar.Token → Bool
+is_quiet (grammar.FStringText value) = true
+is_quiet grammar.Newline = true
+is_quiet (grammar.Comment text) = true
+is_quiet grammar.Indent = true
+is_quiet grammar.Dedent = true
+is_quiet node = false
+
+abbrev pub AllQuiet : List Lexeme → Type 0
+AllQuiet lexemes = AllByRecursion (λ (lexeme : Lexeme). is_quiet lexeme.node ≡ true) lexemes
+
+quiet_changes : (node : grammar.Token) → is_quiet node ≡ true → change_by (Whole node) ≡ change.Nothing
+unfolding change_by
+quiet_changes (grammar.FStringText value) h = refl
+quiet_changes grammar.Newline h = refl
+quiet_changes (grammar.Comment text) h = refl
+quiet_changes grammar.Indent h = refl
+quiet_changes grammar.Dedent h = refl
+quiet_changes node h = cc
+
+quiet_keeps : (node : grammar.Token) → is_quiet node ≡ true → keeps node ≡ true
+quiet_keeps (grammar.FStringText value) h = refl
+quiet_keeps grammar.Newline h = refl
+quiet_keeps (grammar.Comment text) h = refl
+quiet_keeps grammar.Indent h = refl
+quiet_keeps grammar.Dedent h = refl
+quiet_keeps node h = cc
+
+-- an f-string is what it was
+same_fstring : (node : grammar.Token) → is_quiet node ≡ true → (found : Option (grammar.Opening × List grammar.Token))
+    → option_map fstring_of (option_map (λ (found : grammar.Opening × List grammar.Token). (found.0, node ∷ found.1)) found) ≡ option_map fstring_of found
+same_fstring node h None = refl
+same_fstring node h (Some found) = ap Some (sym (fstring_onward (fstring_of found) (fstring_of found) change.Nothing found node (sym (quiet_changes node h)) refl (record { opening = refl; expression = refl; rounds = refl; squares = refl })))
+
+same_fstrings : (n : ℕ) (node : grammar.Token) (tokens : List grammar.Token) → is_quiet node ≡ true → option_map fstring_of (open_fstring n (node ∷ tokens)) ≡ option_map fstring_of (open_fstring n tokens)
+same_fstrings zero node tokens h = ap (option_map fstring_of) (innermost_onward node tokens (quiet_keeps node h)) ∙ same_fstring node h (open_fstring 0 tokens)
+same_fstrings (suc n) node tokens h = ap (option_map fstring_of) (outer_onward n node tokens (quiet_keeps node h))
+
+pub one_kept : (node : grammar.Token) (tokens : List grammar.Token) (nesting : Nesting) → is_quiet node ≡ true → Represents tokens nesting → Represents (node ∷ tokens) nesting
+one_kept node tokens nesting h same =
+    let none = quiet_changes node h in
+    let opened : count_by is_any_opening (node ∷ tokens) ≡ 0 + count_by is_any_opening tokens = opened_onward node tokens ∙ ap (λ c. opens c + count_by is_any_opening tokens) none in
+    let closed : count_by is_any_closing (node ∷ tokens) ≡ 0 + count_by is_any_closing tokens = closed_onward node tokens ∙ ap (λ c. closes c + count_by is_any_closing tokens) none in
+    record {
+      fstrings = λ n. same.fstrings n ∙ sym (same_fstrings n node tokens h);
+      opened = omega (arith, same.opened, opened);
+      closed = omega (arith, same.closed, closed);
+    }
+
+-- Such tokens leave brackets and f-strings as they are.
+pub quiet_kept : (lexemes : List Lexeme) (tokens : List grammar.Token) (nesting : Nesting) → AllQuiet lexemes → Represents tokens nesting → Represents (tokens_onto tokens lexemes) nesting
+quiet_kept [] tokens nesting h same = same
+quiet_kept (lexeme ∷ lexemes) tokens nesting h same = quiet_kept lexemes (lexeme.node ∷ tokens) nesting h.1 (one_kept lexeme.node tokens nesting h.0 same)
+
+quiet_both : (one other : List Lexeme) → AllQuiet one → AllQuiet other → AllQuiet (one ++ other)
+quiet_both [] other h k = k
+quiet_both (lexeme ∷ one) other h k = (h.0, quiet_both one other h.1 k)
+
+quiet_moved : (n : ℕ) (lexemes : List Lexeme) → AllQuiet lexemes → AllQuiet (map (moved n) lexemes)
+quiet_moved n [] h = tt
+quiet_moved n (lexeme ∷ lexemes) h = (h.0, quiet_moved n lexemes h.1)
+
+dedents_quiet : (at count : ℕ) → AllQuiet (replicate count (record { begin = at; node = grammar.Dedent; end = at }))
+dedents_quiet at zero = tt
+dedents_quiet at (suc count) = (refl, dedents_quiet at count)
+
+comments_quiet : (at : ℕ) (lines : List Text) → AllQuiet (comments_from at lines)
+comments_quiet at [] = tt
+comments_quiet at (line ∷ more) = (refl, comments_quiet (at + length line) more)
+
+indentation_is_quiet : (levels : List ℕ) (margin : Margin) → AllQuiet (indentation levels margin)
+unfolding indentation
+indentation_is_quiet levels margin = go (nat_lt 0 (width_of margin) && is_widest (width_of margin) levels)
+  where
+    go : (opens : Bool) → AllQuiet (if opens then record { begin = margin.at; node = grammar.Indent; end = margin_len margin } ∷ [] else replicate (count_by (nat_lt (width_of margin)) levels) (record { begin = margin.at; node = grammar.Dedent; end = margin.at }))
+    go true = (refl, tt)
+    go false = dedents_quiet margin.at (count_by (nat_lt (width_of margin)) levels)
+
+-- A margin, with or without a line end before it: tokens of layout alone.
+pub record IsLayout (piece : Piece) : Type 0 where
+  pub tokens : AllQuiet piece.lexemes
+  pub sort : piece.sort ≡ Layout
+
+margin_is_quiet : (len : ℕ) (line : List Lexeme) (levels : List ℕ) (text : Text) → AllQuiet line → Each IsLayout (λ fault. ⊤) (margin_step len line levels (margin_of text))
+unfolding margin_step
+margin_is_quiet len line levels text h =
+    either (Each IsLayout (λ fault. ⊤)) (not (is_content (margin_of text).behind)) _ _ (record { tokens = all [] tt; sort = refl })
+    (either (Each IsLayout (λ fault. ⊤)) (has_tab (margin_of text)) _ _ tt
+    (either (Each IsLayout (λ fault. ⊤)) (fits (width_of (margin_of text)) levels) _ _ (record { tokens = all (indentation levels (margin_of text)) (indentation_is_quiet levels (margin_of text)); sort = refl }) tt))
+  where
+    comments : AllQuiet (margin_of text).comments
+    comments = subst AllQuiet (sym (margin_comments text)) (comments_quiet 0 (comment_lines text))
+
+    all : (more : List Lexeme) → AllQuiet more → AllQuiet (line ++ map (moved len) ((margin_of text).comments ++ more))
+    all more k = quiet_both line (map (moved len) ((margin_of text).comments ++ more)) h (quiet_moved len ((margin_of text).comments ++ more) (quiet_both (margin_of text).comments more comments k))
+
+pub line_is_quiet : (len : ℕ) (levels : List ℕ) (behind : Text) (piece : Piece) → line_end len levels behind ≡ Stands piece → IsLayout piece
+line_is_quiet len levels behind piece e = subst (Each IsLayout (λ fault. ⊤)) e (margin_is_quiet len (record { begin = 0; node = grammar.Newline; end = len } ∷ []) levels behind (refl, tt))
+
+pub first_is_quiet : (text : Text) (piece : Piece) → first_margin text ≡ Stands piece → IsLayout piece
+first_is_quiet text piece e = subst (Each IsLayout (λ fault. ⊤)) e (margin_is_quiet 0 [] [] text tt)
+
+-- A piece
+
+-- what is kept behind one piece more
+kept_behind : (text : Text) (history : History) (at : ℕ) (new : Reader) (piece : Piece) → IsUtf8 text → IsCharBoundary text at → next_step language history (drop at text) ≡ Stands piece
+    → Represents (tokens_onto history.tokens piece.lexemes) new.nesting → new.levels ≡ open_widths (history.widths ++ option_to_list piece.width) → IsBehind new.follows_gap piece.sort → new.at ≡ at + piece.len → bracket_count new.nesting ≤ new.at
+    → IsStateAfter text (after history piece) new
+unfolding after
+kept_behind text history at new piece utf8 here stands nesting levels before is_at few =
+    let found = piece_bounded history (drop at text) piece (IsUtf8-drop text at utf8 here) stands in
+    let end : IsCharBoundary text (at + piece.len) = boundary_shift text at piece.len here found.1 in
+    let last : at + piece.len ≤ length text = end.0 in
+    record {
+      nesting = nesting;
+      levels = levels;
+      before = before;
+      inside = omega (arith, last, is_at);
+      boundary = subst (IsCharBoundary text) (sym is_at) end;
+      few = few;
+    }
+
+-- a piece was read, by what is left behind it
+read_piece : (text : Text) (whole : Outcome) (history : History) (at : ℕ) (old new : Reader) (piece : Piece) → GoesOn at piece whole (remaining_outcome (after history piece) (at + piece.len) (drop piece.len (drop at text)))
+    → IsStateAfter text (after history piece) new → new.at ≡ at + piece.len → new.stage ≡ stage.Onward → Queued old.waiting.items (map (moved at) piece.lexemes) new.waiting.items → IsRead text whole old new
+read_piece text whole history at old new piece goes kept is_at is_onward queued =
+    let behind : drop piece.len (drop at text) ≡ drop new.at text = sym (drop-sum at piece.len text) ∙ ap (λ n. drop n text) (sym is_at) in
+    let rest = remaining_outcome (after history piece) (at + piece.len) (drop piece.len (drop at text)) in
+    let left : rest ≡ remaining_outcome (after history piece) new.at (drop new.at text) = ap (λ n. remaining_outcome (after history piece) n (drop piece.len (drop at text))) (sym is_at) ∙ ap (remaining_outcome (after history piece) new.at) behind in
+    record {
+      lexemes = map (moved at) piece.lexemes;
+      left = rest;
+      is_left = subst (λ now. IsLeft text new now rest) (sym is_onward) (after history piece, kept, left);
+      parts = goes.lexemes;
+      fault = goes.fault;
+      queued = queued;
+    }
+
+pub took : (text : Text) (history : History) (old new : Reader) (piece : Piece) → IsUtf8 text → IsStateAfter text history old → step_here text history old ≡ Stands piece
+    → Represents (tokens_onto history.tokens piece.lexemes) new.nesting → new.levels ≡ open_widths (history.widths ++ option_to_list piece.width) → IsBehind new.follows_gap piece.sort → new.at ≡ old.at + piece.len → bracket_count new.nesting ≤ new.at
+    → new.stage ≡ stage.Onward → Queued old.waiting.items (map (moved old.at) piece.lexemes) new.waiting.items → IsRead text (left_here text history old) old new
+took text history old new piece utf8 kept stands nesting levels before is_at few is_onward queued =
+    read_piece text (left_here text history old) history old.at old new piece (onward_stands history old.at (drop old.at text) piece (begun old.follows_gap history.before kept.before) stands)
+    (kept_behind text history old.at new piece utf8 kept.boundary stands nesting levels before is_at few) is_at is_onward queued
+
+pub took_first : (text : Text) (old new : Reader) (piece : Piece) → IsUtf8 text → first_margin text ≡ Stands piece
+    → Represents (tokens_onto [] piece.lexemes) new.nesting → new.levels ≡ open_widths ([] ++ option_to_list piece.width) → IsBehind new.follows_gap piece.sort → new.at ≡ 0 + piece.len → bracket_count new.nesting ≤ new.at
+    → new.stage ≡ stage.Onward → Queued old.waiting.items (map (moved 0) piece.lexemes) new.waiting.items → IsRead text (outcome text) old new
+took_first text old new piece utf8 stands nesting levels before is_at few is_onward queued =
+    read_piece text (outcome text) nothing 0 old new piece (first_stands text piece stands)
+    (kept_behind text nothing 0 new piece utf8 (IsCharBoundary-start text utf8) (margin_first text ∙ stands) nesting levels before is_at few) is_at is_onward queued
+
+pub piece_inside : (text : Text) (history : History) (old : Reader) (piece : Piece) → IsStateAfter text history old → step_here text history old ≡ Stands piece → (old.at < old.at + piece.len) × (old.at + piece.len ≤ length text)
+piece_inside text history old piece kept stands =
+    let fits = piece_fits language history (drop old.at text) piece stands in
+    let least = one_least history.before (begun old.follows_gap history.before kept.before) in
+    let some = fits.some in
+    let inside = fits.inside in
+    let here = kept.inside in
+    (omega (arith, least, some), omega (arith, inside, here, length-drop old.at text))
+
+-- A fault
+
+-- a fault was read, by the lexemes before it
+read_fault : (text : Text) (whole : Outcome) (at : ℕ) (lexemes : List Lexeme) (old new : Reader) (fault : Spanned grammar.Fault) (error : LexemeError) → whole ≡ record { lexemes = lexemes; fault = Some (moved at fault) }
+    → fault_view error ≡ Some fault.node → new.stage ≡ stage.Fault (at + fault.begin) error (at + fault.end) → Queued old.waiting.items lexemes new.waiting.items → IsRead text whole old new
+read_fault text whole at lexemes old new fault error left view is queued = record {
+  lexemes = lexemes;
+  left = record { lexemes = []; fault = Some (moved at fault) };
+  is_left = subst (λ now. IsLeft text new now (record { lexemes = []; fault = Some (moved at fault) })) (sym is) (fault.node, view, refl);
+  parts = ap (λ (o : Outcome). o.lexemes) left ∙ sym (append-nil lexemes);
+  fault = ap (λ (o : Outcome). o.fault) left;
+  queued = queued;
+}
+
+pub failed_queued : (text : Text) (history : History) (old new : Reader) (fault : Spanned grammar.Fault) (error : LexemeError) → IsStateAfter text history old → step_here text history old ≡ Fails fault → fault_view error ≡ Some fault.node
+    → new.stage ≡ stage.Fault (old.at + fault.begin) error (old.at + fault.end) → Queued old.waiting.items [] new.waiting.items → IsRead text (left_here text history old) old new
+failed_queued text history old new fault error kept fails view is queued =
+    read_fault text (left_here text history old) old.at [] old new fault error (onward_fails history old.at (drop old.at text) fault (begun old.follows_gap history.before kept.before) fails) view is queued
+
+pub failed : (text : Text) (history : History) (old new : Reader) (fault : Spanned grammar.Fault) (error : LexemeError) → IsStateAfter text history old → step_here text history old ≡ Fails fault → fault_view error ≡ Some fault.node
+    → new.stage ≡ stage.Fault (old.at + fault.begin) error (old.at + fault.end) → new.waiting.items ≡ old.waiting.items → IsRead text (left_here text history old) old new
+failed text history old new fault error kept fails view is same =
+    failed_queued text history old new fault error kept fails view is (rw same (queued_none old.waiting.items))
+
+pub failed_first : (text : Text) (old new : Reader) (fault : Spanned grammar.Fault) (error : LexemeError) → first_margin text ≡ Fails fault → fault_view error ≡ Some fault.node
+    → new.stage ≡ stage.Fault (0 + fault.begin) error (0 + fault.end) → Queued old.waiting.items (margin_of text).comments new.waiting.items → IsRead text (outcome text) old new
+failed_first text old new fault error fails view is queued = read_fault text (outcome text) 0 (margin_of text).comments old new fault error (first_fails text fault fails) view is queued
+
+pub fault_inside : (text : Text) (history : History) (old : Reader) (fault : Spanned grammar.Fault) → IsStateAfter text history old → step_here text history old ≡ Fails fault → (old.at + fault.begin ≤ length text) × (old.at + fault.end ≤ length text)
+fault_inside text history old fault kept fails =
+    let fits = fault_fits language history (drop old.at text) fault fails in
+    let order = fits.order in
+    let inside = fits.inside in
+    let here = kept.inside in
+    (omega (arith, order, inside, here, length-drop old.at text), omega (arith, inside, here, length-drop old.at text))
+
+-- The text's end
+
+pub closed : (text : Text) (history : History) (old new : Reader) → IsStateAfter text history old → step_here text history old ≡ Ends → Queued old.waiting.items (closing old.at history) new.waiting.items → new.stage ≡ stage.Closed → IsRead text (left_here text history old) old new
+closed text history old new kept ends queued is =
+    let left = onward_ends history old.at (drop old.at text) (begun old.follows_gap history.before kept.before) ends in
+    record {
+      lexemes = closing old.at history;
+      left = record { lexemes = []; fault = None };
+      is_left = rw is refl;
+      parts = ap (λ (o : Outcome). o.lexemes) left ∙ sym (append-nil (closing old.at history));
+      fault = ap (λ (o : Outcome). o.fault) left;
+      queued = queued;
+    }
+
+-- What is ahead, where something was read
+
+pub read_ahead : (text : Text) (whole : Outcome) (old new : Reader) (lexemes : List (Spanned TokenView)) (fault : Option (Spanned grammar.Fault)) → IsRead text whole old new
+    → lexemes ≡ map lexeme_view old.waiting.items ++ map shown_lexeme whole.lexemes → fault ≡ whole.fault → IsAhead text new new.stage lexemes fault
+read_ahead text whole old new lexemes fault read ahead behind =
+    let before = map lexeme_view old.waiting.items in
+    let parts : map shown_lexeme whole.lexemes ≡ map shown_lexeme read.lexemes ++ map shown_lexeme read.left.lexemes = ap (λ ls. map shown_lexeme ls) read.parts ∙ map-append shown_lexeme read.lexemes read.left.lexemes in
+    record {
+      left = read.left;
+      is_left = read.is_left;
+      ahead = ahead ∙ ap (λ vs. before ++ vs) parts ∙ sym (append_assoc before (map shown_lexeme read.lexemes) (map shown_lexeme read.left.lexemes)) ∙ ap (λ vs. vs ++ map shown_lexeme read.left.lexemes) (sym read.queued);
+      behind_them = behind ∙ read.fault;
+    }
+
+-- Less is left to read
+
+pub less_taken : (text : Text) (history : History) (old new : Reader) (piece : Piece) → IsStateAfter text history old → step_here text history old ≡ Stands piece → new.stage ≡ stage.Onward → new.at ≡ old.at + piece.len → left_to_read text new new.stage < left_to_read text old stage.Onward
+less_taken text history old new piece kept stands is is_at =
+    let inside = piece_inside text history old piece kept stands in
+    let onward : left_to_read text new stage.Onward < left_to_read text old stage.Onward = omega (arith, inside.0, inside.1, is_at) in
+    subst (λ now. left_to_read text new now < left_to_read text old stage.Onward) (sym is) onward
+
+pub less_failed : (text : Text) (old new : Reader) (begin : ℕ) (error : LexemeError) (end : ℕ) → new.stage ≡ stage.Fault begin error end → left_to_read text new new.stage < left_to_read text old stage.Onward
+less_failed text old new begin error end is =
+    let one : left_to_read text new (stage.Fault begin error end) < left_to_read text old stage.Onward = omega arith in
+    subst (λ now. left_to_read text new now < left_to_read text old stage.Onward) (sym is) one
+
+pub less_closed : (text : Text) (old new : Reader) → new.stage ≡ stage.Closed → left_to_read text new new.stage < left_to_read text old stage.Onward
+less_closed text old new is =
+    let none : left_to_read text new stage.Closed < left_to_read text old stage.Onward = omega arith in
+    subst (λ now. left_to_read text new now < left_to_read text old stage.Onward) (sym is) none
+
+-- Margins, as they were read
+
+module _ (text : Text) (history : History) (old : Reader) (len : ℕ) (behind : Text) (kept : IsStateAfter text history old)
+    (here : step_here text history old ≡ line_end len (open_widths history.widths) (drop len (drop old.at text))) (left : behind ≡ drop (old.at + len) text) where
+  -- what stands here, by the text behind the line end
+  line_here : step_here text history old ≡ line_end len (open_widths history.widths) behind
+  line_here = here ∙ ap (line_end len (open_widths history.widths)) (sym (drop-sum old.at len text) ∙ sym left)
+
+  pub line_inside : {levels : List ℕ} {before after : List (ℕ × Token × ℕ)} {whole : ℕ} → IsTaken old.at (line_end len (open_widths history.widths) behind) history.widths levels before after whole → (old.at < old.at + whole) × (old.at + whole ≤ length text)
+  line_inside taken =
+      let inside = piece_inside text history old taken.piece kept (line_here ∙ taken.stands) in
+      (omega (arith, inside.0, taken.whole), omega (arith, inside.1, taken.whole))
+
+  pub line_fault_inside : {handed_out : List Lexeme} {levels : List ℕ} {before after : List (ℕ × Token × ℕ)} {begin : ℕ} {error : LexemeError} {end : ℕ} → IsRefused (line_end len (open_widths history.widths) behind) handed_out history.widths levels before after begin error end
+      → (old.at + begin ≤ length text) × (old.at + end ≤ length text)
+  line_fault_inside {begin = begin} {end = end} refused = fault_inside text history old (record { begin = begin; node = refused.node; end = end }) kept (line_here ∙ refused.stands)
+
+  pub line_less : {levels : List ℕ} {before after : List (ℕ × Token × ℕ)} {whole : ℕ} (new : Reader) → IsTaken old.at (line_end len (open_widths history.widths) behind) history.widths levels before after whole
+      → new.stage ≡ stage.Onward → new.at ≡ old.at + whole → left_to_read text new new.stage < left_to_read text old stage.Onward
+  line_less new taken is is_at = less_taken text history old new taken.piece kept (line_here ∙ taken.stands) is (is_at ∙ ap (λ n. old.at + n) (sym taken.whole))
+
+  pub line_taken : (new : Reader) (whole : ℕ) → IsUtf8 text → IsTaken old.at (line_end len (open_widths history.widths) behind) history.widths new.levels old.waiting.items new.waiting.items whole
+      → new.nesting ≡ old.nesting → new.follows_gap ≡ false → new.at ≡ old.at + whole → new.stage ≡ stage.Onward → IsRead text (left_here text history old) old new
+  line_taken new whole utf8 taken nesting before is_at is_onward =
+      let stands : step_here text history old ≡ Stands taken.piece = line_here ∙ taken.stands in
+      let layout = line_is_quiet len (open_widths history.widths) behind taken.piece taken.stands in
+      let few : bracket_count old.nesting ≤ new.at = omega (arith, kept.few, is_at) in
+      took text history old new taken.piece utf8 kept stands
+      (rw nesting (quiet_kept taken.piece.lexemes history.tokens old.nesting layout.tokens kept.nesting)) taken.open_now (rw layout.sort before) (is_at ∙ ap (λ n. old.at + n) (sym taken.whole)) (rw nesting few) is_onward taken.queued
+
+  pub line_refused : (new : Reader) (begin : ℕ) (error : LexemeError) (end : ℕ) → IsRefused (line_end len (open_widths history.widths) behind) [] history.widths new.levels old.waiting.items new.waiting.items begin error end
+      → new.stage ≡ stage.Fault (old.at + begin) error (old.at + end) → IsRead text (left_here text history old) old new
+  line_refused new begin error end refused is =
+      failed_queued text history old new (record { begin = begin; node = refused.node; end = end }) error kept (line_here ∙ refused.stands) refused.is is refused.queued
+
+-- Nothing is kept yet.
+pub record IsNew (reader : Reader) : Type 0 where
+  pub at : reader.at ≡ 0
+  pub nesting : Represents [] reader.nesting
+  pub levels : reader.levels ≡ []
+  pub few : bracket_count reader.nesting ≡ 0
+
+module _ (text : Text) (old new : Reader) (is_new : IsNew old) where
+  pub margin_taken : (whole : ℕ) → IsUtf8 text → IsTaken 0 (first_margin text) [] new.levels old.waiting.items new.waiting.items whole
+      → new.nesting ≡ old.nesting → new.follows_gap ≡ false → new.at ≡ old.at + whole → new.stage ≡ stage.Onward → IsRead text (outcome text) old new
+  margin_taken whole utf8 taken nesting before is_at is_onward =
+      let layout = first_is_quiet text taken.piece taken.stands in
+      let few : bracket_count old.nesting ≤ new.at = omega (arith, is_new.few) in
+      let end : new.at ≡ 0 + taken.piece.len = omega (arith, is_at, is_new.at, taken.whole) in
+      took_first text old new taken.piece utf8 taken.stands
+      (rw nesting (quiet_kept taken.piece.lexemes [] old.nesting layout.tokens is_new.nesting)) taken.open_now (rw layout.sort before) end (rw nesting few) is_onward taken.queued
+
+  pub margin_refused : (begin : ℕ) (error : LexemeError) (end : ℕ) → IsRefused (first_margin text) (margin_of text).comments [] new.levels old.waiting.items new.waiting.items begin error end
+      → new.stage ≡ stage.Fault (old.at + begin) error (old.at + end) → IsRead text (outcome text) old new
+  margin_refused begin error end refused is =
+      failed_first text old new (record { begin = begin; node = refused.node; end = end }) error refused.stands refused.is (is ∙ ap (λ n. stage.Fault (n + begin) error (n + end)) is_new.at) refused.queued
+
+-- what a text comes to is ahead, where something was read from its begin on
+pub first_ahead : (text : Text) (old new : Reader) (lexemes : List (Spanned TokenView)) (fault : Option (Spanned grammar.Fault)) → IsRead text (outcome text) old new → IsAhead text old stage.Begin lexemes fault → IsAhead text new new.stage lexemes fault
+first_ahead text old new lexemes fault read ahead =
+    read_ahead text (outcome text) old new lexemes fault read
+    (ahead.ahead ∙ ap (λ (o : Outcome). map lexeme_view old.waiting.items ++ map shown_lexeme o.lexemes) ahead.is_left.0) (ahead.behind_them ∙ ap (λ (o : Outcome). o.fault) ahead.is_left.0)
+
+pub new_ahead : (text : Text) (old : Reader) (lexemes : List (Spanned TokenView)) (fault : Option (Spanned grammar.Fault)) → IsAhead text old stage.Begin lexemes fault → IsNew old
+new_ahead text old lexemes fault ahead = record { at = ahead.is_left.1; nesting = ahead.is_left.2; levels = ahead.is_left.3; few = ahead.is_left.4 }

@@ -1,8 +1,0 @@
--- Worked texts, in files by what they show.
-pub mod Shapes
-mod Words
-mod Literals
-mod Layout
-mod FStrings
-mod Mixed
-mod Cuts

@@ -1,5 +1,0 @@
-use Rattle.starlark_syntax.proofs.CleanCuts.{cuts_join}
-use Rattle.starlark_syntax.proofs.laws.joins_at_clean_cuts.Goals as goal
-
-pub returns : goal.returns
-returns c = cuts_join
