@@ -2,7 +2,7 @@
 
 ghost use Rattle.std.specs.Prelude.{◌≡◌, ◌+◌, ◌≤◌, drop, length, not, take};
 ghost use Rattle.std.specs.List.{prefix_len};
-ghost use Rattle.starlark_syntax.specs.Margins as grammar;
+ghost use Rattle.starlark_grammar.specs.Margins as grammar;
 
 use crate::lexer::lanes::{LANES, lowest_bit};
 use std::simd::prelude::*;

@@ -2,16 +2,15 @@
 
 ghost use Rattle.std.specs.Prelude.{◌≡◌, ◌<◌, ◌==◌, ◌&&◌, ◌∷◌, not, drop, false, get_or, length, nat_eq, true};
 ghost use Rattle.std.specs.List.{starts_with};
-ghost use Rattle.starlark_token.specs.Characters as characters;
-ghost use Rattle.starlark_syntax.specs.Items as grammar;
-ghost use Rattle.starlark_syntax.specs.LiteralViews.{IsText, found_view, literal_view, opening_view};
-ghost use Rattle.starlark_token.specs.Scanned.{kind_view, quote_view};
-ghost use Rattle.starlark_token.specs.TokenViews.{opening_view as token_opening};
-ghost use Rattle.starlark_token.specs.Words.{OfFString};
+ghost use Rattle.starlark_grammar.specs.Characters as characters;
+ghost use Rattle.starlark_grammar.specs.Items as grammar;
+ghost use Rattle.starlark_syntax.specs.Joints.Literals.{IsText, found_view, literal_view, opening_view};
+ghost use Rattle.starlark_token.specs.TokenViews.{fstring_quote_view};
+ghost use Rattle.starlark_grammar.specs.declared.class.LiteralKind.TheVariants.{FString as OfFString};
 
 use super::escapes::escape;
-use starlark_token::fstring_style::FStringQuote;
 use starlark_scanner::scanner::{LiteralKind, Quote, first_character_len};
+use starlark_token::fstring_style::FStringQuote;
 
 /// How a literal begins: whether it is raw, its quote, and whether three of them close it.
 #[derive(Clone, Copy, Debug, PartialEq, Eq)]

@@ -8,7 +8,7 @@ ghost use Rattle.starlark_syntax.specs.Joints.Runs.{is_end, is_special};
 
 use super::items::Literal;
 use crate::lexer::lanes::lowest_bit;
-use starlark_token::scanner::{LiteralKind, Quote};
+use starlark_scanner::scanner::{LiteralKind, Quote};
 use std::simd::prelude::*;
 
 /// The bytes that end a run in a literal, beside a backslash and a CR. Where a rule speaks of no LF or of no braces,

@@ -1,6 +1,6 @@
 use Rattle.std.proofs.Common.{not, length, ◌+◌, ◌-◌, ◌≡◌, ◌≤◌, drop}
 use Rattle.std.specs.List.{prefix_len}
-use Rattle.starlark_syntax.specs.Margins.{is_feed}
+use Rattle.starlark_grammar.specs.Margins.{is_feed}
 use Rattle.starlark_syntax.proofs.lexer.layout.feeds.before_feed_len.Given as goal
 
 abbrev pub invariant-loop-at : goal.invariant-loop-at

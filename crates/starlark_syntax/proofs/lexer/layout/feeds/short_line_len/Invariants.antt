@@ -1,6 +1,6 @@
 use Rattle.std.proofs.Common.{◌≡◌, ◌+◌, ◌-◌, ◌≤◌, drop, length, not}
 use Rattle.std.specs.List.{prefix_len}
-use Rattle.starlark_syntax.specs.Margins.{is_feed}
+use Rattle.starlark_grammar.specs.Margins.{is_feed}
 use Rattle.starlark_syntax.proofs.lexer.layout.feeds.short_line_len.Given as goal
 
 abbrev pub invariant-loop-len : goal.invariant-loop-len

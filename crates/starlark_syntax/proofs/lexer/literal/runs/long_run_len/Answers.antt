@@ -2,10 +2,10 @@ use Rattle.std.proofs.Common.{not, ◌≡◌, ◌+◌, ◌-◌, ◌≤◌, ◌�
 use Rattle.std.proofs.lemmas.List.{length-drop, length-take-le, drop-drop}
 use Rattle.std.proofs.lemmas.List.Sums.{prefix_len-le-length}
 use Rattle.std.specs.List.{prefix_len}
-use Rattle.starlark_syntax.specs.Runs.{is_end, is_in_run}
-use Rattle.starlark_syntax.proofs.RunBytes.{same_run}
-use Rattle.starlark_syntax.specs.LiteralViews.{literal_view}
-use Rattle.starlark_syntax.proofs.LaneRuns.{run_ends, run_goes_on, run_within}
+use Rattle.starlark_syntax.specs.Joints.Runs.{is_end, is_in_run}
+use Rattle.starlark_syntax.proofs.Literals.RunBytes.{same_run}
+use Rattle.starlark_syntax.specs.Joints.Literals.{literal_view}
+use Rattle.starlark_syntax.proofs.Literals.LaneRuns.{run_ends, run_goes_on, run_within}
 use Rattle.starlark_syntax.proofs.lexer.literal.runs.long_run_len.Goals as goal
 
 pub overflow_add-at-in-loop-at : goal.overflow_add-at-in-loop-at

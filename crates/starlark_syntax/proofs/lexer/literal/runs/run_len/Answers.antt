@@ -2,9 +2,9 @@ use Rattle.std.proofs.Common.{◌≡◌, ◌+◌, ◌-◌, ◌≤◌, ◌∙◌,
 use Rattle.std.proofs.lemmas.List.{length-drop, length-take-le, take_all}
 use Rattle.std.proofs.lemmas.List.Sums.{prefix_len-le-length}
 use Rattle.std.specs.List.{prefix_len}
-use Rattle.starlark_syntax.specs.Runs.{is_in_run}
-use Rattle.starlark_syntax.specs.LiteralViews.{literal_view}
-use Rattle.starlark_syntax.proofs.LaneRuns.{run_ends, run_goes_on, run_within}
+use Rattle.starlark_syntax.specs.Joints.Runs.{is_in_run}
+use Rattle.starlark_syntax.specs.Joints.Literals.{literal_view}
+use Rattle.starlark_syntax.proofs.Literals.LaneRuns.{run_ends, run_goes_on, run_within}
 use Rattle.starlark_syntax.proofs.lexer.literal.runs.run_len.Goals as goal
 
 pub returns-then-len-lt-LANES : goal.returns-then-len-lt-LANES

@@ -1,7 +1,7 @@
 use Rattle.std.proofs.Common.{◌≡◌, ◌+◌, ◌-◌, ◌≤◌, drop, length}
 use Rattle.std.specs.List.{prefix_len}
-use Rattle.starlark_syntax.specs.LiteralViews.{literal_view}
-use Rattle.starlark_syntax.specs.Runs.{is_in_run}
+use Rattle.starlark_syntax.specs.Joints.Literals.{literal_view}
+use Rattle.starlark_syntax.specs.Joints.Runs.{is_in_run}
 use Rattle.starlark_syntax.proofs.lexer.literal.runs.short_run_len.Given as goal
 
 abbrev pub invariant-loop-len : goal.invariant-loop-len
