@@ -1,2 +1,3 @@
 pub mod Scan
 pub mod Identifiers
+pub mod Literals

@@ -1,2 +1,4 @@
--- What only the scanner's contracts and proofs speak of.
+-- What only contracts of the scanner and of the reader above it, and proofs, speak of.
 pub mod Words
+pub mod Literals
+pub mod Runs

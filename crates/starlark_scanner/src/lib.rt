@@ -1,5 +1,7 @@
-//! Finds words in a text: the scanner of one word, and texts that are one identifier.
+//! Finds what stands in a text: words, bodies of literals, texts that are one identifier.
 #![tactic(auto)]
 
+pub mod lanes;
+pub mod literal;
 pub mod one_identifier;
 pub mod scanner;

@@ -1,12 +1,3 @@
--- Bodies of literals, item by item.
-pub mod DigitRuns
-pub mod Escapes
-pub mod Found
-pub mod ItemEdges
-pub mod BodySteps
+-- Literals and texts of f-strings as pieces.
 pub mod Pieces
 pub mod Chunks
-pub mod LaneRuns
-pub mod EndLanes
-pub mod RunBytes
-pub mod BodyRuns

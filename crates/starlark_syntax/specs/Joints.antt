@@ -1,7 +1,5 @@
 -- What only contracts inside of the crate and proofs speak of: what the reader of a text keeps, as the grammar sees it.
 pub mod Steps
-pub mod Literals
-pub mod Runs
 pub mod Nesting
 pub mod Pieces
 pub mod Layout

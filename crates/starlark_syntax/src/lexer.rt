@@ -1,6 +1,5 @@
 //! Tokens, and the faults of a text that has none.
 
-mod lanes;
 mod layout;
 mod lexemes;
 mod literal;

@@ -5,7 +5,7 @@ use Rattle.starlark_grammar.specs.Words.{Text}
 use Rattle.starlark_grammar.specs.Tokens as tokens
 use Rattle.starlark_grammar.specs.Pieces as grammar
 use Rattle.starlark_syntax.specs.Joints.Steps.{IsStep}
-use Rattle.starlark_syntax.specs.Joints.Literals.{opening_view}
+use Rattle.starlark_scanner.specs.Joints.Literals.{opening_view}
 use Rattle.starlark_syntax.specs.declared.lexer.reading.Piece.{Piece}
 use Rattle.starlark_syntax.specs.declared.lexer.reading.Piece.TheVariants as piece
 

@@ -1,13 +1,8 @@
-//! Reads the bodies of literals.
+//! Literals and texts of f-strings as tokens.
 
-mod body;
 mod chunks;
-mod escapes;
-mod items;
-mod lanes;
 mod pieces;
-mod runs;
 
 pub use chunks::chunk_from;
-pub use items::{Literal, Opening, Stop};
-pub use pieces::{Step, literal_piece, opening_of};
+pub use pieces::{Step, literal_piece, opening_of, quotes_of};
+pub use starlark_scanner::literal::Opening;

@@ -4,7 +4,7 @@ ghost use Rattle.std.specs.Prelude.{◌≡◌, ◌<◌, ◌≤◌, ◌+◌, ◌^
 ghost use Rattle.std.specs.Str.{IsCharBoundary};
 ghost use Rattle.starlark_syntax.specs.Joints.Steps.{IsStep, is_fstring_start};
 ghost use Rattle.starlark_syntax.specs.Lexemes.{shown_lexeme};
-ghost use Rattle.starlark_syntax.specs.Joints.Literals.{opening_view};
+ghost use Rattle.starlark_scanner.specs.Joints.Literals.{opening_view};
 ghost use Rattle.starlark_grammar.specs.Margins.{open_widths};
 ghost use Rattle.starlark_grammar.specs.Pieces as grammar;
 ghost use Rattle.starlark_syntax.specs.Joints.Reader.{IsAhead, IsElsewhere, IsStateAfter, IsNext, IsRead, IsReady, IsSomething, left_here, left_to_read, step_here};
@@ -17,7 +17,7 @@ ghost use Rattle.starlark_grammar.specs.Tokens.{FStringStart, Fault, Spanned, mo
 ghost use Rattle.starlark_grammar.specs.Words.{Text};
 
 use crate::lexer::layout::{Laid, Levels, PlacedToken, first_margin, line_end, push_closing};
-use crate::lexer::literal::{Opening, Step};
+use crate::lexer::literal::{Opening, Step, quotes_of};
 use crate::lexer::nesting::Nesting;
 use crate::lexer::reading::{Piece, piece_at};
 use starlark_error::lexeme_error::LexemeError;
@@ -151,7 +151,7 @@ impl Reader {
         ensures less { OnOk result (left_to_read text.now self.new self.new.stage < left_to_read text.now self.old Stage.Onward) }
     {
         self.nesting.begin_fstring(opening)?;
-        let token = Token::FStringStart(opening.quotes());
+        let token = Token::FStringStart(quotes_of(opening));
         self.waiting.push_back((self.at, token, self.at + len))?;
         self.step_over(len, false);
         Ok(())

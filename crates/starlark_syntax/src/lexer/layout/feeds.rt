@@ -4,7 +4,7 @@ ghost use Rattle.std.specs.Prelude.{◌≡◌, ◌+◌, ◌≤◌, drop, length,
 ghost use Rattle.std.specs.List.{prefix_len};
 ghost use Rattle.starlark_grammar.specs.Margins as grammar;
 
-use crate::lexer::lanes::{LANES, lowest_bit};
+use starlark_scanner::lanes::{LANES, lowest_bit};
 use std::simd::prelude::*;
 
 /// The length of the front of some bytes that their first LF ends, looked at one by one.

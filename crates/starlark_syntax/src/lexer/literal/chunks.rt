@@ -2,13 +2,14 @@
 
 ghost use Rattle.std.specs.Prelude.{IfOk};
 ghost use Rattle.starlark_syntax.specs.Joints.Steps.{IsStep};
-ghost use Rattle.starlark_syntax.specs.Joints.Literals.{opening_view};
+ghost use Rattle.starlark_scanner.specs.Joints.Literals.{opening_view};
 ghost use Rattle.starlark_grammar.specs.Pieces as grammar;
 
-use super::body::{Body, LiteralValue, read_body};
-use super::items::{Literal, Opening, Stop, closing_len};
 use super::pieces::Step;
 use starlark_error::lexeme_error::LexemeError;
+use starlark_scanner::literal::{
+    Body, Literal, LiteralValue, Opening, Stop, closing_len, read_body,
+};
 use starlark_scanner::scanner::LiteralKind;
 use starlark_token::tokens::Token;
 use std::alloc::{AllocError, Global};

@@ -6,16 +6,16 @@ ghost use Rattle.starlark_grammar.specs.Items as items;
 ghost use Rattle.starlark_syntax.specs.Joints.Steps.{IsStep, is_fstring_start};
 ghost use Rattle.starlark_syntax.specs.Lexemes.{fault_view};
 ghost use Rattle.starlark_grammar.specs.Cuts.{is_outside};
-ghost use Rattle.starlark_syntax.specs.Joints.Literals.{bytes_of, holds_text, opening_view};
+ghost use Rattle.starlark_scanner.specs.Joints.Literals.{bytes_of, holds_text, opening_view};
 ghost use Rattle.starlark_grammar.specs.Pieces as grammar;
-ghost use Rattle.starlark_token.specs.TokenViews.{Whole, token_view};
+ghost use Rattle.starlark_token.specs.TokenViews.{Whole, fstring_quote_view, token_view};
 ghost use Rattle.starlark_grammar.specs.declared.class.LiteralKind.{LiteralKind as Kind};
 ghost use Rattle.starlark_grammar.specs.declared.class.LiteralKind.TheVariants.{FString as OfFString};
 
-use super::body::{LiteralValue, read_body};
-use super::items::{Literal, Opening, Stop, closing_len};
 use starlark_error::lexeme_error::LexemeError;
+use starlark_scanner::literal::{Literal, LiteralValue, Opening, Stop, closing_len, read_body};
 use starlark_scanner::scanner::{LiteralKind, Quote};
+use starlark_token::fstring_style::FStringQuote;
 use starlark_token::tokens::Token;
 use std::alloc::{AllocError, Global};
 
@@ -128,6 +128,18 @@ fn literal_from(
             fault: unfinished(outside, literal, behind),
             end: len + behind.len(),
         }),
+    }
+}
+
+/// The quotes of an opening, which a token tells.
+pub fn quotes_of(opening: Opening) -> FStringQuote
+    ensures { fstring_quote_view result ≡ record { is_raw = false; quote = opening.quote; is_triple = opening.is_triple } }
+{
+    match (opening.quote, opening.is_triple) {
+        (Quote::Single, false) => FStringQuote::Single,
+        (Quote::Single, true) => FStringQuote::TripleSingle,
+        (Quote::Double, false) => FStringQuote::Double,
+        (Quote::Double, true) => FStringQuote::TripleDouble,
     }
 }
 

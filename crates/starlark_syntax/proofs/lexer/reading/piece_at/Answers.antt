@@ -2,14 +2,14 @@ use Rattle.std.proofs.Common.{◌≡◌, Bool, true, false, [], ◌∷◌, lengt
 use Rattle.std.specs.Prelude.{◌&&◌, ◌==◌}
 use Rattle.starlark_grammar.specs.Depths.{Mode, InText}
 use Rattle.starlark_grammar.specs.Front.{language_front}
-use Rattle.starlark_syntax.specs.Joints.Literals.{opening_view}
+use Rattle.starlark_scanner.specs.Joints.Literals.{opening_view}
 use Rattle.starlark_syntax.specs.Joints.Nesting.{mode_view}
 use Rattle.starlark_grammar.specs.Pieces.{Situation, Before, Nothing, Layout, Gap, Other, Ends, token, chunk, front_step, takes_bang, is_bang, in_code, by_place, by_before, step_at}
 use Rattle.starlark_syntax.specs.Joints.Pieces.{IsBehind}
 use Rattle.starlark_token.specs.TokenViews.{token_view}
 use Rattle.starlark_grammar.specs.Tokens.{Opening, FStringBang}
 use Rattle.starlark_grammar.specs.Words.{Text, language}
-use Rattle.starlark_syntax.specs.declared.lexer.literal.items.Opening as code
+use Rattle.starlark_scanner.specs.declared.literal.items.Opening as code
 use Rattle.starlark_syntax.specs.declared.lexer.nesting.Place.{Place}
 use Rattle.starlark_syntax.specs.declared.lexer.nesting.Place.TheVariants as place
 use Rattle.starlark_syntax.proofs.Literals.Pieces.{if_ok}

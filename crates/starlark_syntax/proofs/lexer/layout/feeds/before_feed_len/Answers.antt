@@ -3,7 +3,7 @@ use Rattle.std.proofs.lemmas.List.{length-drop, length-take-le, drop-drop}
 use Rattle.std.proofs.lemmas.List.Sums.{prefix_len-le-length}
 use Rattle.std.specs.List.{prefix_len}
 use Rattle.starlark_grammar.specs.Margins.{is_feed}
-use Rattle.starlark_syntax.proofs.Literals.LaneRuns.{run_ends, run_goes_on, run_within}
+use Rattle.starlark_scanner.proofs.Literals.LaneRuns.{run_ends, run_goes_on, run_within}
 use Rattle.starlark_syntax.proofs.lexer.layout.feeds.before_feed_len.Goals as goal
 
 pub returns-then-at-lt-LANES-clause-value : goal.returns-then-at-lt-LANES-clause-value

@@ -2,7 +2,7 @@ use Rattle.std.proofs.Common.{◌≡◌, ℕ, eqb, length}
 use Rattle.std.proofs.lemmas.Simd.{length-chunk, zip2_splat}
 use lib.Lanes.{chunk}
 use Rattle.starlark_grammar.specs.Margins.{is_feed}
-use Rattle.starlark_syntax.proofs.Literals.LaneRuns.{lane_of, lanes_counted}
+use Rattle.starlark_scanner.proofs.Literals.LaneRuns.{lane_of, lanes_counted}
 use Rattle.starlark_syntax.proofs.lexer.layout.feeds.lanes_line_len.Goals as goal
 
 pub returns : goal.returns

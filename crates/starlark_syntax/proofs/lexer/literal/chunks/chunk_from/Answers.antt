@@ -1,7 +1,7 @@
 use Rattle.std.proofs.Common.{◌≡◌, ◌∙◌, ◌+◌, ◌-◌, ◌≤◌, ap, arith, length, refl, rules, sym}
 use Rattle.std.specs.Prelude.{codes, string_bytes}
 use Rattle.starlark_grammar.specs.Items as items
-use Rattle.starlark_syntax.specs.Joints.Literals.{bytes_of, opening_view, stop_view}
+use Rattle.starlark_scanner.specs.Joints.Literals.{bytes_of, opening_view, stop_view}
 use Rattle.starlark_token.specs.TokenViews.{token_view}
 use Rattle.starlark_grammar.specs.Tokens.{FStringExprStart, FStringEnd, InvalidInput, InvalidEscapeSequence, UnfinishedStringLiteral}
 use Rattle.starlark_syntax.proofs.Literals.Chunks.{bad_chunk_fits, chunk_is, fstring}

@@ -1,6 +1,6 @@
 use Rattle.std.proofs.Common.{◌≡◌, ◌∙◌, ap, arith, sym}
 use Rattle.starlark_grammar.specs.Items as grammar
-use Rattle.starlark_syntax.specs.Joints.Literals.{literal_view, stop_view}
+use Rattle.starlark_scanner.specs.Joints.Literals.{literal_view, stop_view}
 use Rattle.starlark_syntax.proofs.Literals.Pieces.{bad_edges, bad_fits, bad_literal, closing_fits, if_ok, read_behind}
 use Rattle.starlark_syntax.proofs.lexer.literal.pieces.literal_from.Goals as goal
 

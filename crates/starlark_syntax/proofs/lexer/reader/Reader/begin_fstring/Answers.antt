@@ -1,6 +1,6 @@
 use Rattle.std.proofs.Common.{◌≡◌, ℕ, ◌+◌, ◌≤◌, false, add-zero, ap, append-nil, arith, refl, rules, sym, ◌∙◌}
 use Rattle.starlark_syntax.specs.Lexemes.{lexeme_view, shown_lexeme}
-use Rattle.starlark_syntax.specs.Joints.Literals.{opening_view}
+use Rattle.starlark_scanner.specs.Joints.Literals.{opening_view}
 use Rattle.starlark_grammar.specs.Margins.{open_widths}
 use Rattle.starlark_syntax.specs.Joints.Nesting.{bracket_count}
 use Rattle.starlark_grammar.specs.Tokens.{FStringStart, Lexeme, Opening, moved}
@@ -39,7 +39,7 @@ returns-clause-read c = λ history kept stands.
     let new = c.step_over.ensures in
     let nesting = c.in_ok-begin_fstring.ensures.begins history.tokens kept.nesting in
     let few : bracket_count c.begin_fstring.new.self ≤ c.args.self.now.at + c.args.len = omega (arith, c.begin_fstring.ensures.count, kept.few) in
-    let queued = queued_one c.args.self.now.waiting.items (c.args.self.now.at, token.FStringStart c.quotes.result, c.args.self.now.at + c.args.len) (moved c.args.self.now.at (start c.args.len opening)) (start_shown c.args.self.now.at c.args.len opening c.quotes.result c.quotes.ensures) in
+    let queued = queued_one c.args.self.now.waiting.items (c.args.self.now.at, token.FStringStart c.quotes_of.result, c.args.self.now.at + c.args.len) (moved c.args.self.now.at (start c.args.len opening)) (start_shown c.args.self.now.at c.args.len opening c.quotes_of.result c.quotes_of.ensures) in
     took c.args.text.now history c.args.self.now c.step_over.new.self _ c.utf8.text kept stands
     (rw new nesting)
     (ap (λ (reader : Reader). reader.levels) new ∙ kept.levels ∙ ap open_widths (sym (append-nil history.widths)))

@@ -1,0 +1,10 @@
+-- Bodies of literals, item by item and run by run.
+pub mod DigitRuns
+pub mod Escapes
+pub mod Found
+pub mod ItemEdges
+pub mod BodySteps
+pub mod LaneRuns
+pub mod EndLanes
+pub mod RunBytes
+pub mod BodyRuns

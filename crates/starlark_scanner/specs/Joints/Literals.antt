@@ -1,0 +1,69 @@
+-- What the code's literals, items and stops say, as the grammar sees them.
+use Rattle.std.specs.Prelude.{◌≡◌, Bool, true, false, [], ◌∷◌, ⊤, encode_utf8, string_bytes}
+use Rattle.starlark_grammar.specs.Words.{Text}
+use Rattle.starlark_grammar.specs.Tokens as grammar
+use Rattle.starlark_grammar.specs.Items as items
+use Rattle.starlark_scanner.specs.declared.literal.items.Opening.{Opening}
+use Rattle.starlark_scanner.specs.declared.literal.items.Literal.{Literal}
+use Rattle.starlark_scanner.specs.declared.literal.items.Value.{Value}
+use Rattle.starlark_scanner.specs.declared.literal.items.Value.TheVariants as value
+use Rattle.starlark_scanner.specs.declared.literal.items.Stop.{Stop}
+use Rattle.starlark_scanner.specs.declared.literal.items.Stop.TheVariants as stop
+use Rattle.starlark_scanner.specs.declared.literal.items.Found.{Found}
+use Rattle.starlark_scanner.specs.declared.literal.items.Found.TheVariants as found
+use Rattle.starlark_scanner.specs.declared.literal.body.LiteralValue.{LiteralValue}
+use Rattle.starlark_scanner.specs.declared.literal.body.LiteralValue.TheVariants as read
+use Rattle.starlark_scanner.specs.declared.literal.body.Body.{Body}
+
+abbrev pub opening_view : Opening → grammar.Opening
+opening_view opening = record { is_raw = opening.is_raw; quote = opening.quote; is_triple = opening.is_triple }
+
+abbrev pub literal_view : Literal → items.Literal
+literal_view literal = record { kind = literal.kind; opening = opening_view literal.opening }
+
+-- the bytes that a value is
+abbrev pub value_view : Value → Text
+value_view (value.Part part) = part.now
+value_view (value.Character character) = encode_utf8 character
+value_view (value.Byte byte) = byte ∷ []
+
+abbrev pub stop_view : Stop → items.Stop
+stop_view stop.Closing = items.Closing
+stop_view stop.Line = items.Line
+stop_view stop.Ended = items.Ended
+stop_view stop.OpeningBrace = items.OpeningBrace
+stop_view stop.ClosingBrace = items.ClosingBrace
+stop_view (stop.BadEscape len last) = items.BadEscape len last
+
+abbrev pub found_view : Found → items.Found
+found_view (found.Goes item) = items.goes item.len (value_view item.value)
+found_view (found.Stops stop) = items.Stops (stop_view stop)
+
+-- what is found denotes no lone byte
+abbrev pub IsCharacters : Value → Type 0
+IsCharacters (value.Byte byte) = ⊥
+IsCharacters value = ⊤
+
+abbrev pub IsText : Found → Type 0
+IsText (found.Goes item) = IsCharacters item.value
+IsText (found.Stops stop) = ⊤
+
+-- the bytes of a literal's value, and whether they are characters
+abbrev pub bytes_of : LiteralValue → Text
+bytes_of (read.Text text) = string_bytes text
+bytes_of (read.Bytes bytes) = bytes.items
+
+abbrev pub holds_text : LiteralValue → Bool
+holds_text (read.Text text) = true
+holds_text (read.Bytes bytes) = false
+
+-- characters take no lone byte
+abbrev pub Takes : LiteralValue → Value → Type 0
+Takes (read.Text text) value = IsCharacters value
+Takes (read.Bytes bytes) value = ⊤
+
+-- a body that was read, as the grammar sees one
+pub record IsBody (body : items.Body) (found : Body) : Type 0 where
+  pub len : found.len ≡ items.body_len body
+  pub value : bytes_of found.value ≡ items.body_value body
+  pub stop : stop_view found.stop ≡ body.stop

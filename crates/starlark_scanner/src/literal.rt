@@ -1,0 +1,10 @@
+//! Reads the bodies of literals.
+
+mod body;
+mod escapes;
+mod items;
+mod lanes;
+mod runs;
+
+pub use body::{Body, LiteralValue, read_body};
+pub use items::{Literal, Opening, Stop, closing_len};

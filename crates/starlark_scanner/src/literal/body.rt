@@ -1,0 +1,95 @@
+//! Reads a body up to its first stop.
+
+ghost use Rattle.std.specs.Prelude.{◌≡◌, ◌++◌, [], not, string_bytes, IfOk, OnOk};
+ghost use Rattle.std.specs.Str.{IsCharBoundary};
+ghost use Rattle.starlark_grammar.specs.Items as grammar;
+ghost use Rattle.starlark_scanner.specs.Joints.Literals.{IsBody, IsCharacters, Takes, bytes_of, holds_text, literal_view, value_view};
+
+use super::items::{Found, Literal, Stop, Value, found_at};
+use super::runs::first_run;
+use crate::scanner::LiteralKind;
+use std::alloc::{AllocError, Global};
+
+/// The value of a literal: characters, or bytes.
+#[derive(Debug, Drop, PartialEq, Eq)]
+pub enum LiteralValue {
+    Text(String),
+    Bytes(Vec<u8>),
+}
+
+impl LiteralValue {
+    fn new(alloc: Global, kind: LiteralKind) -> Self
+        ensures bytes { bytes_of result ≡ [] }
+        ensures kind { holds_text result ≡ not (grammar.is_of_bytes kind) }
+    {
+        match kind {
+            LiteralKind::Bytes => LiteralValue::Bytes(Vec::new(alloc)),
+            _ => LiteralValue::Text(String::new(alloc)),
+        }
+    }
+
+    fn append(&mut self, value: Value<'_>) -> Result<(), AllocError>
+        requires { Takes self.old value }
+        ensures bytes { OnOk result (bytes_of self.new ≡ bytes_of self.old ++ value_view value.entry) }
+        ensures kind { OnOk result (holds_text self.new ≡ holds_text self.old) }
+    {
+        match self {
+            LiteralValue::Text(text) => append_to_text(text, value),
+            LiteralValue::Bytes(bytes) => append_to_bytes(bytes, value),
+        }
+    }
+}
+
+fn append_to_text(text: &mut String, value: Value<'_>) -> Result<(), AllocError>
+    requires { IsCharacters value }
+    ensures { OnOk result (string_bytes text.new ≡ string_bytes text.old ++ value_view value.entry) }
+{
+    match value {
+        Value::Part(part) => text.push_str(part),
+        Value::Character(character) => text.push(character),
+        Value::Byte(_) => unreachable!(),
+    }
+}
+
+fn append_to_bytes(bytes: &mut Vec<u8>, value: Value<'_>) -> Result<(), AllocError>
+    ensures { OnOk result (bytes.new.items ≡ bytes.old.items ++ value_view value.entry) }
+{
+    match value {
+        Value::Part(part) => bytes.extend_from_slice(part.as_bytes()),
+        Value::Character(character) => {
+            let mut room = [0; 4];
+            bytes.extend_from_slice(character.encode_utf8(&mut room).as_bytes())
+        }
+        Value::Byte(byte) => Ok(bytes.push(byte)?),
+    }
+}
+
+/// A body: its length in bytes, what it denotes, and why it stops.
+#[derive(Debug, Drop, PartialEq, Eq)]
+pub struct Body {
+    pub len: usize,
+    pub value: LiteralValue,
+    pub stop: Stop,
+}
+
+/// The body at the front of a text.
+pub fn read_body(alloc: Global, literal: Literal, text: &str) -> Result<Body, AllocError>
+    ensures body { IfOk result (IsBody (grammar.body_at (literal_view literal) text.now)) }
+    ensures kind { IfOk result (λ body. holds_text body.value ≡ not (grammar.is_of_bytes literal.kind)) }
+    ensures boundary { IfOk result (λ body. IsCharBoundary text.now body.len) }
+{
+    let mut value = LiteralValue::new(alloc, literal.kind);
+    let mut len = 0;
+    loop {
+        let run = first_run(literal, &text[len..]);
+        value.append(Value::Part(run))?;
+        len += run.len();
+        match found_at(literal, &text[len..]) {
+            Found::Goes(item) => {
+                value.append(item.value)?;
+                len += item.len;
+            }
+            Found::Stops(stop) => return Ok(Body { len, value, stop }),
+        }
+    }
+}

@@ -1,0 +1,207 @@
+//! Escapes: a backslash and what it takes.
+
+ghost use Rattle.std.specs.Prelude.{◌≡◌, ◌≤◌, ◌<◌, ◌∷◌, false, true, drop, get_or, nat_eq, take, IfSome};
+ghost use Rattle.std.specs.Char.{is_ascii_hexdigit};
+ghost use Rattle.std.specs.List.{prefix_len};
+ghost use Rattle.std.specs.Map.{lookup};
+ghost use Rattle.starlark_grammar.specs.Characters as characters;
+ghost use Rattle.starlark_grammar.specs.Items as grammar;
+ghost use Rattle.starlark_scanner.specs.Joints.Literals.{IsCharacters, IsText, found_view, value_view};
+ghost use Rattle.starlark_grammar.specs.Words.{is_octal_digit};
+
+use super::items::{Found, Item, Stop, Value, behind_first, part};
+use crate::scanner::{LiteralKind, first_character_len};
+
+/// An escape that goes no further behind so many bytes: the character behind them is the last that is read.
+fn broken<'a>(good: usize, behind: &str) -> Found<'a>
+    requires { good ≤ 10 }
+    ensures value { found_view result ≡ grammar.broken good behind.now }
+    ensures text { IsText result }
+{
+    let last = first_character_len(behind);
+    if last == 0 {
+        Found::Stops(Stop::BadEscape { len: good, last: 1 })
+    } else {
+        Found::Stops(Stop::BadEscape {
+            len: good + last,
+            last,
+        })
+    }
+}
+
+fn item<'a>(len: usize, value: Value<'a>) -> Found<'a>
+    ensures value { found_view result ≡ grammar.goes len (value_view value.entry) }
+    ensures text { IsCharacters value.entry → IsText result }
+{
+    Found::Goes(Item { len, value })
+}
+
+/// The byte that a number is, and where it is none a bad escape.
+fn byte_of<'a>(len: usize, number: u32) -> Found<'a>
+    requires { len ≤ 10 }
+    ensures { found_view result ≡ grammar.numbered len true number }
+{
+    match u8::try_from(number) {
+        Ok(value) => item(len, Value::Byte(value)),
+        Err(_) => broken(len, ""),
+    }
+}
+
+/// The character of a number, and where there is none a bad escape.
+fn character_of<'a>(len: usize, number: u32) -> Found<'a>
+    requires { len ≤ 10 }
+    ensures value { found_view result ≡ grammar.numbered len false number }
+    ensures text { IsText result }
+{
+    match char::from_u32(number) {
+        Some(value) => item(len, Value::Character(value)),
+        None => broken(len, ""),
+    }
+}
+
+/// What a number denotes: a byte, or a character.
+fn numbered<'a>(len: usize, is_byte: bool, number: u32) -> Found<'a>
+    requires { len ≤ 10 }
+    ensures value { found_view result ≡ grammar.numbered len is_byte number }
+    ensures text { is_byte ≡ false → IsText result }
+{
+    if is_byte {
+        byte_of(len, number)
+    } else {
+        character_of(len, number)
+    }
+}
+
+/// How many hexadecimal digits stand at the front of a text, up to some number of them.
+fn hexadecimal_len(text: &[u8], wanted: usize) -> usize
+    ensures { result ≡ prefix_len is_ascii_hexdigit (take wanted text.now) }
+{
+    text.iter()
+        .take(wanted)
+        .take_while(|byte| byte.is_ascii_hexdigit())
+        .count()
+}
+
+fn is_octal_digit(byte: u8) -> bool
+    ensures { result ≡ is_octal_digit byte }
+{
+    matches!(byte, b'0'..=b'7')
+}
+
+/// How many octal digits stand at the front of a text, up to three.
+fn octal_len(text: &[u8]) -> usize
+    ensures { result ≡ prefix_len is_octal_digit (take 3 text.now) }
+{
+    text.iter()
+        .take(3)
+        .take_while(|byte| is_octal_digit(**byte))
+        .count()
+}
+
+/// An escape of so many hexadecimal digits, by the text behind its letter.
+fn hexadecimal<'a>(wanted: usize, is_byte: bool, text: &str) -> Found<'a>
+    requires least { 1 ≤ wanted }
+    requires most { wanted ≤ 8 }
+    ensures value { found_view result ≡ grammar.hexadecimal wanted is_byte text.now }
+    ensures text { is_byte ≡ false → IsText result }
+{
+    let len = hexadecimal_len(text.as_bytes(), wanted);
+    let digits = &text[..len];
+    if len != wanted {
+        return broken(2 + len, &text[len..]);
+    }
+    match u32::from_str_radix(digits, 16) {
+        Ok(number) => numbered(2 + len, is_byte, number),
+        Err(_) => unreachable!(),
+    }
+}
+
+/// An escape of octal digits, by the text from them on.
+fn octal<'a>(is_byte: bool, text: &str) -> Found<'a>
+    requires { is_octal_digit (get_or text.now 0 0) ≡ true }
+    ensures value { found_view result ≡ grammar.octal is_byte text.now }
+    ensures text { is_byte ≡ false → IsText result }
+{
+    let len = octal_len(text.as_bytes());
+    match u32::from_str_radix(&text[..len], 8) {
+        Ok(number) => numbered(1 + len, is_byte, number),
+        Err(_) => unreachable!(),
+    }
+}
+
+/// A CR behind a backslash, which an LF has to follow.
+fn escaped_feed<'a>(behind: &str) -> Found<'a>
+    ensures value { found_view result ≡ grammar.escaped_feed behind.now }
+    ensures text { IsText result }
+{
+    match behind.as_bytes().first() {
+        Some(b'\n') => part(3, ""),
+        _ => broken(2, behind),
+    }
+}
+
+#[tactic(auto, unfolding(starlark_grammar::specs::Items::simple_escapes))]
+/// What one byte behind a backslash denotes, where that is another character.
+fn simple_value(byte: u8) -> Option<char>
+    ensures value { result ≡ lookup (nat_eq byte) grammar.simple_escapes }
+    ensures ascii { IfSome result (λ value. value < 128) }
+{
+    match byte {
+        b'n' => Some('\n'),
+        b'r' => Some('\r'),
+        b't' => Some('\t'),
+        b'a' => Some('\x07'),
+        b'b' => Some('\x08'),
+        b'f' => Some('\x0c'),
+        b'v' => Some('\x0b'),
+        b'\'' => Some('\''),
+        b'"' => Some('"'),
+        b'\\' => Some('\\'),
+        _ => None,
+    }
+}
+
+/// An escape of one character, by the text from its backslash on. Where it denotes nothing else, the backslash and
+/// the character stand for themselves.
+fn simple(first: u8, text: &str) -> Found<'_>
+    requires { text.now ≡ 92 ∷ first ∷ drop 2 text.now }
+    ensures value { found_view result ≡ grammar.simple (lookup (nat_eq first) grammar.simple_escapes) (characters.first_character (drop 1 text.now)) }
+    ensures text { IsText result }
+{
+    if let Some(value) = simple_value(first) {
+        return item(2, Value::Character(value));
+    }
+    let len = 1 + first_character_len(behind_first(text));
+    part(len, &text[..len])
+}
+
+fn is_of_bytes(kind: LiteralKind) -> bool
+    ensures { result ≡ grammar.is_of_bytes kind }
+{
+    matches!(kind, LiteralKind::Bytes)
+}
+
+/// An escape, by the text from its backslash on.
+pub fn escape(kind: LiteralKind, text: &str) -> Found<'_>
+    requires { text.now ≡ 92 ∷ drop 1 text.now }
+    ensures value { found_view result ≡ grammar.escape kind (drop 1 text.now) }
+    ensures text { grammar.is_of_bytes kind ≡ false → IsText result }
+{
+    let behind = behind_first(text);
+    let Some(first) = behind.as_bytes().first() else {
+        return broken(1, behind);
+    };
+    let is_byte = is_of_bytes(kind);
+    let first = *first;
+    if is_octal_digit(first) {
+        return octal(is_byte, behind);
+    }
+    match first {
+        b'\n' => part(2, ""),
+        b'\r' => escaped_feed(behind_first(behind)),
+        b'x' => hexadecimal(2, is_byte, behind_first(behind)),
+        b'u' => hexadecimal(4, false, behind_first(behind)),
+        b'U' => hexadecimal(8, false, behind_first(behind)),
+        _ => simple(first, text),
+    }
+}

@@ -1,0 +1,101 @@
+//! Runs of a literal's body in which each character denotes itself.
+
+ghost use Rattle.std.specs.Prelude.{◌≡◌, ℕ, length, take, true, false};
+ghost use Rattle.std.specs.List.{prefix_len};
+ghost use Rattle.std.specs.Str.{IsCharBoundary};
+ghost use Rattle.starlark_grammar.specs.Items as grammar;
+ghost use Rattle.starlark_scanner.specs.Joints.Literals.{literal_view};
+ghost use Rattle.starlark_scanner.specs.Joints.Runs.{is_in_run, is_special};
+
+use super::items::{Literal, ends_line, is_brace, is_quote};
+use super::lanes::{Ends, lanes_run_len};
+use crate::lanes::LANES;
+
+// A point stands at each byte of which no rule of any literal speaks.
+static ORDINARY: [u8; 256] = *b"\
+    ..........\n..\r..................\
+    ..\"....'........................\
+    ............................\\...\
+    ...........................{.}..\
+    ................................\
+    ................................\
+    ................................\
+    ................................";
+
+/// Whether no rule of any literal speaks of a byte.
+#[inline(always)]
+fn is_ordinary(byte: u8) -> bool
+    ensures { result ≡ true → (literal : grammar.Literal) → is_special literal byte ≡ false }
+{
+    ORDINARY[byte as usize] == b'.'
+}
+
+/// Whether a rule of the literal speaks of a byte.
+fn is_special(literal: Literal, byte: u8) -> bool
+    ensures { result ≡ is_special (literal_view literal) byte }
+{
+    is_quote(literal.opening.quote, byte)
+        || byte == b'\\'
+        || byte == b'\r'
+        || ends_line(literal.opening, byte)
+        || is_brace(literal.kind, byte)
+}
+
+#[inline(always)]
+fn is_in_run(literal: Literal, byte: u8) -> bool
+    ensures { result ≡ is_in_run (literal_view literal) byte }
+{
+    is_ordinary(byte) || !is_special(literal, byte)
+}
+
+/// The length of the run at the front of some bytes, looked at one by one.
+#[inline(always)]
+fn short_run_len(literal: Literal, bytes: &[u8]) -> usize
+    ensures { result ≡ prefix_len (is_in_run (literal_view literal)) bytes.now }
+{
+    let mut len = 0;
+    while len < bytes.len() && is_in_run(literal, bytes[len]) {
+        len += 1;
+    }
+    len
+}
+
+/// The length of the run at the front of some bytes, sixteen of which are looked at together.
+#[inline(never)]
+fn long_run_len(literal: Literal, bytes: &[u8]) -> usize
+    ensures { result ≡ prefix_len (is_in_run (literal_view literal)) bytes.now }
+{
+    let ends = Ends::of(literal);
+    let mut at = 0;
+    while at + LANES <= bytes.len() {
+        let len = lanes_run_len(ends, bytes, at);
+        at += len;
+        if len < LANES {
+            return at;
+        }
+    }
+    at + short_run_len(literal, &bytes[at..])
+}
+
+/// The length of the run at the front of some bytes. Sixteen are looked at together once as many were passed one by
+/// one.
+fn run_len(literal: Literal, bytes: &[u8]) -> usize
+    ensures { result ≡ prefix_len (is_in_run (literal_view literal)) bytes.now }
+{
+    if bytes.len() < LANES {
+        return short_run_len(literal, bytes);
+    }
+    let len = short_run_len(literal, &bytes[..LANES]);
+    if len < LANES {
+        return len;
+    }
+    LANES + long_run_len(literal, &bytes[LANES..])
+}
+
+/// The run at the front of the rest of a body.
+pub fn first_run(literal: Literal, text: &str) -> &str
+    ensures value { result.now ≡ take (prefix_len (is_in_run (literal_view literal)) text.now) text.now }
+    ensures boundary { IsCharBoundary text.now (length result.now) }
+{
+    &text[..run_len(literal, text.as_bytes())]
+}
