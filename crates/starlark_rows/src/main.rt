@@ -6,10 +6,14 @@
 #![tactic(auto)]
 
 mod code_maps;
+mod cursors;
+mod errors;
+mod files;
 mod formats;
 mod places;
 mod rows;
 mod strings;
+mod tokens;
 mod words;
 
 use crate::rows::{Answer, Row};
@@ -22,9 +26,13 @@ use std::io::{BufRead, BufReader, BufWriter, ErrorKind, Write};
 fn answer(alloc: Global, row: &Row) -> Answer {
     match row.text(0) {
         "codemap" => code_maps::answer(alloc, row),
+        "cursors" => cursors::answer(alloc, row),
+        "errors" => errors::answer(alloc, row),
+        "files" => files::answer(alloc, row),
         "format" => formats::answer(alloc, row),
         "places" => places::answer(alloc, row),
         "strings" => strings::answer(alloc, row),
+        "tokens" => tokens::answer(alloc, row),
         "words" => words::answer(alloc, row),
         group => Ok(format!(in alloc; "no group {group}")?),
     }
