@@ -10,22 +10,22 @@ use std::alloc::Global;
 fn bytes(alloc: Global, text: &str) -> Answer {
     let mut cursor = CursorBytes::new(text);
     let steps = (cursor.next(), cursor.next_char(), cursor.next_char());
-    Ok(format!(in alloc; "{steps:?} {}", cursor.pos())?)
+    format!(in alloc; "{steps:?} {}", cursor.pos())
 }
 
 /// The character behind an offset, and the places before it, behind it, and before it again.
 fn characters(alloc: Global, text: &str, offset: usize) -> Answer {
     if !text.is_char_boundary(offset) {
-        return Ok(String::from_str(alloc, "no boundary")?);
+        return String::from_str(alloc, "no boundary");
     }
     let mut cursor = CursorChars::new_offset(text, offset);
     let (ahead, begin) = (cursor.peek(), cursor.pos());
     let Some(character) = cursor.next() else {
-        return Ok(format!(in alloc; "{ahead:?} {begin}")?);
+        return format!(in alloc; "{ahead:?} {begin}");
     };
     let end = cursor.pos();
     cursor.unnext(character);
-    Ok(format!(in alloc; "{ahead:?} {character:?} {begin} {end} {}", cursor.pos())?)
+    format!(in alloc; "{ahead:?} {character:?} {begin} {end} {}", cursor.pos())
 }
 
 /// The answer to a call of a cursor, an index or a brace.

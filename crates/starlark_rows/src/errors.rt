@@ -1,8 +1,8 @@
 //! Errors with their places and calls, over the file `f` with the source `ab`.
 
-use crate::rows::{Answer, Row, unknown};
+use crate::rows::{Answer, Row, given, unknown};
 use starlark_syntax::call_stack::CallStack;
-use starlark_syntax::codemap::{CodeMap, CodeMapId, OrMemory, Pos, Span};
+use starlark_syntax::codemap::{CodeMap, CodeMapId, Pos, Span};
 use starlark_syntax::diagnostic::WithDiagnostic;
 use starlark_syntax::error::{
     Error, ErrorKind, ParserMessage, error_from_diagnostic, error_from_lexeme,
@@ -12,17 +12,9 @@ use starlark_syntax::lexer::LexemeError;
 use std::alloc::{AllocError, Global};
 use std::fmt::{Debug, Display};
 
-/// What a call that hands back its argument gave.
-fn given<T, E: Drop>(answer: Result<T, E>) -> Result<T, AllocError> {
-    match answer {
-        Ok(value) => Ok(value),
-        Err(_) => Err(AllocError),
-    }
-}
-
 /// A value in each of the forms that it prints in.
 fn forms<T: Display + Debug>(alloc: Global, value: &T) -> Answer {
-    Ok(format!(in alloc; "{value}|{value:?}|{value:#}")?)
+    format!(in alloc; "{value}|{value:?}|{value:#}")
 }
 
 /// An error in each of the forms that it prints in, behind its kind.
@@ -33,7 +25,7 @@ fn shown_error(alloc: Global, error: &Error) -> Answer {
         ErrorKind::Internal(_) => "internal",
     };
     let calls = error.call_stack().frames().len();
-    Ok(format!(in alloc; "{kind} {calls}|{error}|{error:?}|{error:#}")?)
+    format!(in alloc; "{kind} {calls}|{error}|{error:?}|{error:#}")
 }
 
 fn code_map(alloc: Global) -> Result<CodeMap, AllocError> {
@@ -104,11 +96,6 @@ fn error_of_outer(alloc: Global, map: &CodeMap) -> Answer {
     shown_error(alloc, &Error::from(outer(alloc, map)?))
 }
 
-fn exception_of_outer(alloc: Global, map: &CodeMap) -> Answer {
-    let exception = EvalException::from(outer(alloc, map)?);
-    shown_error(alloc, exception.error())
-}
-
 fn diagnostic(alloc: Global, map: &CodeMap) -> Result<WithDiagnostic<&'static str>, AllocError> {
     given(WithDiagnostic::new_spanned(alloc, "oops", first(), map))
 }
@@ -158,21 +145,16 @@ fn internal_error(alloc: Global, map: &CodeMap) -> Answer {
     shown_error(alloc, exception.error())
 }
 
-fn unknown_span(alloc: Global) -> Answer {
-    let exception = EvalException::new_unknown_span(tab(alloc)?);
-    forms(alloc, &exception)
-}
-
 /// The lines and columns of an error's place, which ends where the row says.
 fn testing_loc(alloc: Global, map: &CodeMap, end: u32) -> Answer {
     let mut error = tab(alloc)?;
     if end > 0 {
         error.set_span(Span::new(Pos::new(0), Pos::new(end)), map)?;
     }
-    Ok(match EvalException::_testing_loc(alloc, &error)? {
-        Some(location) => location.to_string(alloc)?,
-        None => String::from_str(alloc, "no location")?,
-    })
+    match EvalException::_testing_loc(alloc, &error)? {
+        Some(location) => location.to_string(alloc),
+        None => String::from_str(alloc, "no location"),
+    }
 }
 
 /// The answer to a call of a value with its place.
@@ -183,7 +165,6 @@ fn of_diagnostic(alloc: Global, map: &CodeMap, row: &Row) -> Answer {
         "diagnostic_map" => diagnostic_map(alloc, map),
         "error_from_diagnostic" => from_diagnostic(alloc, map),
         "error_of_outer" => error_of_outer(alloc, map),
-        "exception_of_outer" => exception_of_outer(alloc, map),
         _ => unknown(alloc, row),
     }
 }
@@ -195,7 +176,6 @@ fn of_exception(alloc: Global, map: &CodeMap, row: &Row) -> Answer {
         "exception_into_internal_error" => exception_into_internal_error(alloc, map),
         "exception_with_callstack" => exception_with_callstack(alloc, map),
         "internal_error" => internal_error(alloc, map),
-        "unknown_span" => unknown_span(alloc),
         "testing_loc" => testing_loc(alloc, map, row.count(2)),
         _ => of_diagnostic(alloc, map, row),
     }

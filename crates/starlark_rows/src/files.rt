@@ -1,29 +1,28 @@
 //! Files that are shared, compared and collected, and what refuses them.
 
-use crate::rows::{Answer, Row, shown, unknown};
+use crate::rows::{Answer, Row, both, given, shown, unknown};
 use starlark_syntax::codemap::{
-    CodeMap, CodeMapId, CodeMaps, FileSpan, OrMemory, Pos, SourceTooLong, Span, Spanned,
+    CodeMap, CodeMapId, CodeMaps, FileSpan, OrMemory, Pos, ResolvedFileSpan, SourceTooLong, Span,
+    Spanned,
 };
 use std::alloc::{AllocError, Global};
 
-type Refusal = OrMemory<SourceTooLong>;
-
-fn code_map(alloc: Global, id: u64, name: &str, source: &str) -> Result<CodeMap, Refusal> {
+fn code_map(alloc: Global, id: u64, name: &str, source: &str) -> Result<CodeMap, AllocError> {
     let name = String::from_str(alloc, name)?;
     let source = String::from_str(alloc, source)?;
-    CodeMap::new(alloc, CodeMapId::new(id), name, source)
+    given(CodeMap::new(alloc, CodeMapId::new(id), name, source))
 }
 
 /// The span of a whole file, whose number and name are two fields and whose source is `bc`.
-fn file_span(alloc: Global, row: &Row, index: usize) -> Result<FileSpan, Refusal> {
+fn file_span(alloc: Global, row: &Row, index: usize) -> Result<FileSpan, AllocError> {
     let id = CodeMapId::new(u64::from(row.count(index)));
     let name = String::from_str(alloc, row.text(index.saturating_add(1)))?;
     let source = String::from_str(alloc, "bc")?;
-    FileSpan::new(alloc, id, name, source)
+    given(FileSpan::new(alloc, id, name, source))
 }
 
 /// Code maps of the numbers 7 and 8.
-fn others(alloc: Global) -> Result<CodeMaps, Refusal> {
+fn others(alloc: Global) -> Result<CodeMaps, AllocError> {
     let mut maps = CodeMaps::new(alloc);
     maps.add(&code_map(alloc, 7, "c", "z")?)?;
     maps.add(&code_map(alloc, 8, "\u{e9}\u{ad}", "u")?)?;
@@ -31,7 +30,7 @@ fn others(alloc: Global) -> Result<CodeMaps, Refusal> {
 }
 
 /// Code maps of the number 7, and then the others.
-fn code_maps(alloc: Global) -> Result<CodeMaps, Refusal> {
+fn code_maps(alloc: Global) -> Result<CodeMaps, AllocError> {
     let mut maps = CodeMaps::new(alloc);
     maps.add(&code_map(alloc, 7, "a", "x")?.dupe()?)?;
     maps.add(&code_map(alloc, 7, "b", "y")?)?;
@@ -41,10 +40,10 @@ fn code_maps(alloc: Global) -> Result<CodeMaps, Refusal> {
 
 /// The name and the source of the code map of a number, and the code map as it is shown.
 fn found(alloc: Global, maps: &CodeMaps, id: u64) -> Answer {
-    Ok(match maps.get(CodeMapId::new(id)) {
-        Some(map) => format!(in alloc; "{} {} {map:?}", map.filename(), map.source())?,
-        None => String::from_str(alloc, "no code map")?,
-    })
+    match maps.get(CodeMapId::new(id)) {
+        Some(map) => format!(in alloc; "{} {} {map:?}", map.filename(), map.source()),
+        None => String::from_str(alloc, "no code map"),
+    }
 }
 
 /// Whether two file spans are equal, and how they are ordered.
@@ -53,24 +52,40 @@ fn compare(alloc: Global, row: &Row) -> Answer {
     shown(alloc, &(first == second, first.cmp(&second)))
 }
 
-/// A file span that was shared twice, with its text.
-fn shared(alloc: Global, row: &Row) -> Answer {
+/// A file span that was shared twice.
+fn shared(alloc: Global, row: &Row) -> Result<FileSpan, AllocError> {
     let span = file_span(alloc, row, 2)?.dupe()?;
-    let span = span.as_ref().to_file_span()?;
-    Ok(format!(in alloc; "{span} {} {}", span.as_ref(), span.source_span())?)
+    span.as_ref().to_file_span()
 }
 
-/// Copies of the lines and columns of a file span, and of its first line.
-fn resolved(alloc: Global, row: &Row) -> Answer {
-    let place = file_span(alloc, row, 2)?.resolve(alloc)?.clone(alloc)?;
+/// A file span that was shared, as it prints in both its forms.
+fn shown_shared(alloc: Global, row: &Row) -> Answer {
+    let span = shared(alloc, row)?;
+    both(alloc, &span, &span.as_ref())
+}
+
+/// Copies of a place, and of the line that it begins in.
+fn copied_place(alloc: Global, place: &ResolvedFileSpan) -> Answer {
     let line = place.begin_file_line(alloc)?.clone(alloc)?;
-    Ok(format!(in alloc; "{place} {line}")?)
+    both(alloc, &place.clone(alloc)?, &line)
+}
+
+/// The lines and columns of a file span, and its first line.
+fn resolved(alloc: Global, row: &Row) -> Answer {
+    let span = file_span(alloc, row, 2)?;
+    if !span.file.holds(span.span) {
+        return String::from_str(alloc, "not in its file");
+    }
+    copied_place(alloc, &span.resolve(alloc)?)
 }
 
 /// What is printed of a refusal, and of want of memory.
 fn refusals(alloc: Global) -> Answer {
-    let (refusal, memory) = (OrMemory::Error(SourceTooLong), Refusal::from(AllocError));
-    Ok(format!(in alloc; "{refusal}; {memory}")?)
+    let (refusal, memory) = (
+        OrMemory::Error(SourceTooLong),
+        OrMemory::<SourceTooLong>::Memory,
+    );
+    both(alloc, &refusal, &memory)
 }
 
 /// A number, read and changed through the span that it has.
@@ -94,7 +109,7 @@ pub fn answer(alloc: Global, row: &Row) -> Answer {
     match row.text(1) {
         "code_maps" => found(alloc, &code_maps(alloc)?, u64::from(row.count(2))),
         "compare" => compare(alloc, row),
-        "shared" => shared(alloc, row),
+        "shared" => shown_shared(alloc, row),
         "resolved" => resolved(alloc, row),
         "refusals" => refusals(alloc),
         "spanned" => spanned(alloc, row),

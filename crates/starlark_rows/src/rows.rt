@@ -1,11 +1,10 @@
 //! Rows of a call and what it is given.
 
-use starlark_syntax::codemap::{OrMemory, SourceTooLong};
 use std::alloc::{AllocError, Global};
-use std::fmt::Debug;
+use std::fmt::{Debug, Display};
 
-/// What is printed of an answer; no row has a text that is too long for a code map.
-pub type Answer = Result<String, OrMemory<SourceTooLong>>;
+/// What is printed of an answer.
+pub type Answer = Result<String, AllocError>;
 
 /// The fields of a row.
 #[derive(Drop)]
@@ -67,12 +66,25 @@ impl Row {
     }
 }
 
+/// What a call gave that only want of memory can refuse: no row has a text that is too long.
+pub fn given<T, E: Drop>(answer: Result<T, E>) -> Result<T, AllocError> {
+    match answer {
+        Ok(value) => Ok(value),
+        Err(_) => Err(AllocError),
+    }
+}
+
 /// A value as `{:?}` shows it.
 pub fn shown<T: Debug>(alloc: Global, value: &T) -> Answer {
-    Ok(format!(in alloc; "{value:?}")?)
+    format!(in alloc; "{value:?}")
+}
+
+/// Two values as they print.
+pub fn both<A: Display, B: Display>(alloc: Global, first: &A, second: &B) -> Answer {
+    format!(in alloc; "{first} {second}")
 }
 
 /// What is said where a row asks for a call that its group doesn't have.
 pub fn unknown(alloc: Global, row: &Row) -> Answer {
-    Ok(format!(in alloc; "no call {}", row.text(1))?)
+    format!(in alloc; "no call {}", row.text(1))
 }
