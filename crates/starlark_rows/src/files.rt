@@ -2,16 +2,9 @@
 
 use crate::rows::{Answer, Row, both, given, shown, unknown};
 use starlark_syntax::codemap::{
-    CodeMap, CodeMapId, CodeMaps, FileSpan, OrMemory, Pos, ResolvedFileSpan, SourceTooLong, Span,
-    Spanned,
+    CodeMapId, CodeMaps, FileSpan, OrMemory, Pos, ResolvedFileSpan, SourceTooLong, Span, Spanned,
 };
 use std::alloc::{AllocError, Global};
-
-fn code_map(alloc: Global, id: u64, name: &str, source: &str) -> Result<CodeMap, AllocError> {
-    let name = String::from_str(alloc, name)?;
-    let source = String::from_str(alloc, source)?;
-    given(CodeMap::new(alloc, CodeMapId::new(id), name, source))
-}
 
 /// The span of a whole file, whose number and name are two fields and whose source is `bc`.
 fn file_span(alloc: Global, row: &Row, index: usize) -> Result<FileSpan, AllocError> {
@@ -21,20 +14,18 @@ fn file_span(alloc: Global, row: &Row, index: usize) -> Result<FileSpan, AllocEr
     given(FileSpan::new(alloc, id, name, source))
 }
 
-/// Code maps of the numbers 7 and 8.
-fn others(alloc: Global) -> Result<CodeMaps, AllocError> {
+/// The code maps of two files of the row, which are shared first.
+fn two_code_maps(alloc: Global, row: &Row, index: usize) -> Result<CodeMaps, AllocError> {
     let mut maps = CodeMaps::new(alloc);
-    maps.add(&code_map(alloc, 7, "c", "z")?)?;
-    maps.add(&code_map(alloc, 8, "\u{e9}\u{ad}", "u")?)?;
+    maps.add(&file_span(alloc, row, index)?.file.dupe()?)?;
+    maps.add(&file_span(alloc, row, index.saturating_add(2))?.file)?;
     Ok(maps)
 }
 
-/// Code maps of the number 7, and then the others.
-fn code_maps(alloc: Global) -> Result<CodeMaps, AllocError> {
-    let mut maps = CodeMaps::new(alloc);
-    maps.add(&code_map(alloc, 7, "a", "x")?.dupe()?)?;
-    maps.add(&code_map(alloc, 7, "b", "y")?)?;
-    maps.add_all(&others(alloc)?)?;
+/// The code maps of four files of the row, of which the last two are added at once.
+fn code_maps(alloc: Global, row: &Row) -> Result<CodeMaps, AllocError> {
+    let mut maps = two_code_maps(alloc, row, 3)?;
+    maps.add_all(&two_code_maps(alloc, row, 7)?)?;
     Ok(maps)
 }
 
@@ -107,7 +98,7 @@ fn positions(alloc: Global) -> Answer {
 /// The answer to a call of files, or of what stands in them.
 pub fn answer(alloc: Global, row: &Row) -> Answer {
     match row.text(1) {
-        "code_maps" => found(alloc, &code_maps(alloc)?, u64::from(row.count(2))),
+        "code_maps" => found(alloc, &code_maps(alloc, row)?, u64::from(row.count(2))),
         "compare" => compare(alloc, row),
         "shared" => shown_shared(alloc, row),
         "resolved" => resolved(alloc, row),

@@ -2,7 +2,13 @@
 
 use crate::rows::{Answer, Row};
 use starlark_syntax::dot_format_parser::FormatParser;
-use std::alloc::Global;
+use std::alloc::{AllocError, Global};
+use std::fmt::{Debug, Write};
+
+/// Adds a token as `{:?}` shows it.
+fn add<T: Debug>(list: &mut String, token: &T) -> Result<(), AllocError> {
+    write!(list, "{token:?}; ")
+}
 
 /// The tokens of a format string.
 fn tokens(alloc: Global, parser: &mut FormatParser<'_>) -> Answer {
@@ -11,7 +17,7 @@ fn tokens(alloc: Global, parser: &mut FormatParser<'_>) -> Answer {
         let Ok(Some(token)) = parser.next() else {
             break;
         };
-        list.push_str(format!(in alloc; "{token:?}; ")?.as_str())?;
+        add(&mut list, &token)?;
     }
     Ok(list)
 }

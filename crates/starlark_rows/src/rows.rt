@@ -12,6 +12,16 @@ pub struct Row {
     fields: Vec<String>,
 }
 
+/// What a character stands for, behind a backslash or without one.
+fn meant(is_escaped: bool, character: char) -> char {
+    match (is_escaped, character) {
+        (true, 'n') => '\n',
+        (true, 'r') => '\r',
+        (true, 't') => '\t',
+        (_, character) => character,
+    }
+}
+
 /// A field as it is meant: `\n`, `\r`, `\t` and `\\` stand for these characters.
 fn unescaped(alloc: Global, field: &str) -> Result<String, AllocError> {
     let mut text = String::new(alloc);
@@ -19,15 +29,10 @@ fn unescaped(alloc: Global, field: &str) -> Result<String, AllocError> {
     for character in field.chars() {
         if character == '\\' && !is_escaped {
             is_escaped = true;
-            continue;
+        } else {
+            text.push(meant(is_escaped, character))?;
+            is_escaped = false;
         }
-        text.push(match (is_escaped, character) {
-            (true, 'n') => '\n',
-            (true, 'r') => '\r',
-            (true, 't') => '\t',
-            (_, character) => character,
-        })?;
-        is_escaped = false;
     }
     Ok(text)
 }

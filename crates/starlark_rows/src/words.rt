@@ -5,20 +5,18 @@ use starlark_syntax::codemap::{CodeMap, CodeMapId, OrMemory};
 use starlark_syntax::dialect::Dialect;
 use starlark_syntax::lexer::{Lexeme, Lexer, TokenInt, lex_exactly_one_identifier};
 use std::alloc::{AllocError, Global};
-use std::fmt::Display;
+use std::fmt::{Display, Write};
 
-/// An integer's parts: its value, or the digits that are kept where it is a large one.
+/// A large integer's sign, digits and base.
+fn shown_large(alloc: Global, is_negative: bool, digits: &str, radix: u32) -> Answer {
+    format!(in alloc; "BigInt {is_negative} {digits} {radix}")
+}
+
+/// An integer's value, or its sign, digits and base where it is a large one.
 fn parts(alloc: Global, number: &TokenInt) -> Answer {
     match number {
         TokenInt::I32(value) => format!(in alloc; "I32 {value}"),
-        TokenInt::BigInt(big) => {
-            format!(in alloc;
-                "BigInt {} {} {}",
-                big.is_negative(),
-                big.digits(),
-                big.radix()
-            )
-        }
+        TokenInt::BigInt(big) => shown_large(alloc, big.is_negative(), big.digits(), big.radix()),
     }
 }
 
@@ -34,38 +32,37 @@ fn integer(alloc: Global, text: &str, base: u32) -> Answer {
     }
 }
 
-/// A token between its places, behind its kind.
-fn shown_token<T: Display>(alloc: Global, places: (usize, usize), kind: &str, token: &T) -> Answer {
-    let (begin, end) = places;
-    format!(in alloc; "{begin}-{end} {kind} {token}; ")
+/// Adds a token as it prints, behind its kind.
+fn add_token<T: Display>(list: &mut String, kind: &str, token: &T) -> Result<(), AllocError> {
+    write!(list, "{kind} {token}; ")
 }
 
-/// A fault as it prints.
-fn shown_fault<T: Display>(alloc: Global, fault: &T) -> Answer {
-    format!(in alloc; "{fault}; ")
-}
-
-/// A lexeme's places, the kind of its token, and how the token prints, from a copy of it; a fault as it prints.
-fn shown_lexeme(alloc: Global, lexeme: &Lexeme) -> Answer {
+/// Adds a lexeme's places and a copy of its token, or a fault as it prints.
+fn add_lexeme(alloc: Global, list: &mut String, lexeme: &Lexeme) -> Result<(), AllocError> {
     match lexeme {
         Ok((begin, token, end)) => {
+            write!(list, "{begin}-{end} ")?;
             let copy = token.clone(alloc)?;
-            shown_token(alloc, (*begin, *end), copy.kind(), &copy)
+            add_token(list, copy.kind(), &copy)
         }
-        Err(OrMemory::Error(exception)) => shown_fault(alloc, exception),
+        Err(OrMemory::Error(exception)) => write!(list, "{exception}; "),
         Err(OrMemory::Memory) => Err(AllocError),
     }
 }
 
-/// The lexemes of a text, over a code map that has this source.
-fn lexemes(alloc: Global, text: &str, source: &str) -> Answer {
+/// A lexer of a text, over a code map that has this source.
+fn lexer<'a>(alloc: Global, text: &'a str, source: &str) -> Result<Lexer<'a>, AllocError> {
     let name = String::from_str(alloc, "f")?;
     let source = String::from_str(alloc, source)?;
     let map = given(CodeMap::new(alloc, CodeMapId::EMPTY, name, source))?;
+    given(Lexer::new(alloc, text, &Dialect::Standard, map))
+}
+
+/// The lexemes of a text, over a code map that has this source.
+fn lexemes(alloc: Global, text: &str, source: &str) -> Answer {
     let mut list = String::new(alloc);
-    let lexer = given(Lexer::new(alloc, text, &Dialect::Standard, map))?;
-    for lexeme in lexer {
-        list.push_str(shown_lexeme(alloc, &lexeme)?.as_str())?;
+    for lexeme in lexer(alloc, text, source)? {
+        add_lexeme(alloc, &mut list, &lexeme)?;
     }
     Ok(list)
 }
