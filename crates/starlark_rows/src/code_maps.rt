@@ -1,6 +1,6 @@
 //! Lines and places of a source.
 
-use crate::rows::{Answer, Row, shown, unknown};
+use crate::rows::{Answer, Row, given, shown, unknown};
 use starlark_syntax::codemap::{CodeMap, CodeMapId, Pos, Span};
 use std::alloc::Global;
 
@@ -13,7 +13,7 @@ fn bounds(span: Span) -> (u32, u32) {
 fn of_line(alloc: Global, map: &CodeMap, row: &Row) -> Answer {
     let line = row.count(3) as usize;
     if line >= map.line_count() {
-        return Ok(String::from_str(alloc, "no such line")?);
+        return String::from_str(alloc, "no such line");
     }
     match row.text(1) {
         "line_span" => shown(alloc, &bounds(map.line_span(line))),
@@ -27,7 +27,7 @@ fn of_line(alloc: Global, map: &CodeMap, row: &Row) -> Answer {
 fn of_pos(alloc: Global, map: &CodeMap, row: &Row) -> Answer {
     let pos = Pos::new(row.count(3));
     if !map.has_pos(pos) {
-        return Ok(String::from_str(alloc, "no such position")?);
+        return String::from_str(alloc, "no such position");
     }
     match row.text(1) {
         "find_line" => shown(alloc, &map.find_line(pos)),
@@ -41,14 +41,14 @@ fn of_pos(alloc: Global, map: &CodeMap, row: &Row) -> Answer {
 fn of_span(alloc: Global, map: &CodeMap, row: &Row) -> Answer {
     let (begin, end) = (row.count(3), row.count(4));
     if begin > end {
-        return Ok(String::from_str(alloc, "no span")?);
+        return String::from_str(alloc, "no span");
     }
     let span = Span::new(Pos::new(begin), Pos::new(end));
     match row.text(1) {
         "holds" => shown(alloc, &map.holds(span)),
-        "file_span" => Ok(map.file_span(span)?.to_string(alloc)?),
+        "file_span" => map.file_span(span)?.to_string(alloc),
         "source_span" if map.holds(span) => shown(alloc, &map.source_span(span)),
-        "resolve_span" if map.holds(span) => Ok(map.resolve_span(span).to_string(alloc)?),
+        "resolve_span" if map.holds(span) => map.resolve_span(span).to_string(alloc),
         _ => unknown(alloc, row),
     }
 }
@@ -57,7 +57,7 @@ fn of_span(alloc: Global, map: &CodeMap, row: &Row) -> Answer {
 pub fn answer(alloc: Global, row: &Row) -> Answer {
     let name = String::from_str(alloc, "a")?;
     let source = String::from_str(alloc, row.text(2))?;
-    let map = CodeMap::new(alloc, CodeMapId::new(1), name, source)?;
+    let map = given(CodeMap::new(alloc, CodeMapId::new(1), name, source))?;
     match row.text(1) {
         "full_span" => shown(alloc, &bounds(map.full_span())),
         "line_count" => shown(alloc, &map.line_count()),

@@ -6,27 +6,34 @@
 #![tactic(auto)]
 
 mod code_maps;
+mod cursors;
+mod errors;
+mod files;
 mod formats;
 mod places;
 mod rows;
 mod strings;
+mod tokens;
 mod words;
 
 use crate::rows::{Answer, Row};
-use starlark_syntax::codemap::OrMemory;
 use std::alloc::Global;
 use std::io;
-use std::io::{BufRead, BufReader, BufWriter, ErrorKind, Write};
+use std::io::{BufRead, BufReader, BufWriter, Write};
 
 /// What the libraries answer to a row.
 fn answer(alloc: Global, row: &Row) -> Answer {
     match row.text(0) {
         "codemap" => code_maps::answer(alloc, row),
+        "cursors" => cursors::answer(alloc, row),
+        "errors" => errors::answer(alloc, row),
+        "files" => files::answer(alloc, row),
         "format" => formats::answer(alloc, row),
         "places" => places::answer(alloc, row),
         "strings" => strings::answer(alloc, row),
+        "tokens" => tokens::answer(alloc, row),
         "words" => words::answer(alloc, row),
-        group => Ok(format!(in alloc; "no group {group}")?),
+        group => format!(in alloc; "no group {group}"),
     }
 }
 
@@ -35,11 +42,7 @@ fn main(rt: HostRuntime) -> io::Result<()> {
     let mut out = BufWriter::new(alloc, rt.stdout())?;
     for line in BufReader::new(alloc, rt.stdin())?.lines(alloc) {
         let row = Row::new(alloc, line?.as_str())?;
-        match answer(alloc, &row) {
-            Ok(answer) => write!(out, "{answer}\n")?,
-            Err(OrMemory::Error(_)) => write!(out, "source too long\n")?,
-            Err(OrMemory::Memory) => return Err(io::Error::from(ErrorKind::OutOfMemory)),
-        }
+        write!(out, "{}\n", answer(alloc, &row)?)?;
     }
     out.flush()
 }

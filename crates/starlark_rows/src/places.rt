@@ -46,17 +46,17 @@ pub fn answer(alloc: Global, row: &Row) -> Answer {
     let (begin, end) = (place(row, 2), place(row, 4));
     let span = ResolvedSpan { begin, end };
     match row.text(1) {
-        "resolved_pos" => Ok(begin.to_string(alloc)?),
-        "resolved_span" => Ok(span.to_string(alloc)?),
+        "resolved_pos" => begin.to_string(alloc),
+        "resolved_span" => span.to_string(alloc),
         "resolved_span_contains" => shown(alloc, &span.contains(place(row, 6))),
         "begin_file_line" => {
             let file = String::from_str(alloc, row.text(6))?;
             let line = ResolvedFileSpan { file, span }.begin_file_line(alloc)?;
-            Ok(line.to_string(alloc)?)
+            line.to_string(alloc)
         }
         "resolved_file_span" => {
             let file = String::from_str(alloc, row.text(6))?;
-            Ok(ResolvedFileSpan { file, span }.to_string(alloc)?)
+            ResolvedFileSpan { file, span }.to_string(alloc)
         }
         _ => of_spans(alloc, row),
     }

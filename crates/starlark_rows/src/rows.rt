@@ -1,16 +1,25 @@
 //! Rows of a call and what it is given.
 
-use starlark_syntax::codemap::{OrMemory, SourceTooLong};
 use std::alloc::{AllocError, Global};
-use std::fmt::Debug;
+use std::fmt::{Debug, Display};
 
-/// What is printed of an answer; no row has a text that is too long for a code map.
-pub type Answer = Result<String, OrMemory<SourceTooLong>>;
+/// What is printed of an answer.
+pub type Answer = Result<String, AllocError>;
 
 /// The fields of a row.
 #[derive(Drop)]
 pub struct Row {
     fields: Vec<String>,
+}
+
+/// What a character stands for, behind a backslash or without one.
+fn meant(is_escaped: bool, character: char) -> char {
+    match (is_escaped, character) {
+        (true, 'n') => '\n',
+        (true, 'r') => '\r',
+        (true, 't') => '\t',
+        (_, character) => character,
+    }
 }
 
 /// A field as it is meant: `\n`, `\r`, `\t` and `\\` stand for these characters.
@@ -20,15 +29,10 @@ fn unescaped(alloc: Global, field: &str) -> Result<String, AllocError> {
     for character in field.chars() {
         if character == '\\' && !is_escaped {
             is_escaped = true;
-            continue;
+        } else {
+            text.push(meant(is_escaped, character))?;
+            is_escaped = false;
         }
-        text.push(match (is_escaped, character) {
-            (true, 'n') => '\n',
-            (true, 'r') => '\r',
-            (true, 't') => '\t',
-            (_, character) => character,
-        })?;
-        is_escaped = false;
     }
     Ok(text)
 }
@@ -67,12 +71,25 @@ impl Row {
     }
 }
 
+/// What a call gave that only want of memory can refuse: no row has a text that is too long.
+pub fn given<T, E: Drop>(answer: Result<T, E>) -> Result<T, AllocError> {
+    match answer {
+        Ok(value) => Ok(value),
+        Err(_) => Err(AllocError),
+    }
+}
+
 /// A value as `{:?}` shows it.
 pub fn shown<T: Debug>(alloc: Global, value: &T) -> Answer {
-    Ok(format!(in alloc; "{value:?}")?)
+    format!(in alloc; "{value:?}")
+}
+
+/// Two values as they print.
+pub fn both<A: Display, B: Display>(alloc: Global, first: &A, second: &B) -> Answer {
+    format!(in alloc; "{first} {second}")
 }
 
 /// What is said where a row asks for a call that its group doesn't have.
 pub fn unknown(alloc: Global, row: &Row) -> Answer {
-    Ok(format!(in alloc; "no call {}", row.text(1))?)
+    format!(in alloc; "no call {}", row.text(1))
 }

@@ -1,54 +1,68 @@
 //! Integers, identifiers, and the lexemes of a text as they print.
 
-use crate::rows::{Answer, Row, shown, unknown};
+use crate::rows::{Answer, Row, both, given, shown, unknown};
 use starlark_syntax::codemap::{CodeMap, CodeMapId, OrMemory};
 use starlark_syntax::dialect::Dialect;
 use starlark_syntax::lexer::{Lexeme, Lexer, TokenInt, lex_exactly_one_identifier};
 use std::alloc::{AllocError, Global};
+use std::fmt::{Display, Write};
 
-/// An integer, with the digits that are kept where it is a large one.
-fn shown_integer(alloc: Global, number: &TokenInt) -> Result<String, AllocError> {
+/// A large integer's sign, digits and base.
+fn shown_large(alloc: Global, is_negative: bool, digits: &str, radix: u32) -> Answer {
+    format!(in alloc; "BigInt {is_negative} {digits} {radix}")
+}
+
+/// An integer's value, or its sign, digits and base where it is a large one.
+fn parts(alloc: Global, number: &TokenInt) -> Answer {
     match number {
-        TokenInt::I32(value) => format!(in alloc; "I32 {value} {number}"),
-        TokenInt::BigInt(big) => format!(in alloc;
-            "BigInt {} {} {} {number}",
-            big.is_negative(),
-            big.digits(),
-            big.radix()
-        ),
+        TokenInt::I32(value) => format!(in alloc; "I32 {value}"),
+        TokenInt::BigInt(big) => shown_large(alloc, big.is_negative(), big.digits(), big.radix()),
     }
 }
 
 /// The integer that a text writes in a base, or why there is none.
 fn integer(alloc: Global, text: &str, base: u32) -> Answer {
     if base < 2 || base > 36 {
-        return Ok(String::from_str(alloc, "no such base")?);
+        return String::from_str(alloc, "no such base");
     }
     match TokenInt::from_str_radix(alloc, text, base) {
-        Ok(number) => Ok(shown_integer(alloc, &number)?),
-        Err(OrMemory::Error(fault)) => Ok(fault.to_string(alloc)?),
-        Err(OrMemory::Memory) => Err(OrMemory::Memory),
-    }
-}
-
-/// A lexeme's places, its kind, and how it prints; a fault as it prints.
-fn shown_lexeme(alloc: Global, lexeme: &Lexeme) -> Result<String, AllocError> {
-    match lexeme {
-        Ok((begin, token, end)) => format!(in alloc; "{begin}-{end} {} {token}; ", token.kind()),
-        Err(OrMemory::Error(exception)) => format!(in alloc; "{exception}; "),
+        Ok(number) => both(alloc, &parts(alloc, &number)?, &number),
+        Err(OrMemory::Error(fault)) => fault.to_string(alloc),
         Err(OrMemory::Memory) => Err(AllocError),
     }
 }
 
-/// The lexemes of a text, over a code map that has this source.
-fn lexemes(alloc: Global, text: &str, source: &str) -> Answer {
+/// Adds a token as it prints, behind its kind.
+fn add_token<T: Display>(list: &mut String, kind: &str, token: &T) -> Result<(), AllocError> {
+    write!(list, "{kind} {token}; ")
+}
+
+/// Adds a lexeme's places and a copy of its token, or a fault as it prints.
+fn add_lexeme(alloc: Global, list: &mut String, lexeme: &Lexeme) -> Result<(), AllocError> {
+    match lexeme {
+        Ok((begin, token, end)) => {
+            write!(list, "{begin}-{end} ")?;
+            let copy = token.clone(alloc)?;
+            add_token(list, copy.kind(), &copy)
+        }
+        Err(OrMemory::Error(exception)) => write!(list, "{exception}; "),
+        Err(OrMemory::Memory) => Err(AllocError),
+    }
+}
+
+/// A lexer of a text, over a code map that has this source.
+fn lexer<'a>(alloc: Global, text: &'a str, source: &str) -> Result<Lexer<'a>, AllocError> {
     let name = String::from_str(alloc, "f")?;
     let source = String::from_str(alloc, source)?;
-    let map = CodeMap::new(alloc, CodeMapId::EMPTY, name, source)?;
+    let map = given(CodeMap::new(alloc, CodeMapId::EMPTY, name, source))?;
+    given(Lexer::new(alloc, text, &Dialect::Standard, map))
+}
+
+/// The lexemes of a text, over a code map that has this source.
+fn lexemes(alloc: Global, text: &str, source: &str) -> Answer {
     let mut list = String::new(alloc);
-    let lexer = Lexer::new(alloc, text, &Dialect::Standard, map).map_err(OrMemory::Error)?;
-    for lexeme in lexer {
-        list.push_str(shown_lexeme(alloc, &lexeme)?.as_str())?;
+    for lexeme in lexer(alloc, text, source)? {
+        add_lexeme(alloc, &mut list, &lexeme)?;
     }
     Ok(list)
 }

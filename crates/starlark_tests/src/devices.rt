@@ -1,4 +1,4 @@
-//! Runs over devices that fail, take nothing, or give and take little at once.
+//! Runs over devices that fail, take nothing, or give and take one byte a call.
 
 use starlark_run::{RunFault, RunStatus, Watched, run};
 use std::alloc::{AllocError, Global};
@@ -6,6 +6,8 @@ use std::io;
 use std::io::{ErrorKind, Read, Write};
 use std::process::Abort;
 use std::test::Fail;
+
+const MANY: usize = 1_000_000;
 
 /// A reader that gives so many bytes a call, and fails once its calls are used up.
 #[derive(Drop)]
@@ -27,34 +29,33 @@ impl Read for Source<'_> {
     }
 }
 
-/// How a writer ends once its calls are used up.
-#[derive(Clone, Copy)]
-enum Ending {
-    Fails(ErrorKind),
-    TakesNothing,
-}
-
-/// A writer that takes so many bytes a call, and no more once its calls are used up.
+/// A writer that takes so many bytes a call. Once its calls are used up it fails, or takes nothing
+/// where there is no kind of failure. It compares what comes with what is wanted.
 #[derive(Drop)]
-struct Sink {
-    taken: Vec<u8>,
+struct Sink<'b> {
+    wanted: &'b [u8],
+    other_came: bool,
     piece: usize,
     calls: usize,
-    ending: Ending,
+    failure: Option<ErrorKind>,
     flush_fails: bool,
 }
 
-impl Write for Sink {
+impl Write for Sink<'_> {
     fn write(&mut self, buf: &[u8]) -> io::Result<usize> {
         if self.calls == 0 {
-            return match self.ending {
-                Ending::Fails(kind) => Err(io::Error::from(kind)),
-                Ending::TakesNothing => Ok(0),
+            return match self.failure {
+                Some(kind) => Err(io::Error::from(kind)),
+                None => Ok(0),
             };
         }
         self.calls -= 1;
         let most = self.piece.min(buf.len());
-        self.taken.write(&buf[..most])
+        match self.wanted.strip_prefix(&buf[..most]) {
+            Some(wanted) => self.wanted = wanted,
+            None => self.other_came = true,
+        }
+        Ok(most)
     }
 
     fn flush(&mut self) -> io::Result<()> {
@@ -65,64 +66,86 @@ impl Write for Sink {
     }
 }
 
-const MANY: usize = 1_000_000;
-
-fn source_of(rest: &[u8]) -> Source<'_> {
+/// A reader of a text, which gives so many bytes a call.
+fn source_of(rest: &[u8], piece: usize) -> Source<'_> {
     Source {
         rest,
-        piece: MANY,
+        piece,
         calls: MANY,
         kind: ErrorKind::Other,
     }
 }
 
-fn sink_in(alloc: Global) -> Sink {
+/// A writer that wants a text, and takes so many bytes a call.
+fn sink_of(wanted: &[u8], piece: usize) -> Sink<'_> {
     Sink {
-        taken: Vec::new(alloc),
-        piece: MANY,
+        wanted,
+        other_came: false,
+        piece,
         calls: MANY,
-        ending: Ending::TakesNothing,
+        failure: None,
         flush_fails: false,
     }
 }
 
-/// How a run ended, what the flags of its devices say, and what it wrote.
-#[derive(Drop)]
-struct Ended {
+/// How a run ended, as it prints, with what is said of its devices.
+fn shown(
+    alloc: Global,
     outcome: Result<RunStatus, RunFault>,
-    reader_failed: bool,
-    reader_ended: bool,
-    writer_failed: bool,
-    written: Vec<u8>,
+    flags: &str,
+    missing: &str,
+) -> Result<String, AllocError> {
+    match outcome {
+        Ok(status) => format!(in alloc; "{status:?}, {flags}, {missing} missing"),
+        Err(fault) => format!(in alloc; "{fault}, {flags}, {missing} missing"),
+    }
 }
 
-fn run_over(alloc: Global, source: Source<'_>, sink: Sink) -> Result<Ended, AllocError> {
+/// What the flags of a run's devices say, where no other bytes came than are wanted.
+fn flags(reader: &Watched<Source<'_>>, writer: &Watched<Sink<'_>>) -> &'static str {
+    if writer.device().other_came {
+        return "other bytes";
+    }
+    match (reader.failed(), reader.ended(), writer.failed()) {
+        (true, false, false) => "reader failed",
+        (false, true, false) => "reader ended",
+        (false, true, true) => "reader ended and writer failed",
+        _ => "other flags",
+    }
+}
+
+/// How much of what is wanted didn't come.
+fn missing(wanted: usize, left: usize) -> &'static str {
+    if left == 0 {
+        "nothing"
+    } else if left < wanted {
+        "an end"
+    } else {
+        "all"
+    }
+}
+
+/// How a run over these devices ended, what their flags say, and how much of what is wanted didn't come.
+fn run_over(alloc: Global, source: Source<'_>, sink: Sink<'_>) -> Result<String, AllocError> {
+    let wanted = sink.wanted.len();
     let mut reader = Watched::new(source);
     let mut writer = Watched::new(sink);
     let outcome = run(alloc, "<stdin>", &mut reader, &mut writer);
-    Ok(Ended {
-        outcome,
-        reader_failed: reader.failed(),
-        reader_ended: reader.ended(),
-        writer_failed: writer.failed(),
-        written: writer.device().taken.clone()?,
-    })
+    let missing = missing(wanted, writer.device().wanted.len());
+    shown(alloc, outcome, flags(&reader, &writer), missing)
 }
 
-/// Many lines, whose output is longer than the buffer.
-fn long_text(alloc: Global) -> Result<Vec<u8>, AllocError> {
-    let mut text = Vec::new(alloc);
-    for _ in 0..1500 {
-        text.extend_from_slice(b"abc = 12345\n")?;
-    }
-    Ok(text)
-}
-
-/// Asserts that a run gave up before anything was written, with these flags of its reader.
-fn wrote_nothing(rt: &impl Abort, end: &Ended, fault: RunFault, failed: bool) {
-    assert_eq!(rt; end.outcome, Err(fault));
-    assert_eq!(rt; (end.reader_failed, end.reader_ended), (failed, !failed));
-    assert!(rt; !end.writer_failed && end.written.is_empty());
+/// Asserts how a run over these devices ends.
+fn check(
+    rt: &impl Abort,
+    alloc: Global,
+    source: Source<'_>,
+    sink: Sink<'_>,
+    want: &str,
+) -> Result<(), Fail> {
+    let shown = run_over(alloc, source, sink)?;
+    assert_eq!(rt; shown.as_str(), want);
+    Ok(())
 }
 
 #[test]
@@ -131,118 +154,129 @@ fn readers_that_fail_or_give_no_text(rt: HostRuntime) -> Result<(), Fail> {
     for kind in [ErrorKind::Other, ErrorKind::Interrupted] {
         for calls in 0..4 {
             let source = Source {
-                rest: b"abc",
-                piece: 1,
                 calls,
                 kind,
+                ..source_of(b"abc", 1)
             };
-            let end = run_over(alloc, source, sink_in(alloc))?;
-            wrote_nothing(&rt, &end, RunFault::Read, true);
+            let want = "cannot read the input, reader failed, nothing missing";
+            check(&rt, alloc, source, sink_of(b"", MANY), want)?;
         }
     }
     let texts: [&[u8]; 4] = [&[0xff], &[0x61, 0xc3], b"a b \xed\xa0\x80", b"a\x80"];
     for text in texts {
-        let end = run_over(alloc, source_of(text), sink_in(alloc))?;
-        wrote_nothing(&rt, &end, RunFault::NotUtf8, false);
+        let want = "input is not UTF-8, reader ended, nothing missing";
+        let sink = sink_of(b"", MANY);
+        check(&rt, alloc, source_of(text, MANY), sink, want)?;
     }
     Ok(())
 }
 
-/// Asserts that a run gave up for its writer, which took a beginning of what is wanted, and says how much it took.
-fn taken_len(rt: &impl Abort, end: &Ended, want: &[u8]) -> usize {
-    assert_eq!(rt; end.outcome, Err(RunFault::Write));
-    assert!(rt; end.writer_failed && end.reader_ended && !end.reader_failed);
-    assert!(rt; want.starts_with(end.written.as_slice()));
-    end.written.len()
+/// What is written of a name of 150,000 bytes, which is more than a buffer holds.
+fn lines_of_name(alloc: Global, name: &[u8]) -> Result<Vec<u8>, AllocError> {
+    let mut lines = Vec::new(alloc);
+    lines.extend_from_slice(b"0-150000 1:1-150001 Identifier ")?;
+    lines.extend_from_slice(name)?;
+    lines.extend_from_slice(b"\n150000-150000 1:150001 Newline\n")?;
+    Ok(lines)
 }
 
 #[test]
 fn writers_that_fail_or_take_nothing(rt: HostRuntime) -> Result<(), Fail> {
     let alloc = rt.alloc();
-    let text = long_text(alloc)?;
-    let whole = run_over(alloc, source_of(text.as_slice()), sink_in(alloc))?;
-    let want = whole.written.as_slice();
-    let endings = [
-        Ending::Fails(ErrorKind::Other),
-        Ending::Fails(ErrorKind::Interrupted),
-        Ending::TakesNothing,
-    ];
-    for ending in endings {
-        for calls in 0..4usize {
+    let name = vec![in alloc; b'a'; 150_000]?;
+    let lines = lines_of_name(alloc, name.as_slice())?;
+    let failures = [Some(ErrorKind::Other), Some(ErrorKind::Interrupted), None];
+    for failure in failures {
+        for calls in 0..7 {
             let sink = Sink {
-                piece: 30_000,
                 calls,
-                ending,
-                ..sink_in(alloc)
+                failure,
+                ..sink_of(lines.as_slice(), 30_000)
             };
-            let end = run_over(alloc, source_of(text.as_slice()), sink)?;
-            let len = taken_len(&rt, &end, want);
-            assert!(rt;
-                len < want.len() && (len == 0) == (calls == 0),
-                "at {calls}"
-            );
+            let missing = if calls == 0 { "all" } else { "an end" };
+            let want = format!(in alloc;
+                "cannot write the output, reader ended and writer failed, {missing} missing"
+            )?;
+            check(
+                &rt,
+                alloc,
+                source_of(name.as_slice(), MANY),
+                sink,
+                want.as_str(),
+            )?;
         }
     }
-    let sink = Sink {
-        flush_fails: true,
-        ..sink_in(alloc)
-    };
-    let end = run_over(alloc, source_of(text.as_slice()), sink)?;
-    assert_eq!(rt; taken_len(&rt, &end, want), want.len());
     Ok(())
 }
 
 #[test]
-fn one_byte_at_once_and_words_longer_than_the_buffer(rt: HostRuntime) -> Result<(), Fail> {
+fn one_byte_a_call_and_a_failing_flush(rt: HostRuntime) -> Result<(), Fail> {
     let alloc = rt.alloc();
-    let text = long_text(alloc)?;
-    let whole = run_over(alloc, source_of(text.as_slice()), sink_in(alloc))?;
-    let source = Source {
-        piece: 1,
-        ..source_of(text.as_slice())
-    };
-    let sink = Sink {
-        piece: 1,
-        ..sink_in(alloc)
-    };
-    let end = run_over(alloc, source, sink)?;
-    assert_eq!(rt; end.outcome, Ok(RunStatus::Clean));
-    assert!(rt; end.reader_ended && !end.reader_failed && !end.writer_failed);
-    assert!(rt; end.written.as_slice() == whole.written.as_slice());
-
-    let word = vec![in alloc; b'a'; 150_000]?;
-    let end = run_over(alloc, source_of(word.as_slice()), sink_in(alloc))?;
-    let front = b"0-150000 1:1-150001 Identifier ";
-    let back = b"\n150000-150000 1:150001 Newline\n";
-    assert_eq!(rt; end.outcome, Ok(RunStatus::Clean));
-    let Some(line) = end.written.as_slice().strip_prefix(front) else {
-        return Err(Fail::new("another front"));
-    };
-    assert!(rt; line.strip_suffix(back) == Some(word.as_slice()));
+    let name = vec![in alloc; b'a'; 150_000]?;
+    let lines = lines_of_name(alloc, name.as_slice())?;
+    let rows = [
+        (1, false, "Clean, reader ended, nothing missing"),
+        (MANY, false, "Clean, reader ended, nothing missing"),
+        (
+            MANY,
+            true,
+            "cannot write the output, reader ended and writer failed, nothing missing",
+        ),
+    ];
+    for (piece, flush_fails, want) in rows {
+        let sink = Sink {
+            flush_fails,
+            ..sink_of(lines.as_slice(), piece)
+        };
+        check(&rt, alloc, source_of(name.as_slice(), piece), sink, want)?;
+    }
     Ok(())
+}
+
+/// The kind of a reader's failure, as it is handed on.
+fn failure_of_read(kind: ErrorKind) -> Option<ErrorKind> {
+    let source = Source {
+        calls: 0,
+        kind,
+        ..source_of(b"", 1)
+    };
+    match Watched::new(source).read(&mut [0]) {
+        Ok(_) => None,
+        Err(error) => Some(error.kind()),
+    }
+}
+
+/// The kind of a writer's failure, as it is handed on.
+fn failure_of_write(kind: ErrorKind) -> Option<ErrorKind> {
+    let sink = Sink {
+        calls: 0,
+        failure: Some(kind),
+        ..sink_of(b"", 1)
+    };
+    match Watched::new(sink).write(b"a") {
+        Ok(_) => None,
+        Err(error) => Some(error.kind()),
+    }
 }
 
 #[test]
 fn watched_devices_answer_as_the_devices_do(rt: HostRuntime) -> Result<(), Fail> {
-    let mut reader = Watched::new(source_of(b"ab"));
-    let mut room = [0u8; 2];
-    assert_eq!(rt; reader.read(&mut room[..0])?, 0);
-    assert!(rt; !reader.ended());
-    assert_eq!(rt; reader.read(&mut room)?, 2);
-    assert!(rt; room.as_slice() == b"ab".as_slice());
-    assert_eq!(rt; reader.read(&mut room)?, 0);
-    assert!(rt; reader.ended() && !reader.failed());
+    let mut reader = Watched::new(source_of(b"", MANY));
+    assert!(rt; reader.read(&mut [])? == 0 && !reader.ended());
+    let mut writer = Watched::new(sink_of(b"", MANY));
+    assert!(rt; writer.write(b"")? == 0 && !writer.failed());
+    for kind in [ErrorKind::Other, ErrorKind::Interrupted] {
+        assert!(rt; failure_of_read(kind) == Some(kind));
+        assert!(rt; failure_of_write(kind) == Some(kind));
+    }
+    Ok(())
+}
 
-    let mut writer = Watched::new(Sink {
-        calls: 1,
-        ..sink_in(rt.alloc())
-    });
-    assert_eq!(rt; writer.write(b"ab")?, 2);
-    assert_eq!(rt; writer.write(b"")?, 0);
-    writer.flush()?;
-    assert!(rt; !writer.failed());
-    assert_eq!(rt; writer.write(b"c")?, 0);
-    assert!(rt; writer.failed());
-    assert!(rt; writer.device().taken.as_slice() == b"ab".as_slice());
+#[test]
+fn faults_that_no_device_brings(rt: HostRuntime) -> Result<(), Fail> {
+    let alloc = rt.alloc();
+    let shown = format!(in alloc; "{}; {}", RunFault::TooLong, RunFault::Memory)?;
+    let want = "input is longer than 4294967295 bytes; out of memory";
+    assert_eq!(rt; shown.as_str(), want);
     Ok(())
 }
