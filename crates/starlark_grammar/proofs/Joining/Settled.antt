@@ -14,7 +14,7 @@ use Rattle.starlark_grammar.specs.Pieces.{Piece, Step}
 use Rattle.starlark_grammar.specs.Reading.{History, tokens_onto, after, after_all, situation, next_step, IsReading, IsLongestReading, pieces_len}
 use Rattle.starlark_grammar.specs.Cuts.{is_outside, is_layout, is_settled}
 
-map_none : {A B : Type 0} (f : A → B) (o : Option A) → option_map f o ≡ None → o ≡ None
+pub map_none : {A B : Type 0} (f : A → B) (o : Option A) → option_map f o ≡ None → o ≡ None
 map_none f None h = refl
 map_none f (Some x) h = cc
 
