@@ -1,0 +1,3 @@
+-- Texts with each LF written as CR LF.
+pub mod Texts
+pub mod Fronts
