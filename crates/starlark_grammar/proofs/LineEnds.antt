@@ -1,3 +1,4 @@
 -- Texts with each LF written as CR LF.
 pub mod Texts
 pub mod Fronts
+pub mod Bodies

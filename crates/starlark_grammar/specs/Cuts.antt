@@ -95,3 +95,8 @@ InOrder text from (lexeme ∷ lexemes) to =
 -- a text with each LF written as CR LF
 abbrev pub crlf_form : Text → Text
 crlf_form = flat_map (λ b. if is_feed b then codes "\r\n" else b ∷ [])
+
+-- whether a backslash stands right before an LF
+abbrev pub holds_escaped_feed : Text → Bool
+holds_escaped_feed [] = false
+holds_escaped_feed (b ∷ bs) = (b == byte "\\" && starts_with nat_eq bs (codes "\n")) || holds_escaped_feed bs
