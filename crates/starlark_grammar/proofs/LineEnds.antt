@@ -2,3 +2,4 @@
 pub mod Texts
 pub mod Fronts
 pub mod Bodies
+pub mod Margins
