@@ -3,3 +3,4 @@ pub mod Texts
 pub mod Fronts
 pub mod Bodies
 pub mod Margins
+pub mod Pieces

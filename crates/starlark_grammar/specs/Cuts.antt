@@ -1,5 +1,5 @@
 -- Clean cuts, joined texts, and what stands between lexemes.
-use Rattle.std.specs.Prelude.{◌≡◌, ◌≤◌, ◌<◌, ℕ, ◌-◌, Bool, true, false, ◌&&◌, ◌||◌, ◌==◌, if◌then◌else◌, nat_eq, nat_le, List, [], ◌∷◌, ◌++◌, map, length, take, drop, codes, flat_map, Option, Some, None}
+use Rattle.std.specs.Prelude.{◌≡◌, ◌≤◌, ◌<◌, ℕ, ◌-◌, Bool, true, false, ◌&&◌, ◌||◌, ◌==◌, if◌then◌else◌, nat_eq, nat_le, List, [], ◌∷◌, ◌++◌, map, length, take, drop, codes, Option, Some, None}
 use Rattle.std.specs.List.{ends_with, starts_with}
 use Rattle.std.specs.Str.{byte}
 use Rattle.starlark_grammar.specs.Words.{Text, Table, language}
@@ -91,12 +91,3 @@ abbrev pub InOrder : Text → ℕ → List Lexeme → ℕ → Type 0
 InOrder text from [] to = (from ≤ to) × IsGap text from to
 InOrder text from (lexeme ∷ lexemes) to =
     (from ≤ lexeme.begin) × (lexeme.begin ≤ lexeme.end) × IsGap text from lexeme.begin × InOrder text lexeme.end lexemes to
-
--- a text with each LF written as CR LF
-abbrev pub crlf_form : Text → Text
-crlf_form = flat_map (λ b. if is_feed b then codes "\r\n" else b ∷ [])
-
--- whether a backslash stands right before an LF
-abbrev pub holds_escaped_feed : Text → Bool
-holds_escaped_feed [] = false
-holds_escaped_feed (b ∷ bs) = (b == byte "\\" && starts_with nat_eq bs (codes "\n")) || holds_escaped_feed bs

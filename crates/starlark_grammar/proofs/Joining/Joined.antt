@@ -218,7 +218,7 @@ module _ (s : Situation) (text : Text) (piece : Piece) (laid : is_layout piece.s
       go Gap h e = by_place_end s.place e
       go Other h e = by_place_end s.place e
 
-outside : (place : Mode) (balanced : Bool) → counts place balanced ≡ true → place ≡ Outside
+pub outside : (place : Mode) (balanced : Bool) → counts place balanced ≡ true → place ≡ Outside
 outside Outside balanced h = refl
 outside (InText opening) balanced h = cc
 outside AtTop balanced h = cc

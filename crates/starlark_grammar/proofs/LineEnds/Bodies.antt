@@ -15,7 +15,7 @@ use Rattle.starlark_grammar.specs.Words.{Text, Quote, SingleQuote, DoubleQuote, 
 use Rattle.starlark_grammar.specs.Items.{Literal, Item, Stop, Closing, Line, Ended, OpeningBrace, ClosingBrace, BadEscape, Found, Goes, Stops, goes, closing_quotes, broken, is_character, numbered, hexadecimal, octal, escaped_feed, simple_escapes, simple, is_of_bytes, escape, drops_backslash, raw_pair, brace, is_brace, found_at, Body, body_len, body_value, body_onward, body_from, body_at}
 use Rattle.starlark_grammar.specs.Characters.{first_character}
 use Rattle.starlark_grammar.specs.Margins.{is_feed}
-use Rattle.starlark_grammar.specs.Cuts.{holds_escaped_feed}
+use Rattle.starlark_grammar.specs.LineEnds.{holds_escaped_feed}
 use Rattle.starlark_grammar.proofs.Lists.{drop-sum, drop-behind}
 use Rattle.starlark_grammar.proofs.Choices.{either}
 use Rattle.starlark_grammar.proofs.Words.Lines.{in_line}
@@ -112,7 +112,7 @@ rest_crlf (suc n) (b ∷ bs) h =
     }
 
 -- behind ASCII bytes
-apart_plain : (n : ℕ) (text : Text) → is_plain (take n text) ≡ true → apart 0 text ≡ true → apart 0 (drop n text) ≡ true
+pub apart_plain : (n : ℕ) (text : Text) → is_plain (take n text) ≡ true → apart 0 text ≡ true → apart 0 (drop n text) ≡ true
 apart_plain zero text h k = k
 apart_plain (suc n) [] h k = refl
 apart_plain (suc n) (b ∷ bs) h k =
@@ -465,7 +465,7 @@ raw_apart literal b bs rest none e = go (starts_with nat_eq bs (codes "\n")) ref
         subst (λ (t : Text). holds_escaped_feed (take (body_len (body_onward (found_at literal t) rest)) t) ≡ false) same (none parts.1) in
         sym (ap (λ n. holds_escaped_feed (take n (92 ∷ 10 ∷ drop 1 bs))) len) ∙ holds
 
-holds_drop : (n : ℕ) (text : Text) → holds_escaped_feed text ≡ false → holds_escaped_feed (drop n text) ≡ false
+pub holds_drop : (n : ℕ) (text : Text) → holds_escaped_feed text ≡ false → holds_escaped_feed (drop n text) ≡ false
 holds_drop zero text h = h
 holds_drop (suc n) [] h = h
 holds_drop (suc n) (b ∷ bs) h = holds_drop n bs (go (b == byte "\\" && starts_with nat_eq bs (codes "\n")) h)

@@ -7,7 +7,7 @@ use Rattle.std.proofs.lemmas.Bool.{and_parts, eqb-true}
 use Rattle.std.proofs.lemmas.List.{take-append-drop, length-take-le, length-take}
 use Rattle.std.proofs.lemmas.List.Sums.{sum_by-cons, prefix_len-le-length}
 use Rattle.starlark_grammar.specs.Words.{Text}
-use Rattle.starlark_grammar.specs.Tokens.{Token, Newline, Indent, Dedent, Lexeme, Spanned, Fault, InvalidTab, Indentation, moved}
+use Rattle.starlark_grammar.specs.Tokens.{Token, Newline, Comment, Indent, Dedent, Lexeme, Spanned, Fault, InvalidTab, Indentation, moved}
 use Rattle.starlark_grammar.specs.Margins.{is_blank, is_feed, blanks_len, lines, begins_comment, is_comment_only, without_return, comment_part, comment_of, comments_from, comment_lines, Margin, margin_from, margin_of, margin_len, is_content, has_tab, width_of, is_widest, fits, indentation}
 use Rattle.starlark_grammar.specs.Pieces.{Before, Layout, Piece, Step, Stands, Fails, margin_step}
 use Rattle.starlark_grammar.proofs.Lists.{drop-sum}
@@ -239,9 +239,9 @@ behind_comments text =
 -- Margins
 
 -- How the form of a text goes on behind a margin: by the form of what is left, or from an LF on, whose CR is one of the blanks.
-pub data Left (text other : Text) : Type 0 where
-  Whole : other ≡ crlf text → Left text other
-  Behind : (rest : Text) → text ≡ 10 ∷ rest → other ≡ 10 ∷ crlf rest → Left text other
+pub data Left (text other : Text) (content : Bool) : Type 0 where
+  Whole : other ≡ crlf text → Left text other content
+  Behind : (rest : Text) → text ≡ 10 ∷ rest → other ≡ 10 ∷ crlf rest → content ≡ false → Left text other content
 
 margin_drop : (passed : List Text) (at : ℕ) (text rest : Text) → drop at text ≡ rest → drop (margin_len (margin_from passed at rest)) text ≡ drop (blanks_len rest) rest
 margin_drop passed at text rest e =
@@ -264,7 +264,7 @@ record MarginCrlf (text : Text) (margin form : Margin) : Type 0 where
   comments : nodes form.comments ≡ nodes margin.comments
   content : is_content form.behind ≡ is_content margin.behind
   blanks : is_content margin.behind ≡ true → form.blanks ≡ margin.blanks
-  left : Left (drop (margin_len margin) text) (drop (margin_len form) (crlf text))
+  left : Left (drop (margin_len margin) text) (drop (margin_len form) (crlf text)) (is_content margin.behind)
 
 from_crlf : (text rest : Text) (passed : List Text) → no_return text ≡ true → drop (lines_sum passed) text ≡ rest → drop (lines_sum (map crlf passed)) (crlf text) ≡ crlf rest → list_all (λ (line : Text). no_return line) passed ≡ true → list_all is_comment_only passed ≡ true
     → MarginCrlf text (margin_from passed (lines_sum passed) rest) (margin_from (map crlf passed) (lines_sum (map crlf passed)) (crlf rest))
@@ -289,7 +289,7 @@ from_crlf text rest passed h here there plain only = by (blanks_crlf rest)
           comments = comments_nodes 0 0 passed plain only;
           content = ap is_content form ∙ sym none;
           blanks = λ some. let wrong : true ≡ false = sym some ∙ none in cc;
-          left = Behind more (dropped ∙ blank) (dropped_form ∙ form);
+          left = Behind more (dropped ∙ blank) (dropped_form ∙ form) none;
         }
 
 margin_crlf : (text : Text) → no_return text ≡ true → MarginCrlf text (margin_of text) (margin_of (crlf text))
@@ -323,19 +323,43 @@ indent_nodes levels margin form e = width (width_of form) (width_of margin) (ap 
         by true n = refl
         by false n = replicate_nodes n _ _ refl
 
+-- tokens that open and close nothing
+abbrev pub is_neutral : Token → Bool
+is_neutral Newline = true
+is_neutral (Comment text) = true
+is_neutral Indent = true
+is_neutral Dedent = true
+is_neutral token = false
+
+abbrev pub neutral : List Lexeme → Bool
+neutral lexemes = list_all is_neutral (nodes lexemes)
+
+neutral_both : (one other : List Lexeme) → neutral one ≡ true → neutral other ≡ true → neutral (one ++ other) ≡ true
+neutral_both [] other h k = k
+neutral_both (lexeme ∷ one) other h k = let parts = and_parts (is_neutral lexeme.node) (neutral one) h in rw (parts.0) (neutral_both one other parts.1 k)
+
+neutral_comments : (at : ℕ) (ls : List Text) → neutral (comments_from at ls) ≡ true
+neutral_comments at [] = refl
+neutral_comments at (line ∷ ls) = neutral_comments (at + length line) ls
+
+neutral_margin : (text : Text) → neutral (margin_of text).comments ≡ true
+unfolding margin_of
+neutral_margin text = neutral_comments 0 (comment_lines text)
+
 -- a margin that stands, in the form
 pub record MarginStands (len : ℕ) (before : List Lexeme) (levels : List ℕ) (text : Text) (at : ℕ) (piece : Piece) : Type 0 where
   pub form : Piece
   pub stands : margin_step len before levels (margin_of (crlf text)) ≡ Stands form
   pub like : PieceCrlf piece form
   pub sort : piece.sort ≡ Layout
+  pub outside : is_content (margin_of text).behind ≡ false → neutral piece.lexemes ≡ true
   pub len_is : piece.len ≡ at + margin_len (margin_of text)
   pub form_len : form.len ≡ len + margin_len (margin_of (crlf text))
-  pub left : Left (drop (margin_len (margin_of text)) text) (drop (margin_len (margin_of (crlf text))) (crlf text))
+  pub left : Left (drop (margin_len (margin_of text)) text) (drop (margin_len (margin_of (crlf text))) (crlf text)) (is_content (margin_of text).behind)
 
-pub margin_stands : (at len : ℕ) (line before : List Lexeme) (levels : List ℕ) (text : Text) (piece : Piece) → no_return text ≡ true → nodes before ≡ nodes line → margin_step at line levels (margin_of text) ≡ Stands piece → MarginStands len before levels text at piece
+pub margin_stands : (at len : ℕ) (line before : List Lexeme) (levels : List ℕ) (text : Text) (piece : Piece) → no_return text ≡ true → nodes before ≡ nodes line → margin_step at line levels (margin_of text) ≡ Stands piece → neutral line ≡ true → MarginStands len before levels text at piece
 unfolding margin_step
-margin_stands at len line before levels text piece h same stands =
+margin_stands at len line before levels text piece h same stands calm =
     go (is_content (margin_of text).behind) refl (has_tab (margin_of text)) refl (fits (width_of (margin_of text)) levels) refl stands
   where
     both : MarginCrlf text (margin_of text) (margin_of (crlf text))
@@ -356,14 +380,16 @@ margin_stands at len line before levels text piece h same stands =
         ∙ sym (nodes_both (margin_of text).comments one) ∙ sym (nodes_moved at ((margin_of text).comments ++ one)))
         ∙ sym (nodes_both line (map (moved at) ((margin_of text).comments ++ one)))
 
-    made : (one other : List Lexeme) (width : Option ℕ) → nodes other ≡ nodes one → Stands (here one width) ≡ Stands piece → margin_step len before levels (margin_of (crlf text)) ≡ Stands (there other width) → MarginStands len before levels text at piece
-    made one other width e f g =
+    made : (one other : List Lexeme) (width : Option ℕ) → nodes other ≡ nodes one → Stands (here one width) ≡ Stands piece → margin_step len before levels (margin_of (crlf text)) ≡ Stands (there other width) → (is_content (margin_of text).behind ≡ false → one ≡ []) → MarginStands len before levels text at piece
+    made one other width e f g none =
         let piece_is : here one width ≡ piece = cc in
         subst (MarginStands len before levels text at) piece_is (record {
           form = there other width;
           stands = g;
           like = record { same = alike one other e; width = refl; sort = refl };
           sort = refl;
+          outside = λ blank. neutral_both line (map (moved at) ((margin_of text).comments ++ one)) calm (ap (λ ts. list_all is_neutral ts) (nodes_moved at ((margin_of text).comments ++ one))
+              ∙ neutral_both (margin_of text).comments one (neutral_margin text) (ap neutral (none blank)));
           len_is = refl;
           form_len = refl;
           left = both.left;
@@ -372,7 +398,7 @@ margin_stands at len line before levels text piece h same stands =
     go : (content : Bool) → is_content (margin_of text).behind ≡ content → (tab : Bool) → has_tab (margin_of text) ≡ tab → (fitting : Bool) → fits (width_of (margin_of text)) levels ≡ fitting
         → (if not content then Stands (here [] None) else (if tab then Fails (record { begin = 0; node = InvalidTab; end = 0 }) else (if fitting then Stands (here (indentation levels (margin_of text)) (Some (width_of (margin_of text)))) else Fails (record { begin = 0; node = Indentation; end = at + margin_len (margin_of text) })))) ≡ Stands piece
         → MarginStands len before levels text at piece
-    go false c tab t fitting f e = made [] [] None refl e (rw (both.content, c) refl)
+    go false c tab t fitting f e = made [] [] None refl e (rw (both.content, c) refl) (λ blank. refl)
     go true c true t fitting f e = cc
     go true c false t false f e = cc
     go true c false t true f e =
@@ -380,4 +406,4 @@ margin_stands at len line before levels text piece h same stands =
         let width : width_of (margin_of (crlf text)) ≡ width_of (margin_of text) = ap (λ (blanks : Text). count_by (nat_eq 32) blanks) blanks in
         let tabs : has_tab (margin_of (crlf text)) ≡ false = ap (λ (blanks : Text). Rattle.std.specs.List.list_any (nat_eq 9) blanks) blanks ∙ t in
         made (indentation levels (margin_of text)) (indentation levels (margin_of (crlf text))) (Some (width_of (margin_of text))) (indent_nodes levels (margin_of text) (margin_of (crlf text)) blanks) e
-        (rw (both.content, c, tabs, width, f) refl)
+        (rw (both.content, c, tabs, width, f) refl) (λ blank. let wrong : true ≡ false = sym c ∙ blank in cc)

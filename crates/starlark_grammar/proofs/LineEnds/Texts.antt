@@ -7,7 +7,7 @@ use Rattle.std.proofs.lemmas.Bool.{and_parts, eqb-true}
 use Rattle.std.proofs.lemmas.List.{take-append-drop, length-take-le}
 use Rattle.starlark_grammar.specs.Words.{Text, is_in_line}
 use Rattle.starlark_grammar.specs.Margins.{is_feed}
-use Rattle.starlark_grammar.specs.Cuts.{crlf_form}
+use Rattle.starlark_grammar.specs.LineEnds.{crlf_form}
 use Rattle.starlark_grammar.proofs.Words.Lines.{in_line}
 use Rattle.starlark_grammar.proofs.Order.Edges.{starts_split}
 
