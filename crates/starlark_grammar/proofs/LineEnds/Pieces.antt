@@ -26,7 +26,7 @@ use Rattle.starlark_grammar.proofs.Joining.FollowedPieces.{quotes_in_line}
 use Rattle.starlark_grammar.proofs.Joining.Joined.{outside}
 use Rattle.starlark_grammar.proofs.LineEnds.Texts.{crlf, no_return, no_return_drop, crlf_both, crlf_line, starts_crlf, behind_crlf}
 use Rattle.starlark_grammar.proofs.LineEnds.Bodies.{apart, apart_plain, form_other, BodyCrlf, RawApart, holds_drop, body_crlf}
-use Rattle.starlark_grammar.proofs.LineEnds.Margins.{nodes, neutral, Left, Whole, Behind, PieceCrlf, MarginStands, margin_stands}
+use Rattle.starlark_grammar.proofs.LineEnds.Margins.{nodes, nodes_both, neutral, Left, Whole, Behind, PieceCrlf, MarginStands, margin_stands}
 
 -- How the form of a text goes on behind a piece: by the form of what is left, or from an LF on, behind a line end that counts.
 pub data LeftAt (place : Mode) (piece : Piece) (text other : Text) : Type 0 where
@@ -61,14 +61,14 @@ plain_len : (len : ℕ) (sort : Before) (piece : Piece) → Stands (record { len
 plain_len len sort piece e = cc
 
 -- a piece that gives nothing
-empty_word : (place : Mode) (front behind : Text) (sort : Before) (piece : Piece) → Stands (record { len = length front; lexemes = []; width = None; sort = sort }) ≡ Stands piece
-    → StandsCrlf place (front ++ behind) (crlf front ++ crlf behind) (Stands (record { len = length (crlf front); lexemes = []; width = None; sort = sort })) piece
-empty_word place front behind sort piece e =
-    subst (StandsCrlf place (front ++ behind) (crlf front ++ crlf behind) (Stands (record { len = length (crlf front); lexemes = []; width = None; sort = sort }))) (plain_len (length front) sort piece e) (record {
-      form = record { len = length (crlf front); lexemes = []; width = None; sort = sort };
+empty_word : (place : Mode) (front made behind : Text) (sort : Before) (piece : Piece) → Stands (record { len = length front; lexemes = []; width = None; sort = sort }) ≡ Stands piece
+    → StandsCrlf place (front ++ behind) (made ++ crlf behind) (Stands (record { len = length made; lexemes = []; width = None; sort = sort })) piece
+empty_word place front made behind sort piece e =
+    subst (StandsCrlf place (front ++ behind) (made ++ crlf behind) (Stands (record { len = length made; lexemes = []; width = None; sort = sort }))) (plain_len (length front) sort piece e) (record {
+      form = record { len = length made; lexemes = []; width = None; sort = sort };
       stands = refl;
       like = record { same = refl; width = refl; sort = refl };
-      left = AtWhole (drop-append_seam (crlf front) (crlf behind) ∙ ap crlf (sym (drop-append_seam front behind)));
+      left = AtWhole (drop-append_seam made (crlf behind) ∙ ap crlf (sym (drop-append_seam front behind)));
     })
 
 -- Literals
@@ -257,26 +257,26 @@ decimal_len : (front : Text) (zero_first : Bool) (piece : Piece) → (if zero_fi
 decimal_len front true piece e = cc
 decimal_len front false piece e = token_len (length front) (Int (integer_of 10 front)) piece e
 
-line_end_crlf : (s : Situation) (front behind : Text) (piece : Piece) → no_return behind ≡ true → word_step s word.LineEnd front behind ≡ Stands piece
-    → StandsCrlf s.place (front ++ behind) (crlf front ++ crlf behind) (word_step s word.LineEnd (crlf front) (crlf behind)) piece
-line_end_crlf s front behind piece h e = by (counts s.place s.is_balanced) refl e
+line_end_crlf : (s : Situation) (front made behind : Text) (piece : Piece) → no_return behind ≡ true → word_step s word.LineEnd front behind ≡ Stands piece
+    → StandsCrlf s.place (front ++ behind) (made ++ crlf behind) (word_step s word.LineEnd made (crlf behind)) piece
+line_end_crlf s front made behind piece h e = by (counts s.place s.is_balanced) refl e
   where
     line : ℕ → List Lexeme
     line len = record { begin = 0; node = Newline; end = len } ∷ []
 
     by : (counted : Bool) → counts s.place s.is_balanced ≡ counted
         → (if counted then margin_step (length front) (line (length front)) s.levels (margin_of behind) else Stands (record { len = length front; lexemes = []; width = None; sort = Other })) ≡ Stands piece
-        → StandsCrlf s.place (front ++ behind) (crlf front ++ crlf behind) (if counted then margin_step (length (crlf front)) (line (length (crlf front))) s.levels (margin_of (crlf behind)) else Stands (record { len = length (crlf front); lexemes = []; width = None; sort = Other })) piece
-    by false f e = empty_word s.place front behind Other piece e
+        → StandsCrlf s.place (front ++ behind) (made ++ crlf behind) (if counted then margin_step (length made) (line (length made)) s.levels (margin_of (crlf behind)) else Stands (record { len = length made; lexemes = []; width = None; sort = Other })) piece
+    by false f e = empty_word s.place front made behind Other piece e
     by true f e =
-        let found = margin_stands (length front) (length (crlf front)) (line (length front)) (line (length (crlf front))) s.levels behind piece h refl e refl in
+        let found = margin_stands (length front) (length made) (line (length front)) (line (length made)) s.levels behind piece h refl e refl in
         let here : drop piece.len (front ++ behind) ≡ drop (margin_len (margin_of behind)) behind = ap (λ n. drop n (front ++ behind)) found.len_is ∙ drop-append-add front behind (margin_len (margin_of behind)) in
-        let there : drop found.form.len (crlf front ++ crlf behind) ≡ drop (margin_len (margin_of (crlf behind))) (crlf behind) = ap (λ n. drop n (crlf front ++ crlf behind)) found.form_len ∙ drop-append-add (crlf front) (crlf behind) (margin_len (margin_of (crlf behind))) in
+        let there : drop found.form.len (made ++ crlf behind) ≡ drop (margin_len (margin_of (crlf behind))) (crlf behind) = ap (λ n. drop n (made ++ crlf behind)) found.form_len ∙ drop-append-add made (crlf behind) (margin_len (margin_of (crlf behind))) in
         record {
           form = found.form;
           stands = found.stands;
           like = found.like;
-          left = subst (λ (t : Text). LeftAt s.place piece t (drop found.form.len (crlf front ++ crlf behind))) (sym here) (subst (LeftAt s.place piece (drop (margin_len (margin_of behind)) behind)) (sym there)
+          left = subst (λ (t : Text). LeftAt s.place piece t (drop found.form.len (made ++ crlf behind))) (sym here) (subst (LeftAt s.place piece (drop (margin_len (margin_of behind)) behind)) (sym there)
               (at (outside s.place s.is_balanced f) found.sort found.outside found.left));
         }
       where
@@ -286,8 +286,8 @@ line_end_crlf s front behind piece h e = by (counts s.place s.is_balanced) refl 
 
 word_crlf : (s : Situation) (class : Class) (front behind : Text) (piece : Piece) → line_fits class front ≡ true → no_return behind ≡ true → apart 0 behind ≡ true → (is_raw_class class ≡ true → holds_escaped_feed (take piece.len (front ++ behind)) ≡ false)
     → word_step s class front behind ≡ Stands piece → StandsCrlf s.place (front ++ behind) (crlf front ++ crlf behind) (word_step s class (crlf front) (crlf behind)) piece
-word_crlf s word.Skipped front behind piece fits h more raw e = empty_word s.place front behind Gap piece e
-word_crlf s word.LineEnd front behind piece fits h more raw e = line_end_crlf s front behind piece h e
+word_crlf s word.Skipped front behind piece fits h more raw e = empty_word s.place front (crlf front) behind Gap piece e
+word_crlf s word.LineEnd front behind piece fits h more raw e = line_end_crlf s front (crlf front) behind piece h e
 word_crlf s word.Tabs front behind piece fits h more raw e = cc
 word_crlf s word.Reserved front behind piece fits h more raw e = cc
 word_crlf s (word.Opener kind is_raw quote) front behind piece fits h more raw e = opener_crlf s.place is_raw quote front behind piece fits h more kind raw e
@@ -300,3 +300,77 @@ word_crlf s word.Octal front behind piece fits h more raw e = lone_word s.place 
 word_crlf s word.Binary front behind piece fits h more raw e = lone_word s.place front behind _ _ piece fits e (ap (λ (t : Text). word_step s word.Binary t behind) (crlf_line front fits)) (token_len (length front) _ piece e)
 word_crlf s word.Float front behind piece fits h more raw e = lone_word s.place front behind _ _ piece fits e (ap (λ (t : Text). word_step s word.Float t behind) (crlf_line front fits)) (token_len (length front) _ piece e)
 word_crlf s (word.Fixed terminal) front behind piece fits h more raw e = lone_word s.place front behind _ _ piece fits e (ap (λ (t : Text). word_step s (word.Fixed terminal) t behind) (crlf_line front fits)) (token_len (length front) _ piece e)
+
+-- Texts of f-strings
+
+chunk_nodes : (n m : ℕ) (value : Text) → nodes (chunk_text n value) ≡ nodes (chunk_text m value)
+chunk_nodes n m [] = refl
+chunk_nodes n m (b ∷ bs) = refl
+
+abbrev made_chunk : Body → Token → ℕ → Piece
+made_chunk body node len = record { len = body_len body + len; lexemes = chunk_text (body_len body) (body_value body) ++ record { begin = body_len body; node = node; end = body_len body + len } ∷ []; width = None; sort = Other }
+
+chunk_closed : (opening : Opening) (text : Text) (body : Body) (stop : Stop) (piece : Piece) → chunk_by opening text body stop ≡ Stands piece
+    → ((stop ≡ OpeningBrace) × (made_chunk body FStringExprStart 1 ≡ piece)) ⊎ ((stop ≡ Closing) × (made_chunk body FStringEnd (length (closing_quotes opening)) ≡ piece))
+chunk_closed opening text body OpeningBrace piece e = inl (refl, stands_same _ piece e)
+  where
+    stands_same : (one other : Piece) → Stands one ≡ Stands other → one ≡ other
+    stands_same one other e = cc
+chunk_closed opening text body Closing piece e = inr (refl, stands_same _ piece e)
+  where
+    stands_same : (one other : Piece) → Stands one ≡ Stands other → one ≡ other
+    stands_same one other e = cc
+chunk_closed opening text body ClosingBrace piece e = cc
+chunk_closed opening text body (BadEscape read last) piece e = cc
+chunk_closed opening text body Line piece e = cc
+chunk_closed opening text body Ended piece e = cc
+
+pub chunk_crlf : (opening : Opening) (text : Text) (piece : Piece) → no_return text ≡ true → apart 0 text ≡ true → (opening.is_raw ≡ true → holds_escaped_feed (take piece.len text) ≡ false) → chunk opening text ≡ Stands piece
+    → StandsCrlf (InText opening) text (crlf text) (chunk opening (crlf text)) piece
+unfolding chunk
+chunk_crlf opening text piece h more raw e = by (chunk_closed opening text (body_at (record { kind = OfFString; opening = opening }) text) (body_at (record { kind = OfFString; opening = opening }) text).stop piece e)
+  where
+    is : Literal
+    is = record { kind = OfFString; opening = opening }
+
+    raw_body : (k : ℕ) → piece.len ≡ body_len (body_at (record { kind = OfFString; opening = opening }) text) + k → RawApart (record { kind = OfFString; opening = opening }) text (body_at (record { kind = OfFString; opening = opening }) text)
+    raw_body k size is_raw =
+        let front = take_more (body_len (body_at (record { kind = OfFString; opening = opening }) text)) k text in
+        holds_front (take (body_len (body_at (record { kind = OfFString; opening = opening }) text)) text) front.0 (subst (λ (t : Text). holds_escaped_feed t ≡ false) (ap (λ n. take n text) size ∙ front.1) (raw is_raw))
+
+    made : (node : Token) (k : ℕ) → BodyCrlf (record { kind = OfFString; opening = opening }) text (body_at (record { kind = OfFString; opening = opening }) text)
+        → made_chunk (body_at (record { kind = OfFString; opening = opening }) text) node k ≡ piece
+        → chunk opening (crlf text) ≡ Stands (made_chunk (body_at (record { kind = OfFString; opening = opening }) (crlf text)) node k)
+        → drop (body_len (body_at (record { kind = OfFString; opening = opening }) (crlf text)) + k) (crlf text) ≡ crlf (drop (body_len (body_at (record { kind = OfFString; opening = opening }) text) + k) text)
+        → StandsCrlf (InText opening) text (crlf text) (chunk opening (crlf text)) piece
+    made node k found same stands left =
+        subst (StandsCrlf (InText opening) text (crlf text) (chunk opening (crlf text))) same (record {
+          form = made_chunk (body_at (record { kind = OfFString; opening = opening }) (crlf text)) node k;
+          stands = stands;
+          like = record {
+            same = tokens (body_at (record { kind = OfFString; opening = opening }) (crlf text)) (body_at (record { kind = OfFString; opening = opening }) text) found.value;
+            width = refl;
+            sort = refl;
+          };
+          left = AtWhole left;
+        })
+      where
+        tokens : (one other : Body) → body_value one ≡ body_value other → nodes (made_chunk one node k).lexemes ≡ nodes (made_chunk other node k).lexemes
+        tokens one other e =
+            nodes_both (chunk_text (body_len one) (body_value one)) (record { begin = body_len one; node = node; end = body_len one + k } ∷ [])
+            ∙ ap (λ ts. ts ++ node ∷ []) (ap (λ (v : Text). nodes (chunk_text (body_len one) v)) e ∙ chunk_nodes (body_len one) (body_len other) (body_value other))
+            ∙ sym (nodes_both (chunk_text (body_len other) (body_value other)) (record { begin = body_len other; node = node; end = body_len other + k } ∷ []))
+
+    by : (((body_at (record { kind = OfFString; opening = opening }) text).stop ≡ OpeningBrace) × (made_chunk (body_at (record { kind = OfFString; opening = opening }) text) FStringExprStart 1 ≡ piece))
+        ⊎ (((body_at (record { kind = OfFString; opening = opening }) text).stop ≡ Closing) × (made_chunk (body_at (record { kind = OfFString; opening = opening }) text) FStringEnd (length (closing_quotes opening)) ≡ piece))
+        → StandsCrlf (InText opening) text (crlf text) (chunk opening (crlf text)) piece
+    by (inl parts) =
+        let found = body_crlf (record { kind = OfFString; opening = opening }) text h more (raw_body 1 (sym (ap (λ (p : Piece). p.len) parts.1))) (ap is_closed parts.0) in
+        let at = subst (λ (stop : Stop). StopAt opening (drop (body_len (body_at (record { kind = OfFString; opening = opening }) text)) text) stop) parts.0 (stop_at (record { kind = OfFString; opening = opening }) text) in
+        made FStringExprStart 1 found parts.1 (ap (chunk_by opening (crlf text) (body_at (record { kind = OfFString; opening = opening }) (crlf text))) (found.stop ∙ parts.0))
+        (drop-sum (body_len (body_at (record { kind = OfFString; opening = opening }) (crlf text))) 1 (crlf text) ∙ ap (drop 1) (found.left ∙ ap crlf at.1)
+        ∙ ap crlf (sym (drop-sum (body_len (body_at (record { kind = OfFString; opening = opening }) text)) 1 text ∙ ap (drop 1) at.1)))
+    by (inr parts) =
+        let found = body_crlf (record { kind = OfFString; opening = opening }) text h more (raw_body (length (closing_quotes opening)) (sym (ap (λ (p : Piece). p.len) parts.1))) (ap is_closed parts.0) in
+        made FStringEnd (length (closing_quotes opening)) found parts.1 (ap (chunk_by opening (crlf text) (body_at (record { kind = OfFString; opening = opening }) (crlf text))) (found.stop ∙ parts.0))
+        (closed_left opening text (crlf text) (body_len (body_at (record { kind = OfFString; opening = opening }) text)) (body_len (body_at (record { kind = OfFString; opening = opening }) (crlf text))) found.left (closing_starts (record { kind = OfFString; opening = opening }) text parts.0))
