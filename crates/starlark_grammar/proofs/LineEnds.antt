@@ -4,3 +4,4 @@ pub mod Fronts
 pub mod Bodies
 pub mod Margins
 pub mod Pieces
+pub mod Readings

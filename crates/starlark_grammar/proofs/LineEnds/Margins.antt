@@ -304,7 +304,7 @@ pub record PieceCrlf (piece form : Piece) : Type 0 where
   pub width : form.width ≡ piece.width
   pub sort : form.sort ≡ piece.sort
 
-replicate_nodes : (k : ℕ) (x y : Lexeme) → x.node ≡ y.node → nodes (replicate k x) ≡ nodes (replicate k y)
+pub replicate_nodes : (k : ℕ) (x y : Lexeme) → x.node ≡ y.node → nodes (replicate k x) ≡ nodes (replicate k y)
 replicate_nodes zero x y e = refl
 replicate_nodes (suc k) x y e = ap (λ t. t ∷ nodes (replicate k x)) e ∙ ap (λ ts. y.node ∷ ts) (replicate_nodes k x y e)
 

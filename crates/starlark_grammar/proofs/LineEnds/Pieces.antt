@@ -40,7 +40,7 @@ pub record StandsCrlf (place : Mode) (text other : Text) (step : Step) (piece : 
   pub like : PieceCrlf piece form
   pub left : LeftAt place piece (drop piece.len text) (drop form.len other)
 
-alike : (piece : Piece) → PieceCrlf piece piece
+pub alike : (piece : Piece) → PieceCrlf piece piece
 alike piece = record { same = refl; width = refl; sort = refl }
 
 -- a piece that is a word in a line
@@ -257,7 +257,7 @@ decimal_len : (front : Text) (zero_first : Bool) (piece : Piece) → (if zero_fi
 decimal_len front true piece e = cc
 decimal_len front false piece e = token_len (length front) (Int (integer_of 10 front)) piece e
 
-line_end_crlf : (s : Situation) (front made behind : Text) (piece : Piece) → no_return behind ≡ true → word_step s word.LineEnd front behind ≡ Stands piece
+pub line_end_crlf : (s : Situation) (front made behind : Text) (piece : Piece) → no_return behind ≡ true → word_step s word.LineEnd front behind ≡ Stands piece
     → StandsCrlf s.place (front ++ behind) (made ++ crlf behind) (word_step s word.LineEnd made (crlf behind)) piece
 line_end_crlf s front made behind piece h e = by (counts s.place s.is_balanced) refl e
   where
@@ -284,7 +284,7 @@ line_end_crlf s front made behind piece h e = by (counts s.place s.is_balanced) 
         at place sort calm (Whole e) = AtWhole e
         at place sort calm (Behind rest e f none) = AtFeed rest e f place (calm none) sort
 
-word_crlf : (s : Situation) (class : Class) (front behind : Text) (piece : Piece) → line_fits class front ≡ true → no_return behind ≡ true → apart 0 behind ≡ true → (is_raw_class class ≡ true → holds_escaped_feed (take piece.len (front ++ behind)) ≡ false)
+pub word_crlf : (s : Situation) (class : Class) (front behind : Text) (piece : Piece) → line_fits class front ≡ true → no_return behind ≡ true → apart 0 behind ≡ true → (is_raw_class class ≡ true → holds_escaped_feed (take piece.len (front ++ behind)) ≡ false)
     → word_step s class front behind ≡ Stands piece → StandsCrlf s.place (front ++ behind) (crlf front ++ crlf behind) (word_step s class (crlf front) (crlf behind)) piece
 word_crlf s word.Skipped front behind piece fits h more raw e = empty_word s.place front (crlf front) behind Gap piece e
 word_crlf s word.LineEnd front behind piece fits h more raw e = line_end_crlf s front (crlf front) behind piece h e
