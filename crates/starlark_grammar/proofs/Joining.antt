@@ -6,3 +6,5 @@ pub mod FollowedMargins
 pub mod Settled
 pub mod Joined
 pub mod CleanCuts
+pub mod Tabs
+pub mod Laws

@@ -6,4 +6,5 @@ pub mod Indentation
 pub mod Reading
 pub mod Order
 pub mod Joining
+pub mod LineEnds
 pub mod Rows

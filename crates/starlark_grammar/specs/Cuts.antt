@@ -1,9 +1,9 @@
 -- Clean cuts, joined texts, and what stands between lexemes.
-use Rattle.std.specs.Prelude.{◌≡◌, ◌≤◌, ◌<◌, ℕ, ◌-◌, Bool, true, false, ◌&&◌, ◌||◌, ◌==◌, if◌then◌else◌, nat_eq, nat_le, List, [], ◌∷◌, ◌++◌, map, length, take, drop, codes, flat_map}
+use Rattle.std.specs.Prelude.{◌≡◌, ◌≤◌, ◌<◌, ℕ, ◌-◌, Bool, true, false, ◌&&◌, ◌||◌, ◌==◌, if◌then◌else◌, nat_eq, nat_le, List, [], ◌∷◌, ◌++◌, map, length, take, drop, codes, Option, Some, None}
 use Rattle.std.specs.List.{ends_with, starts_with}
 use Rattle.std.specs.Str.{byte}
 use Rattle.starlark_grammar.specs.Words.{Text, Table, language}
-use Rattle.starlark_grammar.specs.Tokens.{Lexeme, moved}
+use Rattle.starlark_grammar.specs.Tokens.{Token, Newline, Lexeme, moved, InvalidTab, Outcome}
 use Rattle.starlark_grammar.specs.Depths.{Mode, Outside, mode_after, is_balanced}
 use Rattle.starlark_grammar.specs.Margins.{is_blank, is_feed, open_widths}
 use Rattle.starlark_grammar.specs.Pieces.{Before, Layout, Step, Fails}
@@ -37,9 +37,36 @@ is_clean_cut_in table text = go (read table text)
 unfoldable pub is_clean_cut : Text → Bool
 is_clean_cut = is_clean_cut_in language
 
+-- the lexemes of a clean cut without the closing `Newline`
+abbrev pub without_closing : List Lexeme → List Lexeme
+without_closing lexemes = take (length lexemes - 1) lexemes
+
 -- the lexemes of a text of so many bytes without the closing `Newline`, and then those of another, moved along
 abbrev pub joined : ℕ → List Lexeme → List Lexeme → List Lexeme
-joined len first second = take (length first - 1) first ++ map (moved len) second
+joined len first second = without_closing first ++ map (moved len) second
+
+abbrev pub is_newline : Token → Bool
+is_newline Newline = true
+is_newline token = false
+
+-- the lexemes before the last `Newline`, and where that begins
+abbrev pub before_newline : List Lexeme → Option (List Lexeme × ℕ)
+before_newline [] = None
+before_newline (lexeme ∷ lexemes) = by (before_newline lexemes)
+  where
+    by : Option (List Lexeme × ℕ) → Option (List Lexeme × ℕ)
+    by (Some found) = Some (lexeme ∷ found.0, found.1)
+    by None = if is_newline lexeme.node then Some ([], lexeme.begin) else None
+
+-- What a text of so many bytes and these lexemes, without its closing `Newline`, comes to where a tab follows in the
+-- margin behind it. The last `Newline` is taken back with all that follows it. Where there is none the text was
+-- comments alone, and those of the margin come behind them.
+abbrev pub tabbed : ℕ → List Lexeme → List Lexeme → Outcome
+tabbed len lexemes comments = by (before_newline lexemes)
+  where
+    by : Option (List Lexeme × ℕ) → Outcome
+    by (Some found) = record { lexemes = found.0; fault = Some (record { begin = found.1; node = InvalidTab; end = found.1 }) }
+    by None = record { lexemes = lexemes ++ map (moved len) comments; fault = Some (record { begin = 0; node = InvalidTab; end = 0 }) }
 
 -- A kept cut: a clean cut of the text in front of it, no further than the pieces of the text reach. A margin that is
 -- a fault is no piece, and neither is the line end before it.
@@ -64,7 +91,3 @@ abbrev pub InOrder : Text → ℕ → List Lexeme → ℕ → Type 0
 InOrder text from [] to = (from ≤ to) × IsGap text from to
 InOrder text from (lexeme ∷ lexemes) to =
     (from ≤ lexeme.begin) × (lexeme.begin ≤ lexeme.end) × IsGap text from lexeme.begin × InOrder text lexeme.end lexemes to
-
--- a text with each LF written as CR LF
-abbrev pub crlf_form : Text → Text
-crlf_form = flat_map (λ b. if is_feed b then codes "\r\n" else b ∷ [])

@@ -1,13 +1,14 @@
 -- What the laws of the grammar say.
-use Rattle.std.specs.Prelude.{◌≡◌, ◌≤◌, ℕ, ◌+◌, ◌*◌, Bool, true, false, ◌⊎◌, List, ◌++◌, length, take, count_by, Some, None, option_map, option_to_list, IfSome}
+use Rattle.std.specs.Prelude.{◌≡◌, ◌≤◌, ◌<◌, ◌↔◌, ℕ, ◌+◌, ◌*◌, Bool, true, false, ◌⊎◌, List, ◌++◌, length, take, count_by, Some, None, option_map, option_to_list, IfSome}
 use Rattle.std.specs.List.{AllByRecursion}
 use Rattle.std.specs.Str.{IsUtf8, IsCharBoundary}
 use Rattle.starlark_grammar.specs.Words.{Text, Class, Table, class_in, language}
 use Rattle.starlark_grammar.specs.Front.{IsLongestFront, language_front}
-use Rattle.starlark_grammar.specs.Tokens.{Token, Indent, Dedent, Spanned, Lexeme, moved, Outcome}
-use Rattle.starlark_grammar.specs.Pieces.{Piece, Stands}
+use Rattle.starlark_grammar.specs.Tokens.{Token, Indent, Dedent, Spanned, Lexeme, moved, Fault, Outcome}
+use Rattle.starlark_grammar.specs.Margins.{margin_of}
+use Rattle.starlark_grammar.specs.Pieces.{Piece, Stands, Fails}
 use Rattle.starlark_grammar.specs.Reading.{History, nothing, next_step, IsReading, pieces_len, outcome_in, outcome, IsOutcome}
-use Rattle.starlark_grammar.specs.Cuts.{InOrder, is_clean_cut, joined}
+use Rattle.starlark_grammar.specs.Cuts.{InOrder, is_clean_cut, is_kept_cut, without_closing, joined, tabbed}
 
 -- What is computed as the longest front of a text is one, …
 abbrev pub FrontIsLongest : Type 0
@@ -96,3 +97,20 @@ HasFirstMargin table text = (piece : Piece) × (next_step table nothing text ≡
 abbrev pub CutsJoin : Type 0
 CutsJoin = (first second : Text) → is_clean_cut first ≡ true → HasFirstMargin language second
     → outcome (first ++ second) ≡ record { lexemes = joined (length first) (outcome first).lexemes (outcome second).lexemes; fault = option_map (moved (length first)) (outcome second).fault }
+
+-- Where a text is a clean cut, what was joined has a fault exactly where the text behind has one, …
+abbrev pub FaultsJoin : Type 0
+FaultsJoin = (first second : Text) → is_clean_cut first ≡ true → ((outcome (first ++ second)).fault ≡ None) ↔ ((outcome second).fault ≡ None)
+
+-- … and is a clean cut exactly where the text behind is one, if that isn't empty.
+abbrev pub CutsOfJoined : Type 0
+CutsOfJoined = (first second : Text) → is_clean_cut first ≡ true → 0 < length second → is_clean_cut (first ++ second) ≡ is_clean_cut second
+
+-- What a clean cut and a text behind it come to where that text's first margin has a fault.
+abbrev pub TabsBehindCuts : Type 0
+TabsBehindCuts = (first second : Text) (fault : Spanned Fault) → is_clean_cut first ≡ true → next_step language nothing second ≡ Fails fault
+    → outcome (first ++ second) ≡ tabbed (length first) (without_closing (outcome first).lexemes) (margin_of second).comments
+
+-- At a kept cut the lexemes of a text begin with those of the text before it, without its closing `Newline`.
+abbrev pub KeptCutsKeep : Type 0
+KeptCutsKeep = (text : Text) (at : ℕ) → is_kept_cut text at ≡ true → (more : List Lexeme) × ((outcome text).lexemes ≡ without_closing (outcome (take at text)).lexemes ++ more)

@@ -12,4 +12,5 @@ pub mod Margins
 pub mod Pieces
 pub mod Reading
 pub mod Cuts
+pub mod LineEnds
 pub mod Laws

@@ -23,7 +23,7 @@ use Rattle.starlark_grammar.proofs.Joining.Joined.{Joined, join_reading, moved_b
 pub pieces_both : (one other : List Piece) → pieces_len (one ++ other) ≡ pieces_len one + pieces_len other
 pieces_both one other = sum_by-append (λ (piece : Piece). piece.len) one other
 
-along_both : (at : ℕ) (one other : List Piece) → lexemes_along at (one ++ other) ≡ lexemes_along at one ++ lexemes_along (at + pieces_len one) other
+pub along_both : (at : ℕ) (one other : List Piece) → lexemes_along at (one ++ other) ≡ lexemes_along at one ++ lexemes_along (at + pieces_len one) other
 along_both at [] other = let same : at ≡ at + pieces_len [] = omega arith in ap (λ n. lexemes_along n other) same
 along_both at (piece ∷ one) other =
     let total : at + piece.len + pieces_len one ≡ at + pieces_len (piece ∷ one) = omega (arith, sum_by-cons (λ (piece : Piece). piece.len) piece one) in
@@ -52,7 +52,7 @@ longest_both table history text (piece ∷ one) other last reads longest =
     longest_onward table history text piece (one ++ other) last reads.0
     (longest_both table (after history piece) (drop piece.len text) one other last reads.1 (subst (λ (t : Text). IsLongestReading table (after_all (after history piece) one) t other last) left longest))
 
-but_last : {A : Type 0} (xs : List A) (x : A) → take (length (xs ++ x ∷ []) - 1) (xs ++ x ∷ []) ≡ xs
+pub but_last : {A : Type 0} (xs : List A) (x : A) → take (length (xs ++ x ∷ []) - 1) (xs ++ x ∷ []) ≡ xs
 but_last xs x = let len : length (xs ++ x ∷ []) - 1 ≡ length xs = omega (arith, length-append xs (x ∷ [])) in ap (λ n. take n (xs ++ x ∷ [])) len ∙ take-append_seam xs (x ∷ [])
 
 map_replicate : (n k : ℕ) (x : Lexeme) → map (moved n) (replicate k x) ≡ replicate k (moved n x)
@@ -65,13 +65,13 @@ closing_later n at earlier history h =
     ∙ ap (λ ls. record { begin = n + at; node = Newline; end = n + at } ∷ ls) (sym (map_replicate n (length (open_widths history.widths)) (record { begin = at; node = Dedent; end = at })))
 
 -- A clean cut, by its reading.
-record Cut (text : Text) (pieces : List Piece) : Type 0 where
-  some : ¬ (pieces ≡ [])
-  ends : ends_line text ≡ true
-  reads : IsReading language nothing text pieces
-  reach : pieces_len pieces ≡ length text
-  is_settled : Settled (after_all nothing pieces)
-  lexemes : (outcome text).lexemes ≡ lexemes_along 0 pieces ++ record { begin = length text; node = Newline; end = length text } ∷ []
+pub record Cut (text : Text) (pieces : List Piece) : Type 0 where
+  pub some : ¬ (pieces ≡ [])
+  pub ends : ends_line text ≡ true
+  pub reads : IsReading language nothing text pieces
+  pub reach : pieces_len pieces ≡ length text
+  pub is_settled : Settled (after_all nothing pieces)
+  pub lexemes : (outcome text).lexemes ≡ lexemes_along 0 pieces ++ record { begin = length text; node = Newline; end = length text } ∷ []
 
 -- behind a text without fault and without open widths only a `Newline` comes
 closed : (text : Text) (pieces : List Piece) (last : Step) → last ≡ Ends → pieces_len pieces ≡ length text → open_widths (after_all nothing pieces).widths ≡ []
@@ -107,7 +107,7 @@ cut_of text pieces last longest same faultless settled_end ends = record {
         let none = ends_at_end language (after_all nothing pieces) (drop (pieces_len pieces) text) (longest.stands_last ∙ at_end) in
         omega (arith, reading_fits language nothing text pieces longest.reads, length-drop (pieces_len pieces) text, ap length none)
 
-cut : (text : Text) → is_clean_cut text ≡ true → Cut text (read language text).pieces
+pub cut : (text : Text) → is_clean_cut text ≡ true → Cut text (read language text).pieces
 unfolding is_clean_cut is_clean_cut_in outcome outcome_in
 cut text h =
     let one = and_parts (is_faultless (read language text).last && is_settled (after_all nothing (read language text).pieces)) _ h in
@@ -115,13 +115,13 @@ cut text h =
     cut_of text (read language text).pieces (read language text).last (read_is language text) refl two.0 two.1 (ends_line_of text one.1)
 
 -- the reading of a text whose first margin stands
-record Begun (text : Text) (first : Piece) : Type 0 where
-  pieces : List Piece
-  last : Step
-  longest : IsLongestReading language (after nothing first) (drop first.len text) pieces last
-  is : outcome text ≡ outcome_of text (first ∷ pieces) last
+pub record Begun (text : Text) (first : Piece) : Type 0 where
+  pub pieces : List Piece
+  pub last : Step
+  pub longest : IsLongestReading language (after nothing first) (drop first.len text) pieces last
+  pub is : outcome text ≡ outcome_of text (first ∷ pieces) last
 
-begun : (text : Text) (first : Piece) → next_step language nothing text ≡ Stands first → Begun text first
+pub begun : (text : Text) (first : Piece) → next_step language nothing text ≡ Stands first → Begun text first
 unfolding outcome
 begun text first stands =
     let fits = piece_fits language nothing text first stands in
@@ -149,13 +149,13 @@ same_outcome : {one other : List Lexeme} {fault end : Option (Spanned Fault)} �
 same_outcome e f = rw (e, f) refl
 
 module _ (text more : Text) (first : Piece) (pieces : List Piece) (here : Cut text pieces) (there : Begun more first) (stands : next_step language nothing more ≡ Stands first) where
-  both : Joined nothing (after_all nothing pieces) text more pieces first
+  pub both : Joined nothing (after_all nothing pieces) text more pieces first
   both = join_reading nothing text more pieces first here.ends here.some here.reads here.reach here.is_settled (margin_of_first more first stands)
 
   whole : List Piece
   whole = both.pieces' ++ there.pieces
 
-  longest : IsLongestReading language nothing (text ++ more) (both.pieces' ++ there.pieces) there.last
+  pub longest : IsLongestReading language nothing (text ++ more) (both.pieces' ++ there.pieces) there.last
   longest =
       let left : drop (pieces_len both.pieces') (text ++ more) ≡ drop first.len more = ap (λ n. drop n (text ++ more)) both.len ∙ drop-append-add text more first.len in
       longest_both language nothing (text ++ more) both.pieces' there.pieces there.last both.reads
@@ -182,7 +182,7 @@ module _ (text more : Text) (first : Piece) (pieces : List Piece) (here : Cut te
       ∙ ap (λ ls. ls ++ map (moved (length text)) (lexemes_along (0 + first.len) there.pieces)) (sym (all_moved (length text) 0 (0 + length text) first.lexemes (omega arith)))
       ∙ sym (map_both (moved (length text)) (map (moved 0) first.lexemes) (lexemes_along (0 + first.len) there.pieces)))
 
-  past : after_all nothing (both.pieces' ++ there.pieces) ≡ behind (after_all nothing pieces) (after_all nothing (first ∷ there.pieces))
+  pub past : after_all nothing (both.pieces' ++ there.pieces) ≡ behind (after_all nothing pieces) (after_all nothing (first ∷ there.pieces))
   past = past_both nothing both.pieces' there.pieces ∙ ap (λ (h : History). after_all h there.pieces) both.past ∙ all_behind (after_all nothing pieces) (after nothing first) there.pieces
 
   cut_lexemes : (other : List Lexeme) → lexemes_along 0 pieces ++ map (moved (length text)) other ≡ joined (length text) (outcome text).lexemes other

@@ -44,7 +44,7 @@ starts_inside (b ∷ []) (c ∷ cs) h k e = let other = other_byte b c h (and_pa
 starts_inside (b ∷ d ∷ bs) (c ∷ cs) h k e =
     let more = starts_inside (d ∷ bs) cs h (and_parts (is_in_line c) (in_line cs) k).1 (and_parts (nat_eq c b) _ e).1 in omega arith
 
-closing_in_line : (opening : Opening) → in_line (closing_quotes opening) ≡ true
+pub closing_in_line : (opening : Opening) → in_line (closing_quotes opening) ≡ true
 closing_in_line opening = go opening.is_triple opening.quote
   where
     go : (triple : Bool) (quote : Quote) → in_line (closing_quotes (record { is_raw = opening.is_raw; quote = quote; is_triple = triple })) ≡ true
@@ -66,7 +66,7 @@ FoundFollowed len (Goes item) other = item.len < len → other ≡ Goes item
 FoundFollowed len (Stops stop) other = StopFollowed stop other
 
 -- two of each, by one test
-both : (P : Found → Found → Type 0) (test : Bool) (x y v w : Found) → (test ≡ true → P x v) → (test ≡ false → P y w) → P (if test then x else y) (if test then v else w)
+pub both : (P : Found → Found → Type 0) (test : Bool) (x y v w : Found) → (test ≡ true → P x v) → (test ≡ false → P y w) → P (if test then x else y) (if test then v else w)
 both P true x y v w hit miss = hit refl
 both P false x y v w hit miss = miss refl
 
@@ -176,7 +176,7 @@ brace_followed literal b [] more h e = go literal.kind (subst (λ n. is_brace li
 brace_followed literal b (c ∷ cs) more h e = same_followed (length (b ∷ c ∷ cs)) (brace b (c ∷ cs))
 
 -- the same test twice
-both_equal : (P : Found → Found → Type 0) (test again : Bool) (x y v w : Found) → again ≡ test → P x v → P y w → P (if test then x else y) (if again then v else w)
+pub both_equal : (P : Found → Found → Type 0) (test again : Bool) (x y v w : Found) → again ≡ test → P x v → P y w → P (if test then x else y) (if again then v else w)
 both_equal P test again x y v w e hit miss = subst (λ (again : Bool). P (if test then x else y) (if again then v else w)) (sym e) (both P test x y v w (λ f. hit) (λ f. miss))
 
 -- What stands at a place of a body: an item that ends before the text does stays, and so do all stops but a bad escape.

@@ -66,7 +66,7 @@ opener_followed place OfFString opening len behind more piece h inside e = e
 opener_followed place OfText opening len behind more piece h inside e = literal_behind place OfText opening (len + more_quotes opening) (more_quotes opening) behind more piece h inside e
 opener_followed place OfBytes opening len behind more piece h inside e = literal_behind place OfBytes opening (len + more_quotes opening) (more_quotes opening) behind more piece h inside e
 
-quotes_in_line : (quote : Quote) → in_line (quote_byte quote ∷ quote_byte quote ∷ []) ≡ true
+pub quotes_in_line : (quote : Quote) → in_line (quote_byte quote ∷ quote_byte quote ∷ []) ≡ true
 quotes_in_line SingleQuote = refl
 quotes_in_line DoubleQuote = refl
 

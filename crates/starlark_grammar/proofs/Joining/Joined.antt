@@ -25,7 +25,7 @@ use Rattle.starlark_grammar.proofs.Joining.Settled.{Settled, behind, onto_append
 
 -- Margins and line ends
 
-whole_from_ends : (text : Text) → ends_line text ≡ true → has_whole_lines text ≡ true
+pub whole_from_ends : (text : Text) → ends_line text ≡ true → has_whole_lines text ≡ true
 whole_from_ends [] h = refl
 whole_from_ends (b ∷ []) h = h
 whole_from_ends (b ∷ c ∷ bs) h = whole_from_ends (c ∷ bs) h
@@ -208,7 +208,7 @@ module _ (s : Situation) (text : Text) (piece : Piece) (laid : is_layout piece.s
   by_place_end AtTop e = in_code_end e
   by_place_end Deeper e = in_code_end e
 
-  counted_end : is_nothing s.before ≡ false → step_at language s text ≡ Stands piece → CountedEnd s text piece
+  pub counted_end : is_nothing s.before ≡ false → step_at language s text ≡ Stands piece → CountedEnd s text piece
   unfolding step_at
   counted_end started e = go s.before started e
     where
@@ -218,14 +218,14 @@ module _ (s : Situation) (text : Text) (piece : Piece) (laid : is_layout piece.s
       go Gap h e = by_place_end s.place e
       go Other h e = by_place_end s.place e
 
-outside : (place : Mode) (balanced : Bool) → counts place balanced ≡ true → place ≡ Outside
+pub outside : (place : Mode) (balanced : Bool) → counts place balanced ≡ true → place ≡ Outside
 outside Outside balanced h = refl
 outside (InText opening) balanced h = cc
 outside AtTop balanced h = cc
 outside Deeper balanced h = cc
 
 -- what stands where a line end counts
-counted_step : (s : Situation) (b : ℕ) (bs : Text) (len : ℕ) → is_nothing s.before ≡ false → counts s.place s.is_balanced ≡ true → longest_front (class_in language) (b ∷ bs) ≡ Some (word.LineEnd, len)
+pub counted_step : (s : Situation) (b : ℕ) (bs : Text) (len : ℕ) → is_nothing s.before ≡ false → counts s.place s.is_balanced ≡ true → longest_front (class_in language) (b ∷ bs) ≡ Some (word.LineEnd, len)
     → step_at language s (b ∷ bs) ≡ line_end (length (take len (b ∷ bs))) s.levels (drop len (b ∷ bs))
 unfolding step_at
 counted_step s b bs len started counted front = before_is s.before started ∙ ap (λ (place : Mode). by_place language s place (b ∷ bs)) place ∙ rw (place, front) (rw (counted') refl)
@@ -243,7 +243,7 @@ counted_step s b bs len started counted front = before_is s.before started ∙ a
     before_is Other h = refl
 
 -- how long the piece of a margin is
-margin_step_len : (len : ℕ) (lexemes : List Lexeme) (levels : List ℕ) (margin : Margin) (piece : Piece) → margin_step len lexemes levels margin ≡ Stands piece → piece.len ≡ len + margin_len margin
+pub margin_step_len : (len : ℕ) (lexemes : List Lexeme) (levels : List ℕ) (margin : Margin) (piece : Piece) → margin_step len lexemes levels margin ≡ Stands piece → piece.len ≡ len + margin_len margin
 unfolding margin_step
 margin_step_len len lexemes levels margin piece e = go (not (is_content margin.behind)) (has_tab margin) (fits (width_of margin) levels) (indentation levels margin) e
   where
@@ -260,7 +260,7 @@ margin_step_len len lexemes levels margin piece e = go (not (is_content margin.b
     go false false true indents e = stands (made indents (Some (width_of margin))) e
     go false false false indents e = cc
 
-blank_step : (len : ℕ) (lexemes : List Lexeme) (levels : List ℕ) (comments : List Lexeme) (at : ℕ) → margin_step len lexemes levels (record { comments = comments; at = at; blanks = []; behind = [] }) ≡ Stands (record { len = len + (at + 0); lexemes = lexemes ++ map (moved len) (comments ++ []); width = None; sort = Layout })
+pub blank_step : (len : ℕ) (lexemes : List Lexeme) (levels : List ℕ) (comments : List Lexeme) (at : ℕ) → margin_step len lexemes levels (record { comments = comments; at = at; blanks = []; behind = [] }) ≡ Stands (record { len = len + (at + 0); lexemes = lexemes ++ map (moved len) (comments ++ []); width = None; sort = Layout })
 unfolding margin_step
 blank_step len lexemes levels comments at = refl
 
@@ -350,7 +350,7 @@ stands_followed s text more piece ends less stands = go s.before refl stands
 
 -- Readings
 
-next_stays : (history : History) (text more : Text) (piece : Piece) → ends_line text ≡ true → piece.len < length text → next_step language history text ≡ Stands piece → next_step language history (text ++ more) ≡ Stands piece
+pub next_stays : (history : History) (text more : Text) (piece : Piece) → ends_line text ≡ true → piece.len < length text → next_step language history text ≡ Stands piece → next_step language history (text ++ more) ≡ Stands piece
 unfolding next_step situation
 next_stays history text more piece ends less stands = stands_followed (situation history) text more piece ends less stands
 
@@ -430,7 +430,7 @@ join_last history text more piece first ends stands reach settled begins =
     no_cons p ps e = cc
 
 -- a piece behind which another stands ends before the text does
-inside : (history : History) (text : Text) (piece next : Piece) → next_step language history text ≡ Stands piece → next_step language (after history piece) (drop piece.len text) ≡ Stands next → piece.len < length text
+pub inside : (history : History) (text : Text) (piece next : Piece) → next_step language history text ≡ Stands piece → next_step language (after history piece) (drop piece.len text) ≡ Stands next → piece.len < length text
 inside history text piece next stands behind = go (drop piece.len text) refl behind
   where
     go : (rest : Text) → drop piece.len text ≡ rest → next_step language (after history piece) rest ≡ Stands next → piece.len < length text

@@ -14,7 +14,7 @@ use Rattle.starlark_grammar.specs.Pieces.{Piece, Step}
 use Rattle.starlark_grammar.specs.Reading.{History, tokens_onto, after, after_all, situation, next_step, IsReading, IsLongestReading, pieces_len}
 use Rattle.starlark_grammar.specs.Cuts.{is_outside, is_layout, is_settled}
 
-map_none : {A B : Type 0} (f : A → B) (o : Option A) → option_map f o ≡ None → o ≡ None
+pub map_none : {A B : Type 0} (f : A → B) (o : Option A) → option_map f o ≡ None → o ≡ None
 map_none f None h = refl
 map_none f (Some x) h = cc
 
@@ -42,7 +42,7 @@ open_settled earlier h zero (token ∷ before) = ap (option_map (λ (found : Ope
 open_settled earlier h (suc n) (token ∷ before) = open_settled earlier h (suc n) before
 
 -- outside of f-strings none is open
-outside_none : (found : Option (Opening × List Token)) → is_outside (mode_by found) ≡ true → found ≡ None
+pub outside_none : (found : Option (Opening × List Token)) → is_outside (mode_by found) ≡ true → found ≡ None
 outside_none None h = refl
 outside_none (Some found) h = absurd (go (braces found.1 == 0) (braces found.1 == 1 && depth Round found.1 == 0 && depth Square found.1 == 0) h)
   where

@@ -1,11 +1,12 @@
 -- Clean cuts, kept cuts and joined texts, closed by computing.
 use Rattle.std.proofs.Common.{◌≡◌, refl}
-use Rattle.std.specs.Prelude.{true, false, [], codes}
-use Rattle.starlark_grammar.specs.Words.{Text}
-use Rattle.std.specs.Prelude.{◌++◌, length}
+use Rattle.std.specs.Prelude.{ℕ, true, false, [], ◌∷◌, ◌++◌, length, codes, Option, Some}
+use Rattle.starlark_grammar.specs.Words.{Text, OpeningRound, ClosingRound}
+use Rattle.starlark_grammar.specs.Tokens.{Comment, Newline, Identifier, Word, Spanned, Lexeme, Fault, InvalidTab, Outcome}
+use Rattle.starlark_grammar.specs.Margins.{margin_of}
 use Rattle.starlark_grammar.specs.Reading.{outcome}
-use Rattle.starlark_grammar.specs.Cuts.{is_settled, is_clean_cut_in, is_clean_cut, is_kept_cut, joined}
-use Rattle.starlark_grammar.proofs.Rows.Shapes.{all_definitions}
+use Rattle.starlark_grammar.specs.Cuts.{is_settled, is_clean_cut_in, is_clean_cut, is_kept_cut, without_closing, joined, tabbed}
+use Rattle.starlark_grammar.proofs.Rows.Shapes.{at, all_definitions}
 
 -- the lexemes of two texts joined are the joined list
 abbrev Joins : Text → Text → Type 0
@@ -130,3 +131,23 @@ joins_2 :
     × Joins (codes "x\n") []
 unfolding all_definitions is_settled is_clean_cut_in is_clean_cut is_kept_cut
 joins_2 = (refl, refl, refl, refl, refl, refl, refl)
+
+-- what a clean cut and a text behind it with a tab in its first margin come to
+abbrev Tabbed : Text → Text → Outcome → Type 0
+Tabbed first second found = (outcome (first ++ second) ≡ found) × (tabbed (length first) (without_closing (outcome first).lexemes) (margin_of second).comments ≡ found)
+
+abbrev tab_at : ℕ → Option (Spanned Fault)
+tab_at place = Some (at place InvalidTab place)
+
+abbrev name : ℕ → Text → ℕ → Lexeme
+name begin text end = at begin (Identifier text) end
+
+-- the last `Newline` is taken back, with the comments behind it; where there is none all comments stay
+tabs_behind_cuts :
+    Tabbed (codes "x\n") (codes "\ty") (record { lexemes = name 0 (codes "x") 1 ∷ []; fault = tab_at 1 })
+    × Tabbed (codes "x\n# a\n") (codes "\ty") (record { lexemes = name 0 (codes "x") 1 ∷ []; fault = tab_at 1 })
+    × Tabbed (codes "x\n\n") (codes "# a\n\ty") (record { lexemes = name 0 (codes "x") 1 ∷ at 1 Newline 2 ∷ []; fault = tab_at 2 })
+    × Tabbed (codes "# a\n") (codes "# b\n \ty\n") (record { lexemes = at 0 (Comment (codes " a")) 3 ∷ at 4 (Comment (codes " b")) 7 ∷ []; fault = tab_at 0 })
+    × Tabbed (codes "x\n(\n)\r\n") (codes "\ty") (record { lexemes = name 0 (codes "x") 1 ∷ at 1 Newline 2 ∷ at 2 (Word OpeningRound) 3 ∷ at 4 (Word ClosingRound) 5 ∷ []; fault = tab_at 5 })
+unfolding all_definitions is_settled is_clean_cut_in is_clean_cut is_kept_cut
+tabs_behind_cuts = ((refl, refl), (refl, refl), (refl, refl), (refl, refl), (refl, refl))

@@ -66,7 +66,7 @@ all_in_line : (p : ℕ → Bool) (word : Text) → ((b : ℕ) → p b ≡ true �
 all_in_line p [] h k = refl
 all_in_line p (b ∷ bs) h k = let parts = and_parts (p b) (list_all p bs) k in rw (h b parts.0) (all_in_line p bs h parts.1)
 
-run_in_line : (p : ℕ → Bool) (word : Text) → ((b : ℕ) → p b ≡ true → is_in_line b ≡ true) → is_run p word ≡ true → in_line word ≡ true
+pub run_in_line : (p : ℕ → Bool) (word : Text) → ((b : ℕ) → p b ≡ true → is_in_line b ≡ true) → is_run p word ≡ true → in_line word ≡ true
 run_in_line p [] h k = refl
 run_in_line p (b ∷ bs) h k = all_in_line p (b ∷ bs) h k
 
@@ -76,22 +76,22 @@ name_in_line b h = grind (arith, nat_tests)
 begin_in_line : (b : ℕ) → is_name_start b ≡ true → is_in_line b ≡ true
 begin_in_line b h = grind (arith, nat_tests)
 
-digit_in_line : (b : ℕ) → is_ascii_digit b ≡ true → is_in_line b ≡ true
+pub digit_in_line : (b : ℕ) → is_ascii_digit b ≡ true → is_in_line b ≡ true
 digit_in_line b h = grind (arith, nat_tests)
 
-hexadecimal_in_line : (b : ℕ) → is_ascii_hexdigit b ≡ true → is_in_line b ≡ true
+pub hexadecimal_in_line : (b : ℕ) → is_ascii_hexdigit b ≡ true → is_in_line b ≡ true
 hexadecimal_in_line b h = grind (arith, nat_tests)
 
-octal_in_line : (b : ℕ) → is_octal_digit b ≡ true → is_in_line b ≡ true
+pub octal_in_line : (b : ℕ) → is_octal_digit b ≡ true → is_in_line b ≡ true
 octal_in_line b h = grind (arith, nat_tests)
 
-binary_in_line : (b : ℕ) → is_binary_digit b ≡ true → is_in_line b ≡ true
+pub binary_in_line : (b : ℕ) → is_binary_digit b ≡ true → is_in_line b ≡ true
 binary_in_line b h = grind (arith, nat_tests)
 
 sign_in_line : (b : ℕ) → is_sign b ≡ true → is_in_line b ≡ true
 sign_in_line b h = grind (arith, nat_tests)
 
-same_in_line : (a b : ℕ) → is_in_line a ≡ true → (a == b) ≡ true → is_in_line b ≡ true
+pub same_in_line : (a b : ℕ) → is_in_line a ≡ true → (a == b) ≡ true → is_in_line b ≡ true
 same_in_line a b h e = subst (λ c. is_in_line c ≡ true) (eqb-true a b e) h
 
 equal_in_line : (a b : ℕ) → is_in_line a ≡ true → (b == a) ≡ true → is_in_line b ≡ true
@@ -104,19 +104,19 @@ either_in_line b lower upper h k e = go (b == lower) refl e
     go true f e = equal_in_line lower b h f
     go false f e = equal_in_line upper b k e
 
-identifier_in_line : (word : Text) → is_identifier word ≡ true → in_line word ≡ true
+pub identifier_in_line : (word : Text) → is_identifier word ≡ true → in_line word ≡ true
 identifier_in_line [] h = refl
 identifier_in_line (b ∷ bs) h =
     let parts = and_parts (is_name_start b) (list_all is_in_name bs) h in
     rw (begin_in_line b parts.0) (all_in_line is_in_name bs name_in_line parts.1)
 
-comment_in_line : (word : Text) → is_comment word ≡ true → in_line word ≡ true
+pub comment_in_line : (word : Text) → is_comment word ≡ true → in_line word ≡ true
 comment_in_line [] h = refl
 comment_in_line (b ∷ bs) h =
     let parts = and_parts (b == 35) (list_all is_in_line bs) h in
     rw (equal_in_line 35 b refl parts.0) parts.1
 
-based_in_line : (lower upper : ℕ) (p : ℕ → Bool) (word : Text) → is_in_line lower ≡ true → is_in_line upper ≡ true → ((b : ℕ) → p b ≡ true → is_in_line b ≡ true) → is_based lower upper p word ≡ true → in_line word ≡ true
+pub based_in_line : (lower upper : ℕ) (p : ℕ → Bool) (word : Text) → is_in_line lower ≡ true → is_in_line upper ≡ true → ((b : ℕ) → p b ≡ true → is_in_line b ≡ true) → is_based lower upper p word ≡ true → in_line word ≡ true
 based_in_line lower upper p [] h k m e = refl
 based_in_line lower upper p (z ∷ []) h k m e = cc
 based_in_line lower upper p (z ∷ letter ∷ digits) h k m e =
@@ -157,7 +157,7 @@ fraction_in_line (b ∷ bs) h =
     let parts = and_parts (b == 46) (ends_float (behind_digits bs)) h in
     rw (equal_in_line 46 b refl parts.0) (behind_in_line bs (ends_in_line (behind_digits bs) parts.1))
 
-float_in_line : (word : Text) → is_float word ≡ true → in_line word ≡ true
+pub float_in_line : (word : Text) → is_float word ≡ true → in_line word ≡ true
 float_in_line word h =
     let parts = and_parts (begins_with_digit word) (is_fraction (behind_digits word) || is_exponent (behind_digits word)) h in
     go (is_fraction (behind_digits word)) refl parts.1
@@ -166,7 +166,7 @@ float_in_line word h =
     go true e h = behind_in_line word (fraction_in_line (behind_digits word) e)
     go false e h = behind_in_line word (exponent_in_line (behind_digits word) h)
 
-pointed_in_line : (word : Text) → is_pointed word ≡ true → in_line word ≡ true
+pub pointed_in_line : (word : Text) → is_pointed word ≡ true → in_line word ≡ true
 pointed_in_line word h = fraction_in_line word (and_parts (is_fraction word) (begins_with_digit (drop 1 word)) h).0
 
 -- a word without an LF has none before its end
