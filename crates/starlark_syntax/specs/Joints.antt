@@ -3,5 +3,6 @@ pub mod Steps
 pub mod Literals
 pub mod Nesting
 pub mod Pieces
+pub mod Pending
 pub mod Layout
 pub mod Reader

@@ -5,9 +5,7 @@ mod chunks;
 mod escapes;
 mod items;
 mod pieces;
-#[cfg(test)]
-mod tests;
 
 pub use chunks::chunk_from;
 pub use items::{Literal, Opening, Stop};
-pub use pieces::{Step, literal_piece, opening_of};
+pub use pieces::{Step, TextEnd, literal_piece, opening_of};

@@ -15,8 +15,6 @@ ghost use Rattle.starlark_grammar.specs.Words as word;
 ghost use Rattle.starlark_grammar.specs.Words.{class_in, language};
 
 mod terminals;
-#[cfg(test)]
-mod tests;
 mod words;
 
 use crate::lexer::literal::{Opening, Step, chunk_from, literal_piece, opening_of};

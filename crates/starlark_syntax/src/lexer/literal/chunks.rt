@@ -7,10 +7,9 @@ ghost use Rattle.starlark_grammar.specs.Pieces as grammar;
 
 use super::body::{Body, LiteralValue, read_body};
 use super::items::{Literal, Opening, Stop, closing_len};
-use super::pieces::Step;
+use super::pieces::{Step, TextEnd};
 use starlark_error::lexeme_error::LexemeError;
 use starlark_token::scanner::LiteralKind;
-use starlark_token::tokens::Token;
 use std::alloc::{AllocError, Global};
 
 /// The text of an f-string up to its first stop.
@@ -33,13 +32,13 @@ pub fn chunk_from(alloc: Global, opening: Opening, text: &str) -> Result<Step, A
         Stop::OpeningBrace => Ok(Step::Text {
             text: value,
             text_len,
-            token: Token::FStringExprStart,
+            stop: TextEnd::Expression,
             len: 1,
         }),
         Stop::Closing => Ok(Step::Text {
             text: value,
             text_len,
-            token: Token::FStringEnd,
+            stop: TextEnd::FString,
             len: closing_len(opening),
         }),
         Stop::ClosingBrace => Ok(Step::Fault {
