@@ -1,11 +1,11 @@
 -- What the code's margins say as the grammar sees them, and what became of them.
-use Rattle.std.specs.Prelude.{◌≡◌, ℕ, ◌+◌, List, [], ◌++◌, if◌then◌else◌, Option, Some, None, map, length, nat_eq, count_by, option_to_list}
+use Rattle.std.specs.Prelude.{◌≡◌, ℕ, ◌+◌, List, [], ◌++◌, if◌then◌else◌, true, false, cond, ◌==◌, ◌||◌, Option, Some, None, map, length, nat_eq, count_by, option_to_list}
 use Rattle.std.specs.List.{list_any}
 use Rattle.std.specs.Str.{byte}
 use Rattle.starlark_grammar.specs.Words.{Text}
 use Rattle.starlark_grammar.specs.Tokens as grammar
 use Rattle.starlark_grammar.specs.Margins as margins
-use Rattle.starlark_grammar.specs.Margins.{indentation, is_content, margin_len, open_widths, width_of}
+use Rattle.starlark_grammar.specs.Margins.{indentation, is_blank, is_content, margin_len, open_widths, width_of}
 use Rattle.starlark_grammar.specs.Pieces as pieces
 use Rattle.starlark_syntax.specs.Lexemes.{fault_view}
 use Rattle.starlark_syntax.specs.Joints.Pending.{IsPending, pending_lexemes}
@@ -21,6 +21,11 @@ pub record IsBlanks (blanks : Text) (found : Blanks) : Type 0 where
   pub len : found.len ≡ length blanks
   pub width : found.width ≡ count_by (nat_eq (byte " ")) blanks
   pub has_tab : found.has_tab ≡ list_any (nat_eq (byte "\t")) blanks
+
+-- the same with one byte more, where that is a blank
+abbrev pub IsWith : Blanks → ℕ → Option Blanks → Type 0
+IsWith old byte None = is_blank byte ≡ false
+IsWith old byte (Some new) = (is_blank byte ≡ true) × (new ≡ record { len = old.len + 1; width = cond (byte == 32) 1 0 + old.width; has_tab = byte == 9 || old.has_tab })
 
 -- a margin as the code has measured it
 pub record IsMargin (margin : margins.Margin) (found : Margin) : Type 0 where

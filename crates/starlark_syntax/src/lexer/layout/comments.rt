@@ -6,7 +6,7 @@ ghost use Rattle.starlark_syntax.specs.Joints.Pending.{IsComments, IsFirstCommen
 ghost use Rattle.starlark_grammar.specs.Margins as grammar;
 
 use super::PlacedToken;
-use super::margins::{before_feed_len, blanks_len};
+use super::margins::{before_feed_len, blanks_len, line_len};
 use starlark_token::tokens::Token;
 use std::alloc::{AllocError, Global};
 
@@ -44,8 +44,8 @@ pub fn first_comment(
     let lines = &text.as_bytes()[from..to];
     let begin = from + blanks_len(lines);
     let feed = before_feed_len(lines);
+    let len = line_len(lines, feed);
     let end = from + comment_end(lines, feed);
     let comment = String::from_str(alloc, &text[begin + 1..end])?;
-    let len = if feed < lines.len() { feed + 1 } else { feed };
     Ok(((begin, Token::Comment(comment), end), len))
 }

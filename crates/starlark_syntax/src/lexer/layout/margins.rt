@@ -1,8 +1,8 @@
 //! What the margin at the front of a text is.
 
-ghost use Rattle.std.specs.Prelude.{◌≡◌, ◌+◌, ◌≤◌, ◌<◌, ◌∷◌, drop, get_or, length, not, take};
-ghost use Rattle.std.specs.List.{prefix_len, slice_get};
-ghost use Rattle.starlark_syntax.specs.Joints.Layout.{IsBlanks, IsMargin};
+ghost use Rattle.std.specs.Prelude.{◌≡◌, ◌+◌, ◌≤◌, ◌<◌, ◌^◌, ◌∷◌, drop, length, not, take};
+ghost use Rattle.std.specs.List.{prefix_len};
+ghost use Rattle.starlark_syntax.specs.Joints.Layout.{IsBlanks, IsMargin, IsWith};
 ghost use Rattle.starlark_grammar.specs.Margins as grammar;
 
 /// The blanks at the front of a text: how many, how many of them are spaces, and whether one is a tab.
@@ -39,13 +39,39 @@ pub fn before_feed_len(text: &[u8]) -> usize
     text.iter().take_while(|byte| **byte != b'\n').count()
 }
 
-/// The length of the first line of a text, with its LF.
-fn line_len(text: &[u8]) -> usize
+/// The length of the first line of a text with its LF, by how many bytes stand before that.
+pub fn line_len(text: &[u8], feed: usize) -> usize
+    requires { feed ≡ prefix_len (λ b. not (grammar.is_feed b)) text.now }
     ensures line { 0 < length text.now → grammar.lines text.now ≡ take result text.now ∷ grammar.lines (drop result text.now) }
     ensures within { result ≤ length text.now }
+    ensures feed { feed ≤ result }
 {
-    let len = before_feed_len(text);
-    if len < text.len() { len + 1 } else { len }
+    if feed < text.len() { feed + 1 } else { feed }
+}
+
+impl Blanks {
+    /// These blanks and a byte behind them; `None` where that is no blank.
+    fn with(self, byte: u8) -> Option<Blanks>
+        requires len { self.len + 1 < 2 ^ 64 }
+        requires width { self.width + 1 < 2 ^ 64 }
+        ensures { IsWith self byte result }
+    {
+        let len = self.len + 1;
+        match byte {
+            b' ' => Some(Blanks {
+                len,
+                width: self.width + 1,
+                ..self
+            }),
+            b'\t' => Some(Blanks {
+                len,
+                has_tab: true,
+                ..self
+            }),
+            b'\r' => Some(Blanks { len, ..self }),
+            _ => None,
+        }
+    }
 }
 
 /// The blanks at the front of a text.
@@ -59,13 +85,10 @@ fn blanks_of(text: &[u8]) -> Blanks
         has_tab: false,
     };
     while let Some(byte) = text.get(blanks.len) {
-        match *byte {
-            b' ' => blanks.width += 1,
-            b'\t' => blanks.has_tab = true,
-            b'\r' => {}
-            _ => break,
-        }
-        blanks.len += 1;
+        let Some(more) = blanks.with(*byte) else {
+            break;
+        };
+        blanks = more;
     }
     blanks
 }
@@ -101,6 +124,6 @@ pub fn margin_of(text: &str) -> Margin
                 is_content: is_content(behind),
             };
         }
-        at += blanks.len + line_len(behind);
+        at += blanks.len + line_len(behind, before_feed_len(behind));
     }
 }

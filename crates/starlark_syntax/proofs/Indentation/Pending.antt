@@ -1,0 +1,116 @@
+-- Comments of the lines of a text from one place to another.
+use Rattle.std.proofs.Common.{◌≡◌, ℕ, suc, ◌+◌, ◌-◌, ◌≤◌, ◌<◌, Bool, true, false, cond, List, [], ◌∷◌, ◌++◌, length, map, take, drop, refl, ap, ◌∙◌, sym, subst, arith, add_assoc, one-add, add-zero}
+use Rattle.std.specs.Prelude.{take_while}
+use Rattle.std.specs.List.{prefix_len, onto_first, AllByRecursion}
+use Rattle.std.specs.Str.{IsUtf8, IsCharBoundary}
+use Rattle.std.proofs.lemmas.List.{drop-take, length-append, length-drop, length-take, length-take-le, take-take}
+use Rattle.std.proofs.lemmas.List.Sums.{prefix_len-le-length, sum_by-cons}
+use Rattle.std.proofs.Math.Seq.{take-add, take-append_seam, drop-append_seam}
+use Rattle.starlark_grammar.specs.Words.{Text}
+use Rattle.starlark_grammar.specs.Tokens.{Lexeme, moved}
+use Rattle.starlark_grammar.specs.Laws.{AtBoundaries}
+use Rattle.starlark_grammar.specs.Margins.{blanks_len, begins_comment, comment_lines, comment_of, comment_part, comments_from, is_blank, is_comment_only, is_feed, lines, margin_of}
+use Rattle.starlark_syntax.specs.Joints.Pending.{IsComments, lines_between}
+use Rattle.starlark_grammar.proofs.Lists.{drop-sum, take_fits}
+use Rattle.starlark_grammar.proofs.Order.Boundaries.{margin_edges}
+use Rattle.starlark_grammar.proofs.Order.Edges.{edges_shift}
+use Rattle.starlark_grammar.proofs.Order.Lexemes.{lines_sum, no_lines}
+use Rattle.starlark_syntax.proofs.Indentation.CommentLines.{first_passes, margin_comments}
+use Rattle.starlark_syntax.proofs.Indentation.Margins.{is_other}
+
+abbrev pub between : Text → ℕ → ℕ → Text
+between text from to = take (to - from) (drop from text)
+
+-- no lines
+pub no_comments : (text : Text) (at : ℕ) → at ≤ length text → IsComments text at at
+unfolding lines
+no_comments text at inside =
+    let none : at - at ≡ 0 = omega arith in
+    record {
+      order = omega arith;
+      inside = inside;
+      comments = rw none tt;
+      edges = rw none tt;
+    }
+
+pub no_lines_between : (text : Text) (from to : ℕ) → to ≤ from → lines_between text from to ≡ []
+unfolding lines
+no_lines_between text from to none = let zero_left : to - from ≡ 0 = omega (arith, none) in rw zero_left refl
+
+-- The first line
+
+-- its blanks are those of all the text
+blanks_front : (line rest : Text) → is_comment_only line ≡ true → blanks_len (line ++ rest) ≡ blanks_len line
+blanks_front [] rest h = cc
+blanks_front (b ∷ bs) rest h = go (is_blank b) h (blanks_front bs rest)
+  where
+    go : (blank : Bool) → begins_comment (drop (cond blank (1 + blanks_len bs) 0) (b ∷ bs)) ≡ true → (is_comment_only bs ≡ true → blanks_len (bs ++ rest) ≡ blanks_len bs)
+        → cond blank (1 + blanks_len (bs ++ rest)) 0 ≡ cond blank (1 + blanks_len bs) 0
+    go true h more = ap (λ n. 1 + n) (more (rw one-add at h))
+    go false h more = refl
+
+-- as much as passes lies in a front that is longer
+passed_front : (p : ℕ → Bool) (n : ℕ) (xs : Text) → prefix_len p xs ≤ n → prefix_len p (take n xs) ≡ prefix_len p xs
+passed_front p 0 [] h = refl
+passed_front p (suc n) [] h = refl
+passed_front p 0 (x ∷ xs) h = omega (arith, h)
+passed_front p (suc n) (x ∷ xs) h = go (p x) h (passed_front p n xs)
+  where
+    go : (passes : Bool) → cond passes (1 + prefix_len p xs) 0 ≤ suc n → (prefix_len p xs ≤ n → prefix_len p (take n xs) ≡ prefix_len p xs) → cond passes (1 + prefix_len p (take n xs)) 0 ≡ cond passes (1 + prefix_len p xs) 0
+    go true h more = ap (λ n. 1 + n) (more (omega (arith, h)))
+    go false h more = refl
+
+part_front : (n : ℕ) (text : Text) → prefix_len is_other text ≤ n → comment_part (take n text) ≡ comment_part text
+part_front n text h =
+    ap Rattle.starlark_grammar.specs.Margins.without_return (ap (λ k. take k (take n text)) (passed_front is_other n text h) ∙ take-take (prefix_len is_other text) n text h)
+
+module _ (text : Text) (from to feed len : ℕ) (is : IsComments text from to) (some : from < to) (e : feed ≡ prefix_len is_other (between text from to))
+    (split : 0 < length (between text from to) → lines (between text from to) ≡ take len (between text from to) ∷ lines (drop len (between text from to))) (inside : len ≤ length (between text from to)) (least : feed ≤ len) where
+  all_len : length (between text from to) ≡ to - from
+  all_len = length-take-le (to - from) (drop from text) (omega (arith, length-drop from text, is.inside))
+
+  first_split : lines_between text from to ≡ take len (between text from to) ∷ lines (drop len (between text from to))
+  first_split = split (omega (arith, all_len, some))
+
+  pub line_is : take len (between text from to) ≡ take len (drop from text)
+  line_is = take-take len (to - from) (drop from text) (omega (arith, inside, all_len))
+
+  pub line_passes : is_comment_only (take len (drop from text)) ≡ true
+  line_passes = subst (λ (t : Text). is_comment_only t ≡ true) line_is (subst (AllByRecursion (λ (line : Text). is_comment_only line ≡ true)) first_split is.comments).0
+
+  pub line_blanks : blanks_len (between text from to) ≡ blanks_len (take len (drop from text))
+  line_blanks =
+      ap blanks_len (sym (Rattle.std.proofs.lemmas.List.take-append-drop len (between text from to)) ∙ ap (λ (t : Text). t ++ drop len (between text from to)) line_is)
+      ∙ blanks_front (take len (drop from text)) (drop len (between text from to)) line_passes
+
+  pub line_part : comment_part (between text from to) ≡ comment_part (take len (drop from text))
+  line_part = sym (part_front len (between text from to) (omega (arith, least, e))) ∙ ap comment_part line_is
+
+  pub line_edges : AtBoundaries text (comment_of from (take len (drop from text)))
+  line_edges = subst (λ (t : Text). AtBoundaries text (comment_of from t)) line_is (subst (λ ls. AllByRecursion (AtBoundaries text) (comments_from from ls)) first_split is.edges).0
+
+  pub line_inside : from + len ≤ to
+  line_inside = omega (arith, inside, all_len, some)
+
+  pub line_len : length (take len (drop from text)) ≡ len
+  line_len = ap (λ (t : Text). length t) (sym line_is) ∙ length-take-le len (between text from to) inside
+
+  -- what is left behind it
+  rest_is : drop len (between text from to) ≡ between text (from + len) to
+  rest_is =
+      let whole : to - from ≡ len + (to - (from + len)) = omega (arith, line_inside) in
+      ap (λ n. drop len (take n (drop from text))) whole ∙ drop-take len (to - (from + len)) (drop from text) ∙ ap (take (to - (from + len))) (sym (drop-sum from len text))
+
+  pub first_line : lines_between text from to ≡ take len (drop from text) ∷ lines_between text (from + len) to
+  first_line = first_split ∙ ap (λ (t : Text). t ∷ lines (drop len (between text from to))) line_is ∙ ap (λ (t : Text). take len (drop from text) ∷ lines t) rest_is
+
+  pub behind_line : IsComments text (from + len) to
+  behind_line = record {
+    order = line_inside;
+    inside = is.inside;
+    comments = (subst (AllByRecursion (λ (line : Text). is_comment_only line ≡ true)) first_line is.comments).1;
+    edges = ap_edges (subst (λ ls. AllByRecursion (AtBoundaries text) (comments_from from ls)) first_line is.edges).1;
+  }
+    where
+      ap_edges : AllByRecursion (AtBoundaries text) (comments_from (from + length (take len (drop from text))) (lines_between text (from + len) to)) → AllByRecursion (AtBoundaries text) (comments_from (from + len) (lines_between text (from + len) to))
+      ap_edges h = subst (λ n. AllByRecursion (AtBoundaries text) (comments_from (from + n) (lines_between text (from + len) to))) line_len h
