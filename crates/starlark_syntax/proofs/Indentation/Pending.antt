@@ -1,5 +1,5 @@
 -- Comments of the lines of a text from one place to another.
-use Rattle.std.proofs.Common.{◌≡◌, ℕ, suc, ◌+◌, ◌-◌, ◌≤◌, ◌<◌, Bool, true, false, cond, List, [], ◌∷◌, ◌++◌, length, map, take, drop, refl, ap, ◌∙◌, sym, subst, arith, add_assoc, one-add, add-zero}
+use Rattle.std.proofs.Common.{◌≡◌, ℕ, zero, suc, ◌+◌, ◌-◌, ◌≤◌, ◌<◌, Bool, true, false, cond, List, [], ◌∷◌, ◌++◌, length, map, take, drop, refl, ap, ◌∙◌, sym, subst, arith, add_assoc, one-add, add-zero}
 use Rattle.std.specs.Prelude.{take_while}
 use Rattle.std.specs.List.{prefix_len, onto_first, AllByRecursion}
 use Rattle.std.specs.Str.{IsUtf8, IsCharBoundary}
@@ -14,8 +14,8 @@ use Rattle.starlark_syntax.specs.Joints.Pending.{IsComments, lines_between}
 use Rattle.starlark_grammar.proofs.Lists.{drop-sum, take_fits}
 use Rattle.starlark_grammar.proofs.Order.Boundaries.{margin_edges}
 use Rattle.starlark_grammar.proofs.Order.Edges.{edges_shift}
-use Rattle.starlark_grammar.proofs.Order.Lexemes.{lines_sum, no_lines}
-use Rattle.starlark_syntax.proofs.Indentation.CommentLines.{first_passes, margin_comments}
+use Rattle.starlark_grammar.proofs.Order.Lexemes.{lines_sum}
+use Rattle.starlark_syntax.proofs.Indentation.CommentLines.{comment_inside, first_passes, margin_comments}
 use Rattle.starlark_syntax.proofs.Indentation.Margins.{is_other}
 
 abbrev pub between : Text → ℕ → ℕ → Text
@@ -51,9 +51,9 @@ blanks_front (b ∷ bs) rest h = go (is_blank b) h (blanks_front bs rest)
 
 -- as much as passes lies in a front that is longer
 passed_front : (p : ℕ → Bool) (n : ℕ) (xs : Text) → prefix_len p xs ≤ n → prefix_len p (take n xs) ≡ prefix_len p xs
-passed_front p 0 [] h = refl
+passed_front p zero [] h = refl
 passed_front p (suc n) [] h = refl
-passed_front p 0 (x ∷ xs) h = omega (arith, h)
+passed_front p zero (x ∷ xs) h = omega (arith, h)
 passed_front p (suc n) (x ∷ xs) h = go (p x) h (passed_front p n xs)
   where
     go : (passes : Bool) → cond passes (1 + prefix_len p xs) 0 ≤ suc n → (prefix_len p xs ≤ n → prefix_len p (take n xs) ≡ prefix_len p xs) → cond passes (1 + prefix_len p (take n xs)) 0 ≡ cond passes (1 + prefix_len p xs) 0
@@ -114,3 +114,37 @@ module _ (text : Text) (from to feed len : ℕ) (is : IsComments text from to) (
     where
       ap_edges : AllByRecursion (AtBoundaries text) (comments_from (from + length (take len (drop from text))) (lines_between text (from + len) to)) → AllByRecursion (AtBoundaries text) (comments_from (from + len) (lines_between text (from + len) to))
       ap_edges h = subst (λ n. AllByRecursion (AtBoundaries text) (comments_from (from + n) (lines_between text (from + len) to))) line_len h
+
+-- What was measured of the first line, of so many bytes: its blanks, and how far its comment goes.
+pub record IsMeasured (text : Text) (from to k n len : ℕ) : Type 0 where
+  pub passes : is_comment_only (take len (drop from text)) ≡ true
+  pub blanks : k ≡ blanks_len (take len (drop from text))
+  pub part : n ≡ length (comment_part (take len (drop from text)))
+  pub edges : AtBoundaries text (comment_of from (take len (drop from text)))
+  pub inside : from + len ≤ to
+  pub whole : length (take len (drop from text)) ≡ len
+  pub first : lines_between text from to ≡ take len (drop from text) ∷ lines_between text (from + len) to
+  pub behind : IsComments text (from + len) to
+  pub order : k + 1 ≤ n
+  pub part_inside : from + n ≤ length text
+
+pub measured : (text : Text) (from to feed len blanks part : ℕ) → IsComments text from to → from < to → feed ≡ prefix_len is_other (between text from to)
+    → (0 < length (between text from to) → lines (between text from to) ≡ take len (between text from to) ∷ lines (drop len (between text from to))) → len ≤ length (between text from to) → feed ≤ len
+    → blanks ≡ blanks_len (between text from to) → part ≡ length (comment_part (between text from to)) → IsMeasured text from to blanks part len
+measured text from to feed len blanks part is some e split inside least b p =
+    let edges = line_edges text from to feed len is some e split inside least in
+    let passes = line_passes text from to feed len is some e split inside least in
+    let k : blanks ≡ blanks_len (take len (drop from text)) = b ∙ line_blanks text from to feed len is some e split inside least in
+    let n : part ≡ length (comment_part (take len (drop from text))) = p ∙ ap (λ (t : Text). length t) (line_part text from to feed len is some e split inside least) in
+    record {
+      passes = passes;
+      blanks = k;
+      part = n;
+      edges = edges;
+      inside = line_inside text from to feed len is some e split inside least;
+      whole = line_len text from to feed len is some e split inside least;
+      first = first_line text from to feed len is some e split inside least;
+      behind = behind_line text from to feed len is some e split inside least;
+      order = comment_inside (take len (drop from text)) blanks part passes k n;
+      part_inside = omega (arith, edges.1.0, n);
+    }

@@ -1,20 +1,36 @@
--- Lexemes that are put behind those that wait.
-use Rattle.std.proofs.Common.{◌≡◌, ℕ, List, [], ◌∷◌, ◌++◌, ap, sym, ◌∙◌, append_assoc, append-nil, map}
+-- Lexemes that are still to be handed out.
+use Rattle.std.proofs.Common.{◌≡◌, ℕ, ◌+◌, ◌≤◌, List, [], ◌∷◌, ◌++◌, ap, sym, ◌∙◌, length, map, Some, None}
 use Rattle.std.proofs.lemmas.List.{map-append}
-use Rattle.starlark_grammar.specs.Tokens.{Lexeme}
+use Rattle.starlark_grammar.specs.Words.{Text}
+use Rattle.starlark_grammar.specs.Margins.{comment_of, comments_from, lines}
 use Rattle.starlark_syntax.specs.Lexemes.{lexeme_view, shown_lexeme}
-use Rattle.starlark_syntax.specs.Joints.Layout.{Queued}
+use Rattle.starlark_syntax.specs.Joints.Pending.{IsFirst, IsFirstBehind, IsFirstComment, IsPending, behind_lexemes, lines_between, pending_lexemes}
+use Rattle.starlark_syntax.specs.declared.lexer.layout.pending.Behind.{Behind}
+use Rattle.starlark_syntax.specs.declared.lexer.layout.pending.Pending.{Pending}
 use Rattle.starlark_token.specs.declared.tokens.Token.{Token}
+use Rattle.starlark_syntax.proofs.Indentation.Pending.{no_lines_between}
 
-pub queued_none : (waiting : List (ℕ × Token × ℕ)) → Queued waiting [] waiting
-queued_none waiting = sym (append-nil (map lexeme_view waiting))
+-- the first of the comments
+pub comment_first : (text : Text) (old : Pending) (found : ℕ × Token × ℕ) (len : ℕ) → IsFirstComment text old.from old.to found len → IsFirst text old (record { from = old.from + len; to = old.to; behind = old.behind }) (Some found)
+unfolding pending_lexemes
+comment_first text old found len is =
+    let later = comments_from (old.from + len) (lines_between text (old.from + len) old.to) in
+    let all : comments_from old.from (lines_between text old.from old.to) ≡ comment_of old.from is.line ∷ later =
+    ap (comments_from old.from) is.first ∙ ap (λ n. comment_of old.from is.line ∷ comments_from (old.from + n) (lines_between text (old.from + len) old.to)) is.whole in
+    (
+      is.behind,
+      ap (λ ls. map shown_lexeme (ls ++ behind_lexemes old.behind)) all ∙ ap (λ v. v ∷ map shown_lexeme (later ++ behind_lexemes old.behind)) (sym is.comment),
+    )
 
-pub queued_one : (waiting : List (ℕ × Token × ℕ)) (found : ℕ × Token × ℕ) (lexeme : Lexeme) → lexeme_view found ≡ shown_lexeme lexeme → Queued waiting (lexeme ∷ []) (waiting ++ found ∷ [])
-queued_one waiting found lexeme e = map-append lexeme_view waiting (found ∷ []) ∙ ap (λ v. map lexeme_view waiting ++ v ∷ []) e
+-- comments are still to be handed out
+pub comments_left : (text : Text) (old : Pending) (found : ℕ × Token × ℕ) (len : ℕ) → IsFirstComment text old.from old.to found len → pending_lexemes text old ≡ [] → ⊥
+unfolding pending_lexemes
+comments_left text old found len is none =
+    let some : comments_from old.from (lines_between text old.from old.to) ++ behind_lexemes old.behind ≡ comment_of old.from is.line ∷ _ = ap (λ ls. comments_from old.from ls ++ behind_lexemes old.behind) is.first in
+    cc
 
-pub queued_both : (before between after : List (ℕ × Token × ℕ)) (xs ys : List Lexeme) → Queued before xs between → Queued between ys after → Queued before (xs ++ ys) after
-queued_both before between after xs ys e f =
-    f ∙ ap (λ vs. vs ++ map shown_lexeme ys) e ∙ append_assoc (map lexeme_view before) (map shown_lexeme xs) (map shown_lexeme ys) ∙ sym (ap (λ vs. map lexeme_view before ++ vs) (map-append shown_lexeme xs ys))
-
-pub queued_more : (before between : List (ℕ × Token × ℕ)) (xs : List Lexeme) (found : ℕ × Token × ℕ) (lexeme : Lexeme) → Queued before xs between → lexeme_view found ≡ shown_lexeme lexeme → Queued before (xs ++ lexeme ∷ []) (between ++ found ∷ [])
-queued_more before between xs found lexeme e f = queued_both before between (between ++ found ∷ []) xs (lexeme ∷ []) e (queued_one between found lexeme f)
+-- where no comments are, what stands behind them
+pub behind_first : (text : Text) (old : Pending) (new : Behind) (found : Rattle.std.specs.Prelude.Option (ℕ × Token × ℕ)) → IsPending text old → old.to ≤ old.from → IsFirstBehind old.behind new found → IsFirst text old (record { from = old.from; to = old.to; behind = new }) found
+unfolding pending_lexemes
+behind_first text old new None is none h = (rw (no_lines_between text old.from old.to none) h.0, rw h.1 refl)
+behind_first text old new (Some found) is none h = (is, rw (no_lines_between text old.from old.to none) h)
