@@ -1,8 +1,9 @@
 -- Comments of the lines of a text from one place to another.
 use Rattle.std.proofs.Common.{◌≡◌, ℕ, zero, suc, ◌+◌, ◌-◌, ◌≤◌, ◌<◌, Bool, true, false, cond, List, [], ◌∷◌, ◌++◌, length, map, take, drop, refl, ap, ◌∙◌, sym, subst, arith, add_assoc, one-add, add-zero}
-use Rattle.std.specs.Prelude.{take_while}
+use Rattle.std.specs.Prelude.{if◌then◌else◌, take_while}
 use Rattle.std.specs.List.{prefix_len, onto_first, AllByRecursion}
 use Rattle.std.specs.Str.{IsUtf8, IsCharBoundary}
+use Rattle.std.proofs.lemmas.Str.{IsUtf8-drop}
 use Rattle.std.proofs.lemmas.List.{drop-take, length-append, length-drop, length-take, length-take-le, take-take}
 use Rattle.std.proofs.lemmas.List.Sums.{prefix_len-le-length, sum_by-cons}
 use Rattle.std.proofs.Math.Seq.{take-add, take-append_seam, drop-append_seam}
@@ -13,7 +14,7 @@ use Rattle.starlark_grammar.specs.Margins.{blanks_len, begins_comment, comment_l
 use Rattle.starlark_syntax.specs.Joints.Pending.{IsComments, lines_between}
 use Rattle.starlark_grammar.proofs.Lists.{drop-sum, take_fits}
 use Rattle.starlark_grammar.proofs.Order.Boundaries.{margin_edges}
-use Rattle.starlark_grammar.proofs.Order.Edges.{edges_shift}
+use Rattle.starlark_grammar.proofs.Order.Edges.{boundary_shift, edges_shift}
 use Rattle.starlark_grammar.proofs.Order.Lexemes.{lines_sum}
 use Rattle.starlark_syntax.proofs.Indentation.CommentLines.{comment_inside, first_passes, margin_comments}
 use Rattle.starlark_syntax.proofs.Indentation.Margins.{is_other}
@@ -36,6 +37,22 @@ no_comments text at inside =
 pub no_lines_between : (text : Text) (from to : ℕ) → to ≤ from → lines_between text from to ≡ []
 unfolding lines
 no_lines_between text from to none = let zero_left : to - from ≡ 0 = omega (arith, none) in rw zero_left refl
+
+-- bytes are a line, or more
+pub some_lines : (text : Text) (from to : ℕ) → from < to → to ≤ length text → lines_between text from to ≡ [] → ⊥
+unfolding lines
+some_lines text from to some inside none = go (take (to - from) (drop from text)) refl none
+  where
+    go : (t : Text) → take (to - from) (drop from text) ≡ t → lines t ≡ [] → ⊥
+    go [] e h =
+        let len : to - from ≡ 0 = sym (length-take-le (to - from) (drop from text) (omega (arith, length-drop from text, inside))) ∙ ap (λ (t : Text). length t) e in
+        absurd (omega (arith, some, len))
+    go (b ∷ bs) e h = by (is_feed b) (lines bs) h
+      where
+        by : (feed : Bool) (m : List Text) → (if feed then (b ∷ []) ∷ m else onto_first b m) ≡ [] → ⊥
+        by true m k = cc
+        by false [] k = cc
+        by false (l ∷ m) k = cc
 
 -- The first line
 
@@ -148,3 +165,94 @@ measured text from to feed len blanks part is some e split inside least b p =
       order = comment_inside (take len (drop from text)) blanks part passes k n;
       part_inside = omega (arith, edges.1.0, n);
     }
+
+-- The comments of a margin
+
+-- The first of a text's lines, which is the first of each front of the text that it lies in.
+record IsCut (text line : Text) (more : List Text) : Type 0 where
+  rest : Text
+  whole : text ≡ line ++ rest
+  left : lines rest ≡ more
+  front : (n : ℕ) → lines (line ++ take n rest) ≡ line ∷ lines (take n rest)
+
+abbrev IsCutBy : Text → List Text → Type 0
+IsCutBy text [] = text ≡ []
+IsCutBy text (line ∷ more) = IsCut text line more
+
+cut_by : (text : Text) → IsCutBy text (lines text)
+unfolding lines
+cut_by [] = refl
+cut_by (b ∷ bs) = go (is_feed b) refl (lines bs) (cut_by bs) refl
+  where
+    last : (n : ℕ) → is_feed b ≡ false → lines (b ∷ take n []) ≡ (b ∷ []) ∷ lines (take n [])
+    last zero f = rw f refl
+    last (suc n) f = rw f refl
+
+    go : (feed : Bool) → is_feed b ≡ feed → (m : List Text) → IsCutBy bs m → lines bs ≡ m → IsCutBy (b ∷ bs) (if feed then (b ∷ []) ∷ m else onto_first b m)
+    go true f m cut k = record { rest = bs; whole = refl; left = k; front = λ n. rw f refl }
+    go false f [] none k = record { rest = []; whole = ap (λ (t : Text). b ∷ t) none; left = refl; front = λ n. last n f }
+    go false f (l ∷ ls) cut k = record { rest = cut.rest; whole = ap (λ (t : Text). b ∷ t) cut.whole; left = cut.left; front = λ n. rw f (ap (onto_first b) (cut.front n)) }
+
+-- the front of a text that its comment-only lines are has these lines
+front_lines : (ls : List Text) (text : Text) → lines text ≡ ls → lines (take (lines_sum (take_while is_comment_only ls)) text) ≡ take_while is_comment_only ls
+unfolding lines
+front_lines [] text e = refl
+front_lines (line ∷ more) text e = go (is_comment_only line) (front_lines more cut.rest cut.left)
+  where
+    cut : IsCut text line more
+    cut = subst (IsCutBy text) e (cut_by text)
+
+    go : (passes : Bool) → lines (take (lines_sum (take_while is_comment_only more)) cut.rest) ≡ take_while is_comment_only more
+        → lines (take (lines_sum (take (cond passes (1 + prefix_len is_comment_only more) 0) (line ∷ more))) text) ≡ take (cond passes (1 + prefix_len is_comment_only more) 0) (line ∷ more)
+    go false later = refl
+    go true later =
+        let taken = take_while is_comment_only more in
+        let one : take (1 + prefix_len is_comment_only more) (line ∷ more) ≡ line ∷ taken = ap (λ n. take n (line ∷ more)) (one-add (prefix_len is_comment_only more)) in
+        let sum : lines_sum (line ∷ taken) ≡ length line + lines_sum taken = sum_by-cons (λ (line : Text). length line) line taken in
+        let front : take (length line + lines_sum taken) text ≡ line ++ take (lines_sum taken) cut.rest =
+        ap (take (length line + lines_sum taken)) cut.whole ∙ take-add (length line) (lines_sum taken) (line ++ cut.rest)
+        ∙ ap (λ (t : Text). t ++ take (lines_sum taken) (drop (length line) (line ++ cut.rest))) (take-append_seam line cut.rest)
+        ∙ ap (λ (t : Text). line ++ take (lines_sum taken) t) (drop-append_seam line cut.rest) in
+        ap (λ (ls : List Text). lines (take (lines_sum ls) text)) one ∙ ap (λ n. lines (take n text)) sum ∙ ap lines front ∙ cut.front (lines_sum taken) ∙ ap (λ (ls : List Text). line ∷ ls) later ∙ sym one
+
+all_pass : (ls : List Text) → AllByRecursion (λ (line : Text). is_comment_only line ≡ true) (take_while is_comment_only ls)
+all_pass [] = tt
+all_pass (line ∷ more) = go (is_comment_only line) refl (all_pass more)
+  where
+    go : (passes : Bool) → is_comment_only line ≡ passes → AllByRecursion (λ (line : Text). is_comment_only line ≡ true) (take_while is_comment_only more)
+        → AllByRecursion (λ (line : Text). is_comment_only line ≡ true) (take (cond passes (1 + prefix_len is_comment_only more) 0) (line ∷ more))
+    go false e later = tt
+    go true e later = rw one-add (e, later)
+
+comments_later : (n at : ℕ) (ls : List Text) → comments_from (n + at) ls ≡ map (moved n) (comments_from at ls)
+comments_later n at [] = refl
+comments_later n at (line ∷ ls) =
+    let next : n + at + length line ≡ n + (at + length line) = omega arith in
+    let begins : n + at + blanks_len line ≡ n + (at + blanks_len line) = omega arith in
+    let ends : n + at + length (comment_part line) ≡ n + (at + length (comment_part line)) = omega arith in
+    rw (begins, ends, next, comments_later n (at + length line) ls) refl
+
+-- a margin that begins at a place of a text
+module _ (text : Text) (begin at : ℕ) (utf8 : IsUtf8 text) (here : IsCharBoundary text begin) (same : at ≡ (margin_of (drop begin text)).at) where
+  margin_lines : lines_between text begin (begin + at) ≡ comment_lines (drop begin text)
+  unfolding margin_of
+  margin_lines =
+      let len : begin + at - begin ≡ lines_sum (comment_lines (drop begin text)) = omega (arith, same) in
+      ap (λ n. lines (take n (drop begin text))) len ∙ front_lines (lines (drop begin text)) (drop begin text) refl
+
+  -- its comments
+  pub margin_between : map (moved begin) (margin_of (drop begin text)).comments ≡ comments_from begin (lines_between text begin (begin + at))
+  margin_between =
+      let start : begin + 0 ≡ begin = omega arith in
+      ap (map (moved begin)) (margin_comments (drop begin text)) ∙ sym (comments_later begin 0 (comment_lines (drop begin text))) ∙ ap (λ n. comments_from n (comment_lines (drop begin text))) start ∙ ap (comments_from begin) (sym margin_lines)
+
+  pub are_comments : IsComments text begin (begin + at)
+  are_comments =
+      let edges = margin_edges (drop begin text) (IsUtf8-drop text begin utf8 here) in
+      let last : IsCharBoundary (drop begin text) at = subst (IsCharBoundary (drop begin text)) (sym same) edges.at in
+      record {
+        order = omega arith;
+        inside = (boundary_shift text begin at here last).0;
+        comments = subst (AllByRecursion (λ (line : Text). is_comment_only line ≡ true)) (sym margin_lines) (all_pass (lines (drop begin text)));
+        edges = subst (AllByRecursion (AtBoundaries text)) margin_between (edges_shift text begin (margin_of (drop begin text)).comments here edges.comments);
+      }

@@ -1,5 +1,6 @@
 -- Lexemes that are still to be handed out.
-use Rattle.std.proofs.Common.{◌≡◌, ℕ, ◌+◌, ◌≤◌, List, [], ◌∷◌, ◌++◌, ap, sym, ◌∙◌, length, map, Some, None}
+use Rattle.std.proofs.Common.{◌≡◌, ℕ, ◌+◌, ◌<◌, ◌≤◌, List, [], ◌∷◌, ◌++◌, ap, sym, ◌∙◌, length, map, refl, Some, None}
+use Rattle.std.specs.Prelude.{Result, Ok, Err, OnErr}
 use Rattle.std.proofs.lemmas.List.{map-append}
 use Rattle.starlark_grammar.specs.Words.{Text}
 use Rattle.starlark_grammar.specs.Margins.{comment_of, comments_from, lines}
@@ -8,7 +9,7 @@ use Rattle.starlark_syntax.specs.Joints.Pending.{IsFirst, IsFirstBehind, IsFirst
 use Rattle.starlark_syntax.specs.declared.lexer.layout.pending.Behind.{Behind}
 use Rattle.starlark_syntax.specs.declared.lexer.layout.pending.Pending.{Pending}
 use Rattle.starlark_token.specs.declared.tokens.Token.{Token}
-use Rattle.starlark_syntax.proofs.Indentation.Pending.{no_lines_between}
+use Rattle.starlark_syntax.proofs.Indentation.Pending.{no_lines_between, some_lines}
 
 -- the first of the comments
 pub comment_first : (text : Text) (old : Pending) (found : ℕ × Token × ℕ) (len : ℕ) → IsFirstComment text old.from old.to found len → IsFirst text old (record { from = old.from + len; to = old.to; behind = old.behind }) (Some found)
@@ -23,14 +24,21 @@ comment_first text old found len is =
     )
 
 -- comments are still to be handed out
-pub comments_left : (text : Text) (old : Pending) (found : ℕ × Token × ℕ) (len : ℕ) → IsFirstComment text old.from old.to found len → pending_lexemes text old ≡ [] → ⊥
+pub comments_left : (text : Text) (old : Pending) → IsPending text old → old.from < old.to → pending_lexemes text old ≡ [] → ⊥
 unfolding pending_lexemes
-comments_left text old found len is none =
-    let some : comments_from old.from (lines_between text old.from old.to) ++ behind_lexemes old.behind ≡ comment_of old.from is.line ∷ _ = ap (λ ls. comments_from old.from ls ++ behind_lexemes old.behind) is.first in
-    cc
+comments_left text old is some none = go (lines_between text old.from old.to) refl none
+  where
+    go : (ls : List Text) → lines_between text old.from old.to ≡ ls → comments_from old.from ls ++ behind_lexemes old.behind ≡ [] → ⊥
+    go [] e h = some_lines text old.from old.to some is.inside e
+    go (l ∷ ls) e h = cc
 
 -- where no comments are, what stands behind them
 pub behind_first : (text : Text) (old : Pending) (new : Behind) (found : Rattle.std.specs.Prelude.Option (ℕ × Token × ℕ)) → IsPending text old → old.to ≤ old.from → IsFirstBehind old.behind new found → IsFirst text old (record { from = old.from; to = old.to; behind = new }) found
 unfolding pending_lexemes
 behind_first text old new None is none h = (rw (no_lines_between text old.from old.to none) h.0, rw h.1 refl)
 behind_first text old new (Some found) is none h = (is, rw (no_lines_between text old.from old.to none) h)
+
+-- what is so after each error
+pub after_error : {A E : Type 0} (result : Result A E) (P : Type 0) → P → OnErr result P
+after_error (Ok x) P p = tt
+after_error (Err e) P p = p

@@ -47,6 +47,7 @@ impl Behind {
     }
 
     /// The first lexeme, which is then no longer to be handed out; `None` where there is none.
+    #[tactic(auto, unfolding(starlark_token::specs::TokenViews::token_view))]
     fn next(&mut self) -> Option<PlacedToken>
         ensures { IsFirstBehind self.old self.new result }
     {

@@ -3,7 +3,7 @@
 ghost use Rattle.std.specs.Prelude.{◌≡◌, ◌≢◌, ◌+◌, ◌<◌, ◌^◌, Some, false, length, not, IfOk};
 ghost use Rattle.starlark_grammar.specs.Depths.{Where};
 ghost use Rattle.starlark_grammar.specs.Items as items;
-ghost use Rattle.starlark_syntax.specs.Joints.Steps.{IsStep, begins_fstring};
+ghost use Rattle.starlark_syntax.specs.Joints.Steps.{IsStep, begins_fstring, text_end_node};
 ghost use Rattle.starlark_syntax.specs.Lexemes.{fault_view};
 ghost use Rattle.starlark_grammar.specs.Cuts.{is_outside};
 ghost use Rattle.starlark_syntax.specs.Joints.Literals.{bytes_of, holds_text, opening_view};
@@ -28,6 +28,7 @@ pub enum TextEnd {
 
 impl TextEnd {
     /// As a token.
+    #[tactic(auto, unfolding(starlark_token::specs::TokenViews::token_view))]
     pub fn token(self) -> Token
         ensures { token_view result ≡ Whole (text_end_node self) }
     {
