@@ -3,6 +3,7 @@ use Rattle.std.proofs.Common.{◌≡◌, ℕ, ◌+◌, true, false, List, [], �
 use Rattle.std.specs.Prelude.{Option, option_to_list}
 use Rattle.std.specs.Str.{IsUtf8, IsCharBoundary}
 use Rattle.std.proofs.lemmas.List.{map-append}
+use Rattle.std.proofs.lemmas.Str.{IsCharBoundary-start}
 use Rattle.starlark_grammar.specs.Words.{Text}
 use Rattle.starlark_grammar.specs.Tokens.{Indentation, InvalidTab, Lexeme, Newline, moved}
 use Rattle.starlark_grammar.specs.Margins.{Margin, fits, margin_len, margin_of, open_widths}
@@ -77,6 +78,12 @@ module _ (text : Text) (begin : ℕ) (margin : Measured) (utf8 : IsUtf8 text) (h
         are_comments text begin margin.at utf8 here same.at,
         rw (margin_between text begin margin.at utf8 here same.at, none) (sym (Rattle.std.proofs.Common.append-nil _)),
       )
+
+pub comments_wait_first : (text : Text) (margin : Measured) → IsUtf8 text → IsMargin (margin_of text) margin → (behind : Behind) → behind_lexemes behind ≡ []
+    → IsPending text (record { from = 0; to = margin.at; behind = behind }) × (map (moved 0) (margin_of text).comments ≡ pending_lexemes text (record { from = 0; to = margin.at; behind = behind }))
+comments_wait_first text margin utf8 same behind none =
+    subst (λ n. IsPending text (record { from = 0; to = n; behind = behind }) × (map (moved 0) (margin_of text).comments ≡ pending_lexemes text (record { from = 0; to = n; behind = behind }))) (zero-add margin.at)
+    (comments_wait text 0 margin utf8 (IsCharBoundary-start text utf8) same behind none)
 
 -- What was done
 

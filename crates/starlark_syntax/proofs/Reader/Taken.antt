@@ -13,7 +13,8 @@ use Rattle.starlark_grammar.specs.Margins.{Margin, comment_lines, comments_from,
 use Rattle.starlark_grammar.specs.Pieces.{Before, Ends, Fails, Gap, Layout, Nothing, Other, Piece, Stands, first_margin, line_end, margin_step}
 use Rattle.starlark_grammar.specs.Reading.{History, after, closing, next_step, nothing, outcome, tokens_onto}
 use Rattle.starlark_syntax.specs.Lexemes.{fault_view, lexeme_view, shown_lexeme}
-use Rattle.starlark_syntax.specs.Joints.Layout.{IsRefused, IsTaken, Queued}
+use Rattle.starlark_syntax.specs.Joints.Layout.{IsRefused, IsTaken}
+use Rattle.starlark_syntax.specs.Joints.Pending.{IsPending, pending_lexemes}
 use Rattle.starlark_syntax.specs.Joints.Nesting.{Represents, bracket_count, change_by, closes, fstring_of, opens}
 use Rattle.starlark_syntax.specs.Joints.Pieces.{IsBehind}
 use Rattle.starlark_syntax.specs.Joints.Reader.{IsAhead, IsKept, IsLeft, IsRead, left_here, left_to_read, outcome_from, step_here}
@@ -33,7 +34,7 @@ use Rattle.starlark_syntax.proofs.Reader.Onward.{GoesOn, first_fails, first_stan
 use Rattle.starlark_grammar.proofs.Reading.Readings.{fault_fits, one_least, piece_fits}
 use Rattle.starlark_syntax.proofs.Nesting.FStrings.{innermost_onward, keeps, outer_onward}
 use Rattle.starlark_grammar.proofs.Reading.Steps.{Each, either, is_nothing}
-use Rattle.starlark_syntax.proofs.Reader.Waiting.{queued_none}
+use Rattle.starlark_syntax.proofs.Reader.Waiting.{Hands, hands_none}
 
 -- What is kept is kept behind the text's first margin.
 pub begun : (follows_gap : Bool) (before : Before) → IsBehind follows_gap before → is_nothing before ≡ false
@@ -168,9 +169,9 @@ kept_behind text history at new piece utf8 here stands nesting levels before is_
     }
 
 -- a piece was read, by what is left behind it
-read_piece : (text : Text) (whole : Outcome) (history : History) (at : ℕ) (old new : Reader) (piece : Piece) → GoesOn at piece whole (outcome_from (after history piece) (at + piece.len) (drop piece.len (drop at text)))
-    → IsKept text (after history piece) new → new.at ≡ at + piece.len → new.stage ≡ stage.Onward → Queued old.waiting.items (map (moved at) piece.lexemes) new.waiting.items → IsRead text whole old new
-read_piece text whole history at old new piece goes kept is_at is_onward queued =
+read_piece : (text : Text) (whole : Outcome) (history : History) (at : ℕ) (given : Option (ℕ × Token × ℕ)) (new : Reader) (piece : Piece) → GoesOn at piece whole (outcome_from (after history piece) (at + piece.len) (drop piece.len (drop at text)))
+    → IsKept text (after history piece) new → new.at ≡ at + piece.len → new.stage ≡ stage.Onward → Hands text given new.pending (map (moved at) piece.lexemes) → IsRead text whole given new
+read_piece text whole history at given new piece goes kept is_at is_onward hands =
     let behind : drop piece.len (drop at text) ≡ drop new.at text = sym (drop-sum at piece.len text) ∙ ap (λ n. drop n text) (sym is_at) in
     let rest = outcome_from (after history piece) (at + piece.len) (drop piece.len (drop at text)) in
     let left : rest ≡ outcome_from (after history piece) new.at (drop new.at text) = ap (λ n. outcome_from (after history piece) n (drop piece.len (drop at text))) (sym is_at) ∙ ap (outcome_from (after history piece) new.at) behind in
@@ -180,7 +181,8 @@ read_piece text whole history at old new piece goes kept is_at is_onward queued 
       is_left = subst (λ now. IsLeft text new now rest) (sym is_onward) (after history piece, kept, left);
       parts = goes.lexemes;
       fault = goes.fault;
-      queued = queued;
+      is_pending = hands.0;
+      handed_out = hands.1;
     }
 
 pub took : (text : Text) (history : History) (old new : Reader) (piece : Piece) → IsUtf8 text → IsKept text history old → step_here text history old ≡ Stands piece

@@ -1,8 +1,8 @@
 //! Lexemes that were read, and are made when they are asked for.
 
-ghost use Rattle.std.specs.Prelude.{◌≡◌, ◌∷◌, [], ℕ, List, map, OnErr, IfOk};
+ghost use Rattle.std.specs.Prelude.{◌≡◌, [], OnErr, IfOk};
 ghost use Rattle.starlark_syntax.specs.Joints.Pending.{IsFirst, IsFirstBehind, IsPending, behind_lexemes, pending_lexemes};
-ghost use Rattle.starlark_syntax.specs.Lexemes.{lexeme_view, shown_lexeme};
+ghost use Rattle.starlark_grammar.specs.Words.{Text};
 
 use super::PlacedToken;
 use super::comments::first_comment;
