@@ -108,7 +108,8 @@ impl Reader {
         ensures ahead { OnOk result ((lexemes : List (Spanned TokenView)) (fault : Option (Spanned Fault)) → IsAhead text.now self.old Stage.Begin lexemes fault → IsAhead text.now self.new self.new.stage lexemes fault) }
         ensures less { OnOk result (left_to_read text.now self.new self.new.stage < left_to_read text.now self.old Stage.Begin) }
     {
-        match first_margin(&mut self.levels, text)? {
+        let laid = first_margin(&mut self.levels, text)?;
+        match laid {
             Laid::Taken { pending, len } => {
                 self.pending = pending;
                 self.step_over(len, false);
@@ -135,7 +136,8 @@ impl Reader {
         ensures less { OnOk result (left_to_read text.now self.new self.new.stage < left_to_read text.now self.old Stage.Onward) }
     {
         let begin = self.at;
-        match line_end(&mut self.levels, begin, len, text)? {
+        let laid = line_end(&mut self.levels, begin, len, text)?;
+        match laid {
             Laid::Taken {
                 pending,
                 len: whole,
