@@ -1,5 +1,5 @@
 -- What the reader of a text has in front of it, as the grammar sees it.
-use Rattle.std.specs.Prelude.{◌≡◌, ℕ, ◌+◌, ◌-◌, ◌≤◌, List, [], ◌∷◌, ◌++◌, map, length, drop, Option, Some, None, option_to_list}
+use Rattle.std.specs.Prelude.{◌≡◌, ℕ, ◌+◌, ◌-◌, ◌≤◌, List, [], ◌∷◌, ◌++◌, map, length, drop, Option, Some, None, option_to_list, ⊤}
 use Rattle.std.specs.Str.{IsCharBoundary}
 use Rattle.starlark_grammar.specs.Words.{Text, language}
 use Rattle.starlark_grammar.specs.Tokens as grammar
@@ -88,6 +88,12 @@ left_to_read text reader stage.Begin = length text + 3
 left_to_read text reader stage.Onward = length text - reader.at + 2
 left_to_read text reader (stage.Fault begin fault end) = 1
 left_to_read text reader stage.Closed = 0
+
+-- all pieces of a text are read
+abbrev pub IsOver : Stage → Type 0
+IsOver (stage.Fault begin fault end) = ⊤
+IsOver stage.Closed = ⊤
+IsOver now = ⊥
 
 -- a lexeme is ahead, or the fault
 abbrev pub IsSomething : List (grammar.Spanned TokenView) → Option (grammar.Spanned grammar.Fault) → Type 0

@@ -8,7 +8,7 @@ ghost use Rattle.starlark_syntax.specs.Joints.Literals.{opening_view};
 ghost use Rattle.starlark_grammar.specs.Margins.{open_widths};
 ghost use Rattle.starlark_grammar.specs.Pieces as grammar;
 ghost use Rattle.starlark_syntax.specs.Joints.Pending.{IsIdle};
-ghost use Rattle.starlark_syntax.specs.Joints.Reader.{IsAhead, IsAheadBehind, IsKept, IsNext, IsRead, IsReady, IsSomething, left_here, left_to_read, step_here};
+ghost use Rattle.starlark_syntax.specs.Joints.Reader.{IsAhead, IsAheadBehind, IsKept, IsNext, IsOver, IsRead, IsReady, IsSomething, left_here, left_to_read, step_here};
 ghost use Rattle.starlark_grammar.specs.Reading.{History, outcome};
 ghost use Rattle.starlark_token.specs.TokenViews.{TokenView};
 ghost use Rattle.starlark_grammar.specs.Tokens.{FStringStart, Fault, Spanned};
@@ -287,7 +287,9 @@ impl Reader {
     }
 
     /// What stands behind the last lexeme of a text that is read: its fault, which isn't answered again, or nothing.
-    fn last(&mut self) -> Next {
+    fn last(&mut self) -> Next
+        ensures { (text : Text) (lexemes : List (Spanned TokenView)) (fault : Option (Spanned Fault)) → IsIdle text self.old.pending → IsOver self.old.stage → IsAhead text self.old self.old.stage lexemes fault → IsNext text lexemes fault result self.new }
+    {
         match mem::replace(&mut self.stage, Stage::Closed) {
             Stage::Fault { begin, fault, end } => Next::Fault { begin, fault, end },
             _ => Next::Nothing,
