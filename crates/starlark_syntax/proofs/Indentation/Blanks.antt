@@ -1,5 +1,5 @@
 -- Blanks, byte by byte.
-use Rattle.std.proofs.Common.{◌≡◌, ℕ, zero, suc, ◌+◌, ◌≤◌, ◌<◌, Bool, true, false, cond, List, [], ◌∷◌, length, take, drop, refl, ap, ◌∙◌, sym, subst, arith, one-add, zero-add, Some, None, nat_eq, get_or}
+use Rattle.std.proofs.Common.{◌≡◌, ℕ, suc, ◌+◌, ◌≤◌, ◌<◌, Bool, true, false, cond, [], ◌∷◌, length, take, drop, refl, ap, ◌∙◌, sym, arith, one-add, zero-add, Some, nat_eq, get_or}
 use Rattle.std.specs.Prelude.{◌==◌, ◌||◌, count_by}
 use Rattle.std.specs.List.{list_any}
 use Rattle.std.proofs.Math.Seq.{drop-cons}
@@ -10,7 +10,6 @@ use Rattle.starlark_grammar.specs.Words.{Text}
 use Rattle.starlark_grammar.specs.Margins.{is_blank, blanks_len}
 use Rattle.starlark_syntax.specs.Joints.Layout.{IsBlanks, IsWith}
 use Rattle.starlark_syntax.specs.declared.lexer.layout.margins.Blanks.{Blanks}
-use Rattle.starlark_grammar.proofs.Lists.{drop-sum}
 
 -- the blanks at the front of a text
 abbrev pub blanks_at : Text → Text

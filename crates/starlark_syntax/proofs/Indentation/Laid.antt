@@ -1,6 +1,6 @@
 -- What a margin comes to, and what was done about it.
 use Rattle.std.proofs.Common.{◌≡◌, ℕ, ◌+◌, true, false, List, [], ◌∷◌, ◌++◌, ap, ◌∙◌, sym, subst, refl, arith, add_assoc, map, zero-add, drop, Some, None, append_assoc}
-use Rattle.std.specs.Prelude.{Option, option_to_list}
+use Rattle.std.specs.Prelude.{option_to_list}
 use Rattle.std.specs.Str.{IsUtf8, IsCharBoundary}
 use Rattle.std.proofs.lemmas.List.{map-append}
 use Rattle.std.proofs.lemmas.Str.{IsCharBoundary-start}
@@ -8,7 +8,7 @@ use Rattle.starlark_grammar.specs.Words.{Text}
 use Rattle.starlark_grammar.specs.Tokens.{Indentation, InvalidTab, Lexeme, Newline, moved}
 use Rattle.starlark_grammar.specs.Margins.{Margin, fits, margin_len, margin_of, open_widths}
 use Rattle.starlark_grammar.specs.Pieces.{Stands, fault, first_margin, line_end, margin_step}
-use Rattle.starlark_syntax.specs.Joints.Layout.{IsDecided, IsLaid, IsMargin, IsRefused, IsTaken, margin_indentation, margin_lexemes, margin_piece, margin_width}
+use Rattle.starlark_syntax.specs.Joints.Layout.{IsDecided, IsMargin, IsRefused, IsTaken, margin_indentation, margin_lexemes, margin_piece, margin_width}
 use Rattle.starlark_syntax.specs.Joints.Pending.{IsPending, behind_lexemes, pending_lexemes}
 use Rattle.starlark_syntax.specs.declared.lexer.layout.margins.Margin.{Margin as Measured}
 use Rattle.starlark_syntax.specs.declared.lexer.layout.pending.Behind.{Behind}
@@ -64,8 +64,7 @@ module _ (text : Text) (begin : ℕ) (margin : Measured) (utf8 : IsUtf8 text) (h
       → IsPending text (margin_pending begin margin.at behind) × (map (moved begin) (margin_lexemes levels (margin_of (drop begin text))) ≡ pending_lexemes text (margin_pending begin margin.at behind))
   unfolding pending_lexemes
   margin_waits levels behind e =
-      let both = margin_between text begin margin.at utf8 here same.at in
-      (
+      let both = margin_between text begin margin.at utf8 here same.at in (
         are_comments text begin margin.at utf8 here same.at,
         map-append (moved begin) (margin_of (drop begin text)).comments (margin_indentation levels (margin_of (drop begin text))) ∙ rw (both, e) refl,
       )
@@ -73,11 +72,10 @@ module _ (text : Text) (begin : ℕ) (margin : Measured) (utf8 : IsUtf8 text) (h
   -- the comments alone
   pub comments_wait : (behind : Behind) → behind_lexemes behind ≡ [] → IsPending text (margin_pending begin margin.at behind) × (map (moved begin) (margin_of (drop begin text)).comments ≡ pending_lexemes text (margin_pending begin margin.at behind))
   unfolding pending_lexemes
-  comments_wait behind none =
-      (
-        are_comments text begin margin.at utf8 here same.at,
-        rw (margin_between text begin margin.at utf8 here same.at, none) (sym (Rattle.std.proofs.Common.append-nil _)),
-      )
+  comments_wait behind none = (
+    are_comments text begin margin.at utf8 here same.at,
+    rw (margin_between text begin margin.at utf8 here same.at, none) (sym (Rattle.std.proofs.Common.append-nil _)),
+  )
 
 pub comments_wait_first : (text : Text) (margin : Measured) → IsUtf8 text → IsMargin (margin_of text) margin → (behind : Behind) → behind_lexemes behind ≡ []
     → IsPending text (record { from = 0; to = margin.at; behind = behind }) × (map (moved 0) (margin_of text).comments ≡ pending_lexemes text (record { from = 0; to = margin.at; behind = behind }))

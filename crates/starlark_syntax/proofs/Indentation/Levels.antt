@@ -1,5 +1,5 @@
 -- The open widths as they are kept.
-use Rattle.std.proofs.Common.{◌≡◌, ℕ, zero, suc, ◌+◌, ◌<◌, ◌≤◌, true, false, List, [], ◌∷◌, ◌++◌, ap, ◌∙◌, sym, subst, refl, arith, append-nil, length, map, nat_lt}
+use Rattle.std.proofs.Common.{◌≡◌, ℕ, zero, suc, ◌+◌, ◌<◌, ◌≤◌, true, false, List, [], ◌∷◌, ◌++◌, ap, ◌∙◌, sym, refl, arith, append-nil, map, nat_lt}
 use Rattle.std.specs.Prelude.{◌&&◌, count_by, filter, replicate}
 use Rattle.std.proofs.lemmas.Bool.{lt-ltb, le-ltb}
 use Rattle.starlark_grammar.specs.Margins.{Margin, indentation, is_widest, margin_len, open_widths, width_of}

@@ -158,8 +158,7 @@ one_passed text line behind at n blanks passed e same f h split inside =
     let whole : length (take (blanks_len line + n) line) ≡ blanks_len line + n = length-take-le (blanks_len line + n) line first.2 in
     let rest : drop (at + (blanks.len + n)) text ≡ drop (blanks_len line + n) line = drop-sum at (blanks.len + n) text ∙ ap (λ (t : Text). drop (blanks.len + n) t) (sym e) ∙ ap (λ i. drop (i + n) line) len in
     let before : at + lines_sum (comment_lines line) ≡ lines_sum (comment_lines text) = ap (λ (t : Text). at + lines_sum (comment_lines t)) e ∙ passed.total in
-    let behind_sum : lines_sum (comment_lines (drop (at + (blanks.len + n)) text)) ≡ lines_sum (comment_lines (drop (blanks_len line + n) line)) = ap (λ (t : Text). lines_sum (comment_lines t)) rest in
-    (
+    let behind_sum : lines_sum (comment_lines (drop (at + (blanks.len + n)) text)) ≡ lines_sum (comment_lines (drop (blanks_len line + n) line)) = ap (λ (t : Text). lines_sum (comment_lines t)) rest in (
       omega (arith, first.1, len),
       record {
         inside = omega (arith, first.2, len, all, passed.inside);

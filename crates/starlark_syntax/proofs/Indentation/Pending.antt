@@ -1,22 +1,22 @@
 -- Comments of the lines of a text from one place to another.
-use Rattle.std.proofs.Common.{◌≡◌, ℕ, zero, suc, ◌+◌, ◌-◌, ◌≤◌, ◌<◌, Bool, true, false, cond, List, [], ◌∷◌, ◌++◌, length, map, take, drop, refl, ap, ◌∙◌, sym, subst, arith, add_assoc, one-add, add-zero}
+use Rattle.std.proofs.Common.{◌≡◌, ℕ, zero, suc, ◌+◌, ◌-◌, ◌≤◌, ◌<◌, Bool, true, false, cond, List, [], ◌∷◌, ◌++◌, length, map, take, drop, refl, ap, ◌∙◌, sym, subst, arith, one-add}
 use Rattle.std.specs.Prelude.{if◌then◌else◌, take_while}
 use Rattle.std.specs.List.{prefix_len, onto_first, AllByRecursion}
 use Rattle.std.specs.Str.{IsUtf8, IsCharBoundary}
 use Rattle.std.proofs.lemmas.Str.{IsUtf8-drop}
 use Rattle.std.proofs.lemmas.List.{drop-take, length-append, length-drop, length-take, length-take-le, take-take}
-use Rattle.std.proofs.lemmas.List.Sums.{prefix_len-le-length, sum_by-cons}
+use Rattle.std.proofs.lemmas.List.Sums.{sum_by-cons}
 use Rattle.std.proofs.Math.Seq.{take-add, take-append_seam, drop-append_seam}
 use Rattle.starlark_grammar.specs.Words.{Text}
-use Rattle.starlark_grammar.specs.Tokens.{Lexeme, moved}
+use Rattle.starlark_grammar.specs.Tokens.{moved}
 use Rattle.starlark_grammar.specs.Laws.{AtBoundaries}
 use Rattle.starlark_grammar.specs.Margins.{blanks_len, begins_comment, comment_lines, comment_of, comment_part, comments_from, is_blank, is_comment_only, is_feed, lines, margin_of}
 use Rattle.starlark_syntax.specs.Joints.Pending.{IsComments, lines_between}
-use Rattle.starlark_grammar.proofs.Lists.{drop-sum, take_fits}
+use Rattle.starlark_grammar.proofs.Lists.{drop-sum}
 use Rattle.starlark_grammar.proofs.Order.Boundaries.{margin_edges}
 use Rattle.starlark_grammar.proofs.Order.Edges.{boundary_shift, edges_shift}
 use Rattle.starlark_grammar.proofs.Order.Lexemes.{lines_sum}
-use Rattle.starlark_syntax.proofs.Indentation.CommentLines.{comment_inside, first_passes, margin_comments}
+use Rattle.starlark_syntax.proofs.Indentation.CommentLines.{comment_inside, margin_comments}
 use Rattle.starlark_syntax.proofs.Indentation.Margins.{is_other}
 
 abbrev pub between : Text → ℕ → ℕ → Text

@@ -1,11 +1,11 @@
 -- What a reader hands out next.
-use Rattle.std.proofs.Common.{◌≡◌, ℕ, List, [], ◌∷◌, ◌++◌, map, drop, refl, sym, ap, subst, ◌∙◌, append-nil, None, Some, ◌⊎◌, inl, inr}
+use Rattle.std.proofs.Common.{◌≡◌, ℕ, List, [], ◌∷◌, ◌++◌, map, drop, refl, sym, ap, subst, ◌∙◌, None, Some, ◌⊎◌, inl, inr}
 use Rattle.std.specs.Prelude.{Option}
 use Rattle.starlark_grammar.specs.Words.{Text, language}
 use Rattle.starlark_grammar.specs.Tokens.{Fault, Lexeme, Outcome, Spanned}
 use Rattle.starlark_grammar.specs.Pieces.{Piece, Step, Stands, Fails, Ends}
 use Rattle.starlark_grammar.specs.Reading.{History, lexemes_along, outcome, outcome_in, outcome_of, read, read_from}
-use Rattle.starlark_syntax.specs.Lexemes.{fault_view, lexeme_view, shown_lexeme}
+use Rattle.starlark_syntax.specs.Lexemes.{fault_view, shown_lexeme}
 use Rattle.starlark_syntax.specs.Joints.Nesting.{bracket_count}
 use Rattle.starlark_syntax.specs.Joints.Pending.{IsFirst, IsIdle, pending_lexemes}
 use Rattle.starlark_syntax.specs.Joints.Reader.{IsAhead, IsAheadBehind, IsKept, IsLeft, IsOver, IsReady, IsSomething, outcome_along, outcome_from}

@@ -1,5 +1,5 @@
 -- A reader before and after a piece.
-use Rattle.std.proofs.Common.{◌≡◌, ℕ, zero, suc, ◌+◌, ◌≤◌, ◌<◌, Bool, true, false, not, List, [], ◌∷◌, ◌++◌, length, drop, map, refl, ap, ◌∙◌, sym, subst, Option, Some, None, arith, append_assoc, append-nil, nat_lt}
+use Rattle.std.proofs.Common.{◌≡◌, ℕ, zero, suc, ◌+◌, ◌≤◌, ◌<◌, Bool, true, false, not, List, [], ◌∷◌, ◌++◌, length, drop, map, refl, ap, ◌∙◌, sym, subst, Option, Some, None, arith, append-nil, nat_lt}
 use Rattle.std.specs.Prelude.{⊤, ◌&&◌, if◌then◌else◌, count_by, option_map, option_to_list, replicate}
 use Rattle.std.specs.List.{AllByRecursion}
 use Rattle.std.specs.Str.{IsCharBoundary, IsUtf8}

@@ -1,9 +1,8 @@
 -- Lexemes that are still to be handed out.
-use Rattle.std.proofs.Common.{arith, ◌≡◌, ℕ, ◌+◌, ◌<◌, ◌≤◌, List, [], ◌∷◌, ◌++◌, ap, sym, ◌∙◌, length, map, refl, Some, None}
+use Rattle.std.proofs.Common.{arith, ◌≡◌, ℕ, ◌+◌, ◌<◌, ◌≤◌, List, [], ◌∷◌, ◌++◌, ap, sym, ◌∙◌, map, refl, Some, None}
 use Rattle.std.specs.Prelude.{Option, Result, Ok, Err, OnErr, option_to_list}
-use Rattle.std.proofs.lemmas.List.{map-append}
 use Rattle.starlark_grammar.specs.Words.{Text}
-use Rattle.starlark_grammar.specs.Margins.{comment_of, comments_from, lines}
+use Rattle.starlark_grammar.specs.Margins.{comment_of, comments_from}
 use Rattle.starlark_grammar.specs.Tokens.{Lexeme}
 use Rattle.starlark_syntax.specs.Lexemes.{lexeme_view, shown_lexeme}
 use Rattle.starlark_syntax.specs.Joints.Pending.{IsFirst, IsFirstBehind, IsFirstComment, IsIdle, IsPending, behind_lexemes, lines_between, pending_lexemes}
@@ -18,8 +17,7 @@ unfolding pending_lexemes
 comment_first text old found len is =
     let later = comments_from (old.from + len) (lines_between text (old.from + len) old.to) in
     let all : comments_from old.from (lines_between text old.from old.to) ≡ comment_of old.from is.line ∷ later =
-    ap (comments_from old.from) is.first ∙ ap (λ n. comment_of old.from is.line ∷ comments_from (old.from + n) (lines_between text (old.from + len) old.to)) is.whole in
-    (
+    ap (comments_from old.from) is.first ∙ ap (λ n. comment_of old.from is.line ∷ comments_from (old.from + n) (lines_between text (old.from + len) old.to)) is.whole in (
       is.behind,
       ap (λ ls. map shown_lexeme (ls ++ behind_lexemes old.behind)) all ∙ ap (λ v. v ∷ map shown_lexeme (later ++ behind_lexemes old.behind)) (sym is.comment),
     )

@@ -149,10 +149,10 @@ impl Reader {
             Laid::Fault {
                 pending,
                 fault,
-                end,
+                end: fault_end,
             } => {
                 self.pending = pending;
-                self.refuse(0, fault, end);
+                self.refuse(0, fault, fault_end);
                 Ok(None)
             }
         }

@@ -1,4 +1,4 @@
-use Rattle.std.proofs.Common.{[], map, subst, zero-add}
+use Rattle.std.proofs.Common.{[]}
 use Rattle.std.proofs.lemmas.Str.{IsCharBoundary-start}
 use Rattle.starlark_grammar.specs.Margins.{margin_of}
 use Rattle.starlark_syntax.proofs.Indentation.Laid.{comments_wait_first, first_refused, first_taken}

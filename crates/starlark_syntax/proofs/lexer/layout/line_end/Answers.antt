@@ -1,4 +1,4 @@
-use Rattle.std.proofs.Common.{[], ◌∷◌, ◌+◌, drop, subst}
+use Rattle.std.proofs.Common.{[], ◌∷◌, ◌+◌, drop}
 use Rattle.starlark_grammar.specs.Margins.{margin_of}
 use Rattle.starlark_grammar.specs.Tokens.{Newline}
 use Rattle.starlark_syntax.specs.Joints.Layout.{IsMargin}

@@ -1,4 +1,4 @@
-use Rattle.std.proofs.Common.{◌+◌, ◌≤◌, ◌∙◌, ap, arith, drop, length, refl, rules, subst, sym, take}
+use Rattle.std.proofs.Common.{◌+◌, ◌∙◌, ap, arith, drop, refl, rules, subst, sym, take}
 use Rattle.std.specs.Str.{IsCharBoundary}
 use Rattle.starlark_token.specs.declared.tokens.Token.TheVariants as token
 use Rattle.starlark_token.specs.TokenViews.{token_view}

@@ -1,4 +1,4 @@
-use Rattle.std.proofs.Common.{subst, Some}
+use Rattle.std.proofs.Common.{subst}
 use Rattle.starlark_syntax.specs.Joints.Layout.{IsWith}
 use Rattle.starlark_syntax.proofs.Indentation.Blanks.{one_passed}
 use Rattle.starlark_syntax.proofs.lexer.layout.margins.blanks_of.Goals as goal

@@ -1,4 +1,4 @@
-use Rattle.std.proofs.Common.{◌≡◌, ◌∙◌, ap, drop, sym}
+use Rattle.std.proofs.Common.{◌∙◌, ap, drop, sym}
 use Rattle.std.proofs.lemmas.List.{take_rest}
 use Rattle.starlark_syntax.proofs.Indentation.Margins.{last_passed, one_passed}
 use Rattle.starlark_syntax.proofs.lexer.layout.margins.margin_of.Goals as goal

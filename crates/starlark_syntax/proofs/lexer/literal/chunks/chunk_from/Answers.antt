@@ -2,8 +2,7 @@ use Rattle.std.proofs.Common.{◌≡◌, ◌∙◌, ◌+◌, ◌-◌, ◌≤◌,
 use Rattle.std.specs.Prelude.{codes, string_bytes}
 use Rattle.starlark_grammar.specs.Items as items
 use Rattle.starlark_syntax.specs.Joints.Literals.{bytes_of, opening_view, stop_view}
-use Rattle.starlark_token.specs.TokenViews.{token_view}
-use Rattle.starlark_grammar.specs.Tokens.{FStringExprStart, FStringEnd, InvalidInput, InvalidEscapeSequence, UnfinishedStringLiteral}
+use Rattle.starlark_grammar.specs.Tokens.{InvalidInput, InvalidEscapeSequence, UnfinishedStringLiteral}
 use Rattle.starlark_syntax.proofs.Literals.Chunks.{bad_chunk_fits, chunk_is, fstring}
 use Rattle.starlark_syntax.proofs.lexer.literal.chunks.chunk_from.Goals as goal
 

@@ -1,4 +1,4 @@
-use Rattle.std.proofs.Common.{refl, sym, subst, ◌∙◌, None, Some}
+use Rattle.std.proofs.Common.{refl, sym, subst}
 use Rattle.starlark_syntax.specs.Joints.Pending.{IsFirst, IsIdle}
 use Rattle.starlark_syntax.specs.Joints.Reader.{IsAheadBehind}
 use Rattle.starlark_syntax.specs.declared.lexer.reader.Stage.TheVariants as stage

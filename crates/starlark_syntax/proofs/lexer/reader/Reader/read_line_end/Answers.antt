@@ -44,4 +44,4 @@ pub returns-in-Fault-clause-read : goal.returns-in-Fault-clause-read
 returns-in-Fault-clause-read c = λ history kept stands.
     let new = c.refuse.ensures in
     let refused = rw c.in-Fault.is at (c.in_ok-laid.ensures history.widths kept.levels) in
-    line_refused c.args.text.now history c.args.self.now c.args.len kept stands c.refuse.new.self c.in-Fault.fault c.in-Fault.end (rw new refused) (ap (λ (reader : Reader). reader.stage) new)
+    line_refused c.args.text.now history c.args.self.now c.args.len kept stands c.refuse.new.self c.in-Fault.fault c.in-Fault.fault_end (rw new refused) (ap (λ (reader : Reader). reader.stage) new)

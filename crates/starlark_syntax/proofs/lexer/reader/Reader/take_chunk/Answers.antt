@@ -1,4 +1,4 @@
-use Rattle.std.proofs.Common.{◌≡◌, ℕ, ◌+◌, ◌≤◌, ◌∷◌, [], ◌++◌, ap, append-nil, arith, length, refl, rules, subst, sym, ◌∙◌, None, Some, string_bytes}
+use Rattle.std.proofs.Common.{ℕ, ◌+◌, ◌≤◌, ◌∷◌, [], ◌++◌, ap, append-nil, arith, length, refl, rules, sym, ◌∙◌, None, Some, string_bytes}
 use Rattle.starlark_grammar.specs.Words.{Text}
 use Rattle.starlark_grammar.specs.Margins.{open_widths}
 use Rattle.starlark_grammar.specs.Pieces as grammar
@@ -7,7 +7,6 @@ use Rattle.starlark_grammar.specs.Reading.{History, tokens_onto}
 use Rattle.starlark_grammar.specs.Tokens.{Token}
 use Rattle.starlark_syntax.specs.Joints.Nesting.{Represents}
 use Rattle.starlark_syntax.specs.Joints.Steps.{text_end_node}
-use Rattle.starlark_syntax.specs.declared.lexer.nesting.Nesting.{Nesting}
 use Rattle.starlark_syntax.specs.declared.lexer.reader.Reader.{Reader}
 use Rattle.starlark_token.specs.declared.tokens.Token.TheVariants as token
 use Rattle.starlark_syntax.proofs.Reader.ChunksTaken.{end_hands, onto_last, own_end, text_hands, text_onto}

@@ -1,8 +1,8 @@
-use Rattle.std.proofs.Common.{◌≡◌, ℕ, ◌+◌, ◌≤◌, ◌∷◌, [], ap, append-nil, arith, length, refl, rules, sym, ◌∙◌, None, Some}
+use Rattle.std.proofs.Common.{ℕ, ◌+◌, ◌≤◌, ◌∷◌, [], ap, append-nil, arith, length, refl, rules, sym, ◌∙◌, None, Some}
 use Rattle.starlark_grammar.specs.Margins.{open_widths}
 use Rattle.starlark_grammar.specs.Pieces as grammar
 use Rattle.starlark_grammar.specs.Pieces.{Piece}
-use Rattle.starlark_grammar.specs.Tokens.{Token, moved}
+use Rattle.starlark_grammar.specs.Tokens.{Token}
 use Rattle.starlark_syntax.specs.declared.lexer.reader.Reader.{Reader}
 use Rattle.starlark_syntax.proofs.Reader.Here.{less_onward, piece_here, shown_here}
 use Rattle.starlark_syntax.proofs.Reader.Taken.{took}
