@@ -4,12 +4,12 @@ use Rattle.std.specs.List.{ends_with, starts_with}
 use Rattle.std.specs.Str.{byte}
 use Rattle.starlark_grammar.specs.Words.{Text, Table, language}
 use Rattle.starlark_grammar.specs.Tokens.{Lexeme, moved}
-use Rattle.starlark_grammar.specs.Depths.{Where, Outside, where_after, is_balanced}
+use Rattle.starlark_grammar.specs.Depths.{Mode, Outside, mode_after, is_balanced}
 use Rattle.starlark_grammar.specs.Margins.{is_blank, is_feed, open_widths}
 use Rattle.starlark_grammar.specs.Pieces.{Before, Layout, Step, Fails}
 use Rattle.starlark_grammar.specs.Reading.{History, nothing, after_all, Reading, read, pieces_len}
 
-abbrev pub is_outside : Where → Bool
+abbrev pub is_outside : Mode → Bool
 is_outside Outside = true
 is_outside place = false
 
@@ -20,7 +20,7 @@ is_layout before = false
 -- no bracket, f-string or width is open, and a margin was the last that was read
 unfoldable pub is_settled : History → Bool
 is_settled history =
-    is_layout history.before && is_outside (where_after history.tokens) && is_balanced history.tokens && length (open_widths history.widths) == 0
+    is_layout history.before && is_outside (mode_after history.tokens) && is_balanced history.tokens && length (open_widths history.widths) == 0
 
 abbrev pub is_faultless : Step → Bool
 is_faultless (Fails fault) = false
@@ -47,13 +47,13 @@ unfoldable pub is_kept_cut : Text → ℕ → Bool
 is_kept_cut text at = nat_le at (pieces_len (read language text).pieces) && is_clean_cut (take at text)
 
 -- whether a line end stands at the front
-abbrev pub begins_line : Text → Bool
-begins_line text = starts_with nat_eq text (codes "\n") || starts_with nat_eq text (codes "\r\n")
+abbrev pub begins_with_line_end : Text → Bool
+begins_with_line_end text = starts_with nat_eq text (codes "\n") || starts_with nat_eq text (codes "\r\n")
 
 -- What may stand between lexemes: a space, a tab, a CR, an LF, or a backslash right before a line end.
 unfoldable pub is_gap_byte : Text → Bool
 is_gap_byte [] = true
-is_gap_byte (b ∷ bs) = is_blank b || is_feed b || (b == byte "\\" && begins_line bs)
+is_gap_byte (b ∷ bs) = is_blank b || is_feed b || (b == byte "\\" && begins_with_line_end bs)
 
 -- nothing else stands from a place of a text to another
 abbrev pub IsGap : Text → ℕ → ℕ → Type 0

@@ -68,20 +68,20 @@ unfoldable pub depth : Shape → List Token → ℕ
 depth shape own = fold max 0 (map (surplus shape) (fronts own))
 
 -- Where a place is: outside of f-strings, in the text of one, in an expression of one, or deeper in that.
-pub data Where : Type 0 where
-  Outside : Where
-  InText : (opening : Opening) → Where
-  AtTop : Where
-  Deeper : Where
+pub data Mode : Type 0 where
+  Outside : Mode
+  InText : (opening : Opening) → Mode
+  AtTop : Mode
+  Deeper : Mode
 
-abbrev pub inside : Opening × List Token → Where
+abbrev pub inside : Opening × List Token → Mode
 inside found =
     if braces found.1 == 0 then InText found.0
     else (if braces found.1 == 1 && depth Round found.1 == 0 && depth Square found.1 == 0 then AtTop else Deeper)
 
-abbrev pub where_by : Option (Opening × List Token) → Where
-where_by None = Outside
-where_by (Some found) = inside found
+abbrev pub mode_by : Option (Opening × List Token) → Mode
+mode_by None = Outside
+mode_by (Some found) = inside found
 
-unfoldable pub where_after : List Token → Where
-where_after tokens = where_by (open_fstring 0 tokens)
+unfoldable pub mode_after : List Token → Mode
+mode_after tokens = mode_by (open_fstring 0 tokens)

@@ -160,15 +160,15 @@ abbrev pub body_value : Body → Text
 body_value body = flat_map (λ (item : Item). item.value) body.items
 
 -- an item, and the body that goes on behind it
-abbrev pub onward : Found → (ℕ → Body) → Body
-onward (Goes item) again = record { items = item ∷ (again (item.len - 1)).items; stop = (again (item.len - 1)).stop }
-onward (Stops stop) again = record { items = []; stop = stop }
+abbrev pub body_onward : Found → (ℕ → Body) → Body
+body_onward (Goes item) again = record { items = item ∷ (again (item.len - 1)).items; stop = (again (item.len - 1)).stop }
+body_onward (Stops stop) again = record { items = []; stop = stop }
 
 -- The body at the front of a text, of which so many bytes belong to an item before it.
 unfoldable pub body_from : Literal → ℕ → Text → Body
 body_from literal passed [] = record { items = []; stop = Ended }
 body_from literal (suc passed) (b ∷ bs) = body_from literal passed bs
-body_from literal zero (b ∷ bs) = onward (found_at literal (b ∷ bs)) (λ passed. body_from literal passed bs)
+body_from literal zero (b ∷ bs) = body_onward (found_at literal (b ∷ bs)) (λ passed. body_from literal passed bs)
 
 unfoldable pub body_at : Literal → Text → Body
 body_at literal = body_from literal 0

@@ -9,7 +9,7 @@ use Rattle.starlark_grammar.specs.Numbers.{integer_of}
 use Rattle.starlark_grammar.specs.Tokens.{Token, Comment, Newline, Identifier, Int, Float, String, Bytes, FStringStart, FStringText, FStringExprStart, FStringExprEnd, FStringBang, FStringEnd, Word, Opening, Spanned, Lexeme, moved, Fault, Indentation, InvalidInput, InvalidTab, UnfinishedStringLiteral, InvalidEscapeSequence, EmptyEscapeSequence, ReservedKeyword, StartsZero, UnfinishedFStringExpression}
 use Rattle.starlark_grammar.specs.Items.{Stop, Closing, Line, Ended, OpeningBrace, ClosingBrace, BadEscape, Body, body_at, body_len, body_value, closing_quotes, quote_byte}
 use Rattle.starlark_grammar.specs.Characters.{first_character}
-use Rattle.starlark_grammar.specs.Depths.{Where, Outside, InText, AtTop}
+use Rattle.starlark_grammar.specs.Depths.{Mode, Outside, InText, AtTop}
 use Rattle.starlark_grammar.specs.Margins.{Margin, margin_of, margin_len, is_content, has_tab, width_of, fits, indentation}
 
 -- What stands before a place: nothing, a margin, a skipped piece, or another piece.
@@ -34,7 +34,7 @@ pub data Step : Type 0 where
 
 -- What the rules ask of what was read before a place.
 pub record Situation : Type 0 where
-  pub place : Where
+  pub place : Mode
   pub is_balanced : Bool
   pub levels : List ℕ
   pub before : Before
@@ -106,13 +106,13 @@ is_plain opening text = list_all (λ b. not (b == byte "\\" || b == byte "\r" ||
 
 -- An unfinished literal. In an expression of an f-string a text literal with a plain text behind its opening, up to
 -- the text's end, has a fault of its own.
-abbrev pub unfinished : Where → Kind → Opening → Text → Fault
+abbrev pub unfinished : Mode → Kind → Opening → Text → Fault
 unfinished Outside kind opening behind = UnfinishedStringLiteral
 unfinished place OfText opening behind = if is_plain opening behind then UnfinishedFStringExpression else UnfinishedStringLiteral
 unfinished place kind opening behind = UnfinishedStringLiteral
 
 -- what a string or bytes literal comes to, by the bytes of its opening, the text behind that, and its body
-abbrev pub literal_by : Where → Kind → Opening → ℕ → Text → Body → Stop → Step
+abbrev pub literal_by : Mode → Kind → Opening → ℕ → Text → Body → Stop → Step
 literal_by place kind opening len behind body Closing =
     token (len + body_len body + length (closing_quotes opening)) (literal_token kind (body_value body))
 literal_by place kind opening len behind body (BadEscape read last) =
@@ -120,14 +120,14 @@ literal_by place kind opening len behind body (BadEscape read last) =
 literal_by place kind opening len behind body Line = fault 0 (unfinished place kind opening behind) (len + body_len body)
 literal_by place kind opening len behind body stop = fault 0 (unfinished place kind opening behind) (len + length behind)
 
-abbrev pub literal : Where → Kind → Opening → ℕ → Text → Step
+abbrev pub literal : Mode → Kind → Opening → ℕ → Text → Step
 literal place kind opening len behind = go (body_at (record { kind = kind; opening = opening }) behind)
   where
     go : Body → Step
     go body = literal_by place kind opening len behind body body.stop
 
 -- an opener, and the literal behind it; of an f-string the opening alone
-abbrev pub opener : Where → Kind → Opening → ℕ → Text → Step
+abbrev pub opener : Mode → Kind → Opening → ℕ → Text → Step
 opener place OfFString opening len behind = token (len + more_quotes opening) (FStringStart opening)
 opener place kind opening len behind = literal place kind opening (len + more_quotes opening) (drop (more_quotes opening) behind)
 
@@ -161,7 +161,7 @@ chunk opening text = go (body_at (record { kind = OfFString; opening = opening }
 -- Words
 
 -- a closing brace at the top of an f-string's expression ends the expression
-abbrev pub terminal_token : Where → Terminal → Token
+abbrev pub terminal_token : Mode → Terminal → Token
 terminal_token AtTop word.ClosingCurly = FStringExprEnd
 terminal_token place terminal = Word terminal
 
@@ -171,7 +171,7 @@ starts_zero [] = false
 starts_zero (b ∷ bs) = b == byte "0" && nat_lt 0 (length bs)
 
 -- line ends count where all brackets are closed and no f-string is open
-abbrev pub counts : Where → Bool → Bool
+abbrev pub counts : Mode → Bool → Bool
 counts Outside is_balanced = is_balanced
 counts place is_balanced = false
 
@@ -203,7 +203,7 @@ is_bang (b ∷ []) = b == byte "!"
 is_bang (b ∷ c ∷ bs) = b == byte "!" && not (c == byte "=")
 
 -- right behind a skipped piece no bang may stand
-abbrev pub takes_bang : Where → Before → Bool
+abbrev pub takes_bang : Mode → Before → Bool
 takes_bang AtTop Gap = false
 takes_bang AtTop before = true
 takes_bang place before = false
@@ -214,7 +214,7 @@ in_code table s (b ∷ bs) =
     if takes_bang s.place s.before && is_bang (b ∷ bs) then token 1 FStringBang
     else front_step s (b ∷ bs) (longest_front (class_in table) (b ∷ bs))
 
-abbrev pub by_place : Table → Situation → Where → Text → Step
+abbrev pub by_place : Table → Situation → Mode → Text → Step
 by_place table s (InText opening) text = chunk opening text
 by_place table s place text = in_code table s text
 

@@ -2,7 +2,7 @@
 use Rattle.std.specs.Prelude.{◌≡◌, ℕ, zero, suc, ◌+◌, ◌-◌, List, [], ◌∷◌, ◌++◌, map, length, drop, sum_by, replicate, Some, None, option_to_list, ⊤}
 use Rattle.starlark_grammar.specs.Words.{Text, Table, language}
 use Rattle.starlark_grammar.specs.Tokens.{Token, Newline, Dedent, Lexeme, moved, Outcome}
-use Rattle.starlark_grammar.specs.Depths.{where_after, is_balanced}
+use Rattle.starlark_grammar.specs.Depths.{mode_after, is_balanced}
 use Rattle.starlark_grammar.specs.Margins.{margin_of, open_widths}
 use Rattle.starlark_grammar.specs.Pieces.{Before, Nothing, Piece, Step, Stands, Fails, Situation, step_at}
 
@@ -34,7 +34,7 @@ after_all history (piece ∷ pieces) = after_all (after history piece) pieces
 
 unfoldable pub situation : History → Situation
 situation history = record {
-  place = where_after history.tokens;
+  place = mode_after history.tokens;
   is_balanced = is_balanced history.tokens;
   levels = open_widths history.widths;
   before = history.before;
@@ -64,20 +64,20 @@ pub record Reading : Type 0 where
   pub pieces : List Piece
   pub last : Step
 
-abbrev pub onward : Step → (Piece → Reading) → Reading
-onward (Stands piece) again = record { pieces = piece ∷ (again piece).pieces; last = (again piece).last }
-onward step again = record { pieces = []; last = step }
+abbrev pub read_onward : Step → (Piece → Reading) → Reading
+read_onward (Stands piece) again = record { pieces = piece ∷ (again piece).pieces; last = (again piece).last }
+read_onward step again = record { pieces = []; last = step }
 
 -- The longest reading from a history on, of a text of which so many bytes belong to the piece before.
 unfoldable pub read_from : Table → History → ℕ → Text → Reading
 read_from table history passed [] = record { pieces = []; last = next_step table history [] }
 read_from table history (suc passed) (b ∷ bs) = read_from table history passed bs
 read_from table history zero (b ∷ bs) =
-    onward (next_step table history (b ∷ bs)) (λ piece. read_from table (after history piece) (piece.len - 1) bs)
+    read_onward (next_step table history (b ∷ bs)) (λ piece. read_from table (after history piece) (piece.len - 1) bs)
 
 -- The longest reading of a text. Its first piece is a margin, which alone may be empty.
 unfoldable pub read : Table → Text → Reading
-read table text = onward (next_step table nothing text) (λ piece. read_from table (after nothing piece) piece.len text)
+read table text = read_onward (next_step table nothing text) (λ piece. read_from table (after nothing piece) piece.len text)
 
 -- the lexemes of pieces of which the first begins at a place
 abbrev pub lexemes_along : ℕ → List Piece → List Lexeme

@@ -4,98 +4,20 @@ use Rattle.std.specs.Char.{is_ascii_alphabetic, is_ascii_digit, is_ascii_hexdigi
 use Rattle.std.specs.List.{list_all, prefix_len}
 use Rattle.std.specs.Map.{lookup}
 use Rattle.std.specs.Str.{bytes_eq}
+-- What the words are: the code's enumerations. A text being a list of bytes here, the kinds of literals have names of
+-- their own, and so have the quotes.
+pub use Rattle.starlark_grammar.specs.declared.class.Quote.{Quote}
+pub use Rattle.starlark_grammar.specs.declared.class.Quote.TheVariants.{Single as SingleQuote, Double as DoubleQuote}
+pub use Rattle.starlark_grammar.specs.declared.class.LiteralKind.{LiteralKind as Kind}
+pub use Rattle.starlark_grammar.specs.declared.class.LiteralKind.TheVariants.{Text as OfText, Bytes as OfBytes, FString as OfFString}
+pub use Rattle.starlark_grammar.specs.declared.class.Terminal.{Terminal}
+pub use Rattle.starlark_grammar.specs.declared.class.Terminal.TheVariants.{And, Break, Continue, Def, Elif, Else, For, If, In, Lambda, Load, Not, Or, Pass, Return, Comma, Semicolon, Colon, PlusEqual, MinusEqual, StarEqual, SlashEqual, SlashSlashEqual, PercentEqual, EqualEqual, BangEqual, LessEqual, GreaterEqual, StarStar, MinusGreater, Equal, LessThan, GreaterThan, Minus, Plus, Star, Percent, Slash, SlashSlash, Dot, Ampersand, Pipe, Caret, LessLess, GreaterGreater, Tilde, AmpersandEqual, PipeEqual, CaretEqual, LessLessEqual, GreaterGreaterEqual, Ellipsis, OpeningSquare, OpeningCurly, OpeningRound, ClosingSquare, ClosingCurly, ClosingRound}
+pub use Rattle.starlark_grammar.specs.declared.class.Class.{Class}
+pub use Rattle.starlark_grammar.specs.declared.class.Class.TheVariants.{Skipped, Comment, Tabs, LineEnd, Opener, Reserved, Identifier, Decimal, Hexadecimal, Octal, Binary, Float, Fixed}
 
 -- a text is the list of its bytes
 abbrev pub Text : Type 0
 Text = List ℕ
-
--- the quote that begins and ends a literal
-pub data Quote : Type 0 where
-  SingleQuote : Quote
-  DoubleQuote : Quote
-
--- what a literal denotes: characters, bytes, or text with expressions in it
-pub data Kind : Type 0 where
-  OfText : Kind
-  OfBytes : Kind
-  OfFString : Kind
-
--- The words that are tokens of their own: the keywords and the symbols.
-pub data Terminal : Type 0 where
-  And : Terminal
-  Break : Terminal
-  Continue : Terminal
-  Def : Terminal
-  Elif : Terminal
-  Else : Terminal
-  For : Terminal
-  If : Terminal
-  In : Terminal
-  Lambda : Terminal
-  Load : Terminal
-  Not : Terminal
-  Or : Terminal
-  Pass : Terminal
-  Return : Terminal
-  Comma : Terminal
-  Semicolon : Terminal
-  Colon : Terminal
-  PlusEqual : Terminal
-  MinusEqual : Terminal
-  StarEqual : Terminal
-  SlashEqual : Terminal
-  SlashSlashEqual : Terminal
-  PercentEqual : Terminal
-  EqualEqual : Terminal
-  BangEqual : Terminal
-  LessEqual : Terminal
-  GreaterEqual : Terminal
-  StarStar : Terminal
-  MinusGreater : Terminal
-  Equal : Terminal
-  LessThan : Terminal
-  GreaterThan : Terminal
-  Minus : Terminal
-  Plus : Terminal
-  Star : Terminal
-  Percent : Terminal
-  Slash : Terminal
-  SlashSlash : Terminal
-  Dot : Terminal
-  Ampersand : Terminal
-  Pipe : Terminal
-  Caret : Terminal
-  LessLess : Terminal
-  GreaterGreater : Terminal
-  Tilde : Terminal
-  AmpersandEqual : Terminal
-  PipeEqual : Terminal
-  CaretEqual : Terminal
-  LessLessEqual : Terminal
-  GreaterGreaterEqual : Terminal
-  Ellipsis : Terminal
-  OpeningSquare : Terminal
-  OpeningCurly : Terminal
-  OpeningRound : Terminal
-  ClosingSquare : Terminal
-  ClosingCurly : Terminal
-  ClosingRound : Terminal
-
--- What a word is. An opener is what a literal begins with.
-pub data Class : Type 0 where
-  Skipped : Class
-  Comment : Class
-  Tabs : Class
-  LineEnd : Class
-  Opener : (kind : Kind) (is_raw : Bool) (quote : Quote) → Class
-  Reserved : Class
-  Identifier : Class
-  Decimal : Class
-  Hexadecimal : Class
-  Octal : Class
-  Binary : Class
-  Float : Class
-  Fixed : (terminal : Terminal) → Class
 
 -- a table of words, and the table of the language, whose earlier rows go before later ones
 abbrev pub Table : Type 0
@@ -170,17 +92,17 @@ begins test [] = false
 begins test (b ∷ bs) = test b
 
 -- a letter or `_`
-abbrev pub begins_name : ℕ → Bool
-begins_name b = is_ascii_alphabetic b || b == 95
+abbrev pub is_name_start : ℕ → Bool
+is_name_start b = is_ascii_alphabetic b || b == 95
 
 -- a letter, `_` or a digit
 abbrev pub is_in_name : ℕ → Bool
-is_in_name b = begins_name b || is_ascii_digit b
+is_in_name b = is_name_start b || is_ascii_digit b
 
 -- a letter or `_`, then any number of letters, `_` and digits
 abbrev pub is_identifier : Text → Bool
 is_identifier [] = false
-is_identifier (b ∷ bs) = begins_name b && list_all is_in_name bs
+is_identifier (b ∷ bs) = is_name_start b && list_all is_in_name bs
 
 -- neither CR nor LF
 abbrev pub is_in_line : ℕ → Bool

@@ -25,14 +25,14 @@ use Rattle.starlark_grammar.specs.Tokens as token
 use Rattle.starlark_grammar.specs.Tokens.{Fault, Lexeme, Spanned}
 use Rattle.starlark_token.specs.TokenViews.{TokenView}
 use Rattle.starlark_syntax.specs.Lexemes.{fault_view, lexeme_view, shown_lexeme}
-use Rattle.starlark_syntax.specs.Lexer.{AnswersNext, Given, IsException, Item, Refused, items}
+use Rattle.starlark_syntax.specs.Lexer.{AnswersNext, Given, IsException, LexerItem, Refused, items}
 use Rattle.starlark_token.specs.declared.tokens.Token.{Token}
 use Rattle.starlark_grammar.proofs.Order.WholeTexts.{outcome_edges}
 use Rattle.starlark_syntax.proofs.Reader.LexerItems.{one_more}
 use Rattle.starlark_lex.specs.Output as output
 use Rattle.starlark_lex.specs.Output.{item_line, lines_of, message_of}
 
-abbrev given : Lexeme → Item
+abbrev given : Lexeme → LexerItem
 given lexeme = Given (shown_lexeme lexeme)
 
 -- A list's element, and what is left from it on.
@@ -88,7 +88,7 @@ pub next_lexeme : (file : SourceFile) (text : Text) (h : ℕ) (found : ℕ × To
 unfolding items
 next_lexeme file text h found answers = by_item (slice_get (items text) h) refl answers
   where
-    by_item : (o : Option Item) → slice_get (items text) h ≡ o → AnswersNext file o (Some (Ok found)) → IsNextLexeme text h found
+    by_item : (o : Option LexerItem) → slice_get (items text) h ≡ o → AnswersNext file o (Some (Ok found)) → IsNextLexeme text h found
     by_item None is answers = absurd answers
     by_item (Some (Refused fault)) is answers = absurd answers
     by_item (Some (Given x)) is answers =
@@ -112,7 +112,7 @@ pub next_fault : (file : SourceFile) (text : Text) (h : ℕ) (exception : Diagno
 unfolding items
 next_fault file text h exception answers = by_item (slice_get (items text) h) refl answers
   where
-    by_item : (o : Option Item) → slice_get (items text) h ≡ o → AnswersNext file o (Some (Err (refusal.Error exception))) → IsNextFault file text h exception
+    by_item : (o : Option LexerItem) → slice_get (items text) h ≡ o → AnswersNext file o (Some (Err (refusal.Error exception))) → IsNextFault file text h exception
     by_item None is answers = absurd answers
     by_item (Some (Given x)) is answers = absurd answers
     by_item (Some (Refused fault)) is answers =
@@ -133,7 +133,7 @@ all_given file text h answers few = by_item (slice_get (items text) h) refl answ
     no_fault None long = refl
     no_fault (Some f) long = absurd (omega (arith, few, long, length-append (map given (outcome text).lexemes) (Refused f ∷ []), length-map (outcome text).lexemes given))
 
-    by_item : (o : Option Item) → slice_get (items text) h ≡ o → AnswersNext file o None → (drop h (items text) ≡ []) × ((outcome text).fault ≡ None)
+    by_item : (o : Option LexerItem) → slice_get (items text) h ≡ o → AnswersNext file o None → (drop h (items text) ≡ []) × ((outcome text).fault ≡ None)
     by_item (Some (Given x)) is answers = absurd answers
     by_item (Some (Refused x)) is answers = absurd answers
     by_item None is answers =
@@ -141,7 +141,7 @@ all_given file text h answers few = by_item (slice_get (items text) h) refl answ
         (rest.1, no_fault (outcome text).fault rest.0)
 
 -- The lines of items, one by one.
-pub lines_cons : (name text : Text) (item : Item) (more : List Item) → lines_of name text (item ∷ more) ≡ item_line name text item ++ lines_of name text more
+pub lines_cons : (name text : Text) (item : LexerItem) (more : List LexerItem) → lines_of name text (item ∷ more) ≡ item_line name text item ++ lines_of name text more
 unfolding lines_of
 lines_cons name text item more = flat_map-cons (item_line name text) item more
 

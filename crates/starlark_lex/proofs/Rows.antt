@@ -5,18 +5,11 @@ use Rattle.std.proofs.Math.Utf8.{encode}
 use Rattle.std.specs.Str.{chars}
 use Rattle.std.specs.Fmt.{digits}
 use Rattle.starlark_base.specs.Places.{Text, place_after, span_text}
-use Rattle.starlark_grammar.specs.Words.{class_in, openers, line_ends, symbols, names, patterns, language}
-use Rattle.starlark_grammar.specs.Front.{longest_front}
-use Rattle.starlark_grammar.specs.Numbers.{integer_of}
-use Rattle.starlark_grammar.specs.Items.{simple_escapes, escape, raw_pair, found_at, body_from, body_at}
-use Rattle.starlark_grammar.specs.Depths.{is_balanced, open_fstring, braces, depth, where_after}
-use Rattle.starlark_grammar.specs.Margins.{lines, margin_of, open_widths, fits, indentation}
-use Rattle.starlark_grammar.specs.Pieces.{margin_step, chunk, step_at}
-use Rattle.starlark_grammar.specs.Reading.{after, situation, next_step, read_from, read, outcome_in, outcome}
 use Rattle.starlark_syntax.specs.Lexer.{items}
 use Rattle.starlark_grammar.specs.Tokens as grammar
 use Rattle.starlark_token.specs.TokenTexts.{kind_of, terminal_kind, whole_kind}
 use Rattle.starlark_lex.specs.Output.{fault_text, hex, lexeme_text, lines_of, message_of, output, value_text}
+use Rattle.starlark_grammar.proofs.Rows.Shapes.{all_definitions}
 
 -- what is printed of a text
 abbrev Prints : Text → Text → Type 0
@@ -28,7 +21,7 @@ printed :
     × Prints (codes "'a'") (codes "0-3 1:1-4 String 61\n3-3 1:4 Newline\n")
     × Prints (codes "f'{x}'") (codes "0-2 1:1-3 FStringStart Single\n2-3 1:3-4 FStringExprStart\n3-4 1:4-5 Identifier x\n4-5 1:5-6 FStringExprEnd\n5-6 1:6-7 FStringEnd\n6-6 1:7 Newline\n")
     × Prints (codes "a\n b") (codes "0-1 1:1-2 Identifier a\n1-2 1:2-2:1 Newline\n2-3 2:1-2 Indent\n3-4 2:2-3 Identifier b\n4-4 2:3 Newline\n4-4 2:3 Dedent\n")
-unfolding encode openers line_ends symbols names patterns language class_in longest_front integer_of simple_escapes escape raw_pair found_at body_from body_at is_balanced open_fstring braces depth where_after lines margin_of open_widths fits indentation margin_step chunk step_at after situation next_step read_from read outcome_in outcome items kind_of terminal_kind whole_kind place_after span_text chars digits value_text lexeme_text lines_of output
+unfolding all_definitions items kind_of terminal_kind whole_kind place_after span_text chars digits value_text lexeme_text lines_of output
 printed = (refl, refl, refl, refl, refl)
 
 -- the values of literals

@@ -5,12 +5,13 @@ use Rattle.std.specs.Char.{digit_char}
 use Rattle.std.specs.Fmt.{decimal}
 use Rattle.starlark_base.specs.Places.{Text, place_at, span_text}
 use Rattle.starlark_base.specs.Sources.{file_span_text}
-use Rattle.starlark_grammar.specs.Words.{Quote, SingleQuote, DoubleQuote}
+use Rattle.starlark_grammar.specs.declared.class.Quote.{Quote}
+use Rattle.starlark_grammar.specs.declared.class.Quote.TheVariants.{Single as SingleQuote, Double as DoubleQuote}
 use Rattle.starlark_grammar.specs.Tokens as grammar
 use Rattle.starlark_token.specs.TokenInts.{integer_text}
 use Rattle.starlark_token.specs.TokenTexts.{kind_of}
 use Rattle.starlark_token.specs.TokenViews.{TokenView, Whole}
-use Rattle.starlark_syntax.specs.Lexer.{Item, Given, Refused, items}
+use Rattle.starlark_syntax.specs.Lexer.{LexerItem, Given, Refused, items}
 
 -- each byte as two hexadecimal digits
 abbrev pub hex : Text → Text
@@ -70,13 +71,13 @@ fault_text begin end place message =
     codes "fault " ++ decimal begin ++ codes "-" ++ decimal end ++ codes " " ++ place ++ codes " " ++ message ++ codes "\n"
 
 -- the line of an item of a text that has this name
-abbrev pub item_line : (name text : Text) → Item → Text
+abbrev pub item_line : (name text : Text) → LexerItem → Text
 item_line name text (Given lexeme) =
     lexeme_text lexeme.begin lexeme.end (span_text (place_at text lexeme.begin) (place_at text lexeme.end)) lexeme.node
 item_line name text (Refused fault) =
     fault_text fault.begin fault.end (file_span_text (record { id = 0; filename = name; source = text }) (record { begin = fault.begin; end = fault.end })) (message_of fault.node)
 
-unfoldable pub lines_of : (name text : Text) → List Item → Text
+unfoldable pub lines_of : (name text : Text) → List LexerItem → Text
 lines_of name text list = flat_map (item_line name text) list
 
 -- The whole output for a text: a line for each lexeme, and one for the fault where there is one.

@@ -6,7 +6,7 @@ ghost use Rattle.starlark_base.specs.Places.{span_text};
 ghost use Rattle.starlark_base.specs.Sources.{file_span_text};
 ghost use Rattle.starlark_error.specs.FaultTexts.{kind_text};
 ghost use Rattle.starlark_lex.specs.Output.{fault_text, hex, lexeme_text, quotes_name, value_text};
-ghost use Rattle.starlark_token.specs.TokenViews.{opening_view, token_view};
+ghost use Rattle.starlark_token.specs.TokenViews.{fstring_quote_view, token_view};
 
 use crate::place::Place;
 use starlark_base::codemap::{FileSpan, ResolvedSpan};
@@ -46,7 +46,7 @@ fn push_literal(line: &mut String, bytes: &[u8]) -> Result<(), AllocError>
 
 /// The name of the quotes of an f-string.
 fn quotes_of(quote: FStringQuote) -> &'static str
-    ensures { result.now ≡ quotes_name (opening_view quote) }
+    ensures { result.now ≡ quotes_name (fstring_quote_view quote) }
 {
     match quote {
         FStringQuote::Single => "Single",

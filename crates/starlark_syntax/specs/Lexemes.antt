@@ -1,7 +1,7 @@
 -- What stands at a place of a text, as the code and as the grammar say it.
 use Rattle.std.specs.Prelude.{◌≡◌, ℕ, ◌+◌, ◌++◌, ◌∷◌, [], Bool, true, false, Option, Some, None, string_bytes}
 use Rattle.starlark_grammar.specs.Tokens as grammar
-use Rattle.starlark_grammar.specs.Depths.{Where, Outside}
+use Rattle.starlark_grammar.specs.Depths.{Mode, Outside}
 use Rattle.starlark_grammar.specs.Pieces as pieces
 use Rattle.starlark_error.specs.declared.lexeme_error.LexemeError.{LexemeError}
 use Rattle.starlark_error.specs.declared.lexeme_error.LexemeError.TheVariants as fault

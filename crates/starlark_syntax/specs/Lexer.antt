@@ -25,12 +25,12 @@ pub record LexerView : Type 0 where
   pub has_ended : Bool
 
 -- an item that a text comes to: a lexeme, or its fault
-pub data Item : Type 0 where
-  Given : (lexeme : grammar.Spanned TokenView) → Item
-  Refused : (fault : grammar.Spanned grammar.Fault) → Item
+pub data LexerItem : Type 0 where
+  Given : (lexeme : grammar.Spanned TokenView) → LexerItem
+  Refused : (fault : grammar.Spanned grammar.Fault) → LexerItem
 
 -- the items of a text, the fault behind all lexemes
-unfoldable pub items : Text → List Item
+unfoldable pub items : Text → List LexerItem
 items text = map (λ lexeme. Given (shown_lexeme lexeme)) (outcome text).lexemes ++ map Refused (option_to_list (outcome text).fault)
 
 -- The exception of a fault: the fault of the lexer, at its place in the code map, with no calls.
@@ -39,14 +39,14 @@ IsException file fault exception = (error : LexemeError) × (fault_view error �
     × (exception ≡ with_span (unplaced (Parser (Lexeme error))) (place_in file (record { begin = fault.begin; end = fault.end })))
 
 -- what is answered for an item; want of memory may be answered in its place
-abbrev pub Answers : SourceFile → Item → Result (ℕ × Token × ℕ) (OrMemory (Diagnosed ErrorKind)) → Type 0
+abbrev pub Answers : SourceFile → LexerItem → Result (ℕ × Token × ℕ) (OrMemory (Diagnosed ErrorKind)) → Type 0
 Answers file item (Err refusal.Memory) = ⊤
 Answers file (Given lexeme) (Ok found) = lexeme_view found ≡ lexeme
 Answers file (Refused fault) (Err (refusal.Error exception)) = IsException file fault exception
 Answers file item answer = ⊥
 
 -- nothing is answered exactly where there is no item
-abbrev pub AnswersNext : SourceFile → Option Item → Option (Result (ℕ × Token × ℕ) (OrMemory (Diagnosed ErrorKind))) → Type 0
+abbrev pub AnswersNext : SourceFile → Option LexerItem → Option (Result (ℕ × Token × ℕ) (OrMemory (Diagnosed ErrorKind))) → Type 0
 AnswersNext file None None = ⊤
 AnswersNext file (Some item) (Some answer) = Answers file item answer
 AnswersNext file item answer = ⊥

@@ -3,8 +3,10 @@ use Rattle.std.proofs.Common.{◌≡◌, true, false, Some, None, refl, ◌∷�
 use Rattle.std.specs.Prelude.{codes, encode_utf8, pos, neg_ℤ}
 use Rattle.std.specs.Fmt.{digits, debug_escape}
 use Rattle.std.proofs.Math.Utf8.{encode}
-use Rattle.starlark_grammar.specs.Words as terminal
-use Rattle.starlark_grammar.specs.Words.{Text, OfFString, OfBytes, SingleQuote, DoubleQuote}
+use Rattle.starlark_grammar.specs.declared.class.Terminal.TheVariants as terminal
+use Rattle.starlark_grammar.specs.Words.{Text}
+use Rattle.starlark_grammar.specs.declared.class.LiteralKind.TheVariants.{FString as OfFString, Bytes as OfBytes}
+use Rattle.starlark_grammar.specs.declared.class.Quote.TheVariants.{Single as SingleQuote, Double as DoubleQuote}
 use Rattle.starlark_grammar.specs.Numbers.{Small, Big, integer_of, integer_in}
 use Rattle.starlark_token.specs.BigIntegers.{big_text}
 use Rattle.starlark_grammar.specs.Tokens as grammar

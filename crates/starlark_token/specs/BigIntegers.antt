@@ -18,7 +18,7 @@ abbrev pub are_plain : ℕ → Text → Bool
 are_plain base digits = list_all (λ digit. is_digit digit base && not (is_ascii_uppercase digit)) digits && not (slice_index digits 0 == 48)
 
 -- what is so of each that is kept: its digits are plain, and 32 bits don't hold its value
-pub record IsKept (n : BigInteger) : Type 0 where
+pub record IsCanonical (n : BigInteger) : Type 0 where
   pub least : 2 ≤ n.radix
   pub most : n.radix ≤ 36
   pub plain : are_plain n.radix n.digits ≡ true

@@ -5,3 +5,11 @@ pub mod TokenTexts
 pub mod NumberRefusals
 pub mod OneIdentifier
 pub mod Joints
+pub use Rattle.starlark_grammar.specs.Words
+pub use Rattle.starlark_grammar.specs.Front
+pub use Rattle.starlark_grammar.specs.Lengths
+pub use Rattle.starlark_grammar.specs.Characters
+pub use Rattle.starlark_grammar.specs.Numbers
+pub use Rattle.starlark_grammar.specs.IntegerValues
+pub use Rattle.starlark_grammar.specs.PrintedWords
+pub use Rattle.starlark_grammar.specs.Tokens

@@ -1,7 +1,9 @@
 -- A text that is one identifier, with nothing but skipped pieces round it.
 use Rattle.std.specs.Prelude.{◌≡◌, ◌≤◌, ℕ, List, [], ◌∷◌, ◌++◌, length, map, Option, Some, None}
 use Rattle.std.specs.Str.{IsCharBoundary}
-use Rattle.starlark_grammar.specs.Words.{Text, Class, Skipped, Identifier}
+use Rattle.starlark_grammar.specs.Words.{Text}
+use Rattle.starlark_grammar.specs.declared.class.Class.{Class}
+use Rattle.starlark_grammar.specs.declared.class.Class.TheVariants.{Skipped, Identifier}
 use Rattle.starlark_grammar.specs.Front.{language_front}
 
 -- Words one behind another, each the longest front of what is left, and what is left behind them.

@@ -3,8 +3,14 @@ use Rattle.std.specs.Prelude.{◌≡◌, [], ◌++◌, if◌then◌else◌, leng
 use Rattle.std.specs.Char.{is_ascii_alphabetic}
 use Rattle.std.specs.Fmt.{decimal, debug_str, ◌++?◌}
 use Rattle.starlark_grammar.specs.PrintedWords.{word_of}
-use Rattle.starlark_grammar.specs.Words as terminal
-use Rattle.starlark_grammar.specs.Words.{Text, Terminal, Fixed, Quote, SingleQuote, DoubleQuote, Kind, OfText, OfBytes, OfFString, class_in, language}
+use Rattle.starlark_grammar.specs.declared.class.Terminal.TheVariants as terminal
+use Rattle.starlark_grammar.specs.Words.{Text, class_in, language}
+use Rattle.starlark_grammar.specs.declared.class.Terminal.{Terminal}
+use Rattle.starlark_grammar.specs.declared.class.Class.TheVariants.{Fixed}
+use Rattle.starlark_grammar.specs.declared.class.Quote.{Quote}
+use Rattle.starlark_grammar.specs.declared.class.Quote.TheVariants.{Single as SingleQuote, Double as DoubleQuote}
+use Rattle.starlark_grammar.specs.declared.class.LiteralKind.{LiteralKind as Kind}
+use Rattle.starlark_grammar.specs.declared.class.LiteralKind.TheVariants.{Text as OfText, Bytes as OfBytes, FString as OfFString}
 use Rattle.starlark_grammar.specs.Tokens as grammar
 use Rattle.starlark_token.specs.TokenInts.{integer_text}
 use Rattle.starlark_token.specs.TokenViews.{TokenView, Whole, Tabs, Reserved, Opener, Decimal, Hexadecimal, Binary, Octal}

@@ -1,7 +1,10 @@
 -- What the tokens of the code are to the grammar.
 use Rattle.std.specs.Prelude.{true, false, string_bytes}
-use Rattle.starlark_grammar.specs.Words as terminal
-use Rattle.starlark_grammar.specs.Words.{Quote, SingleQuote, DoubleQuote, Kind, OfText, OfBytes, OfFString}
+use Rattle.starlark_grammar.specs.declared.class.Terminal.TheVariants as terminal
+use Rattle.starlark_grammar.specs.declared.class.Quote.{Quote}
+use Rattle.starlark_grammar.specs.declared.class.Quote.TheVariants.{Single as SingleQuote, Double as DoubleQuote}
+use Rattle.starlark_grammar.specs.declared.class.LiteralKind.{LiteralKind as Kind}
+use Rattle.starlark_grammar.specs.declared.class.LiteralKind.TheVariants.{Text as OfText, Bytes as OfBytes, FString as OfFString}
 use Rattle.starlark_grammar.specs.Tokens as grammar
 use Rattle.starlark_token.specs.TokenInts.{integer_view}
 use Rattle.starlark_token.specs.declared.fstring_style.FStringQuote.{FStringQuote}
@@ -21,11 +24,11 @@ pub data TokenView : Type 0 where
   Octal : TokenView
 
 -- How an f-string begins. A token doesn't tell whether the f-string is raw, so it is seen as one that isn't.
-abbrev pub opening_view : FStringQuote → grammar.Opening
-opening_view Single = record { is_raw = false; quote = SingleQuote; is_triple = false }
-opening_view Double = record { is_raw = false; quote = DoubleQuote; is_triple = false }
-opening_view TripleSingle = record { is_raw = false; quote = SingleQuote; is_triple = true }
-opening_view TripleDouble = record { is_raw = false; quote = DoubleQuote; is_triple = true }
+abbrev pub fstring_quote_view : FStringQuote → grammar.Opening
+fstring_quote_view Single = record { is_raw = false; quote = SingleQuote; is_triple = false }
+fstring_quote_view Double = record { is_raw = false; quote = DoubleQuote; is_triple = false }
+fstring_quote_view TripleSingle = record { is_raw = false; quote = SingleQuote; is_triple = true }
+fstring_quote_view TripleDouble = record { is_raw = false; quote = DoubleQuote; is_triple = true }
 
 -- What each token is.
 unfoldable pub token_view : Token → TokenView
@@ -50,7 +53,7 @@ token_view token.RawOctInt = Octal
 token_view (token.Int number) = Whole (grammar.Int (integer_view number))
 token_view (token.Float text) = Whole (grammar.Float (string_bytes text))
 token_view (token.String text) = Whole (grammar.String (string_bytes text))
-token_view (token.FStringStart quote) = Whole (grammar.FStringStart (opening_view quote))
+token_view (token.FStringStart quote) = Whole (grammar.FStringStart (fstring_quote_view quote))
 token_view (token.FStringText text) = Whole (grammar.FStringText (string_bytes text))
 token_view token.FStringExprStart = Whole grammar.FStringExprStart
 token_view token.FStringExprEnd = Whole grammar.FStringExprEnd

@@ -18,22 +18,22 @@ pub struct BigInt {
 
 impl Model for BigInt {
     ghost use Rattle.std.specs.Prelude.{string_bytes};
-    ghost use Rattle.starlark_token.specs.BigIntegers.{BigInteger, IsKept};
+    ghost use Rattle.starlark_token.specs.BigIntegers.{BigInteger, IsCanonical};
 
     ghost Value = { BigInteger };
 
     ghost view = { λ n. record { is_negative = n.negative; digits = string_bytes n.digits; radix = n.radix } };
 
-    ghost invariant = { λ n. IsKept (record { is_negative = n.negative; digits = string_bytes n.digits; radix = n.radix }) };
+    ghost invariant = { λ n. IsCanonical (record { is_negative = n.negative; digits = string_bytes n.digits; radix = n.radix }) };
 }
 
 impl BigInt {
     ghost use Rattle.std.specs.Prelude.{string_bytes};
-    ghost use Rattle.starlark_token.specs.BigIntegers.{IsKept};
+    ghost use Rattle.starlark_token.specs.BigIntegers.{IsCanonical};
 
     /// The number with this sign and these digits.
     pub(crate) fn from_parts(negative: bool, digits: String, radix: u32) -> BigInt
-        requires { IsKept (record { is_negative = negative; digits = string_bytes digits; radix = radix }) }
+        requires { IsCanonical (record { is_negative = negative; digits = string_bytes digits; radix = radix }) }
         ensures { result ≡ record { is_negative = negative; digits = string_bytes digits; radix = radix } }
     {
         BigInt {
@@ -53,7 +53,7 @@ impl BigInt {
     /// The digits, letters in lower case, the first no zero.
     pub fn digits(&self) -> &str
         ensures value { result.now ≡ self.now.digits }
-        ensures kept { IsKept self.now }
+        ensures kept { IsCanonical self.now }
     {
         self.digits.as_str()
     }
@@ -61,7 +61,7 @@ impl BigInt {
     /// The base that the digits are written in, from 2 to 36.
     pub fn radix(&self) -> u32
         ensures value { result ≡ self.now.radix }
-        ensures kept { IsKept self.now }
+        ensures kept { IsCanonical self.now }
     {
         self.radix
     }

@@ -6,18 +6,21 @@ ghost use Rattle.std.specs.Option.{option_map};
 ghost use Rattle.std.specs.Str.{IsCharBoundary};
 ghost use Rattle.starlark_grammar.specs.Front.{language_front};
 ghost use Rattle.starlark_grammar.specs.Characters.{first_character};
-ghost use Rattle.starlark_token.specs.Joints.Words.{begins_number, quote_view, word_view};
+ghost use Rattle.starlark_token.specs.Joints.Words.{begins_number, word_view};
 ghost use Rattle.starlark_grammar.specs.Words as grammar;
+ghost use Rattle.starlark_grammar.specs.declared.class.Class.TheVariants as class;
+ghost use Rattle.starlark_grammar.specs.declared.class.LiteralKind.TheVariants as kind;
 
-mod class;
 mod marks;
 mod names;
 mod numbers;
 mod openers;
 #[cfg(test)]
 mod tests;
+mod word;
 
-pub use class::{Class, LiteralKind, Quote, Terminal, Word};
+pub use starlark_grammar::class::{Class, LiteralKind, Quote, Terminal};
+pub use word::Word;
 
 /// Whether a number begins at the front of a text: with a digit, or with a point and a digit.
 fn begins_number(text: &[u8]) -> bool
@@ -55,7 +58,7 @@ fn line_len(text: &[u8]) -> usize
 
 /// Blanks.
 fn skipped(len: usize) -> Word
-    ensures { word_view result ≡ (grammar.Skipped, len) }
+    ensures { word_view result ≡ (class.Skipped, len) }
 {
     Word {
         class: Class::Skipped,
@@ -64,7 +67,7 @@ fn skipped(len: usize) -> Word
 }
 
 fn tabs(len: usize) -> Word
-    ensures { word_view result ≡ (grammar.Tabs, len) }
+    ensures { word_view result ≡ (class.Tabs, len) }
 {
     Word {
         class: Class::Tabs,
@@ -73,7 +76,7 @@ fn tabs(len: usize) -> Word
 }
 
 fn comment(len: usize) -> Word
-    ensures { word_view result ≡ (grammar.Comment, len) }
+    ensures { word_view result ≡ (class.Comment, len) }
 {
     Word {
         class: Class::Comment,
@@ -83,7 +86,7 @@ fn comment(len: usize) -> Word
 
 /// A quote that opens a text literal.
 fn quote_word(quote: Quote) -> Word
-    ensures { word_view result ≡ (grammar.Opener grammar.OfText false (quote_view quote), 1) }
+    ensures { word_view result ≡ (class.Opener kind.Text false quote, 1) }
 {
     Word {
         class: Class::Opener {
@@ -101,7 +104,7 @@ pub fn first_word(text: &str) -> Option<Word>
 {
     let bytes = text.as_bytes();
     let first = *bytes.first()?;
-    if names::begins_name(first) {
+    if names::is_name_start(first) {
         return Some(names::name_from(text));
     }
     if begins_number(bytes) {

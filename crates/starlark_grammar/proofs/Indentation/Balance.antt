@@ -11,8 +11,8 @@ use Rattle.starlark_grammar.specs.Words as word
 use Rattle.starlark_grammar.specs.Words.{Text, Quote, Kind, OfText, OfBytes, OfFString, Terminal, Class, Table, class_in}
 use Rattle.starlark_grammar.specs.Front.{longest_front}
 use Rattle.starlark_grammar.specs.Tokens.{Token, Opening, Fault, Spanned, Lexeme, moved, Indent, Dedent, Newline, Outcome, FStringBang, FStringEnd, FStringExprStart, FStringStart}
-use Rattle.starlark_grammar.specs.Items.{Stop, Closing, Line, Ended, OpeningBrace, ClosingBrace, BadEscape, Literal, Found, Goes, Stops, found_at, Body, onward, body_from, body_at, body_len, body_value, closing_quotes}
-use Rattle.starlark_grammar.specs.Depths.{Where, Outside, InText, AtTop, Deeper}
+use Rattle.starlark_grammar.specs.Items.{Stop, Closing, Line, Ended, OpeningBrace, ClosingBrace, BadEscape, Literal, Found, Goes, Stops, found_at, Body, body_onward, body_from, body_at, body_len, body_value, closing_quotes}
+use Rattle.starlark_grammar.specs.Depths.{Mode, Outside, InText, AtTop, Deeper}
 use Rattle.starlark_grammar.specs.Margins.{lines, is_comment_only, comment_of, comments_from, comment_lines, Margin, margin_of, margin_len, is_content, has_tab, width_of, fits, is_widest, indentation, open_widths}
 use Rattle.starlark_grammar.specs.Pieces.{Before, Nothing, Layout, Gap, Other, Piece, Step, Stands, Fails, Situation, token, margin_step, first_margin, line_end, opening_of, more_quotes, escape_fault, literal_token, literal_by, literal, opener, chunk_text, chunk_piece, chunk_by, chunk, terminal_token, counts, starts_zero, word_step, front_step, takes_bang, is_bang, in_code, by_place, by_before, step_at}
 use Rattle.starlark_grammar.specs.Reading.{History, situation, next_step, read}
@@ -21,6 +21,7 @@ use Rattle.starlark_grammar.proofs.Words.Fronts.{front_sound}
 use Rattle.starlark_grammar.proofs.Literals.Bodies.{FoundFits, found_fits}
 use Rattle.starlark_grammar.proofs.Reading.Steps.{Each}
 use Rattle.starlark_grammar.proofs.Indentation.Widths.{indent_len, dedent_len}
+use Rattle.starlark_grammar.proofs.Choices.{either}
 
 abbrev pub levels_len : List ℕ → ℕ
 levels_len widths = length (open_widths widths)
@@ -34,10 +35,6 @@ pub record Balances (widths : List ℕ) (piece : Piece) : Type 0 where
 
 abbrev pub StepBalances : List ℕ → Step → Type 0
 StepBalances widths = Each (Balances widths) (λ fault. ⊤)
-
-either : (P : Step → Type 0) (test : Bool) (x y : Step) → P x → P y → P (if test then x else y)
-either P true x y px py = px
-either P false x y px py = py
 
 -- a piece without indents, dedents and a width
 quiet : (widths : List ℕ) (len : ℕ) (lexemes : List Lexeme) (sort : Before) → dedents lexemes ≡ 0 → indents lexemes ≡ 0 → length lexemes ≤ len → Balances widths (record { len = len; lexemes = lexemes; width = None; sort = sort })
@@ -170,7 +167,7 @@ margin_step_balances widths len before margin end quiet_margin =
 
 -- Literals and words
 
-literal_by_balances : (widths : List ℕ) (place : Where) (kind : Kind) (opening : Opening) (len : ℕ) (behind : Text) (body : Body) (stop : Stop) → 1 ≤ len → StepBalances widths (literal_by place kind opening len behind body stop)
+literal_by_balances : (widths : List ℕ) (place : Mode) (kind : Kind) (opening : Opening) (len : ℕ) (behind : Text) (body : Body) (stop : Stop) → 1 ≤ len → StepBalances widths (literal_by place kind opening len behind body stop)
 literal_by_balances widths place OfText opening len behind body Closing some = token_quiet widths _ (literal_token OfText (body_value body)) (omega arith) refl refl
 literal_by_balances widths place OfBytes opening len behind body Closing some = token_quiet widths _ (literal_token OfBytes (body_value body)) (omega arith) refl refl
 literal_by_balances widths place OfFString opening len behind body Closing some = token_quiet widths _ (literal_token OfFString (body_value body)) (omega arith) refl refl
@@ -184,15 +181,15 @@ literal_by_balances widths place kind opening len behind body Ended some = tt
 literal_by_balances widths place kind opening len behind body OpeningBrace some = tt
 literal_by_balances widths place kind opening len behind body ClosingBrace some = tt
 
-literal_balances : (widths : List ℕ) (place : Where) (kind : Kind) (opening : Opening) (len : ℕ) (behind : Text) → 1 ≤ len → StepBalances widths (literal place kind opening len behind)
+literal_balances : (widths : List ℕ) (place : Mode) (kind : Kind) (opening : Opening) (len : ℕ) (behind : Text) → 1 ≤ len → StepBalances widths (literal place kind opening len behind)
 literal_balances widths place kind opening len behind some = literal_by_balances widths place kind opening len behind (body_at (record { kind = kind; opening = opening }) behind) _ some
 
-opener_balances : (widths : List ℕ) (place : Where) (kind : Kind) (opening : Opening) (len : ℕ) (behind : Text) → 1 ≤ len → StepBalances widths (opener place kind opening len behind)
+opener_balances : (widths : List ℕ) (place : Mode) (kind : Kind) (opening : Opening) (len : ℕ) (behind : Text) → 1 ≤ len → StepBalances widths (opener place kind opening len behind)
 opener_balances widths place OfFString opening len behind some = token_quiet widths _ (FStringStart opening) (omega arith) refl refl
 opener_balances widths place OfText opening len behind some = literal_balances widths place OfText opening (len + more_quotes opening) (drop (more_quotes opening) behind) (omega arith)
 opener_balances widths place OfBytes opening len behind some = literal_balances widths place OfBytes opening (len + more_quotes opening) (drop (more_quotes opening) behind) (omega arith)
 
-terminal_quiet : (place : Where) (terminal : Terminal) → (is_dedent (terminal_token place terminal) ≡ false) × (is_indent (terminal_token place terminal) ≡ false)
+terminal_quiet : (place : Mode) (terminal : Terminal) → (is_dedent (terminal_token place terminal) ≡ false) × (is_indent (terminal_token place terminal) ≡ false)
 terminal_quiet AtTop word.ClosingCurly = (refl, refl)
 terminal_quiet place terminal = (refl, refl)
 
@@ -230,7 +227,7 @@ has_text literal (suc passed) [] = inr refl
 has_text literal (suc passed) (b ∷ bs) = has_text literal passed bs
 has_text literal zero (b ∷ bs) = go (found_at literal (b ∷ bs)) (found_fits literal (b ∷ bs))
   where
-    go : (found : Found) → FoundFits literal.opening (b ∷ bs) found → HasText (onward found (λ passed. body_from literal passed bs))
+    go : (found : Found) → FoundFits literal.opening (b ∷ bs) found → HasText (body_onward found (λ passed. body_from literal passed bs))
     go (Stops stop) fits = inr refl
     go (Goes item) fits =
         let some = fits.0 in
@@ -295,7 +292,7 @@ in_code_balances widths table s [] e = tt
 in_code_balances widths table s (b ∷ bs) e =
     either (StepBalances widths) (takes_bang s.place s.before && is_bang (b ∷ bs)) _ _ (token_quiet widths 1 FStringBang (omega arith) refl refl) (front_step_balances widths table s (b ∷ bs) _ e refl)
 
-by_place_balances : (widths : List ℕ) (table : Table) (s : Situation) (place : Where) (text : Text) → s.levels ≡ open_widths widths → StepBalances widths (by_place table s place text)
+by_place_balances : (widths : List ℕ) (table : Table) (s : Situation) (place : Mode) (text : Text) → s.levels ≡ open_widths widths → StepBalances widths (by_place table s place text)
 by_place_balances widths table s Outside text e = in_code_balances widths table s text e
 by_place_balances widths table s (InText opening) text e = chunk_balances widths opening text
 by_place_balances widths table s AtTop text e = in_code_balances widths table s text e

@@ -10,7 +10,7 @@ use Rattle.std.proofs.lemmas.Bool.{and_parts, eqb-true}
 use Rattle.std.proofs.lemmas.List.{length-take, take-append-le}
 use Rattle.starlark_grammar.specs.Words.{Text, Quote, SingleQuote, DoubleQuote, Kind, OfText, OfBytes, OfFString, is_in_line, is_octal_digit}
 use Rattle.starlark_grammar.specs.Tokens.{Opening}
-use Rattle.starlark_grammar.specs.Items.{Literal, Stop, Closing, Line, Ended, OpeningBrace, ClosingBrace, BadEscape, Found, Goes, Stops, goes, closing_quotes, broken, is_character, numbered, hexadecimal, octal, escaped_feed, simple_escapes, simple, is_of_bytes, escape, drops_backslash, raw_pair, brace, is_brace, found_at, Body, onward, body_from, body_at}
+use Rattle.starlark_grammar.specs.Items.{Literal, Stop, Closing, Line, Ended, OpeningBrace, ClosingBrace, BadEscape, Found, Goes, Stops, goes, closing_quotes, broken, is_character, numbered, hexadecimal, octal, escaped_feed, simple_escapes, simple, is_of_bytes, escape, drops_backslash, raw_pair, brace, is_brace, found_at, Body, body_onward, body_from, body_at}
 use Rattle.starlark_grammar.specs.Characters.{first_character}
 use Rattle.starlark_grammar.proofs.Literals.Bodies.{found_fits, FoundFits}
 use Rattle.starlark_grammar.proofs.Words.Lines.{in_line}
@@ -233,14 +233,14 @@ body_from_followed literal zero (b ∷ bs) more h closed =
 
     go : (found other : Found) → FoundFollowed (length (b ∷ bs)) found other → FoundFits literal.opening (b ∷ bs) found
         → ((passed : ℕ) → ends_line bs ≡ true → is_closed (body_from literal passed bs).stop ≡ true → body_from literal passed (bs ++ more) ≡ body_from literal passed bs)
-        → is_closed (onward found (λ passed. body_from literal passed bs)).stop ≡ true → onward other again ≡ onward found (λ passed. body_from literal passed bs)
-    go (Stops stop) other follows fits rest closed = ap (λ (found : Found). onward found again) (closed_followed stop other closed follows)
+        → is_closed (body_onward found (λ passed. body_from literal passed bs)).stop ≡ true → body_onward other again ≡ body_onward found (λ passed. body_from literal passed bs)
+    go (Stops stop) other follows fits rest closed = ap (λ (found : Found). body_onward found again) (closed_followed stop other closed follows)
     go (Goes item) other follows fits rest closed =
         let inside = closed_inside literal (item.len - 1) bs closed in
         let some = fits.0 in
         let found : other ≡ Goes item = follows (omega arith) in
         let behind = rest (item.len - 1) (ends_line_rest b bs (omega arith) h) closed in
-        ap (λ (found : Found). onward found again) found ∙ ap (λ (rest : Body). record { items = item ∷ rest.items; stop = rest.stop }) behind
+        ap (λ (found : Found). body_onward found again) found ∙ ap (λ (rest : Body). record { items = item ∷ rest.items; stop = rest.stop }) behind
 
 -- A body that is closed stays.
 pub body_followed : (literal : Literal) (text more : Text) → ends_line text ≡ true → is_closed (body_at literal text).stop ≡ true → body_at literal (text ++ more) ≡ body_at literal text

@@ -9,7 +9,7 @@ use Rattle.starlark_grammar.specs.Words.{Text, Quote, SingleQuote, DoubleQuote, 
 use Rattle.starlark_grammar.specs.Front.{longest_front}
 use Rattle.starlark_grammar.specs.Tokens.{Opening, FStringBang, Lexeme, Spanned, Fault}
 use Rattle.starlark_grammar.specs.Items.{Stop, Closing, Line, Ended, OpeningBrace, ClosingBrace, BadEscape, Body, body_at, quote_byte}
-use Rattle.starlark_grammar.specs.Depths.{Where, Outside, InText, AtTop, Deeper}
+use Rattle.starlark_grammar.specs.Depths.{Mode, Outside, InText, AtTop, Deeper}
 use Rattle.starlark_grammar.specs.Margins.{Margin, margin_of, is_content, has_tab, width_of, fits}
 use Rattle.starlark_grammar.specs.Pieces.{Before, Nothing, Layout, Gap, Other, Piece, Step, Stands, Fails, Situation, piece, token, margin_step, line_end, opening_of, more_quotes, escape_fault, literal_by, literal, opener, chunk_by, chunk, counts, word_step, front_step, takes_bang, is_bang, in_code, by_place, by_before, step_at}
 use Rattle.starlark_grammar.specs.Reading.{History, situation, next_step}
@@ -44,7 +44,7 @@ escape_fails : (begin : ℕ) (text : Text) (piece : Piece) → escape_fault begi
 escape_fails begin [] piece e = cc
 escape_fails begin (b ∷ bs) piece e = cc
 
-literal_by_followed : (place : Where) (kind : Kind) (opening : Opening) (len : ℕ) (behind other : Text) (body : Body) (stop : Stop) (piece : Piece) → literal_by place kind opening len behind body stop ≡ Stands piece → (is_closed stop ≡ true) × (literal_by place kind opening len other body stop ≡ Stands piece)
+literal_by_followed : (place : Mode) (kind : Kind) (opening : Opening) (len : ℕ) (behind other : Text) (body : Body) (stop : Stop) (piece : Piece) → literal_by place kind opening len behind body stop ≡ Stands piece → (is_closed stop ≡ true) × (literal_by place kind opening len other body stop ≡ Stands piece)
 literal_by_followed place kind opening len behind other body Closing piece e = (refl, e)
 literal_by_followed place kind opening len behind other body OpeningBrace piece e = cc
 literal_by_followed place kind opening len behind other body ClosingBrace piece e = cc
@@ -52,16 +52,16 @@ literal_by_followed place kind opening len behind other body (BadEscape read las
 literal_by_followed place kind opening len behind other body Line piece e = cc
 literal_by_followed place kind opening len behind other body Ended piece e = cc
 
-pub literal_followed : (place : Where) (kind : Kind) (opening : Opening) (len : ℕ) (behind more : Text) (piece : Piece) → ends_line behind ≡ true → literal place kind opening len behind ≡ Stands piece → literal place kind opening len (behind ++ more) ≡ Stands piece
+pub literal_followed : (place : Mode) (kind : Kind) (opening : Opening) (len : ℕ) (behind more : Text) (piece : Piece) → ends_line behind ≡ true → literal place kind opening len behind ≡ Stands piece → literal place kind opening len (behind ++ more) ≡ Stands piece
 literal_followed place kind opening len behind more piece h e =
     let stands = literal_by_followed place kind opening len behind (behind ++ more) (body_at (record { kind = kind; opening = opening }) behind) _ piece e in
     ap (λ (body : Body). literal_by place kind opening len (behind ++ more) body body.stop) (body_followed (record { kind = kind; opening = opening }) behind more h stands.0) ∙ stands.1
 
-literal_behind : (place : Where) (kind : Kind) (opening : Opening) (len quotes : ℕ) (behind more : Text) (piece : Piece) → ends_line behind ≡ true → quotes < length behind → literal place kind opening len (drop quotes behind) ≡ Stands piece → literal place kind opening len (drop quotes (behind ++ more)) ≡ Stands piece
+literal_behind : (place : Mode) (kind : Kind) (opening : Opening) (len quotes : ℕ) (behind more : Text) (piece : Piece) → ends_line behind ≡ true → quotes < length behind → literal place kind opening len (drop quotes behind) ≡ Stands piece → literal place kind opening len (drop quotes (behind ++ more)) ≡ Stands piece
 literal_behind place kind opening len quotes behind more piece h inside e =
     subst (λ (t : Text). literal place kind opening len t ≡ Stands piece) (sym (drop-append-le quotes behind more (omega arith))) (literal_followed place kind opening len (drop quotes behind) more piece (ends_line_drop quotes behind inside h) e)
 
-opener_followed : (place : Where) (kind : Kind) (opening : Opening) (len : ℕ) (behind more : Text) (piece : Piece) → ends_line behind ≡ true → more_quotes opening < length behind → opener place kind opening len behind ≡ Stands piece → opener place kind opening len (behind ++ more) ≡ Stands piece
+opener_followed : (place : Mode) (kind : Kind) (opening : Opening) (len : ℕ) (behind more : Text) (piece : Piece) → ends_line behind ≡ true → more_quotes opening < length behind → opener place kind opening len behind ≡ Stands piece → opener place kind opening len (behind ++ more) ≡ Stands piece
 opener_followed place OfFString opening len behind more piece h inside e = e
 opener_followed place OfText opening len behind more piece h inside e = literal_behind place OfText opening (len + more_quotes opening) (more_quotes opening) behind more piece h inside e
 opener_followed place OfBytes opening len behind more piece h inside e = literal_behind place OfBytes opening (len + more_quotes opening) (more_quotes opening) behind more piece h inside e
@@ -216,7 +216,7 @@ pub step_followed : (s : Situation) (text more : Text) (piece : Piece) → is_no
 unfolding step_at
 step_followed s text more piece some h e = before s.before some e
   where
-    at : (place : Where) → by_place language s place text ≡ Stands piece
+    at : (place : Mode) → by_place language s place text ≡ Stands piece
         → (by_place language s place (text ++ more) ≡ Stands piece) ⊎ CountedLineEnd s text more (by_place language s place text) (by_place language s place (text ++ more))
     at Outside e = code_followed s text more piece h e
     at (InText opening) e = inl (chunk_followed opening text more piece h e)

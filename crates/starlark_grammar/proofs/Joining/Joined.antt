@@ -10,7 +10,7 @@ use Rattle.starlark_grammar.specs.Front.{longest_front}
 use Rattle.starlark_grammar.specs.Numbers.{integer_of}
 use Rattle.starlark_grammar.specs.Tokens.{Token, Newline, Int, StartsZero, FStringBang, Indent, InvalidTab, Indentation, Opening, Lexeme, moved, Outcome}
 use Rattle.starlark_grammar.specs.Items.{Stop, Closing, Line, Ended, OpeningBrace, ClosingBrace, BadEscape, Body, body_at}
-use Rattle.starlark_grammar.specs.Depths.{Where, Outside, InText, AtTop, Deeper}
+use Rattle.starlark_grammar.specs.Depths.{Mode, Outside, InText, AtTop, Deeper}
 use Rattle.starlark_grammar.specs.Margins.{Margin, margin_of, margin_len, is_content, has_tab, width_of, fits, indentation, open_widths}
 use Rattle.starlark_grammar.specs.Pieces.{more_quotes, fault, token, Before, Nothing, Layout, Gap, Other, Piece, Step, Stands, Fails, Ends, Situation, margin_step, first_margin, line_end, counts, is_bang, takes_bang, escape_fault, literal_by, opener, chunk_by, chunk, starts_zero, word_step, front_step, in_code, by_place, by_before, step_at}
 use Rattle.starlark_grammar.specs.Reading.{tokens_onto, History, nothing, after, after_all, situation, next_step, IsReading, pieces_len, lexemes_along}
@@ -119,7 +119,7 @@ plain_escape : (begin : ℕ) (text : Text) → NoLayout (escape_fault begin text
 plain_escape begin [] = tt
 plain_escape begin (b ∷ bs) = tt
 
-plain_literal : (place : Where) (kind : Kind) (opening : Opening) (len : ℕ) (behind : Text) (body : Body) (stop : Stop) → NoLayout (literal_by place kind opening len behind body stop)
+plain_literal : (place : Mode) (kind : Kind) (opening : Opening) (len : ℕ) (behind : Text) (body : Body) (stop : Stop) → NoLayout (literal_by place kind opening len behind body stop)
 plain_literal place kind opening len behind body Closing = refl
 plain_literal place kind opening len behind body (BadEscape read last) = plain_escape _ _
 plain_literal place kind opening len behind body Line = tt
@@ -127,10 +127,10 @@ plain_literal place kind opening len behind body Ended = tt
 plain_literal place kind opening len behind body OpeningBrace = tt
 plain_literal place kind opening len behind body ClosingBrace = tt
 
-plain_body : (place : Where) (kind : Kind) (opening : Opening) (len : ℕ) (behind : Text) (body : Body) → NoLayout (literal_by place kind opening len behind body body.stop)
+plain_body : (place : Mode) (kind : Kind) (opening : Opening) (len : ℕ) (behind : Text) (body : Body) → NoLayout (literal_by place kind opening len behind body body.stop)
 plain_body place kind opening len behind body = plain_literal place kind opening len behind body body.stop
 
-plain_opener : (place : Where) (kind : Kind) (opening : Opening) (len : ℕ) (behind : Text) → NoLayout (opener place kind opening len behind)
+plain_opener : (place : Mode) (kind : Kind) (opening : Opening) (len : ℕ) (behind : Text) → NoLayout (opener place kind opening len behind)
 plain_opener place OfFString opening len behind = refl
 plain_opener place OfText opening len behind = plain_body place OfText opening (len + more_quotes opening) (drop (more_quotes opening) behind) (body_at (record { kind = OfText; opening = opening }) (drop (more_quotes opening) behind))
 plain_opener place OfBytes opening len behind = plain_body place OfBytes opening (len + more_quotes opening) (drop (more_quotes opening) behind) (body_at (record { kind = OfBytes; opening = opening }) (drop (more_quotes opening) behind))
@@ -202,7 +202,7 @@ module _ (s : Situation) (text : Text) (piece : Piece) (laid : is_layout piece.s
       go [] same e = cc
       go (b ∷ bs) same e = bang b bs (takes_bang s.place s.before && is_bang (b ∷ bs)) same e
 
-  by_place_end : (place : Where) → by_place language s place text ≡ Stands piece → CountedEnd s text piece
+  by_place_end : (place : Mode) → by_place language s place text ≡ Stands piece → CountedEnd s text piece
   by_place_end Outside e = in_code_end e
   by_place_end (InText opening) e = absurd (layout_not _ piece (plain_chunk opening text) e laid)
   by_place_end AtTop e = in_code_end e
@@ -218,7 +218,7 @@ module _ (s : Situation) (text : Text) (piece : Piece) (laid : is_layout piece.s
       go Gap h e = by_place_end s.place e
       go Other h e = by_place_end s.place e
 
-outside : (place : Where) (balanced : Bool) → counts place balanced ≡ true → place ≡ Outside
+outside : (place : Mode) (balanced : Bool) → counts place balanced ≡ true → place ≡ Outside
 outside Outside balanced h = refl
 outside (InText opening) balanced h = cc
 outside AtTop balanced h = cc
@@ -228,7 +228,7 @@ outside Deeper balanced h = cc
 counted_step : (s : Situation) (b : ℕ) (bs : Text) (len : ℕ) → is_nothing s.before ≡ false → counts s.place s.is_balanced ≡ true → longest_front (class_in language) (b ∷ bs) ≡ Some (word.LineEnd, len)
     → step_at language s (b ∷ bs) ≡ line_end (length (take len (b ∷ bs))) s.levels (drop len (b ∷ bs))
 unfolding step_at
-counted_step s b bs len started counted front = before_is s.before started ∙ ap (λ (place : Where). by_place language s place (b ∷ bs)) place ∙ rw (place, front) (rw (counted') refl)
+counted_step s b bs len started counted front = before_is s.before started ∙ ap (λ (place : Mode). by_place language s place (b ∷ bs)) place ∙ rw (place, front) (rw (counted') refl)
   where
     place : s.place ≡ Outside
     place = outside s.place s.is_balanced counted

@@ -8,7 +8,7 @@ use Rattle.std.proofs.lemmas.List.Folds.{list_all-append}
 use Rattle.std.proofs.lemmas.List.Sums.{sum_by-append}
 use Rattle.starlark_grammar.specs.Words.{Text, Table}
 use Rattle.starlark_grammar.specs.Tokens.{Token, Opening, FStringStart, FStringEnd, Lexeme}
-use Rattle.starlark_grammar.specs.Depths.{InText, AtTop, Deeper, Round, Square, braces, depth, open_fstring, where_by, where_after, is_balanced, is_any_opening, is_any_closing}
+use Rattle.starlark_grammar.specs.Depths.{InText, AtTop, Deeper, Round, Square, braces, depth, open_fstring, mode_by, mode_after, is_balanced, is_any_opening, is_any_closing}
 use Rattle.starlark_grammar.specs.Margins.{open_widths}
 use Rattle.starlark_grammar.specs.Pieces.{Piece, Step}
 use Rattle.starlark_grammar.specs.Reading.{History, tokens_onto, after, after_all, situation, next_step, IsReading, IsLongestReading, pieces_len}
@@ -42,7 +42,7 @@ open_settled earlier h zero (token ∷ before) = ap (option_map (λ (found : Ope
 open_settled earlier h (suc n) (token ∷ before) = open_settled earlier h (suc n) before
 
 -- outside of f-strings none is open
-outside_none : (found : Option (Opening × List Token)) → is_outside (where_by found) ≡ true → found ≡ None
+outside_none : (found : Option (Opening × List Token)) → is_outside (mode_by found) ≡ true → found ≡ None
 outside_none None h = refl
 outside_none (Some found) h = absurd (go (braces found.1 == 0) (braces found.1 == 1 && depth Round found.1 == 0 && depth Square found.1 == 0) h)
   where
@@ -91,15 +91,15 @@ pub record Settled (history : History) : Type 0 where
   pub no_width : open_widths history.widths ≡ []
 
 pub settled : (history : History) → is_settled history ≡ true → Settled history
-unfolding is_settled where_after
+unfolding is_settled mode_after
 settled history h =
-    let one = and_parts (is_layout history.before && is_outside (where_by (open_fstring 0 history.tokens)) && is_balanced history.tokens) _ h in
-    let two = and_parts (is_layout history.before && is_outside (where_by (open_fstring 0 history.tokens))) _ one.0 in
+    let one = and_parts (is_layout history.before && is_outside (mode_by (open_fstring 0 history.tokens)) && is_balanced history.tokens) _ h in
+    let two = and_parts (is_layout history.before && is_outside (mode_by (open_fstring 0 history.tokens))) _ one.0 in
     let three = and_parts (is_layout history.before) _ two.0 in
     record { layout = three.0; none_open = outside_none _ three.1; balanced = two.1; no_width = no_widths _ one.1 }
 
 pub situation_behind : (earlier history : History) → Settled earlier → situation (behind earlier history) ≡ situation history
-unfolding situation where_after
+unfolding situation mode_after
 situation_behind earlier history h =
     rw (open_settled earlier.tokens h.none_open 0 history.tokens, balanced_settled history.tokens earlier.tokens h.balanced, widths_settled earlier.widths history.widths h.no_width) refl
 

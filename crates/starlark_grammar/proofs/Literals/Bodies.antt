@@ -12,8 +12,9 @@ use Rattle.std.specs.Str.Parse.{digits_value}
 use Rattle.starlark_grammar.proofs.Lists.{take_fits, drop-sum, drop-behind}
 use Rattle.starlark_grammar.specs.Words.{Text, Quote, Kind, is_octal_digit}
 use Rattle.starlark_grammar.specs.Tokens.{Opening}
-use Rattle.starlark_grammar.specs.Items.{Literal, Item, Stop, Closing, Line, Ended, OpeningBrace, ClosingBrace, BadEscape, Found, Goes, Stops, goes, closing_quotes, broken, is_character, numbered, hexadecimal, octal, escaped_feed, simple_escapes, simple, is_of_bytes, escape, raw_pair, brace, is_brace, found_at, Body, body_len, onward, body_from, body_at}
+use Rattle.starlark_grammar.specs.Items.{Literal, Item, Stop, Closing, Line, Ended, OpeningBrace, ClosingBrace, BadEscape, Found, Goes, Stops, goes, closing_quotes, broken, is_character, numbered, hexadecimal, octal, escaped_feed, simple_escapes, simple, is_of_bytes, escape, raw_pair, brace, is_brace, found_at, Body, body_len, body_onward, body_from, body_at}
 use Rattle.starlark_grammar.specs.Characters.{first_character}
+use Rattle.starlark_grammar.proofs.Choices.{either, by_test}
 
 pub character_fits : (text : Text) → length (first_character text) ≤ length text
 character_fits [] = omega arith
@@ -31,11 +32,6 @@ StopFits opening text (BadEscape read last) = (1 ≤ last) × (last ≤ read) ×
 abbrev pub FoundFits : Opening → Text → Found → Type 0
 FoundFits opening text (Goes item) = (1 ≤ item.len) × (item.len ≤ length text)
 FoundFits opening text (Stops stop) = StopFits opening text stop
-
--- either of two, by a test
-either : {A : Type 0} (P : A → Type 0) (test : Bool) (x y : A) → P x → P y → P (if test then x else y)
-either P true x y px py = px
-either P false x y px py = py
 
 broken_fits : (opening : Opening) (good : ℕ) (behind text : Text) → 1 ≤ good → good + length behind ≤ length text → FoundFits opening text (broken good behind)
 broken_fits opening good [] text some inside = (omega arith, some, omega arith)
@@ -104,11 +100,6 @@ starts_fits text needle h =
     let len : length needle ≡ length (take (length needle) text) = ap (λ (t : Text). length t) same in
     omega (arith, fits.0, len)
 
--- the first of two where a test passes, with what the test says
-when : {A : Type 0} (P : A → Type 0) (test : Bool) (x y : A) → (test ≡ true → P x) → (test ≡ false → P y) → P (if test then x else y)
-when P true x y px py = px refl
-when P false x y px py = py refl
-
 pub found_fits : (literal : Literal) (text : Text) → FoundFits literal.opening text (found_at literal text)
 unfolding found_at
 found_fits literal [] = tt
@@ -116,7 +107,7 @@ found_fits literal (b ∷ bs) =
     let fits = character_fits (b ∷ bs) in
     let opening = literal.opening in
     let P : Found → Type 0 = FoundFits literal.opening (b ∷ bs) in
-    when P (starts_with nat_eq (b ∷ bs) (closing_quotes literal.opening)) _ _ (starts_fits (b ∷ bs) (closing_quotes literal.opening)) (λ e.
+    by_test P (starts_with nat_eq (b ∷ bs) (closing_quotes literal.opening)) _ _ (starts_fits (b ∷ bs) (closing_quotes literal.opening)) (λ e.
     either P (b == byte "\n" && not literal.opening.is_triple) _ _ (omega arith)
     (either P (b == byte "\r") _ _ (omega arith, omega arith)
     (either P (b == byte "\\" && literal.opening.is_raw) _ _ (raw_pair_fits literal.opening literal.kind literal.opening.quote bs (b ∷ bs) (omega arith))
@@ -144,7 +135,7 @@ body_from_fits literal (suc passed) [] = (omega arith, tt)
 body_from_fits literal (suc passed) (b ∷ bs) = body_from_fits literal passed bs
 body_from_fits literal zero (b ∷ bs) = go (found_at literal (b ∷ bs)) (found_fits literal (b ∷ bs)) (λ passed. body_from_fits literal passed bs)
   where
-    go : (found : Found) → FoundFits literal.opening (b ∷ bs) found → ((passed : ℕ) → BodyFits literal (drop passed bs) (body_from literal passed bs)) → BodyFits literal (b ∷ bs) (onward found (λ passed. body_from literal passed bs))
+    go : (found : Found) → FoundFits literal.opening (b ∷ bs) found → ((passed : ℕ) → BodyFits literal (drop passed bs) (body_from literal passed bs)) → BodyFits literal (b ∷ bs) (body_onward found (λ passed. body_from literal passed bs))
     go (Stops stop) fits more = (omega arith, fits)
     go (Goes item) fits more = onward_fits literal item b bs (body_from literal (item.len - 1) bs) fits.0 fits.1 (more (item.len - 1))
 

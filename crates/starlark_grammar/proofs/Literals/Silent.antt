@@ -11,25 +11,18 @@ use Rattle.std.proofs.lemmas.Bool.Decides.{nat_tests}
 use Rattle.std.proofs.lemmas.Str.{length-encode}
 use Rattle.std.proofs.lemmas.List.Sums.{sum_by-cons}
 use Rattle.starlark_grammar.specs.Words.{Text, Quote, Kind, is_octal_digit}
-use Rattle.starlark_grammar.specs.Items.{Literal, Item, Stop, Found, Goes, Stops, goes, closing_quotes, broken, is_character, numbered, hexadecimal, escaped_feed, simple_escapes, simple, is_of_bytes, escape, drops_backslash, raw_pair, brace, is_brace, found_at, Body, body_len, body_value, onward, body_from, body_at, OpeningBrace, ClosingBrace}
+use Rattle.starlark_grammar.specs.Items.{Literal, Item, Stop, Found, Goes, Stops, goes, closing_quotes, broken, is_character, numbered, hexadecimal, escaped_feed, simple_escapes, simple, is_of_bytes, escape, drops_backslash, raw_pair, brace, is_brace, found_at, Body, body_len, body_value, body_onward, body_from, body_at, OpeningBrace, ClosingBrace}
 use Rattle.starlark_grammar.specs.Characters.{first_character}
 use Rattle.starlark_grammar.specs.Cuts.{is_gap_byte, IsGap}
 use Rattle.starlark_grammar.proofs.Lists.{drop-behind}
 use Rattle.starlark_grammar.proofs.Literals.Bodies.{FoundFits, found_fits}
 use Rattle.starlark_grammar.proofs.Order.Gaps.{gap_none, gap_join, gap_shift, word_gap}
+use Rattle.starlark_grammar.proofs.Choices.{either, when}
 
 -- an item that denotes nothing is a gap
 abbrev Silent : Text → Found → Type 0
 Silent text (Goes item) = item.value ≡ [] → IsGap text 0 item.len
 Silent text (Stops stop) = ⊤
-
-either : (P : Found → Type 0) (test : Bool) (x y : Found) → P x → P y → P (if test then x else y)
-either P true x y px py = px
-either P false x y px py = py
-
-when : (P : Found → Type 0) (test : Bool) (x y : Found) → (test ≡ true → P x) → P y → P (if test then x else y)
-when P true x y px py = px refl
-when P false x y px py = py
 
 loud : (text : Text) (len b : ℕ) (bs : Text) → Silent text (goes len (b ∷ bs))
 loud text len b bs e = cc
@@ -124,7 +117,7 @@ body_silent literal (suc passed) (b ∷ bs) e = body_silent literal passed bs e
 body_silent literal zero (b ∷ bs) e = go (found_at literal (b ∷ bs)) (found_silent literal (b ∷ bs)) (found_fits literal (b ∷ bs)) (λ passed. body_silent literal passed bs) e
   where
     go : (found : Found) → Silent (b ∷ bs) found → FoundFits literal.opening (b ∷ bs) found → ((passed : ℕ) → body_value (body_from literal passed bs) ≡ [] → IsGap (drop passed bs) 0 (body_len (body_from literal passed bs)))
-        → body_value (onward found (λ passed. body_from literal passed bs)) ≡ [] → IsGap (b ∷ bs) 0 (body_len (onward found (λ passed. body_from literal passed bs)))
+        → body_value (body_onward found (λ passed. body_from literal passed bs)) ≡ [] → IsGap (b ∷ bs) 0 (body_len (body_onward found (λ passed. body_from literal passed bs)))
     go (Stops stop) silent fits more e = gap_none (b ∷ bs) 0
     go (Goes item) silent fits more e =
         let rest : Body = body_from literal (item.len - 1) bs in

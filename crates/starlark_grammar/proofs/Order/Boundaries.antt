@@ -26,7 +26,7 @@ Edges text lexemes = AllByRecursion (AtBoundaries text) lexemes
 -- a byte of a gap is ASCII
 gap_small : (b : ℕ) (bs : Text) → is_gap_byte (b ∷ bs) ≡ true → b < 128
 unfolding is_gap_byte
-gap_small b bs h = go (Rattle.starlark_grammar.specs.Cuts.begins_line bs) h
+gap_small b bs h = go (Rattle.starlark_grammar.specs.Cuts.begins_with_line_end bs) h
   where
     go : (line : Bool) → (is_blank b || is_feed b || (b == byte "\\" && line)) ≡ true → b < 128
     go true h = grind (arith, nat_tests)

@@ -16,12 +16,13 @@ use Rattle.std.proofs.lemmas.Slice.Eq.{bytes_eq-Decides}
 use Rattle.std.proofs.lemmas.Str.{IsCharBoundary-before_ascii, IsCharBoundary-from_take, IsCharBoundary-from_rest, IsUtf8-drop, IsUtf8-from_ascii, IsCharBoundary-end, IsCharBoundary-past_char, length-encode}
 use Rattle.starlark_grammar.specs.Words.{Text, Quote, SingleQuote, DoubleQuote, Kind, OfText, OfBytes, OfFString, is_octal_digit}
 use Rattle.starlark_grammar.specs.Tokens.{Opening, Lexeme, moved}
-use Rattle.starlark_grammar.specs.Items.{Literal, Item, Stop, Closing, Line, Ended, OpeningBrace, ClosingBrace, BadEscape, Found, Goes, Stops, closing_quotes, quote_byte, broken, numbered, is_character, hexadecimal, octal, escaped_feed, simple, simple_escapes, escape, raw_pair, brace, found_at, Body, body_len, onward, body_from, body_at, is_brace, is_of_bytes}
+use Rattle.starlark_grammar.specs.Items.{Literal, Item, Stop, Closing, Line, Ended, OpeningBrace, ClosingBrace, BadEscape, Found, Goes, Stops, closing_quotes, quote_byte, broken, numbered, is_character, hexadecimal, octal, escaped_feed, simple, simple_escapes, escape, raw_pair, brace, found_at, Body, body_len, body_onward, body_from, body_at, is_brace, is_of_bytes}
 use Rattle.starlark_grammar.specs.Characters.{first_character}
 use Rattle.starlark_grammar.specs.Laws.{AtBoundaries}
 use Rattle.starlark_grammar.proofs.Lists.{drop-sum, drop-behind}
 use Rattle.starlark_grammar.proofs.Literals.Bodies.{FoundFits, found_fits}
 use Rattle.starlark_grammar.proofs.Words.Bytes.{is_plain}
+use Rattle.starlark_grammar.proofs.Choices.{either, when}
 
 plain_ascii : (text : Text) → is_plain text ≡ true → IsAscii text
 plain_ascii [] h i = omega arith
@@ -120,14 +121,6 @@ StopAt opening text (BadEscape read last) = (rest : Text) × (text ≡ byte "\\"
 abbrev FoundAt : Opening → Text → Found → Type 0
 FoundAt opening text (Goes item) = ⊤
 FoundAt opening text (Stops stop) = StopAt opening text stop
-
-pub either : (P : Found → Type 0) (test : Bool) (x y : Found) → P x → P y → P (if test then x else y)
-either P true x y px py = px
-either P false x y px py = py
-
-pub when : (P : Found → Type 0) (test : Bool) (x y : Found) → (test ≡ true → P x) → P y → P (if test then x else y)
-when P true x y px py = px refl
-when P false x y px py = py
 
 plain_take : (n : ℕ) (text : Text) → is_plain text ≡ true → is_plain (take n text) ≡ true
 plain_take zero text h = refl
@@ -280,7 +273,7 @@ body_stop literal (suc passed) (b ∷ bs) = body_stop literal passed bs
 body_stop literal zero (b ∷ bs) = go (found_at literal (b ∷ bs)) (found_stop literal (b ∷ bs)) (found_fits literal (b ∷ bs)) (λ passed. body_stop literal passed bs)
   where
     go : (found : Found) → FoundAt literal.opening (b ∷ bs) found → FoundFits literal.opening (b ∷ bs) found → ((passed : ℕ) → StopAt literal.opening (drop (body_len (body_from literal passed bs)) (drop passed bs)) (body_from literal passed bs).stop)
-        → StopAt literal.opening (drop (body_len (onward found (λ passed. body_from literal passed bs))) (b ∷ bs)) (onward found (λ passed. body_from literal passed bs)).stop
+        → StopAt literal.opening (drop (body_len (body_onward found (λ passed. body_from literal passed bs))) (b ∷ bs)) (body_onward found (λ passed. body_from literal passed bs)).stop
     go (Stops stop) here fits more = here
     go (Goes item) here fits more =
         let rest : Body = body_from literal (item.len - 1) bs in

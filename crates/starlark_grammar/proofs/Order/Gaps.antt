@@ -7,7 +7,7 @@ use Rattle.std.proofs.lemmas.Bool.{and_parts, cases_lt}
 use Rattle.starlark_grammar.specs.Words.{Text}
 use Rattle.starlark_grammar.specs.Tokens.{Lexeme, moved}
 use Rattle.starlark_grammar.specs.Margins.{is_blank, is_feed}
-use Rattle.starlark_grammar.specs.Cuts.{begins_line, is_gap_byte, IsGap, InOrder}
+use Rattle.starlark_grammar.specs.Cuts.{begins_with_line_end, is_gap_byte, IsGap, InOrder}
 use Rattle.starlark_grammar.proofs.Lists.{drop-sum}
 
 pub gap_none : (text : Text) (at : ℕ) → IsGap text at at
@@ -81,7 +81,7 @@ abbrev pub all_gaps : Text → Bool
 all_gaps [] = true
 all_gaps (b ∷ bs) = is_gap_byte (b ∷ bs) && all_gaps bs
 
-begins_line-more : (bs rest : Text) → begins_line bs ≡ true → begins_line (bs ++ rest) ≡ true
+begins_line-more : (bs rest : Text) → begins_with_line_end bs ≡ true → begins_with_line_end (bs ++ rest) ≡ true
 begins_line-more [] rest h = cc
 begins_line-more (x ∷ []) rest h = go (nat_eq 10 x) (nat_eq 13 x) h
   where
@@ -93,9 +93,9 @@ begins_line-more (x ∷ y ∷ ys) rest h = h
 
 gap_byte-more : (word rest : Text) (b : ℕ) → is_gap_byte (b ∷ word) ≡ true → is_gap_byte (b ∷ (word ++ rest)) ≡ true
 unfolding is_gap_byte
-gap_byte-more word rest b h = go (is_blank b) (is_feed b) (b == byte "\\") (begins_line word) h (begins_line-more word rest)
+gap_byte-more word rest b h = go (is_blank b) (is_feed b) (b == byte "\\") (begins_with_line_end word) h (begins_line-more word rest)
   where
-    go : (blank feed back line : Bool) → (blank || feed || (back && line)) ≡ true → (line ≡ true → begins_line (word ++ rest) ≡ true) → (blank || feed || (back && begins_line (word ++ rest))) ≡ true
+    go : (blank feed back line : Bool) → (blank || feed || (back && line)) ≡ true → (line ≡ true → begins_with_line_end (word ++ rest) ≡ true) → (blank || feed || (back && begins_with_line_end (word ++ rest))) ≡ true
     go true feed back line h more = refl
     go false true back line h more = refl
     go false false true line h more = more h

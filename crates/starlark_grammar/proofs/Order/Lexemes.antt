@@ -14,7 +14,7 @@ use Rattle.starlark_grammar.specs.Front.{longest_front}
 use Rattle.starlark_grammar.specs.Numbers.{integer_of}
 use Rattle.starlark_grammar.specs.Tokens.{Token, Comment, Identifier, Int, Float, Opening, Lexeme, moved, Indent, Dedent, Newline, Outcome, FStringBang, FStringEnd, FStringExprStart, FStringStart}
 use Rattle.starlark_grammar.specs.Items.{Stop, Closing, Line, Ended, OpeningBrace, ClosingBrace, BadEscape, Body, body_at, body_len, body_value, closing_quotes}
-use Rattle.starlark_grammar.specs.Depths.{Where, Outside, InText, AtTop, Deeper}
+use Rattle.starlark_grammar.specs.Depths.{Mode, Outside, InText, AtTop, Deeper}
 use Rattle.starlark_grammar.specs.Margins.{is_blank, is_feed, blanks_len, lines, begins_comment, is_comment_only, without_return, comment_part, comments_from, comment_lines, margin_from, Margin, margin_of, margin_len, is_content, has_tab, width_of, fits, is_widest, indentation}
 use Rattle.starlark_grammar.specs.Pieces.{Before, Nothing, Layout, Gap, Other, Piece, Step, Stands, Fails, Ends, Situation, token, margin_step, line_end, opening_of, more_quotes, escape_fault, literal_token, literal_by, opener, chunk_text, chunk_piece, chunk_by, chunk, terminal_token, counts, starts_zero, word_step, front_step, takes_bang, is_bang, in_code, by_place, by_before, step_at}
 use Rattle.starlark_grammar.specs.Reading.{History, nothing, after, after_all, situation, next_step, IsReading, IsLongestReading, pieces_len, lexemes_along, closing, outcome_of, outcome_in, outcome, read}
@@ -26,6 +26,7 @@ use Rattle.starlark_grammar.proofs.Reading.Readings.{ends_at_end, reading_fits, 
 use Rattle.starlark_grammar.proofs.Order.Gaps.{gap_none, gap_shift, gap_cons, gap_first, blank_gap, feed_gap, blanks_gap, order_extend, order_append, order_shift, all_gaps, word_gap}
 use Rattle.starlark_grammar.proofs.Words.Bytes.{is_plain, word_fits, language_fits}
 use Rattle.starlark_grammar.proofs.Literals.Silent.{silent_gap}
+use Rattle.starlark_grammar.proofs.Choices.{either}
 
 -- Lines
 
@@ -263,10 +264,6 @@ Ordered text piece = InOrder text 0 piece.lexemes piece.len
 abbrev pub StepOrdered : Text → Step → Type 0
 StepOrdered text = Each (Ordered text) (λ fault. ⊤)
 
-either : (P : Step → Type 0) (test : Bool) (x y : Step) → P x → P y → P (if test then x else y)
-either P true x y px py = px
-either P false x y px py = py
-
 -- a piece that is one lexeme leaves no gap
 token_order : (text : Text) (len : ℕ) (node : Token) → StepOrdered text (token len node)
 token_order text len node = (omega arith, omega arith, gap_none text 0, (omega arith, gap_none text len))
@@ -288,7 +285,7 @@ margin_step_order text len before levels h =
         (subst (λ n. InOrder text n (map (moved len) (margin.comments ++ more)) (len + margin_len margin)) same
         (order_shift len text 0 (margin_len margin) (margin.comments ++ more) (margin_order (drop len text) more k)))
 
-literal_by_order : (text : Text) (place : Where) (kind : Kind) (opening : Opening) (len : ℕ) (behind : Text) (body : Body) (stop : Stop) → StepOrdered text (literal_by place kind opening len behind body stop)
+literal_by_order : (text : Text) (place : Mode) (kind : Kind) (opening : Opening) (len : ℕ) (behind : Text) (body : Body) (stop : Stop) → StepOrdered text (literal_by place kind opening len behind body stop)
 literal_by_order text place kind opening len behind body Closing = token_order text (len + body_len body + length (closing_quotes opening)) (literal_token kind (body_value body))
 literal_by_order text place kind opening len behind body (BadEscape read last) = go (len + body_len body) (drop 1 (take read (drop (body_len body) behind)))
   where
@@ -300,7 +297,7 @@ literal_by_order text place kind opening len behind body Ended = tt
 literal_by_order text place kind opening len behind body OpeningBrace = tt
 literal_by_order text place kind opening len behind body ClosingBrace = tt
 
-opener_order : (text : Text) (place : Where) (kind : Kind) (opening : Opening) (len : ℕ) (behind : Text) → StepOrdered text (opener place kind opening len behind)
+opener_order : (text : Text) (place : Mode) (kind : Kind) (opening : Opening) (len : ℕ) (behind : Text) → StepOrdered text (opener place kind opening len behind)
 opener_order text place OfFString opening len behind = token_order text (len + more_quotes opening) (FStringStart opening)
 opener_order text place OfText opening len behind = literal_by_order text place OfText opening (len + more_quotes opening) (drop (more_quotes opening) behind) (body_at (record { kind = OfText; opening = opening }) (drop (more_quotes opening) behind)) _
 opener_order text place OfBytes opening len behind = literal_by_order text place OfBytes opening (len + more_quotes opening) (drop (more_quotes opening) behind) (body_at (record { kind = OfBytes; opening = opening }) (drop (more_quotes opening) behind)) _
@@ -358,7 +355,7 @@ in_code_order : (s : Situation) (text : Text) → StepOrdered text (in_code lang
 in_code_order s [] = tt
 in_code_order s (b ∷ bs) = either (StepOrdered (b ∷ bs)) (takes_bang s.place s.before && is_bang (b ∷ bs)) _ _ (token_order (b ∷ bs) 1 FStringBang) (front_step_order s (b ∷ bs) _ refl)
 
-by_place_order : (s : Situation) (place : Where) (text : Text) → StepOrdered text (by_place language s place text)
+by_place_order : (s : Situation) (place : Mode) (text : Text) → StepOrdered text (by_place language s place text)
 by_place_order s Outside text = in_code_order s text
 by_place_order s (InText opening) text = chunk_order opening text
 by_place_order s AtTop text = in_code_order s text

@@ -19,7 +19,7 @@ use Rattle.starlark_grammar.specs.Front.{longest_front, IsLongestFront}
 use Rattle.starlark_grammar.specs.Numbers.{integer_of}
 use Rattle.starlark_grammar.specs.Tokens.{Token, Comment, Identifier, Int, Float, Opening, Lexeme, moved, Newline, Dedent, FStringBang, FStringEnd, FStringExprStart, FStringStart, Spanned, Fault}
 use Rattle.starlark_grammar.specs.Items.{Literal, Stop, Closing, Line, Ended, OpeningBrace, ClosingBrace, BadEscape, Body, body_at, body_len, body_value, closing_quotes, quote_byte}
-use Rattle.starlark_grammar.specs.Depths.{Where, Outside, InText, AtTop, Deeper}
+use Rattle.starlark_grammar.specs.Depths.{Mode, Outside, InText, AtTop, Deeper}
 use Rattle.starlark_grammar.specs.Margins.{Margin, margin_of, margin_len, is_content, has_tab, width_of, fits, indentation, open_widths}
 use Rattle.starlark_grammar.specs.Pieces.{Before, Nothing, Layout, Gap, Other, Piece, Step, Stands, Fails, Ends, Situation, token, margin_step, line_end, opening_of, more_quotes, escape_fault, literal_token, literal_by, opener, chunk_text, chunk_piece, chunk_by, chunk, terminal_token, counts, starts_zero, word_step, front_step, takes_bang, is_bang, in_code, by_place, by_before, step_at}
 use Rattle.starlark_grammar.specs.Reading.{History, nothing, after, after_all, situation, next_step, IsReading, pieces_len, lexemes_along, closing, outcome_of, outcome_in, outcome, read, IsLongestReading}
@@ -31,20 +31,13 @@ use Rattle.starlark_grammar.proofs.Words.Tables.{class_in-language}
 use Rattle.starlark_grammar.proofs.Words.Bytes.{is_plain, word_fits, language_fits}
 use Rattle.starlark_grammar.proofs.Order.Edges.{behind_plain, before_byte, boundary_shift, edges_append, edges_shift, starts_split, StopAt, stop_at, closing_edges, character_edge}
 use Rattle.starlark_grammar.proofs.Order.Boundaries.{Edges, MarginEdges, margin_edges, indentation_edges}
+use Rattle.starlark_grammar.proofs.Choices.{either, when}
 
 abbrev pub Bounded : Text → Piece → Type 0
 Bounded text piece = Edges text piece.lexemes × IsCharBoundary text piece.len
 
 abbrev pub StepBounded : Text → Step → Type 0
 StepBounded text = Each (Bounded text) (AtBoundaries text)
-
-either : (P : Step → Type 0) (test : Bool) (x y : Step) → P x → P y → P (if test then x else y)
-either P true x y px py = px
-either P false x y px py = py
-
-when : (P : Step → Type 0) (test : Bool) (x y : Step) → (test ≡ true → P x) → P y → P (if test then x else y)
-when P true x y px py = px refl
-when P false x y px py = py
 
 token_bounded : (text : Text) (len : ℕ) (node : Token) → IsUtf8 text → IsCharBoundary text len → StepBounded text (token len node)
 token_bounded text len node utf8 end = (((IsCharBoundary-start text utf8, end), tt), end)
@@ -83,7 +76,7 @@ text_end text len behind here e =
     let same : length text ≡ len + length behind = omega (arith, left, inside, length-drop len text) in
     subst (IsCharBoundary text) same (IsCharBoundary-end text)
 
-literal_by_bounded : (text : Text) (place : Where) (kind : Kind) (opening : Opening) (len : ℕ) (behind : Text) (body : Body) (stop : Stop) → IsUtf8 text → IsCharBoundary text len → drop len text ≡ behind → StopAt opening (drop (body_len body) behind) stop → StepBounded text (literal_by place kind opening len behind body stop)
+literal_by_bounded : (text : Text) (place : Mode) (kind : Kind) (opening : Opening) (len : ℕ) (behind : Text) (body : Body) (stop : Stop) → IsUtf8 text → IsCharBoundary text len → drop len text ≡ behind → StopAt opening (drop (body_len body) behind) stop → StepBounded text (literal_by place kind opening len behind body stop)
 literal_by_bounded text place kind opening len behind body Closing utf8 here e stop =
     let left : drop (len + body_len body) text ≡ drop (body_len body) behind = drop-sum len (body_len body) text ∙ ap (drop (body_len body)) e in
     let edges = closing_edges opening text (len + body_len body) utf8 (subst (λ (t : Text). t ≡ closing_quotes opening ++ drop (length (closing_quotes opening)) t) (sym left) stop) in
@@ -140,7 +133,7 @@ opening_edge text len is_raw quote utf8 here = go (starts_with nat_eq (drop len 
     go false h = subst (IsCharBoundary text) same here
     go true h = boundary_shift text len 2 here (behind_plain (drop len text) (quote_byte quote ∷ quote_byte quote ∷ []) (drop 2 (drop len text)) (IsUtf8-drop text len utf8 here) (h refl) (plain quote))
 
-opener_bounded : (text : Text) (place : Where) (kind : Kind) (is_raw : Bool) (quote : Quote) (len : ℕ) → IsUtf8 text → IsCharBoundary text len → StepBounded text (opener place kind (opening_of is_raw quote (drop len text)) len (drop len text))
+opener_bounded : (text : Text) (place : Mode) (kind : Kind) (is_raw : Bool) (quote : Quote) (len : ℕ) → IsUtf8 text → IsCharBoundary text len → StepBounded text (opener place kind (opening_of is_raw quote (drop len text)) len (drop len text))
 opener_bounded text place OfFString is_raw quote len utf8 here = token_bounded text (len + more_quotes (opening_of is_raw quote (drop len text))) (FStringStart (opening_of is_raw quote (drop len text))) utf8 (opening_edge text len is_raw quote utf8 here)
 opener_bounded text place OfText is_raw quote len utf8 here =
     let opening : Opening = opening_of is_raw quote (drop len text) in
@@ -300,7 +293,7 @@ in_code_bounded s (b ∷ bs) utf8 =
     (λ h. let small = bang_plain b bs (and_parts (takes_bang s.place s.before) (is_bang (b ∷ bs)) h).1 in token_bounded (b ∷ bs) 1 FStringBang utf8 (behind_plain (b ∷ bs) (b ∷ []) bs utf8 refl (rw (Rattle.std.proofs.lemmas.Bool.lt-ltb b 128 small) refl)))
     (front_step_bounded s (b ∷ bs) _ utf8 refl)
 
-by_place_bounded : (s : Situation) (place : Where) (text : Text) → IsUtf8 text → StepBounded text (by_place language s place text)
+by_place_bounded : (s : Situation) (place : Mode) (text : Text) → IsUtf8 text → StepBounded text (by_place language s place text)
 by_place_bounded s Outside text utf8 = in_code_bounded s text utf8
 by_place_bounded s (InText opening) text utf8 = chunk_bounded opening text utf8
 by_place_bounded s AtTop text utf8 = in_code_bounded s text utf8

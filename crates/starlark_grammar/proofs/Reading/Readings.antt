@@ -4,10 +4,10 @@ use Rattle.std.proofs.lemmas.List.{length-drop}
 use Rattle.std.proofs.lemmas.List.Sums.{sum_by-cons}
 use Rattle.starlark_grammar.specs.Words.{Text, Table}
 use Rattle.starlark_grammar.specs.Tokens.{Fault, Spanned, Outcome}
-use Rattle.starlark_grammar.specs.Depths.{Where, Outside, InText, AtTop, Deeper}
+use Rattle.starlark_grammar.specs.Depths.{Mode, Outside, InText, AtTop, Deeper}
 use Rattle.starlark_grammar.specs.Items.{body_from, body_at}
 use Rattle.starlark_grammar.specs.Pieces.{Before, Nothing, Layout, Gap, Other, Piece, Step, Stands, Fails, Ends, Situation, chunk, by_place, by_before, step_at}
-use Rattle.starlark_grammar.specs.Reading.{History, nothing, after, after_all, situation, next_step, IsReading, IsLongestReading, pieces_len, onward, read_from, read, outcome_of, outcome_in, IsOutcome}
+use Rattle.starlark_grammar.specs.Reading.{History, nothing, after, after_all, situation, next_step, IsReading, IsLongestReading, pieces_len, read_onward, read_from, read, outcome_of, outcome_in, IsOutcome}
 use Rattle.starlark_grammar.specs.Laws.{Begins}
 use Rattle.starlark_grammar.proofs.Lists.{drop-sum, drop-behind}
 use Rattle.starlark_grammar.proofs.Reading.Steps.{FaultFits, PieceFits, StepFits, is_nothing, least_len, step_fits}
@@ -63,7 +63,7 @@ none_at_end : (table : Table) (s : Situation) (piece : Piece) → is_nothing s.b
 unfolding step_at chunk body_at body_from
 none_at_end table s piece h e = by_before' s.before h e
   where
-    by_place' : (place : Where) → by_place table s place [] ≡ Stands piece → ⊥
+    by_place' : (place : Mode) → by_place table s place [] ≡ Stands piece → ⊥
     by_place' Outside e = cc
     by_place' (InText opening) e = cc
     by_place' AtTop e = cc
@@ -114,7 +114,7 @@ read_from_is table history zero (b ∷ bs) h = go (next_step table history (b �
   where
     go : (step : Step) → next_step table history (b ∷ bs) ≡ step
         → ((piece : Piece) → is_nothing piece.sort ≡ false → IsLongestReading table (after history piece) (drop (piece.len - 1) bs) (read_from table (after history piece) (piece.len - 1) bs).pieces (read_from table (after history piece) (piece.len - 1) bs).last)
-        → IsLongestReading table history (b ∷ bs) (onward step (λ piece. read_from table (after history piece) (piece.len - 1) bs)).pieces (onward step (λ piece. read_from table (after history piece) (piece.len - 1) bs)).last
+        → IsLongestReading table history (b ∷ bs) (read_onward step (λ piece. read_from table (after history piece) (piece.len - 1) bs)).pieces (read_onward step (λ piece. read_from table (after history piece) (piece.len - 1) bs)).last
     go (Stands piece) e more =
         let fits = piece_fits table history (b ∷ bs) piece e in
         let least = one_least history.before h in
@@ -128,7 +128,7 @@ pub read_is : (table : Table) (text : Text) → IsLongestReading table nothing t
 unfolding read
 read_is table text = go (next_step table nothing text) refl
   where
-    go : (step : Step) → next_step table nothing text ≡ step → IsLongestReading table nothing text (onward step (λ piece. read_from table (after nothing piece) piece.len text)).pieces (onward step (λ piece. read_from table (after nothing piece) piece.len text)).last
+    go : (step : Step) → next_step table nothing text ≡ step → IsLongestReading table nothing text (read_onward step (λ piece. read_from table (after nothing piece) piece.len text)).pieces (read_onward step (λ piece. read_from table (after nothing piece) piece.len text)).last
     go (Stands piece) e =
         let fits = piece_fits table nothing text piece e in
         longest_onward table nothing text piece _ _ e (read_from_is table (after nothing piece) piece.len text (started nothing piece fits.sort))

@@ -9,12 +9,13 @@ use Rattle.starlark_grammar.specs.Words.{Text, Quote, Kind, OfText, OfBytes, OfF
 use Rattle.starlark_grammar.specs.Front.{longest_front}
 use Rattle.starlark_grammar.specs.Tokens.{Token, Opening, Fault, Spanned, Lexeme, FStringBang, FStringStart}
 use Rattle.starlark_grammar.specs.Items.{Stop, Closing, Line, Ended, OpeningBrace, ClosingBrace, BadEscape, Body, body_at, body_len, closing_quotes, quote_byte}
-use Rattle.starlark_grammar.specs.Depths.{Where, Outside, InText, AtTop, Deeper}
+use Rattle.starlark_grammar.specs.Depths.{Mode, Outside, InText, AtTop, Deeper}
 use Rattle.starlark_grammar.specs.Margins.{lines, is_feed, is_comment_only, comment_lines, blanks_len, margin_from, Margin, margin_of, margin_len, is_content, has_tab, width_of, fits}
 use Rattle.starlark_grammar.specs.Pieces.{Before, Nothing, Layout, Gap, Other, Piece, Step, Stands, Fails, Ends, Situation, piece, token, fault, margin_step, opening_of, more_quotes, escape_fault, literal_by, literal, opener, chunk_by, chunk, counts, starts_zero, word_step, front_step, takes_bang, is_bang, in_code, by_place, by_before, step_at}
 use Rattle.starlark_grammar.proofs.Lists.{take_fits}
 use Rattle.starlark_grammar.proofs.Words.Fronts.{front_sound}
 use Rattle.starlark_grammar.proofs.Literals.Bodies.{StopFits, body_fits, starts_fits, character_fits}
+use Rattle.starlark_grammar.proofs.Choices.{either}
 
 -- what is so of a piece or of a fault
 abbrev pub Each : (Piece → Type 0) → (Spanned Fault → Type 0) → Step → Type 0
@@ -41,10 +42,6 @@ abbrev pub StepFits : ℕ → Text → Step → Type 0
 StepFits least text (Stands piece) = PieceFits least text piece
 StepFits least text (Fails fault) = FaultFits text fault
 StepFits least text Ends = text ≡ []
-
-pub either : (P : Step → Type 0) (test : Bool) (x y : Step) → P x → P y → P (if test then x else y)
-either P true x y px py = px
-either P false x y px py = py
 
 token_fits : (len : ℕ) (node : Token) (text : Text) → 1 ≤ len → len ≤ length text → StepFits 1 text (token len node)
 token_fits len node text some inside = record { some = some; inside = inside; sort = refl }
@@ -104,7 +101,7 @@ escape_fault_fits : (begin : ℕ) (read text : Text) → begin + 1 + length read
 escape_fault_fits begin [] text inside = record { order = omega arith; inside = omega arith }
 escape_fault_fits begin (b ∷ bs) text inside = record { order = omega arith; inside = omega arith }
 
-literal_by_fits : (place : Where) (kind : Kind) (opening : Opening) (len : ℕ) (behind text : Text) (body : Body) (stop : Stop) → 1 ≤ len → len + length behind ≤ length text → body_len body ≤ length behind → StopFits opening (drop (body_len body) behind) stop → StepFits 1 text (literal_by place kind opening len behind body stop)
+literal_by_fits : (place : Mode) (kind : Kind) (opening : Opening) (len : ℕ) (behind text : Text) (body : Body) (stop : Stop) → 1 ≤ len → len + length behind ≤ length text → body_len body ≤ length behind → StopFits opening (drop (body_len body) behind) stop → StepFits 1 text (literal_by place kind opening len behind body stop)
 literal_by_fits place kind opening len behind text body Closing some inside fits stop =
     record { some = omega arith; inside = omega (arith, length-drop (body_len body) behind); sort = refl }
 literal_by_fits place kind opening len behind text body (BadEscape read last) some inside fits stop =
@@ -119,12 +116,12 @@ literal_by_fits place kind opening len behind text body Ended some inside fits s
 literal_by_fits place kind opening len behind text body OpeningBrace some inside fits stop = record { order = omega arith; inside = inside }
 literal_by_fits place kind opening len behind text body ClosingBrace some inside fits stop = record { order = omega arith; inside = inside }
 
-literal_fits : (place : Where) (kind : Kind) (opening : Opening) (len : ℕ) (behind text : Text) → 1 ≤ len → len + length behind ≤ length text → StepFits 1 text (literal place kind opening len behind)
+literal_fits : (place : Mode) (kind : Kind) (opening : Opening) (len : ℕ) (behind text : Text) → 1 ≤ len → len + length behind ≤ length text → StepFits 1 text (literal place kind opening len behind)
 literal_fits place kind opening len behind text some inside =
     let fits = body_fits (record { kind = kind; opening = opening }) behind in
     literal_by_fits place kind opening len behind text (body_at (record { kind = kind; opening = opening }) behind) _ some inside fits.0 fits.1
 
-opener_fits : (place : Where) (kind : Kind) (opening : Opening) (len : ℕ) (behind text : Text) → 1 ≤ len → len + length behind ≤ length text → more_quotes opening ≤ length behind → StepFits 1 text (opener place kind opening len behind)
+opener_fits : (place : Mode) (kind : Kind) (opening : Opening) (len : ℕ) (behind text : Text) → 1 ≤ len → len + length behind ≤ length text → more_quotes opening ≤ length behind → StepFits 1 text (opener place kind opening len behind)
 opener_fits place OfFString opening len behind text some inside quotes = token_fits (len + more_quotes opening) (FStringStart opening) text (omega arith) (omega arith)
 opener_fits place OfText opening len behind text some inside quotes = literal_fits place OfText opening (len + more_quotes opening) (drop (more_quotes opening) behind) text (omega arith) (omega (arith, length-drop (more_quotes opening) behind))
 opener_fits place OfBytes opening len behind text some inside quotes = literal_fits place OfBytes opening (len + more_quotes opening) (drop (more_quotes opening) behind) text (omega arith) (omega (arith, length-drop (more_quotes opening) behind))
@@ -190,7 +187,7 @@ in_code_fits table s [] = refl
 in_code_fits table s (b ∷ bs) =
     either (StepFits 1 (b ∷ bs)) (takes_bang s.place s.before && is_bang (b ∷ bs)) _ _ (token_fits 1 FStringBang (b ∷ bs) (omega arith) (omega arith)) (front_step_fits table s (b ∷ bs) _ refl)
 
-by_place_fits : (table : Table) (s : Situation) (place : Where) (text : Text) → StepFits 1 text (by_place table s place text)
+by_place_fits : (table : Table) (s : Situation) (place : Mode) (text : Text) → StepFits 1 text (by_place table s place text)
 by_place_fits table s Outside text = in_code_fits table s text
 by_place_fits table s (InText opening) text = chunk_fits opening text
 by_place_fits table s AtTop text = in_code_fits table s text

@@ -1,18 +1,11 @@
 -- Clean cuts, kept cuts and joined texts, closed by computing.
 use Rattle.std.proofs.Common.{◌≡◌, refl}
 use Rattle.std.specs.Prelude.{true, false, [], codes}
-use Rattle.std.proofs.Math.Utf8.{encode}
-use Rattle.starlark_grammar.specs.Words.{class_in, openers, line_ends, symbols, names, patterns, language}
-use Rattle.starlark_grammar.specs.Front.{longest_front}
-use Rattle.starlark_grammar.specs.Numbers.{integer_of}
 use Rattle.starlark_grammar.specs.Words.{Text}
 use Rattle.std.specs.Prelude.{◌++◌, length}
-use Rattle.starlark_grammar.specs.Items.{simple_escapes, escape, raw_pair, found_at, body_from, body_at}
-use Rattle.starlark_grammar.specs.Depths.{is_balanced, open_fstring, braces, depth, where_after}
-use Rattle.starlark_grammar.specs.Margins.{lines, margin_of, open_widths, fits, indentation}
-use Rattle.starlark_grammar.specs.Pieces.{margin_step, chunk, step_at}
-use Rattle.starlark_grammar.specs.Reading.{after, situation, next_step, read_from, read, outcome_in, outcome}
+use Rattle.starlark_grammar.specs.Reading.{outcome}
 use Rattle.starlark_grammar.specs.Cuts.{is_settled, is_clean_cut_in, is_clean_cut, is_kept_cut, joined}
+use Rattle.starlark_grammar.proofs.Rows.Shapes.{all_definitions}
 
 -- the lexemes of two texts joined are the joined list
 abbrev Joins : Text → Text → Type 0
@@ -28,7 +21,7 @@ clean_cuts_1 :
     × (is_clean_cut (codes "# a") ≡ false)
     × (is_clean_cut (codes "# a\n") ≡ true)
     × (is_clean_cut (codes "x\n  \n") ≡ true)
-unfolding encode openers line_ends symbols names patterns language class_in longest_front integer_of simple_escapes escape raw_pair found_at body_from body_at is_balanced open_fstring braces depth where_after lines margin_of open_widths fits indentation margin_step chunk step_at after situation next_step read_from read outcome_in outcome is_settled is_clean_cut_in is_clean_cut is_kept_cut
+unfolding all_definitions is_settled is_clean_cut_in is_clean_cut is_kept_cut
 clean_cuts_1 = (refl, refl, refl, refl, refl, refl, refl, refl)
 
 -- whether a text is a clean cut
@@ -41,7 +34,7 @@ clean_cuts_2 :
     × (is_clean_cut (codes "f\"{(}\"\n") ≡ true)
     × (is_clean_cut (codes " x\ny\n") ≡ true)
     × (is_clean_cut (codes "x\n\r\n") ≡ true)
-unfolding encode openers line_ends symbols names patterns language class_in longest_front integer_of simple_escapes escape raw_pair found_at body_from body_at is_balanced open_fstring braces depth where_after lines margin_of open_widths fits indentation margin_step chunk step_at after situation next_step read_from read outcome_in outcome is_settled is_clean_cut_in is_clean_cut is_kept_cut
+unfolding all_definitions is_settled is_clean_cut_in is_clean_cut is_kept_cut
 clean_cuts_2 = (refl, refl, refl, refl, refl, refl, refl, refl)
 
 -- whether a text is a clean cut
@@ -54,7 +47,7 @@ clean_cuts_3 :
     × (is_clean_cut (codes ")(\n") ≡ true)
     × (is_clean_cut (codes "{\n") ≡ false)
     × (is_clean_cut (codes "'a\n'\n") ≡ false)
-unfolding encode openers line_ends symbols names patterns language class_in longest_front integer_of simple_escapes escape raw_pair found_at body_from body_at is_balanced open_fstring braces depth where_after lines margin_of open_widths fits indentation margin_step chunk step_at after situation next_step read_from read outcome_in outcome is_settled is_clean_cut_in is_clean_cut is_kept_cut
+unfolding all_definitions is_settled is_clean_cut_in is_clean_cut is_kept_cut
 clean_cuts_3 = (refl, refl, refl, refl, refl, refl, refl, refl)
 
 -- whether a text is a clean cut
@@ -67,7 +60,7 @@ clean_cuts_4 :
     × (is_clean_cut (codes "\n") ≡ true)
     × (is_clean_cut (codes "# c\r\n") ≡ true)
     × (is_clean_cut (codes "(\n)\n") ≡ true)
-unfolding encode openers line_ends symbols names patterns language class_in longest_front integer_of simple_escapes escape raw_pair found_at body_from body_at is_balanced open_fstring braces depth where_after lines margin_of open_widths fits indentation margin_step chunk step_at after situation next_step read_from read outcome_in outcome is_settled is_clean_cut_in is_clean_cut is_kept_cut
+unfolding all_definitions is_settled is_clean_cut_in is_clean_cut is_kept_cut
 clean_cuts_4 = (refl, refl, refl, refl, refl, refl, refl, refl)
 
 -- whether a text is a clean cut
@@ -78,7 +71,7 @@ clean_cuts_5 :
     × (is_clean_cut (codes "a)\n") ≡ false)
     × (is_clean_cut (codes "x\n ") ≡ false)
     × (is_clean_cut (codes "x\n$\n") ≡ false)
-unfolding encode openers line_ends symbols names patterns language class_in longest_front integer_of simple_escapes escape raw_pair found_at body_from body_at is_balanced open_fstring braces depth where_after lines margin_of open_widths fits indentation margin_step chunk step_at after situation next_step read_from read outcome_in outcome is_settled is_clean_cut_in is_clean_cut is_kept_cut
+unfolding all_definitions is_settled is_clean_cut_in is_clean_cut is_kept_cut
 clean_cuts_5 = (refl, refl, refl, refl, refl, refl)
 
 -- which places of a text are kept cuts
@@ -91,7 +84,7 @@ kept_cuts_1 :
     × (is_kept_cut (codes "a\nb\n\tc") 2 ≡ true)
     × (is_kept_cut (codes "a\nb\n\tc") 4 ≡ false)
     × (is_kept_cut (codes " x\ny\nz") 3 ≡ false)
-unfolding encode openers line_ends symbols names patterns language class_in longest_front integer_of simple_escapes escape raw_pair found_at body_from body_at is_balanced open_fstring braces depth where_after lines margin_of open_widths fits indentation margin_step chunk step_at after situation next_step read_from read outcome_in outcome is_settled is_clean_cut_in is_clean_cut is_kept_cut
+unfolding all_definitions is_settled is_clean_cut_in is_clean_cut is_kept_cut
 kept_cuts_1 = (refl, refl, refl, refl, refl, refl, refl, refl)
 
 -- which places of a text are kept cuts
@@ -104,13 +97,13 @@ kept_cuts_2 :
     × (is_kept_cut (codes "(\n)\ny\n") 6 ≡ true)
     × (is_kept_cut (codes "x\n# a\n# b\ny") 2 ≡ true)
     × (is_kept_cut (codes "x\n# a\n# b\ny") 6 ≡ true)
-unfolding encode openers line_ends symbols names patterns language class_in longest_front integer_of simple_escapes escape raw_pair found_at body_from body_at is_balanced open_fstring braces depth where_after lines margin_of open_widths fits indentation margin_step chunk step_at after situation next_step read_from read outcome_in outcome is_settled is_clean_cut_in is_clean_cut is_kept_cut
+unfolding all_definitions is_settled is_clean_cut_in is_clean_cut is_kept_cut
 kept_cuts_2 = (refl, refl, refl, refl, refl, refl, refl, refl)
 
 -- which places of a text are kept cuts
 kept_cuts_3 :
     (is_kept_cut (codes "x\n# a\n# b\ny") 10 ≡ true)
-unfolding encode openers line_ends symbols names patterns language class_in longest_front integer_of simple_escapes escape raw_pair found_at body_from body_at is_balanced open_fstring braces depth where_after lines margin_of open_widths fits indentation margin_step chunk step_at after situation next_step read_from read outcome_in outcome is_settled is_clean_cut_in is_clean_cut is_kept_cut
+unfolding all_definitions is_settled is_clean_cut_in is_clean_cut is_kept_cut
 kept_cuts_3 = (refl)
 
 -- texts joined at clean cuts
@@ -123,7 +116,7 @@ joins_1 :
     × Joins (codes "x\r\n") (codes "f\"{y}\"")
     × Joins (codes " x\ny\n") (codes " z\nw\n")
     × Joins (codes "\n") []
-unfolding encode openers line_ends symbols names patterns language class_in longest_front integer_of simple_escapes escape raw_pair found_at body_from body_at is_balanced open_fstring braces depth where_after lines margin_of open_widths fits indentation margin_step chunk step_at after situation next_step read_from read outcome_in outcome is_settled is_clean_cut_in is_clean_cut is_kept_cut
+unfolding all_definitions is_settled is_clean_cut_in is_clean_cut is_kept_cut
 joins_1 = (refl, refl, refl, refl, refl, refl, refl, refl)
 
 -- texts joined at clean cuts
@@ -135,5 +128,5 @@ joins_2 :
     × Joins (codes "# c\n") (codes "x")
     × Joins (codes "x\n") (codes "  y")
     × Joins (codes "x\n") []
-unfolding encode openers line_ends symbols names patterns language class_in longest_front integer_of simple_escapes escape raw_pair found_at body_from body_at is_balanced open_fstring braces depth where_after lines margin_of open_widths fits indentation margin_step chunk step_at after situation next_step read_from read outcome_in outcome is_settled is_clean_cut_in is_clean_cut is_kept_cut
+unfolding all_definitions is_settled is_clean_cut_in is_clean_cut is_kept_cut
 joins_2 = (refl, refl, refl, refl, refl, refl, refl)

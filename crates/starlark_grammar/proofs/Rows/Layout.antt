@@ -1,18 +1,10 @@
 -- Worked texts of layout, closed by computing.
 use Rattle.std.proofs.Common.{refl}
 use Rattle.std.specs.Prelude.{[], ◌∷◌, codes}
-use Rattle.std.proofs.Math.Utf8.{encode}
 use Rattle.starlark_grammar.specs.Words as word
-use Rattle.starlark_grammar.specs.Words.{class_in, openers, line_ends, symbols, names, patterns, language}
-use Rattle.starlark_grammar.specs.Front.{longest_front}
-use Rattle.starlark_grammar.specs.Numbers.{integer_of}
 use Rattle.starlark_grammar.specs.Tokens.{Comment, Indent, Dedent, Newline, Identifier, String, Word, Indentation, InvalidInput, InvalidTab}
-use Rattle.starlark_grammar.specs.Items.{simple_escapes, escape, raw_pair, found_at, body_from, body_at}
-use Rattle.starlark_grammar.specs.Depths.{is_balanced, open_fstring, braces, depth, where_after}
-use Rattle.starlark_grammar.specs.Margins.{lines, margin_of, open_widths, fits, indentation}
-use Rattle.starlark_grammar.specs.Pieces.{margin_step, chunk, step_at}
-use Rattle.starlark_grammar.specs.Reading.{after, situation, next_step, read_from, read, outcome_in, outcome}
-use Rattle.starlark_grammar.proofs.Rows.Shapes.{at, Lexes, Stops}
+use Rattle.starlark_grammar.specs.Margins.{lines}
+use Rattle.starlark_grammar.proofs.Rows.Shapes.{all_definitions, at, Lexes, Stops}
 
 -- lines, margins and widths
 layout_1 :
@@ -24,7 +16,7 @@ layout_1 :
     × Lexes (codes "a)\nb\n") (at 0 (Identifier (codes "a")) 1 ∷ at 1 (Word word.ClosingRound) 2 ∷ at 3 (Identifier (codes "b")) 4 ∷ at 5 Newline 5 ∷ [])
     × Lexes (codes "x\r\n\r\ny") (at 0 (Identifier (codes "x")) 1 ∷ at 1 Newline 3 ∷ at 4 Newline 5 ∷ at 5 (Identifier (codes "y")) 6 ∷ at 6 Newline 6 ∷ [])
     × Lexes (codes "a:\n b:\n  c\nd") (at 0 (Identifier (codes "a")) 1 ∷ at 1 (Word word.Colon) 2 ∷ at 2 Newline 3 ∷ at 3 Indent 4 ∷ at 4 (Identifier (codes "b")) 5 ∷ at 5 (Word word.Colon) 6 ∷ at 6 Newline 7 ∷ at 7 Indent 9 ∷ at 9 (Identifier (codes "c")) 10 ∷ at 10 Newline 11 ∷ at 11 Dedent 11 ∷ at 11 Dedent 11 ∷ at 11 (Identifier (codes "d")) 12 ∷ at 12 Newline 12 ∷ [])
-unfolding encode openers line_ends symbols names patterns language class_in longest_front integer_of simple_escapes escape raw_pair found_at body_from body_at is_balanced open_fstring braces depth where_after lines margin_of open_widths fits indentation margin_step chunk step_at after situation next_step read_from read outcome_in outcome
+unfolding all_definitions
 layout_1 = (refl, refl, refl, refl, refl, refl, refl, refl)
 
 -- lines, margins and widths
@@ -37,7 +29,7 @@ layout_2 :
     × Lexes (codes "(\n  a\n)\nb") (at 0 (Word word.OpeningRound) 1 ∷ at 4 (Identifier (codes "a")) 5 ∷ at 6 (Word word.ClosingRound) 7 ∷ at 7 Newline 8 ∷ at 8 (Identifier (codes "b")) 9 ∷ at 9 Newline 9 ∷ [])
     × Stops (codes "(\n\ta") (at 0 (Word word.OpeningRound) 1 ∷ []) (at 2 InvalidTab 2)
     × Lexes (codes "x\n\t\ny") (at 0 (Identifier (codes "x")) 1 ∷ at 1 Newline 2 ∷ at 3 Newline 4 ∷ at 4 (Identifier (codes "y")) 5 ∷ at 5 Newline 5 ∷ [])
-unfolding encode openers line_ends symbols names patterns language class_in longest_front integer_of simple_escapes escape raw_pair found_at body_from body_at is_balanced open_fstring braces depth where_after lines margin_of open_widths fits indentation margin_step chunk step_at after situation next_step read_from read outcome_in outcome
+unfolding all_definitions
 layout_2 = (refl, refl, refl, refl, refl, refl, refl, refl)
 
 -- lines, margins and widths
@@ -48,7 +40,7 @@ layout_3 :
     × Stops (codes "x\ry") (at 0 (Identifier (codes "x")) 1 ∷ []) (at 1 (InvalidInput (codes "\r")) 2)
     × Lexes (codes "  \\\nx") (at 0 Indent 2 ∷ at 4 (Identifier (codes "x")) 5 ∷ at 5 Newline 5 ∷ at 5 Dedent 5 ∷ [])
     × Lexes (codes "# c") (at 0 (Comment (codes " c")) 3 ∷ at 3 Newline 3 ∷ [])
-unfolding encode openers line_ends symbols names patterns language class_in longest_front integer_of simple_escapes escape raw_pair found_at body_from body_at is_balanced open_fstring braces depth where_after lines margin_of open_widths fits indentation margin_step chunk step_at after situation next_step read_from read outcome_in outcome
+unfolding all_definitions
 layout_3 = (refl, refl, refl, refl, refl, refl)
 
 -- blank lines and ends
@@ -61,14 +53,14 @@ blank_lines_1 :
     × Lexes (codes "x\n ") (at 0 (Identifier (codes "x")) 1 ∷ at 1 Newline 2 ∷ at 3 Newline 3 ∷ [])
     × Lexes (codes "x\n \t") (at 0 (Identifier (codes "x")) 1 ∷ at 1 Newline 2 ∷ at 4 Newline 4 ∷ [])
     × Lexes (codes "x\n\r") (at 0 (Identifier (codes "x")) 1 ∷ at 1 Newline 2 ∷ at 3 Newline 3 ∷ [])
-unfolding encode openers line_ends symbols names patterns language class_in longest_front integer_of simple_escapes escape raw_pair found_at body_from body_at is_balanced open_fstring braces depth where_after lines margin_of open_widths fits indentation margin_step chunk step_at after situation next_step read_from read outcome_in outcome
+unfolding all_definitions
 blank_lines_1 = (refl, refl, refl, refl, refl, refl, refl, refl)
 
 -- blank lines and ends
 blank_lines_2 :
     Lexes (codes "x\r\n\r\n") (at 0 (Identifier (codes "x")) 1 ∷ at 1 Newline 3 ∷ at 4 Newline 5 ∷ at 5 Newline 5 ∷ [])
     × Lexes (codes "x \n y") (at 0 (Identifier (codes "x")) 1 ∷ at 2 Newline 3 ∷ at 3 Indent 4 ∷ at 4 (Identifier (codes "y")) 5 ∷ at 5 Newline 5 ∷ at 5 Dedent 5 ∷ [])
-unfolding encode openers line_ends symbols names patterns language class_in longest_front integer_of simple_escapes escape raw_pair found_at body_from body_at is_balanced open_fstring braces depth where_after lines margin_of open_widths fits indentation margin_step chunk step_at after situation next_step read_from read outcome_in outcome
+unfolding all_definitions
 blank_lines_2 = (refl, refl)
 
 -- comment-only lines
@@ -81,7 +73,7 @@ comment_lines_1 :
     × Lexes (codes "x\n # a\r\n\t# b\ry\nz") (at 0 (Identifier (codes "x")) 1 ∷ at 1 Newline 2 ∷ at 3 (Comment (codes " a")) 6 ∷ at 9 (Comment (codes " b\ry")) 14 ∷ at 15 (Identifier (codes "z")) 16 ∷ at 16 Newline 16 ∷ [])
     × Lexes (codes "x\n#\n#") (at 0 (Identifier (codes "x")) 1 ∷ at 1 Newline 2 ∷ at 2 (Comment []) 3 ∷ at 4 (Comment []) 5 ∷ at 5 Newline 5 ∷ [])
     × Lexes (codes " x\n# a\n y") (at 0 Indent 1 ∷ at 1 (Identifier (codes "x")) 2 ∷ at 2 Newline 3 ∷ at 3 (Comment (codes " a")) 6 ∷ at 8 (Identifier (codes "y")) 9 ∷ at 9 Newline 9 ∷ at 9 Dedent 9 ∷ [])
-unfolding encode openers line_ends symbols names patterns language class_in longest_front integer_of simple_escapes escape raw_pair found_at body_from body_at is_balanced open_fstring braces depth where_after lines margin_of open_widths fits indentation margin_step chunk step_at after situation next_step read_from read outcome_in outcome
+unfolding all_definitions
 comment_lines_1 = (refl, refl, refl, refl, refl, refl, refl, refl)
 
 -- comment-only lines
@@ -89,7 +81,7 @@ comment_lines_2 :
     Lexes (codes "\r# a\r\n") (at 1 (Comment (codes " a")) 4 ∷ at 6 Newline 6 ∷ [])
     × Lexes (codes "# a\n x") (at 0 (Comment (codes " a")) 3 ∷ at 4 Indent 5 ∷ at 5 (Identifier (codes "x")) 6 ∷ at 6 Newline 6 ∷ at 6 Dedent 6 ∷ [])
     × Lexes (codes "x # a\n# b\ny") (at 0 (Identifier (codes "x")) 1 ∷ at 2 (Comment (codes " a")) 5 ∷ at 5 Newline 6 ∷ at 6 (Comment (codes " b")) 9 ∷ at 10 (Identifier (codes "y")) 11 ∷ at 11 Newline 11 ∷ [])
-unfolding encode openers line_ends symbols names patterns language class_in longest_front integer_of simple_escapes escape raw_pair found_at body_from body_at is_balanced open_fstring braces depth where_after lines margin_of open_widths fits indentation margin_step chunk step_at after situation next_step read_from read outcome_in outcome
+unfolding all_definitions
 comment_lines_2 = (refl, refl, refl)
 
 -- widths
@@ -102,7 +94,7 @@ widths_1 :
     × Lexes (codes " a\n  b\nd") (at 0 Indent 1 ∷ at 1 (Identifier (codes "a")) 2 ∷ at 2 Newline 3 ∷ at 3 Indent 5 ∷ at 5 (Identifier (codes "b")) 6 ∷ at 6 Newline 7 ∷ at 7 Dedent 7 ∷ at 7 Dedent 7 ∷ at 7 (Identifier (codes "d")) 8 ∷ at 8 Newline 8 ∷ [])
     × Stops (codes "   a\n b") (at 0 Indent 3 ∷ at 3 (Identifier (codes "a")) 4 ∷ []) (at 4 Indentation 6)
     × Lexes (codes " a\n b\n c") (at 0 Indent 1 ∷ at 1 (Identifier (codes "a")) 2 ∷ at 2 Newline 3 ∷ at 4 (Identifier (codes "b")) 5 ∷ at 5 Newline 6 ∷ at 7 (Identifier (codes "c")) 8 ∷ at 8 Newline 8 ∷ at 8 Dedent 8 ∷ [])
-unfolding encode openers line_ends symbols names patterns language class_in longest_front integer_of simple_escapes escape raw_pair found_at body_from body_at is_balanced open_fstring braces depth where_after lines margin_of open_widths fits indentation margin_step chunk step_at after situation next_step read_from read outcome_in outcome
+unfolding all_definitions
 widths_1 = (refl, refl, refl, refl, refl, refl, refl, refl)
 
 -- widths
@@ -115,7 +107,7 @@ widths_2 :
     × Lexes (codes " a\n\n\nb") (at 0 Indent 1 ∷ at 1 (Identifier (codes "a")) 2 ∷ at 2 Newline 3 ∷ at 3 Newline 4 ∷ at 4 Newline 5 ∷ at 5 Dedent 5 ∷ at 5 (Identifier (codes "b")) 6 ∷ at 6 Newline 6 ∷ [])
     × Stops (codes "  a\n\n b\n") (at 0 Indent 2 ∷ at 2 (Identifier (codes "a")) 3 ∷ at 3 Newline 4 ∷ []) (at 4 Indentation 6)
     × Lexes (codes "\r x") (at 0 Indent 2 ∷ at 2 (Identifier (codes "x")) 3 ∷ at 3 Newline 3 ∷ at 3 Dedent 3 ∷ [])
-unfolding encode openers line_ends symbols names patterns language class_in longest_front integer_of simple_escapes escape raw_pair found_at body_from body_at is_balanced open_fstring braces depth where_after lines margin_of open_widths fits indentation margin_step chunk step_at after situation next_step read_from read outcome_in outcome
+unfolding all_definitions
 widths_2 = (refl, refl, refl, refl, refl, refl, refl, refl)
 
 -- widths
@@ -127,7 +119,7 @@ widths_3 :
     × Lexes (codes "  x\n \r y") (at 0 Indent 2 ∷ at 2 (Identifier (codes "x")) 3 ∷ at 3 Newline 4 ∷ at 7 (Identifier (codes "y")) 8 ∷ at 8 Newline 8 ∷ at 8 Dedent 8 ∷ [])
     × Lexes (codes "\r x\n y") (at 0 Indent 2 ∷ at 2 (Identifier (codes "x")) 3 ∷ at 3 Newline 4 ∷ at 5 (Identifier (codes "y")) 6 ∷ at 6 Newline 6 ∷ at 6 Dedent 6 ∷ [])
     × Lexes (codes " x\n\r\r y") (at 0 Indent 1 ∷ at 1 (Identifier (codes "x")) 2 ∷ at 2 Newline 3 ∷ at 6 (Identifier (codes "y")) 7 ∷ at 7 Newline 7 ∷ at 7 Dedent 7 ∷ [])
-unfolding encode openers line_ends symbols names patterns language class_in longest_front integer_of simple_escapes escape raw_pair found_at body_from body_at is_balanced open_fstring braces depth where_after lines margin_of open_widths fits indentation margin_step chunk step_at after situation next_step read_from read outcome_in outcome
+unfolding all_definitions
 widths_3 = (refl, refl, refl, refl, refl, refl, refl)
 
 -- tabs in margins
@@ -140,7 +132,7 @@ tabs_1 :
     × Stops (codes "x\n# a\n\ty") (at 0 (Identifier (codes "x")) 1 ∷ []) (at 1 InvalidTab 1)
     × Lexes (codes " x\n\t# a\n y") (at 0 Indent 1 ∷ at 1 (Identifier (codes "x")) 2 ∷ at 2 Newline 3 ∷ at 4 (Comment (codes " a")) 7 ∷ at 9 (Identifier (codes "y")) 10 ∷ at 10 Newline 10 ∷ at 10 Dedent 10 ∷ [])
     × Stops (codes " x\n \ty") (at 0 Indent 1 ∷ at 1 (Identifier (codes "x")) 2 ∷ []) (at 2 InvalidTab 2)
-unfolding encode openers line_ends symbols names patterns language class_in longest_front integer_of simple_escapes escape raw_pair found_at body_from body_at is_balanced open_fstring braces depth where_after lines margin_of open_widths fits indentation margin_step chunk step_at after situation next_step read_from read outcome_in outcome
+unfolding all_definitions
 tabs_1 = (refl, refl, refl, refl, refl, refl, refl, refl)
 
 -- tabs in margins
@@ -151,7 +143,7 @@ tabs_2 :
     × Stops (codes "x\\\n\ty") (at 0 (Identifier (codes "x")) 1 ∷ []) (at 3 InvalidTab 3)
     × Lexes (codes "\t") (at 1 Newline 1 ∷ [])
     × Lexes (codes "\t#") (at 1 (Comment []) 2 ∷ at 2 Newline 2 ∷ [])
-unfolding encode openers line_ends symbols names patterns language class_in longest_front integer_of simple_escapes escape raw_pair found_at body_from body_at is_balanced open_fstring braces depth where_after lines margin_of open_widths fits indentation margin_step chunk step_at after situation next_step read_from read outcome_in outcome
+unfolding all_definitions
 tabs_2 = (refl, refl, refl, refl, refl, refl)
 
 -- brackets and line ends
@@ -164,7 +156,7 @@ brackets_1 :
     × Lexes (codes ")\nx") (at 0 (Word word.ClosingRound) 1 ∷ at 2 (Identifier (codes "x")) 3 ∷ at 3 Newline 3 ∷ [])
     × Lexes (codes ")(\nx") (at 0 (Word word.ClosingRound) 1 ∷ at 1 (Word word.OpeningRound) 2 ∷ at 2 Newline 3 ∷ at 3 (Identifier (codes "x")) 4 ∷ at 4 Newline 4 ∷ [])
     × Lexes (codes "((\n)\n)\n") (at 0 (Word word.OpeningRound) 1 ∷ at 1 (Word word.OpeningRound) 2 ∷ at 3 (Word word.ClosingRound) 4 ∷ at 5 (Word word.ClosingRound) 6 ∷ at 6 Newline 7 ∷ at 7 Newline 7 ∷ [])
-unfolding encode openers line_ends symbols names patterns language class_in longest_front integer_of simple_escapes escape raw_pair found_at body_from body_at is_balanced open_fstring braces depth where_after lines margin_of open_widths fits indentation margin_step chunk step_at after situation next_step read_from read outcome_in outcome
+unfolding all_definitions
 brackets_1 = (refl, refl, refl, refl, refl, refl, refl, refl)
 
 -- brackets and line ends
@@ -175,5 +167,5 @@ brackets_2 :
     × Lexes (codes ")\n(\n x") (at 0 (Word word.ClosingRound) 1 ∷ at 2 (Word word.OpeningRound) 3 ∷ at 3 Newline 4 ∷ at 4 Indent 5 ∷ at 5 (Identifier (codes "x")) 6 ∷ at 6 Newline 6 ∷ at 6 Dedent 6 ∷ [])
     × Lexes (codes "]\n\n[\n\nx") (at 0 (Word word.ClosingSquare) 1 ∷ at 3 (Word word.OpeningSquare) 4 ∷ at 4 Newline 5 ∷ at 5 Newline 6 ∷ at 6 (Identifier (codes "x")) 7 ∷ at 7 Newline 7 ∷ [])
     × Lexes (codes "(\r\n)\r\n") (at 0 (Word word.OpeningRound) 1 ∷ at 3 (Word word.ClosingRound) 4 ∷ at 4 Newline 6 ∷ at 6 Newline 6 ∷ [])
-unfolding encode openers line_ends symbols names patterns language class_in longest_front integer_of simple_escapes escape raw_pair found_at body_from body_at is_balanced open_fstring braces depth where_after lines margin_of open_widths fits indentation margin_step chunk step_at after situation next_step read_from read outcome_in outcome
+unfolding all_definitions
 brackets_2 = (refl, refl, refl, refl, refl, refl)

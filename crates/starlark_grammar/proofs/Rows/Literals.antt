@@ -1,18 +1,10 @@
 -- Worked texts of literals, closed by computing.
 use Rattle.std.proofs.Common.{refl}
 use Rattle.std.specs.Prelude.{[], ◌∷◌, codes}
-use Rattle.std.proofs.Math.Utf8.{encode}
 use Rattle.starlark_grammar.specs.Words as word
-use Rattle.starlark_grammar.specs.Words.{class_in, openers, line_ends, symbols, names, patterns, language}
-use Rattle.starlark_grammar.specs.Front.{longest_front}
-use Rattle.starlark_grammar.specs.Numbers.{integer_of}
 use Rattle.starlark_grammar.specs.Tokens.{Newline, Identifier, String, Bytes, Word, UnfinishedStringLiteral, InvalidEscapeSequence, EmptyEscapeSequence}
-use Rattle.starlark_grammar.specs.Items.{simple_escapes, escape, raw_pair, found_at, body_from, body_at}
-use Rattle.starlark_grammar.specs.Depths.{is_balanced, open_fstring, braces, depth, where_after}
-use Rattle.starlark_grammar.specs.Margins.{lines, margin_of, open_widths, fits, indentation}
-use Rattle.starlark_grammar.specs.Pieces.{margin_step, chunk, step_at}
-use Rattle.starlark_grammar.specs.Reading.{after, situation, next_step, read_from, read, outcome_in, outcome}
-use Rattle.starlark_grammar.proofs.Rows.Shapes.{at, utf8, Lexes, Stops}
+use Rattle.starlark_grammar.specs.Items.{escape}
+use Rattle.starlark_grammar.proofs.Rows.Shapes.{all_definitions, at, utf8, Lexes, Stops}
 
 -- literals and their faults
 literals_1 :
@@ -24,7 +16,7 @@ literals_1 :
     × Lexes (codes "'\\n'") (at 0 (String (codes "\n")) 4 ∷ at 4 Newline 4 ∷ [])
     × Lexes (codes "'\\w'") (at 0 (String (codes "\\w")) 4 ∷ at 4 Newline 4 ∷ [])
     × Lexes (codes "r'\\''") (at 0 (String (codes "'")) 5 ∷ at 5 Newline 5 ∷ [])
-unfolding encode openers line_ends symbols names patterns language class_in longest_front integer_of simple_escapes escape raw_pair found_at body_from body_at is_balanced open_fstring braces depth where_after lines margin_of open_widths fits indentation margin_step chunk step_at after situation next_step read_from read outcome_in outcome
+unfolding all_definitions
 literals_1 = (refl, refl, refl, refl, refl, refl, refl, refl)
 
 -- literals and their faults
@@ -37,7 +29,7 @@ literals_2 :
     × Lexes (codes "'''a\\''''") (at 0 (String (codes "a'")) 9 ∷ at 9 Newline 9 ∷ [])
     × Stops (codes "'a\nb'") [] (at 0 UnfinishedStringLiteral 2)
     × Lexes (codes "'a\rb'") (at 0 (String (codes "ab")) 5 ∷ at 5 Newline 5 ∷ [])
-unfolding encode openers line_ends symbols names patterns language class_in longest_front integer_of simple_escapes escape raw_pair found_at body_from body_at is_balanced open_fstring braces depth where_after lines margin_of open_widths fits indentation margin_step chunk step_at after situation next_step read_from read outcome_in outcome
+unfolding all_definitions
 literals_2 = (refl, refl, refl, refl, refl, refl, refl, refl)
 
 -- literals and their faults
@@ -50,7 +42,7 @@ literals_3 :
     × Stops (codes "r\"\\") [] (at 0 UnfinishedStringLiteral 3)
     × Stops (codes "'\\x4'") [] (at 1 (InvalidEscapeSequence (codes "x4'")) 5)
     × Stops (codes "'\\ud800'") [] (at 1 (InvalidEscapeSequence (codes "ud800")) 7)
-unfolding encode openers line_ends symbols names patterns language class_in longest_front integer_of simple_escapes escape raw_pair found_at body_from body_at is_balanced open_fstring braces depth where_after lines margin_of open_widths fits indentation margin_step chunk step_at after situation next_step read_from read outcome_in outcome
+unfolding all_definitions
 literals_3 = (refl, refl, refl, refl, refl, refl, refl, refl)
 
 -- literals and their faults
@@ -60,7 +52,7 @@ literals_4 :
     × Lexes (codes "b'\\xff'") (at 0 (Bytes (255 ∷ [])) 7 ∷ at 7 Newline 7 ∷ [])
     × Lexes (codes "b'\\u00e9'") (at 0 (Bytes (utf8 "é")) 9 ∷ at 9 Newline 9 ∷ [])
     × Lexes (codes "rb\"\\\"\"") (at 0 (Bytes (codes "\"")) 6 ∷ at 6 Newline 6 ∷ [])
-unfolding encode openers line_ends symbols names patterns language class_in longest_front integer_of simple_escapes escape raw_pair found_at body_from body_at is_balanced open_fstring braces depth where_after lines margin_of open_widths fits indentation margin_step chunk step_at after situation next_step read_from read outcome_in outcome
+unfolding all_definitions
 literals_4 = (refl, refl, refl, refl, refl)
 
 -- where a literal closes
@@ -73,7 +65,7 @@ closings_1 :
     × Lexes (codes "'''a'b''c'''") (at 0 (String (codes "a'b''c")) 12 ∷ at 12 Newline 12 ∷ [])
     × Stops (codes "'''\\'''''") (at 0 (String (codes "'")) 8 ∷ []) (at 8 UnfinishedStringLiteral 9)
     × Lexes (codes "\"\"\"a\"\"\r\"\"\"") (at 0 (String (codes "a\"\"")) 10 ∷ at 10 Newline 10 ∷ [])
-unfolding encode openers line_ends symbols names patterns language class_in longest_front integer_of simple_escapes escape raw_pair found_at body_from body_at is_balanced open_fstring braces depth where_after lines margin_of open_widths fits indentation margin_step chunk step_at after situation next_step read_from read outcome_in outcome
+unfolding all_definitions
 closings_1 = (refl, refl, refl, refl, refl, refl, refl, refl)
 
 -- where a literal closes
@@ -84,7 +76,7 @@ closings_2 :
     × Lexes (codes "r'''\\''''") (at 0 (String (codes "'")) 9 ∷ at 9 Newline 9 ∷ [])
     × Lexes (codes "'a''b'") (at 0 (String (codes "a")) 3 ∷ at 3 (String (codes "b")) 6 ∷ at 6 Newline 6 ∷ [])
     × Lexes (codes "'a'b'c'") (at 0 (String (codes "a")) 3 ∷ at 3 (Bytes (codes "c")) 7 ∷ at 7 Newline 7 ∷ [])
-unfolding encode openers line_ends symbols names patterns language class_in longest_front integer_of simple_escapes escape raw_pair found_at body_from body_at is_balanced open_fstring braces depth where_after lines margin_of open_widths fits indentation margin_step chunk step_at after situation next_step read_from read outcome_in outcome
+unfolding all_definitions
 closings_2 = (refl, refl, refl, refl, refl, refl)
 
 -- what escapes denote
@@ -97,7 +89,7 @@ escapes_1 :
     × Lexes (codes "'\\1234'") (at 0 (String (codes "S4")) 7 ∷ at 7 Newline 7 ∷ [])
     × Lexes (codes "'\\377'") (at 0 (String (utf8 "ÿ")) 6 ∷ at 6 Newline 6 ∷ [])
     × Lexes (codes "b'\\377'") (at 0 (Bytes (255 ∷ [])) 7 ∷ at 7 Newline 7 ∷ [])
-unfolding encode openers line_ends symbols names patterns language class_in longest_front integer_of simple_escapes escape raw_pair found_at body_from body_at is_balanced open_fstring braces depth where_after lines margin_of open_widths fits indentation margin_step chunk step_at after situation next_step read_from read outcome_in outcome
+unfolding all_definitions
 escapes_1 = (refl, refl, refl, refl, refl, refl, refl, refl)
 
 -- what escapes denote
@@ -110,7 +102,7 @@ escapes_2 :
     × Lexes (codes "b'\\u20ac'") (at 0 (Bytes (utf8 "€")) 9 ∷ at 9 Newline 9 ∷ [])
     × Lexes (codes "'\\U0001F52C'") (at 0 (String (utf8 "🔬")) 12 ∷ at 12 Newline 12 ∷ [])
     × Lexes (codes "'\\q'") (at 0 (String (codes "\\q")) 4 ∷ at 4 Newline 4 ∷ [])
-unfolding encode openers line_ends symbols names patterns language class_in longest_front integer_of simple_escapes escape raw_pair found_at body_from body_at is_balanced open_fstring braces depth where_after lines margin_of open_widths fits indentation margin_step chunk step_at after situation next_step read_from read outcome_in outcome
+unfolding all_definitions
 escapes_2 = (refl, refl, refl, refl, refl, refl, refl, refl)
 
 -- what escapes denote
@@ -123,7 +115,7 @@ escapes_3 :
     × Lexes (codes "b'\\q\\n'") (at 0 (Bytes (codes "\\q\n")) 7 ∷ at 7 Newline 7 ∷ [])
     × Lexes (codes "'\\N'") (at 0 (String (codes "\\N")) 4 ∷ at 4 Newline 4 ∷ [])
     × Lexes (codes "'\\8'") (at 0 (String (codes "\\8")) 4 ∷ at 4 Newline 4 ∷ [])
-unfolding encode openers line_ends symbols names patterns language class_in longest_front integer_of simple_escapes escape raw_pair found_at body_from body_at is_balanced open_fstring braces depth where_after lines margin_of open_widths fits indentation margin_step chunk step_at after situation next_step read_from read outcome_in outcome
+unfolding all_definitions
 escapes_3 = (refl, refl, refl, refl, refl, refl, refl, refl)
 
 -- bad escapes
@@ -136,7 +128,7 @@ bad_escapes_1 :
     × Stops (codes "'\\u123g'") [] (at 1 (InvalidEscapeSequence (codes "u123g")) 7)
     × Stops (codes "'\\udfff'") [] (at 1 (InvalidEscapeSequence (codes "udfff")) 7)
     × Lexes (codes "'\\ue000'") (at 0 (String (238 ∷ 128 ∷ 128 ∷ [])) 8 ∷ at 8 Newline 8 ∷ [])
-unfolding encode openers line_ends symbols names patterns language class_in longest_front integer_of simple_escapes escape raw_pair found_at body_from body_at is_balanced open_fstring braces depth where_after lines margin_of open_widths fits indentation margin_step chunk step_at after situation next_step read_from read outcome_in outcome
+unfolding all_definitions
 bad_escapes_1 = (refl, refl, refl, refl, refl, refl, refl, refl)
 
 -- bad escapes
@@ -149,14 +141,14 @@ bad_escapes_2 :
     × Stops (codes "'\\x\n'") [] (at 1 (InvalidEscapeSequence (codes "x\n")) 4)
     × Stops (codes "'''\\x1\n'''") [] (at 3 (InvalidEscapeSequence (codes "x1\n")) 7)
     × Stops (utf8 "b'\\x1é'") [] (at 2 (InvalidEscapeSequence (utf8 "x1é")) 7)
-unfolding encode openers line_ends symbols names patterns language class_in longest_front integer_of simple_escapes escape raw_pair found_at body_from body_at is_balanced open_fstring braces depth where_after lines margin_of open_widths fits indentation margin_step chunk step_at after situation next_step read_from read outcome_in outcome
+unfolding all_definitions
 bad_escapes_2 = (refl, refl, refl, refl, refl, refl, refl, refl)
 
 -- bad escapes
 bad_escapes_3 :
     Stops (codes "b'\\777'") [] (at 2 (InvalidEscapeSequence (codes "777")) 6)
     × Stops (codes "b'\\u1'") [] (at 2 (InvalidEscapeSequence (codes "u1'")) 6)
-unfolding encode openers line_ends symbols names patterns language class_in longest_front integer_of simple_escapes escape raw_pair found_at body_from body_at is_balanced open_fstring braces depth where_after lines margin_of open_widths fits indentation margin_step chunk step_at after situation next_step read_from read outcome_in outcome
+unfolding all_definitions
 bad_escapes_3 = (refl, refl)
 
 -- raw literals
@@ -169,7 +161,7 @@ raw_literals_1 :
     × Stops (codes "r'\\\r\n'") [] (at 0 UnfinishedStringLiteral 4)
     × Lexes (codes "r'''\\\n'''") (at 0 (String (codes "\\\n")) 9 ∷ at 9 Newline 9 ∷ [])
     × Lexes (codes "rb'\\'\\x'") (at 0 (Bytes (codes "'\\x")) 8 ∷ at 8 Newline 8 ∷ [])
-unfolding encode openers line_ends symbols names patterns language class_in longest_front integer_of simple_escapes escape raw_pair found_at body_from body_at is_balanced open_fstring braces depth where_after lines margin_of open_widths fits indentation margin_step chunk step_at after situation next_step read_from read outcome_in outcome
+unfolding all_definitions
 raw_literals_1 = (refl, refl, refl, refl, refl, refl, refl, refl)
 
 -- raw literals
@@ -181,7 +173,7 @@ raw_literals_2 :
     × Lexes (codes "fb'a'") (at 0 (Identifier (codes "fb")) 2 ∷ at 2 (String (codes "a")) 5 ∷ at 5 Newline 5 ∷ [])
     × Lexes (codes "rb") (at 0 (Identifier (codes "rb")) 2 ∷ at 2 Newline 2 ∷ [])
     × Stops (codes "rb'") [] (at 0 UnfinishedStringLiteral 3)
-unfolding encode openers line_ends symbols names patterns language class_in longest_front integer_of simple_escapes escape raw_pair found_at body_from body_at is_balanced open_fstring braces depth where_after lines margin_of open_widths fits indentation margin_step chunk step_at after situation next_step read_from read outcome_in outcome
+unfolding all_definitions
 raw_literals_2 = (refl, refl, refl, refl, refl, refl, refl)
 
 -- unfinished literals
@@ -194,7 +186,7 @@ unfinished_1 :
     × Stops (codes "'''a\nb") [] (at 0 UnfinishedStringLiteral 6)
     × Stops (codes "'''a''") [] (at 0 UnfinishedStringLiteral 6)
     × Stops (codes "b'") [] (at 0 UnfinishedStringLiteral 2)
-unfolding encode openers line_ends symbols names patterns language class_in longest_front integer_of simple_escapes escape raw_pair found_at body_from body_at is_balanced open_fstring braces depth where_after lines margin_of open_widths fits indentation margin_step chunk step_at after situation next_step read_from read outcome_in outcome
+unfolding all_definitions
 unfinished_1 = (refl, refl, refl, refl, refl, refl, refl, refl)
 
 -- unfinished literals
@@ -203,5 +195,5 @@ unfinished_2 :
     × Stops (codes "'a\r") [] (at 0 UnfinishedStringLiteral 3)
     × Stops (codes "r'''\\") [] (at 0 UnfinishedStringLiteral 5)
     × Stops (utf8 "'é") [] (at 0 UnfinishedStringLiteral 3)
-unfolding encode openers line_ends symbols names patterns language class_in longest_front integer_of simple_escapes escape raw_pair found_at body_from body_at is_balanced open_fstring braces depth where_after lines margin_of open_widths fits indentation margin_step chunk step_at after situation next_step read_from read outcome_in outcome
+unfolding all_definitions
 unfinished_2 = (refl, refl, refl, refl)

@@ -1,18 +1,11 @@
 -- Worked texts of words and numbers, closed by computing.
 use Rattle.std.proofs.Common.{refl}
 use Rattle.std.specs.Prelude.{false, [], ◌∷◌, codes, pos}
-use Rattle.std.proofs.Math.Utf8.{encode}
 use Rattle.starlark_grammar.specs.Words as word
-use Rattle.starlark_grammar.specs.Words.{class_in, openers, line_ends, symbols, names, patterns, language}
-use Rattle.starlark_grammar.specs.Front.{longest_front}
-use Rattle.starlark_grammar.specs.Numbers.{Small, Big, integer_of}
+use Rattle.starlark_grammar.specs.Words.{symbols, names}
+use Rattle.starlark_grammar.specs.Numbers.{Small, Big}
 use Rattle.starlark_grammar.specs.Tokens.{Comment, Newline, Identifier, Int, Float, Word, InvalidInput, InvalidTab, ReservedKeyword, StartsZero}
-use Rattle.starlark_grammar.specs.Items.{simple_escapes, escape, raw_pair, found_at, body_from, body_at}
-use Rattle.starlark_grammar.specs.Depths.{is_balanced, open_fstring, braces, depth, where_after}
-use Rattle.starlark_grammar.specs.Margins.{lines, margin_of, open_widths, fits, indentation}
-use Rattle.starlark_grammar.specs.Pieces.{margin_step, chunk, step_at}
-use Rattle.starlark_grammar.specs.Reading.{after, situation, next_step, read_from, read, outcome_in, outcome}
-use Rattle.starlark_grammar.proofs.Rows.Shapes.{at, utf8, Lexes, Stops}
+use Rattle.starlark_grammar.proofs.Rows.Shapes.{all_definitions, at, utf8, Lexes, Stops}
 
 -- words of all kinds
 words_1 :
@@ -24,7 +17,7 @@ words_1 :
     × Lexes (codes "format") (at 0 (Identifier (codes "format")) 6 ∷ at 6 Newline 6 ∷ [])
     × Lexes (codes "....5") (at 0 (Word word.Ellipsis) 3 ∷ at 3 (Float (codes ".5")) 5 ∷ at 5 Newline 5 ∷ [])
     × Lexes (codes "1e+") (at 0 (Int (Small (pos 1))) 1 ∷ at 1 (Identifier (codes "e")) 2 ∷ at 2 (Word word.Plus) 3 ∷ at 3 Newline 3 ∷ [])
-unfolding encode openers line_ends symbols names patterns language class_in longest_front integer_of simple_escapes escape raw_pair found_at body_from body_at is_balanced open_fstring braces depth where_after lines margin_of open_widths fits indentation margin_step chunk step_at after situation next_step read_from read outcome_in outcome
+unfolding all_definitions
 words_1 = (refl, refl, refl, refl, refl, refl, refl, refl)
 
 -- words of all kinds
@@ -37,7 +30,7 @@ words_2 :
     × Lexes (codes "a<<=b>>c") (at 0 (Identifier (codes "a")) 1 ∷ at 1 (Word word.LessLessEqual) 4 ∷ at 4 (Identifier (codes "b")) 5 ∷ at 5 (Word word.GreaterGreater) 7 ∷ at 7 (Identifier (codes "c")) 8 ∷ at 8 Newline 8 ∷ [])
     × Lexes (codes "0b102") (at 0 (Int (Small (pos 2))) 4 ∷ at 4 (Int (Small (pos 2))) 5 ∷ at 5 Newline 5 ∷ [])
     × Lexes (codes "0o8") (at 0 (Int (Small (pos 0))) 1 ∷ at 1 (Identifier (codes "o8")) 3 ∷ at 3 Newline 3 ∷ [])
-unfolding encode openers line_ends symbols names patterns language class_in longest_front integer_of simple_escapes escape raw_pair found_at body_from body_at is_balanced open_fstring braces depth where_after lines margin_of open_widths fits indentation margin_step chunk step_at after situation next_step read_from read outcome_in outcome
+unfolding all_definitions
 words_2 = (refl, refl, refl, refl, refl, refl, refl, refl)
 
 -- words of all kinds
@@ -50,13 +43,13 @@ words_3 :
     × Lexes (codes "classy") (at 0 (Identifier (codes "classy")) 6 ∷ at 6 Newline 6 ∷ [])
     × Stops (codes "a\tb") (at 0 (Identifier (codes "a")) 1 ∷ []) (at 1 InvalidTab 1)
     × Lexes (codes "a \\\nb") (at 0 (Identifier (codes "a")) 1 ∷ at 4 (Identifier (codes "b")) 5 ∷ at 5 Newline 5 ∷ [])
-unfolding encode openers line_ends symbols names patterns language class_in longest_front integer_of simple_escapes escape raw_pair found_at body_from body_at is_balanced open_fstring braces depth where_after lines margin_of open_widths fits indentation margin_step chunk step_at after situation next_step read_from read outcome_in outcome
+unfolding all_definitions
 words_3 = (refl, refl, refl, refl, refl, refl, refl, refl)
 
 -- words of all kinds
 words_4 :
     Stops (codes "a\\b") (at 0 (Identifier (codes "a")) 1 ∷ []) (at 1 (InvalidInput (codes "\\")) 2)
-unfolding encode openers line_ends symbols names patterns language class_in longest_front integer_of simple_escapes escape raw_pair found_at body_from body_at is_balanced open_fstring braces depth where_after lines margin_of open_widths fits indentation margin_step chunk step_at after situation next_step read_from read outcome_in outcome
+unfolding all_definitions
 words_4 = refl
 
 -- line ends and blanks
@@ -69,7 +62,7 @@ line_ends_1 :
     × Lexes (codes "a \\\r\n b") (at 0 (Identifier (codes "a")) 1 ∷ at 6 (Identifier (codes "b")) 7 ∷ at 7 Newline 7 ∷ [])
     × Stops (codes "a\\") (at 0 (Identifier (codes "a")) 1 ∷ []) (at 1 (InvalidInput (codes "\\")) 2)
     × Stops (codes "a\\x") (at 0 (Identifier (codes "a")) 1 ∷ []) (at 1 (InvalidInput (codes "\\")) 2)
-unfolding encode openers line_ends symbols names patterns language class_in longest_front integer_of simple_escapes escape raw_pair found_at body_from body_at is_balanced open_fstring braces depth where_after lines margin_of open_widths fits indentation margin_step chunk step_at after situation next_step read_from read outcome_in outcome
+unfolding all_definitions
 line_ends_1 = (refl, refl, refl, refl, refl, refl, refl, refl)
 
 -- line ends and blanks
@@ -77,7 +70,7 @@ line_ends_2 :
     Lexes (codes "\\\n") (at 2 Newline 2 ∷ [])
     × Stops (codes "a\\\r") (at 0 (Identifier (codes "a")) 1 ∷ []) (at 1 (InvalidInput (codes "\\")) 2)
     × Stops (codes "a\\\rb") (at 0 (Identifier (codes "a")) 1 ∷ []) (at 1 (InvalidInput (codes "\\")) 2)
-unfolding encode openers line_ends symbols names patterns language class_in longest_front integer_of simple_escapes escape raw_pair found_at body_from body_at is_balanced open_fstring braces depth where_after lines margin_of open_widths fits indentation margin_step chunk step_at after situation next_step read_from read outcome_in outcome
+unfolding all_definitions
 line_ends_2 = (refl, refl, refl)
 
 -- comments
@@ -90,7 +83,7 @@ comments :
     × Lexes (codes "#\r\r\n") (at 0 (Comment (codes "\r")) 2 ∷ at 4 Newline 4 ∷ [])
     × Stops (codes "x #\r") (at 0 (Identifier (codes "x")) 1 ∷ at 2 (Comment []) 3 ∷ []) (at 3 (InvalidInput (codes "\r")) 4)
     × Stops (codes "x # a\rb") (at 0 (Identifier (codes "x")) 1 ∷ at 2 (Comment (codes " a")) 5 ∷ []) (at 5 (InvalidInput (codes "\r")) 6)
-unfolding encode openers line_ends symbols names patterns language class_in longest_front integer_of simple_escapes escape raw_pair found_at body_from body_at is_balanced open_fstring braces depth where_after lines margin_of open_widths fits indentation margin_step chunk step_at after situation next_step read_from read outcome_in outcome
+unfolding all_definitions
 comments = (refl, refl, refl, refl, refl, refl, refl, refl)
 
 -- names, keywords and reserved words
@@ -103,7 +96,7 @@ names_1 :
     × Stops (codes "as") [] (at 0 (ReservedKeyword (codes "as")) 2)
     × Lexes (codes "asx") (at 0 (Identifier (codes "asx")) 3 ∷ at 3 Newline 3 ∷ [])
     × Lexes (codes "lambda") (at 0 (Word word.Lambda) 6 ∷ at 6 Newline 6 ∷ [])
-unfolding encode openers line_ends symbols names patterns language class_in longest_front integer_of simple_escapes escape raw_pair found_at body_from body_at is_balanced open_fstring braces depth where_after lines margin_of open_widths fits indentation margin_step chunk step_at after situation next_step read_from read outcome_in outcome
+unfolding all_definitions
 names_1 = (refl, refl, refl, refl, refl, refl, refl, refl)
 
 -- names, keywords and reserved words
@@ -114,7 +107,7 @@ names_2 :
     × Stops (codes "x.as") (at 0 (Identifier (codes "x")) 1 ∷ at 1 (Word word.Dot) 2 ∷ []) (at 2 (ReservedKeyword (codes "as")) 4)
     × Stops (utf8 "é") [] (at 0 (InvalidInput (utf8 "é")) 2)
     × Stops (utf8 "aé") (at 0 (Identifier (codes "a")) 1 ∷ []) (at 1 (InvalidInput (utf8 "é")) 3)
-unfolding encode openers line_ends symbols names patterns language class_in longest_front integer_of simple_escapes escape raw_pair found_at body_from body_at is_balanced open_fstring braces depth where_after lines margin_of open_widths fits indentation margin_step chunk step_at after situation next_step read_from read outcome_in outcome
+unfolding all_definitions
 names_2 = (refl, refl, refl, refl, refl, refl)
 
 -- numbers
@@ -127,7 +120,7 @@ numbers_1 :
     × Lexes (codes "0xFf") (at 0 (Int (Small (pos 255))) 4 ∷ at 4 Newline 4 ∷ [])
     × Lexes (codes "0B01") (at 0 (Int (Small (pos 1))) 4 ∷ at 4 Newline 4 ∷ [])
     × Lexes (codes "0b2") (at 0 (Int (Small (pos 0))) 1 ∷ at 1 (Identifier (codes "b2")) 3 ∷ at 3 Newline 3 ∷ [])
-unfolding encode openers line_ends symbols names patterns language class_in longest_front integer_of simple_escapes escape raw_pair found_at body_from body_at is_balanced open_fstring braces depth where_after lines margin_of open_widths fits indentation margin_step chunk step_at after situation next_step read_from read outcome_in outcome
+unfolding all_definitions
 numbers_1 = (refl, refl, refl, refl, refl, refl, refl, refl)
 
 -- numbers
@@ -140,7 +133,7 @@ numbers_2 :
     × Lexes (codes "..") (at 0 (Word word.Dot) 1 ∷ at 1 (Word word.Dot) 2 ∷ at 2 Newline 2 ∷ [])
     × Lexes (codes "...") (at 0 (Word word.Ellipsis) 3 ∷ at 3 Newline 3 ∷ [])
     × Lexes (codes "1e5") (at 0 (Float (codes "1e5")) 3 ∷ at 3 Newline 3 ∷ [])
-unfolding encode openers line_ends symbols names patterns language class_in longest_front integer_of simple_escapes escape raw_pair found_at body_from body_at is_balanced open_fstring braces depth where_after lines margin_of open_widths fits indentation margin_step chunk step_at after situation next_step read_from read outcome_in outcome
+unfolding all_definitions
 numbers_2 = (refl, refl, refl, refl, refl, refl, refl, refl)
 
 -- numbers
@@ -153,7 +146,7 @@ numbers_3 :
     × Lexes (codes "1.5e") (at 0 (Float (codes "1.5")) 3 ∷ at 3 (Identifier (codes "e")) 4 ∷ at 4 Newline 4 ∷ [])
     × Lexes (codes "1.2.3") (at 0 (Float (codes "1.2")) 3 ∷ at 3 (Float (codes ".3")) 5 ∷ at 5 Newline 5 ∷ [])
     × Lexes (codes "00e0") (at 0 (Float (codes "00e0")) 4 ∷ at 4 Newline 4 ∷ [])
-unfolding encode openers line_ends symbols names patterns language class_in longest_front integer_of simple_escapes escape raw_pair found_at body_from body_at is_balanced open_fstring braces depth where_after lines margin_of open_widths fits indentation margin_step chunk step_at after situation next_step read_from read outcome_in outcome
+unfolding all_definitions
 numbers_3 = (refl, refl, refl, refl, refl, refl, refl, refl)
 
 -- numbers
@@ -166,7 +159,7 @@ numbers_4 :
     × Lexes (codes ".e5") (at 0 (Word word.Dot) 1 ∷ at 1 (Identifier (codes "e5")) 3 ∷ at 3 Newline 3 ∷ [])
     × Lexes (codes "0O7") (at 0 (Int (Small (pos 7))) 3 ∷ at 3 Newline 3 ∷ [])
     × Lexes (codes "1.e") (at 0 (Float (codes "1.")) 2 ∷ at 2 (Identifier (codes "e")) 3 ∷ at 3 Newline 3 ∷ [])
-unfolding encode openers line_ends symbols names patterns language class_in longest_front integer_of simple_escapes escape raw_pair found_at body_from body_at is_balanced open_fstring braces depth where_after lines margin_of open_widths fits indentation margin_step chunk step_at after situation next_step read_from read outcome_in outcome
+unfolding all_definitions
 numbers_4 = (refl, refl, refl, refl, refl, refl, refl, refl)
 
 -- numbers
@@ -176,7 +169,7 @@ numbers_5 :
     × Lexes (codes "0e0") (at 0 (Float (codes "0e0")) 3 ∷ at 3 Newline 3 ∷ [])
     × Lexes (codes "1.5.") (at 0 (Float (codes "1.5")) 3 ∷ at 3 (Word word.Dot) 4 ∷ at 4 Newline 4 ∷ [])
     × Lexes (codes "0o18") (at 0 (Int (Small (pos 1))) 3 ∷ at 3 (Int (Small (pos 8))) 4 ∷ at 4 Newline 4 ∷ [])
-unfolding encode openers line_ends symbols names patterns language class_in longest_front integer_of simple_escapes escape raw_pair found_at body_from body_at is_balanced open_fstring braces depth where_after lines margin_of open_widths fits indentation margin_step chunk step_at after situation next_step read_from read outcome_in outcome
+unfolding all_definitions
 numbers_5 = (refl, refl, refl, refl, refl)
 
 -- symbols
@@ -189,7 +182,7 @@ symbols_1 :
     × Lexes (codes "!==") (at 0 (Word word.BangEqual) 2 ∷ at 2 (Word word.Equal) 3 ∷ at 3 Newline 3 ∷ [])
     × Stops (codes "!") [] (at 0 (InvalidInput (codes "!")) 1)
     × Lexes (codes "->=") (at 0 (Word word.MinusGreater) 2 ∷ at 2 (Word word.Equal) 3 ∷ at 3 Newline 3 ∷ [])
-unfolding encode openers line_ends symbols names patterns language class_in longest_front integer_of simple_escapes escape raw_pair found_at body_from body_at is_balanced open_fstring braces depth where_after lines margin_of open_widths fits indentation margin_step chunk step_at after situation next_step read_from read outcome_in outcome
+unfolding all_definitions
 symbols_1 = (refl, refl, refl, refl, refl, refl, refl, refl)
 
 -- symbols
@@ -201,5 +194,5 @@ symbols_2 :
     × Stops (codes "?") [] (at 0 (InvalidInput (codes "?")) 1)
     × Lexes (codes "....") (at 0 (Word word.Ellipsis) 3 ∷ at 3 (Word word.Dot) 4 ∷ at 4 Newline 4 ∷ [])
     × Lexes (codes "<>") (at 0 (Word word.LessThan) 1 ∷ at 1 (Word word.GreaterThan) 2 ∷ at 2 Newline 2 ∷ [])
-unfolding encode openers line_ends symbols names patterns language class_in longest_front integer_of simple_escapes escape raw_pair found_at body_from body_at is_balanced open_fstring braces depth where_after lines margin_of open_widths fits indentation margin_step chunk step_at after situation next_step read_from read outcome_in outcome
+unfolding all_definitions
 symbols_2 = (refl, refl, refl, refl, refl, refl, refl)

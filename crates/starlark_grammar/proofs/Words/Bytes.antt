@@ -58,7 +58,7 @@ binary_plain b h = grind (arith, nat_tests)
 in_name_plain : (b : ℕ) → is_in_name b ≡ true → is_ascii b ≡ true
 in_name_plain b h = grind (arith, nat_tests)
 
-begins_name_plain : (b : ℕ) → Rattle.starlark_grammar.specs.Words.begins_name b ≡ true → is_ascii b ≡ true
+begins_name_plain : (b : ℕ) → Rattle.starlark_grammar.specs.Words.is_name_start b ≡ true → is_ascii b ≡ true
 begins_name_plain b h = grind (arith, nat_tests)
 
 same_plain : (a b : ℕ) → is_ascii a ≡ true → (a == b) ≡ true → is_ascii b ≡ true
@@ -67,7 +67,7 @@ same_plain a b h e = subst (λ c. is_ascii c ≡ true) (eqb-true a b e) h
 identifier_plain : (word : Text) → is_identifier word ≡ true → is_plain word ≡ true
 identifier_plain [] h = refl
 identifier_plain (b ∷ bs) h =
-    let parts = and_parts (Rattle.starlark_grammar.specs.Words.begins_name b) (list_all is_in_name bs) h in
+    let parts = and_parts (Rattle.starlark_grammar.specs.Words.is_name_start b) (list_all is_in_name bs) h in
     rw (begins_name_plain b parts.0) (all_more is_in_name is_ascii bs in_name_plain parts.1)
 
 spaces_fit : (word : Text) → is_run (nat_eq 32) word ≡ true → (all_gaps word && is_plain word) ≡ true

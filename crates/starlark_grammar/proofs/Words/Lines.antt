@@ -9,7 +9,7 @@ use Rattle.std.specs.Str.{bytes_eq}
 use Rattle.std.proofs.lemmas.Bool.{and_parts, eqb-true}
 use Rattle.std.proofs.lemmas.Bool.Decides.{nat_tests}
 use Rattle.std.proofs.lemmas.Slice.Eq.{bytes_eq-Decides}
-use Rattle.starlark_grammar.specs.Words.{Text, Class, Skipped, Comment, Tabs, LineEnd, Opener, Reserved, Identifier, Decimal, Hexadecimal, Octal, Binary, Float, Fixed, class_in, openers, line_ends, symbols, names, patterns, language, begins_name, is_run, is_in_name, is_in_line, is_identifier, is_comment, is_based, is_octal_digit, is_binary_digit, behind_digits, begins_with_digit, is_sign, unsigned, is_exponent, ends_float, is_fraction, is_float, is_pointed}
+use Rattle.starlark_grammar.specs.Words.{Text, Class, Skipped, Comment, Tabs, LineEnd, Opener, Reserved, Identifier, Decimal, Hexadecimal, Octal, Binary, Float, Fixed, class_in, openers, line_ends, symbols, names, patterns, language, is_name_start, is_run, is_in_name, is_in_line, is_identifier, is_comment, is_based, is_octal_digit, is_binary_digit, behind_digits, begins_with_digit, is_sign, unsigned, is_exponent, ends_float, is_fraction, is_float, is_pointed}
 use Rattle.starlark_grammar.proofs.Words.Tables.{class_in-language}
 
 -- an LF stands at the end at most
@@ -73,7 +73,7 @@ run_in_line p (b ∷ bs) h k = all_in_line p (b ∷ bs) h k
 name_in_line : (b : ℕ) → is_in_name b ≡ true → is_in_line b ≡ true
 name_in_line b h = grind (arith, nat_tests)
 
-begin_in_line : (b : ℕ) → begins_name b ≡ true → is_in_line b ≡ true
+begin_in_line : (b : ℕ) → is_name_start b ≡ true → is_in_line b ≡ true
 begin_in_line b h = grind (arith, nat_tests)
 
 digit_in_line : (b : ℕ) → is_ascii_digit b ≡ true → is_in_line b ≡ true
@@ -107,7 +107,7 @@ either_in_line b lower upper h k e = go (b == lower) refl e
 identifier_in_line : (word : Text) → is_identifier word ≡ true → in_line word ≡ true
 identifier_in_line [] h = refl
 identifier_in_line (b ∷ bs) h =
-    let parts = and_parts (begins_name b) (list_all is_in_name bs) h in
+    let parts = and_parts (is_name_start b) (list_all is_in_name bs) h in
     rw (begin_in_line b parts.0) (all_in_line is_in_name bs name_in_line parts.1)
 
 comment_in_line : (word : Text) → is_comment word ≡ true → in_line word ≡ true

@@ -1,7 +1,8 @@
 -- Texts of f-strings, by what was read of them.
 use Rattle.std.proofs.Common.{◌≡◌, ℕ, ◌+◌, ◌-◌, ◌≤◌, [], ◌∷◌, ◌++◌, length, drop, refl, sym, subst, arith}
 use Rattle.std.specs.Prelude.{codes}
-use Rattle.starlark_grammar.specs.Words.{Text, OfFString}
+use Rattle.starlark_grammar.specs.Words.{Text}
+use Rattle.starlark_grammar.specs.declared.class.LiteralKind.TheVariants.{FString as OfFString}
 use Rattle.starlark_grammar.specs.Tokens.{Opening, Token, FStringExprStart, FStringEnd, InvalidInput, InvalidEscapeSequence, UnfinishedStringLiteral}
 use Rattle.starlark_grammar.specs.Items.{Literal, Stop, Closing, Line, Ended, OpeningBrace, ClosingBrace, BadEscape, body_at, body_len, body_value, closing_quotes}
 use Rattle.starlark_grammar.specs.Pieces.{Step, piece, fault, chunk, chunk_by, chunk_text}

@@ -4,7 +4,8 @@ use Rattle.std.proofs.lemmas.Bool.{eqb-true, false_from_ne_true}
 use Rattle.std.proofs.lemmas.Bool.Decides.{nat_tests}
 use Rattle.std.specs.List.{slice_get}
 use Rattle.std.specs.Map.{lookup}
-use Rattle.starlark_grammar.specs.Words.{Text, Kind, is_octal_digit}
+use Rattle.starlark_grammar.specs.Words.{Text, is_octal_digit}
+use Rattle.starlark_grammar.specs.declared.class.LiteralKind.{LiteralKind as Kind}
 use Rattle.starlark_grammar.specs.Items.{goes, broken, is_of_bytes, hexadecimal, octal, escaped_feed, simple, simple_escapes, escape}
 use Rattle.starlark_grammar.specs.Characters.{first_character}
 

@@ -2,7 +2,9 @@
 use Rattle.std.proofs.Common.{◌≡◌, ◌≢◌, ℕ, ◌==◌, ◌&&◌, not, Bool, true, false, [], ◌∷◌, length, ◌+◌, take, drop, refl, one-add, Some, None, nat_eq, arith}
 use Rattle.std.proofs.lemmas.Bool.{eqb-true, false_from_ne_true}
 use Rattle.std.specs.List.{slice_get, starts_with}
-use Rattle.starlark_grammar.specs.Words.{Text, Kind, Quote}
+use Rattle.starlark_grammar.specs.Words.{Text}
+use Rattle.starlark_grammar.specs.declared.class.LiteralKind.{LiteralKind as Kind}
+use Rattle.starlark_grammar.specs.declared.class.Quote.{Quote}
 use Rattle.starlark_grammar.specs.Items.{Literal, Stops, Closing, Line, Ended, goes, closing_quotes, escape, raw_pair, drops_backslash, brace, is_brace, found_at}
 use Rattle.starlark_grammar.specs.Characters.{first_character}
 

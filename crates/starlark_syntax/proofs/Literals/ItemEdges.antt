@@ -9,10 +9,14 @@ use Rattle.std.specs.Map.{lookup}
 use Rattle.std.specs.Prelude.{⊤, ◌&&◌, if◌then◌else◌, nat_lt}
 use Rattle.std.specs.Str.{byte, IsUtf8, IsCharBoundary}
 use Rattle.std.specs.Str.Parse.{digits_value}
-use Rattle.starlark_grammar.specs.Words.{Text, Quote, Kind, OfText, OfBytes, OfFString, is_octal_digit}
+use Rattle.starlark_grammar.specs.Words.{Text, is_octal_digit}
+use Rattle.starlark_grammar.specs.declared.class.Quote.{Quote}
+use Rattle.starlark_grammar.specs.declared.class.LiteralKind.{LiteralKind as Kind}
+use Rattle.starlark_grammar.specs.declared.class.LiteralKind.TheVariants.{Text as OfText, Bytes as OfBytes, FString as OfFString}
 use Rattle.starlark_grammar.specs.Items.{Literal, Item, Found, Goes, Stops, closing_quotes, broken, numbered, is_character, hexadecimal, octal, escaped_feed, simple, simple_escapes, escape, raw_pair, brace, found_at, is_brace, is_of_bytes}
 use Rattle.starlark_grammar.specs.Characters.{first_character}
-use Rattle.starlark_grammar.proofs.Order.Edges.{boundary_shift, character_edge, digits_run, either, hex_plain, letter_small, octal_plain, plain_end, when}
+use Rattle.starlark_grammar.proofs.Order.Edges.{boundary_shift, character_edge, digits_run, hex_plain, letter_small, octal_plain, plain_end}
+use Rattle.starlark_grammar.proofs.Choices.{either, when}
 use Rattle.starlark_grammar.proofs.Words.Bytes.{is_plain}
 
 -- the end of an item

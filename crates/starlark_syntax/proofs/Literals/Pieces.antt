@@ -5,10 +5,14 @@ use Rattle.std.proofs.lemmas.Str.{IsCharBoundary-after_ascii, IsUtf8-drop}
 use Rattle.std.specs.List.{starts_with}
 use Rattle.std.specs.Prelude.{IfOk, Result}
 use Rattle.std.specs.Str.{IsUtf8, IsCharBoundary}
-use Rattle.starlark_grammar.specs.Words.{Text, Quote, SingleQuote, DoubleQuote, Kind, OfText, OfBytes, OfFString}
+use Rattle.starlark_grammar.specs.Words.{Text}
+use Rattle.starlark_grammar.specs.declared.class.Quote.{Quote}
+use Rattle.starlark_grammar.specs.declared.class.Quote.TheVariants.{Single as SingleQuote, Double as DoubleQuote}
+use Rattle.starlark_grammar.specs.declared.class.LiteralKind.{LiteralKind as Kind}
+use Rattle.starlark_grammar.specs.declared.class.LiteralKind.TheVariants.{Text as OfText, Bytes as OfBytes, FString as OfFString}
 use Rattle.starlark_grammar.specs.Tokens.{String, Bytes, Opening, EmptyEscapeSequence, InvalidEscapeSequence}
 use Rattle.starlark_grammar.specs.Items.{Literal, Closing, BadEscape, body_at, body_len, closing_quotes, is_of_bytes, quote_byte}
-use Rattle.starlark_grammar.specs.Depths.{Where}
+use Rattle.starlark_grammar.specs.Depths.{Mode}
 use Rattle.starlark_grammar.specs.Pieces as pieces
 use Rattle.starlark_grammar.specs.Pieces.{Step, fault, literal_token, escape_fault}
 use Rattle.starlark_grammar.proofs.Lists.{drop-sum}
@@ -77,7 +81,7 @@ read_behind text len read =
     rw (less, drop-sum len 1 text) (sym (drop_take read (drop len text)))
 
 -- a literal that stops at a bad escape
-pub bad_literal : (place : Where) (literal : Literal) (begin len read last : ℕ) (text : Text) → len ≡ body_len (body_at literal text) → (body_at literal text).stop ≡ BadEscape read last
+pub bad_literal : (place : Mode) (literal : Literal) (begin len read last : ℕ) (text : Text) → len ≡ body_len (body_at literal text) → (body_at literal text).stop ≡ BadEscape read last
     → pieces.literal place literal.kind literal.opening begin text ≡ escape_fault (begin + len) (drop 1 (take read (drop len text)))
 bad_literal place literal begin len read last text same bad = rw (bad, same) refl
 
@@ -92,7 +96,7 @@ triple_edge text SingleQuote utf8 h = behind_plain text (39 ∷ 39 ∷ []) (drop
 triple_edge text DoubleQuote utf8 h = behind_plain text (34 ∷ 34 ∷ []) (drop 2 text) utf8 (starts_split text (34 ∷ 34 ∷ []) h) refl
 
 -- without two more quotes the literal begins right behind its opener
-pub opener_plain : (place : Where) (kind : Kind) (opening : Opening) (len : ℕ) (behind : Text) → kind ≢ OfFString → opening.is_triple ≡ false → pieces.opener place kind opening len behind ≡ pieces.literal place kind opening len behind
+pub opener_plain : (place : Mode) (kind : Kind) (opening : Opening) (len : ℕ) (behind : Text) → kind ≢ OfFString → opening.is_triple ≡ false → pieces.opener place kind opening len behind ≡ pieces.literal place kind opening len behind
 opener_plain place kind opening len behind other single = by_kind kind other
   where
     none_more : pieces.more_quotes opening ≡ 0

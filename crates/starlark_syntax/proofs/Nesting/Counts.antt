@@ -4,9 +4,9 @@ use Rattle.std.specs.Prelude.{◌&&◌, ◌==◌, if◌then◌else◌, map, fold
 use Rattle.std.specs.Option.{MatchOption, IsSomeAnd}
 use Rattle.std.proofs.lemmas.Bool.{eqb-true}
 use Rattle.std.proofs.lemmas.List.Sums.{sum_by-cons}
-use Rattle.starlark_grammar.specs.Words as word
+use Rattle.starlark_grammar.specs.declared.class.Terminal.TheVariants as terminal
 use Rattle.starlark_grammar.specs.Tokens.{Token, Opening, FStringExprStart, FStringExprEnd, Word}
-use Rattle.starlark_grammar.specs.Depths.{Shape, Round, Square, Curly, Where, InText, AtTop, Deeper, is_opening, is_closing, is_any_opening, is_any_closing, expression_tokens, braces, braces_of, surplus, fronts, depth, inside}
+use Rattle.starlark_grammar.specs.Depths.{Shape, Round, Square, Curly, Mode, InText, AtTop, Deeper, is_opening, is_closing, is_any_opening, is_any_closing, expression_tokens, braces, braces_of, surplus, fronts, depth, inside}
 use Rattle.starlark_token.specs.TokenViews.{Whole}
 use Rattle.starlark_syntax.specs.Joints.Nesting.{change_by, opens, closes, brackets_of, expression_view, expression_of, FStringDepths, fstring_of}
 use Rattle.starlark_syntax.specs.declared.lexer.nesting.counts.Brackets.{Brackets}
@@ -135,7 +135,7 @@ braces_are found = go (expression_tokens found.1)
     go (Some tokens) = refl
 
 -- by the brackets that are open
-inside_by : (opening : Opening) (braces rounds squares : ℕ) → Where
+inside_by : (opening : Opening) (braces rounds squares : ℕ) → Mode
 inside_by opening braces rounds squares = if braces == 0 then InText opening else (if braces == 1 && rounds == 0 && squares == 0 then AtTop else Deeper)
 
 inside_is : (view : FStringDepths) (found : Opening × List Token) → view ≡ fstring_of found → inside found ≡ inside_by view.opening (braces_in view.expression) view.rounds view.squares
@@ -166,16 +166,16 @@ deeper view found e some h = sym (inside_is view found e ∙ go (braces_in view.
 
 any_opening_is : (node : Token) → cond (is_any_opening node) 1 0 ≡ opens (change_by (Whole node))
 unfolding change_by
-any_opening_is (Word word.OpeningRound) = refl
-any_opening_is (Word word.OpeningSquare) = refl
-any_opening_is (Word word.OpeningCurly) = refl
+any_opening_is (Word terminal.OpeningRound) = refl
+any_opening_is (Word terminal.OpeningSquare) = refl
+any_opening_is (Word terminal.OpeningCurly) = refl
 any_opening_is node = refl
 
 any_closing_is : (node : Token) → cond (is_any_closing node) 1 0 ≡ closes (change_by (Whole node))
 unfolding change_by
-any_closing_is (Word word.ClosingRound) = refl
-any_closing_is (Word word.ClosingSquare) = refl
-any_closing_is (Word word.ClosingCurly) = refl
+any_closing_is (Word terminal.ClosingRound) = refl
+any_closing_is (Word terminal.ClosingSquare) = refl
+any_closing_is (Word terminal.ClosingCurly) = refl
 any_closing_is node = refl
 
 pub opened_onward : (node : Token) (tokens : List Token) → count_by is_any_opening (node ∷ tokens) ≡ opens (change_by (Whole node)) + count_by is_any_opening tokens
@@ -202,12 +202,12 @@ depth_after shape change n = n
 
 pub depth_onward : (shape : Shape) (node : Token) (own : List Token) → depth shape (node ∷ own) ≡ depth_after shape (change_by (Whole node)) (depth shape own)
 unfolding change_by
-depth_onward Round (Word word.OpeningRound) own = depth_opening Round (Word word.OpeningRound) own refl refl
-depth_onward Round (Word word.ClosingRound) own = depth_closing Round (Word word.ClosingRound) own refl refl
-depth_onward Square (Word word.OpeningSquare) own = depth_opening Square (Word word.OpeningSquare) own refl refl
-depth_onward Square (Word word.ClosingSquare) own = depth_closing Square (Word word.ClosingSquare) own refl refl
-depth_onward Curly (Word word.OpeningCurly) own = depth_opening Curly (Word word.OpeningCurly) own refl refl
-depth_onward Curly (Word word.ClosingCurly) own = depth_closing Curly (Word word.ClosingCurly) own refl refl
+depth_onward Round (Word terminal.OpeningRound) own = depth_opening Round (Word terminal.OpeningRound) own refl refl
+depth_onward Round (Word terminal.ClosingRound) own = depth_closing Round (Word terminal.ClosingRound) own refl refl
+depth_onward Square (Word terminal.OpeningSquare) own = depth_opening Square (Word terminal.OpeningSquare) own refl refl
+depth_onward Square (Word terminal.ClosingSquare) own = depth_closing Square (Word terminal.ClosingSquare) own refl refl
+depth_onward Curly (Word terminal.OpeningCurly) own = depth_opening Curly (Word terminal.OpeningCurly) own refl refl
+depth_onward Curly (Word terminal.ClosingCurly) own = depth_closing Curly (Word terminal.ClosingCurly) own refl refl
 depth_onward shape node own = depth_other shape node own refl refl
 
 abbrev curly_counts : List Token → ℕ × ℕ
@@ -243,8 +243,8 @@ pub expression_onward : (node : Token) (own : List Token) → expression_of (nod
 unfolding change_by
 expression_onward FStringExprStart own = refl
 expression_onward FStringExprEnd own = refl
-expression_onward (Word word.OpeningCurly) own = curly_onward (Word word.OpeningCurly) (expression_tokens own) ∙ one_opened (option_map curly_counts (expression_tokens own))
-expression_onward (Word word.ClosingCurly) own = curly_onward (Word word.ClosingCurly) (expression_tokens own) ∙ one_closed (option_map curly_counts (expression_tokens own))
+expression_onward (Word terminal.OpeningCurly) own = curly_onward (Word terminal.OpeningCurly) (expression_tokens own) ∙ one_opened (option_map curly_counts (expression_tokens own))
+expression_onward (Word terminal.ClosingCurly) own = curly_onward (Word terminal.ClosingCurly) (expression_tokens own) ∙ one_closed (option_map curly_counts (expression_tokens own))
 expression_onward node own = curly_onward node (expression_tokens own) ∙ none_more (option_map curly_counts (expression_tokens own))
 
 -- No count of an f-string is greater than those of its tokens.

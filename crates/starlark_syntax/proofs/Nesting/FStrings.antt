@@ -4,10 +4,10 @@ use Rattle.std.specs.Prelude.{count_by, is_some, option_map, option_to_list, rev
 use Rattle.std.specs.List.{slice_get}
 use Rattle.std.proofs.lemmas.Option.{same_Some, none-some, slice_get_within, get_or_from_slice_get, slice_get-get_or}
 use Rattle.std.proofs.lemmas.List.{length-set, reverse-append, take_all, take_more, take_more_set}
-use Rattle.starlark_grammar.specs.Words as word
+use Rattle.starlark_grammar.specs.declared.class.Terminal.TheVariants as terminal
 use Rattle.starlark_grammar.specs.Tokens.{Token, Opening, FStringStart, FStringEnd, FStringExprStart, FStringExprEnd, Word}
-use Rattle.starlark_grammar.specs.Depths.{Where, Outside, is_any_opening, is_any_closing, inside, open_fstring, where_by, where_after}
-use Rattle.starlark_syntax.specs.Joints.Steps.{begins_fstring}
+use Rattle.starlark_grammar.specs.Depths.{Mode, Outside, is_any_opening, is_any_closing, inside, open_fstring, mode_by, mode_after}
+use Rattle.starlark_syntax.specs.Joints.Steps.{is_fstring_start}
 use Rattle.starlark_token.specs.TokenViews.{Whole}
 use Rattle.starlark_syntax.specs.Joints.Nesting.{IsUnchanged, Represents, change_by, opens, closes, brackets_of, fstring_of, fstring_view}
 use Rattle.starlark_syntax.specs.declared.lexer.nesting.changes.Change.{Change}
@@ -72,17 +72,17 @@ outer_onward n node tokens h = refl
 pub ends_fstring : (node : Token) → change_by (Whole node) ≡ change.EndsFString → node ≡ FStringEnd
 unfolding change_by
 ends_fstring FStringEnd h = refl
-ends_fstring (Word word.OpeningRound) h = cc
-ends_fstring (Word word.OpeningSquare) h = cc
-ends_fstring (Word word.OpeningCurly) h = cc
-ends_fstring (Word word.ClosingRound) h = cc
-ends_fstring (Word word.ClosingSquare) h = cc
-ends_fstring (Word word.ClosingCurly) h = cc
+ends_fstring (Word terminal.OpeningRound) h = cc
+ends_fstring (Word terminal.OpeningSquare) h = cc
+ends_fstring (Word terminal.OpeningCurly) h = cc
+ends_fstring (Word terminal.ClosingRound) h = cc
+ends_fstring (Word terminal.ClosingSquare) h = cc
+ends_fstring (Word terminal.ClosingCurly) h = cc
 ends_fstring FStringExprStart h = cc
 ends_fstring FStringExprEnd h = cc
 ends_fstring node h = cc
 
-pub keeps_fstrings : (node : Token) → begins_fstring node ≡ false → (change_by (Whole node) ≡ change.EndsFString → ⊥) → keeps node ≡ true
+pub keeps_fstrings : (node : Token) → is_fstring_start node ≡ false → (change_by (Whole node) ≡ change.EndsFString → ⊥) → keeps node ≡ true
 unfolding change_by
 keeps_fstrings (FStringStart opening) h g = cc
 keeps_fstrings FStringEnd h g = absurd (g refl)
@@ -117,27 +117,27 @@ pub none_onward : (node : Token) (tokens : List Token) → keeps node ≡ true �
 none_onward node tokens k h zero = rw (innermost_onward node tokens k, map_none fstring_of (open_fstring 0 tokens) (h 0)) refl
 none_onward node tokens k h (suc n) = rw (outer_onward n node tokens k) (h (suc n))
 
-pub onward : (node : Token) (tokens : List Token) (fstring more : OpenFString) (fstrings : List OpenFString) → keeps node ≡ true → brackets_of tokens + 1 < 2 ^ 64
+pub some_onward : (node : Token) (tokens : List Token) (fstring more : OpenFString) (fstrings : List OpenFString) → keeps node ≡ true → brackets_of tokens + 1 < 2 ^ 64
     → ((found : Opening × List Token) → brackets_of found.1 + 1 < 2 ^ 64 → fstring_view fstring ≡ fstring_of found → fstring_view more ≡ fstring_of (found.0, node ∷ found.1))
     → AreOpen (fstring ∷ fstrings) tokens → AreOpen (more ∷ fstrings) (node ∷ tokens)
-onward node tokens fstring more fstrings k room after h zero = rw (innermost_onward node tokens k) (go (open_fstring 0 tokens) (own_brackets_fit 0 tokens) (h 0))
+some_onward node tokens fstring more fstrings k room after h zero = rw (innermost_onward node tokens k) (go (open_fstring 0 tokens) (own_brackets_fit 0 tokens) (h 0))
   where
     go : (found : Option (Opening × List Token)) → own_brackets found ≤ brackets_of tokens → Some (fstring_view fstring) ≡ option_map fstring_of found
         → Some (fstring_view more) ≡ option_map fstring_of (option_map (λ (found : Opening × List Token). (found.0, node ∷ found.1)) found)
     go None few e = cc
     go (Some found) few e = ap Some (after found (omega arith) (same_Some _ _ e))
-onward node tokens fstring more fstrings k room after h (suc n) = rw (outer_onward n node tokens k) (h (suc n))
+some_onward node tokens fstring more fstrings k room after h (suc n) = rw (outer_onward n node tokens k) (h (suc n))
 
-pub place_is : (fstring : OpenFString) (fstrings : List OpenFString) (tokens : List Token) (place : Where) → AreOpen (fstring ∷ fstrings) tokens → ((found : Opening × List Token) → fstring_view fstring ≡ fstring_of found → place ≡ inside found) → place ≡ where_after tokens
-unfolding where_after
+pub place_is : (fstring : OpenFString) (fstrings : List OpenFString) (tokens : List Token) (place : Mode) → AreOpen (fstring ∷ fstrings) tokens → ((found : Opening × List Token) → fstring_view fstring ≡ fstring_of found → place ≡ inside found) → place ≡ mode_after tokens
+unfolding mode_after
 place_is fstring fstrings tokens place h inner = go (open_fstring 0 tokens) (h 0)
   where
-    go : (found : Option (Opening × List Token)) → Some (fstring_view fstring) ≡ option_map fstring_of found → place ≡ where_by found
+    go : (found : Option (Opening × List Token)) → Some (fstring_view fstring) ≡ option_map fstring_of found → place ≡ mode_by found
     go None e = cc
     go (Some found) e = inner found (same_Some _ _ e)
 
-pub outside_is : (tokens : List Token) → AreOpen [] tokens → Outside ≡ where_after tokens
-unfolding where_after
+pub outside_is : (tokens : List Token) → AreOpen [] tokens → Outside ≡ mode_after tokens
+unfolding mode_after
 outside_is tokens h = rw (map_none fstring_of (open_fstring 0 tokens) (h 0)) refl
 
 -- The innermost f-string is the last of a list.

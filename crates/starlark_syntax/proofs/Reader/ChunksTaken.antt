@@ -6,7 +6,7 @@ use Rattle.starlark_grammar.specs.Tokens as grammar
 use Rattle.starlark_grammar.specs.Tokens.{Lexeme, moved}
 use Rattle.starlark_grammar.specs.Pieces.{chunk_text}
 use Rattle.starlark_grammar.specs.Reading.{tokens_onto}
-use Rattle.starlark_syntax.specs.Joints.Steps.{begins_fstring, text_end_node}
+use Rattle.starlark_syntax.specs.Joints.Steps.{is_fstring_start, text_end_node}
 use Rattle.starlark_syntax.specs.Lexemes.{lexeme_view}
 use Rattle.starlark_syntax.specs.Joints.Pending.{IsIdle, IsPending, pending_lexemes}
 use Rattle.starlark_syntax.specs.Joints.Nesting.{Represents}
@@ -29,7 +29,7 @@ pub onto_last : (tokens : List grammar.Token) (len : ℕ) (value : Text) (last :
 onto_last tokens len [] last = refl
 onto_last tokens len (b ∷ bs) last = refl
 
-pub own_end : (stop : TextEnd) → begins_fstring (text_end_node stop) ≡ false
+pub own_end : (stop : TextEnd) → is_fstring_start (text_end_node stop) ≡ false
 own_end ends.Expression = refl
 own_end ends.FString = refl
 
@@ -54,7 +54,7 @@ text_hands text pending at len more chunk node some waits = go (string_bytes chu
         (ap (λ n. record { begin = at + len; node = node; end = n } ∷ []) far ∙ sym waits.0)
 
 -- behind one that denotes nothing, what ends it is handed out
-pub end_hands : (text : Text) (pending : Pending) (at len more : ℕ) (value : Text) (found : Token) (node : grammar.Token) → token_view found ≡ Whole node → begins_fstring node ≡ false → (length value == 0) ≡ true → IsIdle text pending
+pub end_hands : (text : Text) (pending : Pending) (at len more : ℕ) (value : Text) (found : Token) (node : grammar.Token) → token_view found ≡ Whole node → is_fstring_start node ≡ false → (length value == 0) ≡ true → IsIdle text pending
     → Hands text (Some (at + len, found, at + len + more)) pending (map (moved at) (chunk_text len value ++ record { begin = len; node = node; end = len + more } ∷ []))
 end_hands text pending at len more (b ∷ bs) found node view own none idle = grind arith
 end_hands text pending at len more [] found node view own none idle =

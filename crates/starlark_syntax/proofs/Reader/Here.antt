@@ -4,14 +4,14 @@ use Rattle.std.proofs.lemmas.List.{length-drop}
 use Rattle.starlark_grammar.specs.Words.{Text, language}
 use Rattle.starlark_grammar.specs.Tokens as grammar
 use Rattle.starlark_grammar.specs.Tokens.{Fault, Spanned, moved}
-use Rattle.starlark_syntax.specs.Joints.Steps.{begins_fstring}
+use Rattle.starlark_syntax.specs.Joints.Steps.{is_fstring_start}
 use Rattle.starlark_syntax.specs.Lexemes.{lexeme_view, shown, shown_lexeme}
 use Rattle.starlark_token.specs.TokenViews.{Whole, token_view}
 use Rattle.starlark_token.specs.declared.tokens.Token.{Token}
 use Rattle.starlark_grammar.specs.Pieces.{Before, Nothing, Layout, Gap, Other, Piece, Stands, Fails}
 use Rattle.starlark_grammar.specs.Reading.{History}
 use Rattle.starlark_syntax.specs.Joints.Pieces.{IsBehind}
-use Rattle.starlark_syntax.specs.Joints.Reader.{IsKept, left_to_read, step_here}
+use Rattle.starlark_syntax.specs.Joints.Reader.{IsStateAfter, left_to_read, step_here}
 use Rattle.starlark_syntax.specs.declared.lexer.reader.Stage.TheVariants as stage
 use Rattle.starlark_error.specs.declared.lexeme_error.LexemeError.{LexemeError}
 use Rattle.starlark_syntax.specs.declared.lexer.reader.Reader.{Reader}
@@ -26,7 +26,7 @@ behind_some follows_gap Gap h = (refl, refl)
 behind_some follows_gap Other h = (refl, refl)
 
 -- a piece here has some bytes, and all of them lie inside
-pub piece_here : (text : Text) (history : History) (reader : Reader) (piece : Piece) → IsKept text history reader → step_here text history reader ≡ Stands piece → (1 ≤ piece.len) × (reader.at + piece.len ≤ length text)
+pub piece_here : (text : Text) (history : History) (reader : Reader) (piece : Piece) → IsStateAfter text history reader → step_here text history reader ≡ Stands piece → (1 ≤ piece.len) × (reader.at + piece.len ≤ length text)
 piece_here text history reader piece kept stands =
     let fits = piece_fits language history (drop reader.at text) piece stands in
     let least = (behind_some reader.follows_gap history.before kept.before).1 in
@@ -35,24 +35,24 @@ piece_here text history reader piece kept stands =
     (omega (arith, least, some), omega (arith, inside, length-drop reader.at text, kept.inside))
 
 -- a fault here lies inside
-pub fault_here : (text : Text) (history : History) (reader : Reader) (fault : Spanned Fault) → IsKept text history reader → step_here text history reader ≡ Fails fault → (fault.begin ≤ fault.end) × (reader.at + fault.end ≤ length text)
+pub fault_here : (text : Text) (history : History) (reader : Reader) (fault : Spanned Fault) → IsStateAfter text history reader → step_here text history reader ≡ Fails fault → (fault.begin ≤ fault.end) × (reader.at + fault.end ≤ length text)
 fault_here text history reader fault kept fails =
     let fits = fault_fits language history (drop reader.at text) fault fails in
     let inside : fault.end ≤ length (drop reader.at text) = fits.inside in
     (fits.order, omega (arith, inside, length-drop reader.at text, kept.inside))
 
 -- a token that begins no f-string is shown as it is
-pub shown_own : (node : grammar.Token) → begins_fstring node ≡ false → shown node ≡ node
+pub shown_own : (node : grammar.Token) → is_fstring_start node ≡ false → shown node ≡ node
 shown_own (grammar.FStringStart opening) h = cc
 shown_own node h = refl
 
 -- a token of the code that is one of the grammar, so many bytes further on
-pub shown_at : (at begin end : ℕ) (token : Token) (node : grammar.Token) → token_view token ≡ Whole node → begins_fstring node ≡ false
+pub shown_at : (at begin end : ℕ) (token : Token) (node : grammar.Token) → token_view token ≡ Whole node → is_fstring_start node ≡ false
     → lexeme_view (at + begin, token, at + end) ≡ shown_lexeme (moved at (record { begin = begin; node = node; end = end }))
 shown_at at begin end token node view own = rw (view, shown_own node own) refl
 
 -- the same of a token from here on
-pub shown_here : (at end : ℕ) (token : Token) (node : grammar.Token) → token_view token ≡ Whole node → begins_fstring node ≡ false
+pub shown_here : (at end : ℕ) (token : Token) (node : grammar.Token) → token_view token ≡ Whole node → is_fstring_start node ≡ false
     → lexeme_view (at, token, at + end) ≡ shown_lexeme (moved at (record { begin = 0; node = node; end = end }))
 shown_here at end token node view own =
     let none : at ≡ at + 0 = omega arith in

@@ -5,22 +5,22 @@ use Rattle.starlark_grammar.specs.Words.{Text, language}
 use Rattle.starlark_grammar.specs.Tokens.{Fault, Lexeme, Spanned}
 use Rattle.starlark_grammar.specs.Reading.{outcome}
 use Rattle.starlark_syntax.specs.Lexemes.{shown_lexeme}
-use Rattle.starlark_syntax.specs.Lexer.{Item, Given, Refused, items}
+use Rattle.starlark_syntax.specs.Lexer.{LexerItem, Given, Refused, items}
 use Rattle.starlark_syntax.specs.Joints.Reader.{IsSomething}
 use Rattle.starlark_token.specs.TokenViews.{TokenView}
 use Rattle.starlark_grammar.proofs.Reading.Faults.{outcome_fault}
 use Rattle.starlark_grammar.proofs.Indentation.Totals.{outcome_balances}
 
-abbrev given : Lexeme → Item
+abbrev given : Lexeme → LexerItem
 given lexeme = Given (shown_lexeme lexeme)
 
-given_at : (ls : List Lexeme) (h : ℕ) (x : Spanned TokenView) (more : List (Spanned TokenView)) (rest : List Item) → drop h (map shown_lexeme ls) ≡ x ∷ more → slice_get (map given ls ++ rest) h ≡ Some (Given x)
+given_at : (ls : List Lexeme) (h : ℕ) (x : Spanned TokenView) (more : List (Spanned TokenView)) (rest : List LexerItem) → drop h (map shown_lexeme ls) ≡ x ∷ more → slice_get (map given ls ++ rest) h ≡ Some (Given x)
 given_at [] zero x more rest e = cc
 given_at [] (suc h) x more rest e = cc
 given_at (l ∷ ls) zero x more rest e = let same : shown_lexeme l ≡ x = cc in ap (λ v. Some (Given v)) same
 given_at (l ∷ ls) (suc h) x more rest e = given_at ls h x more rest e
 
-behind_all : (ls : List Lexeme) (h : ℕ) (rest : List Item) → h ≤ length ls → drop h (map shown_lexeme ls) ≡ [] → slice_get (map given ls ++ rest) h ≡ slice_get rest 0
+behind_all : (ls : List Lexeme) (h : ℕ) (rest : List LexerItem) → h ≤ length ls → drop h (map shown_lexeme ls) ≡ [] → slice_get (map given ls ++ rest) h ≡ slice_get rest 0
 behind_all [] zero rest inside e = refl
 behind_all [] (suc h) rest inside e = absurd (omega (arith, inside))
 behind_all (l ∷ ls) zero rest inside e = cc
@@ -47,10 +47,10 @@ pub nothing_item : (text : Text) (h : ℕ) → h ≤ length (outcome text).lexem
 unfolding items
 nothing_item text h inside e has = behind_all (outcome text).lexemes h _ inside e ∙ ap (λ f. slice_get (map Refused (option_to_list f)) 0) has
 
-pub some_item : (text : Text) (h : ℕ) → h ≤ length (outcome text).lexemes → IsSomething (drop h (map shown_lexeme (outcome text).lexemes)) (outcome text).fault → (item : Item) × (slice_get (items text) h ≡ Some item)
+pub some_item : (text : Text) (h : ℕ) → h ≤ length (outcome text).lexemes → IsSomething (drop h (map shown_lexeme (outcome text).lexemes)) (outcome text).fault → (item : LexerItem) × (slice_get (items text) h ≡ Some item)
 some_item text h inside some = by_rest (drop h (map shown_lexeme (outcome text).lexemes)) refl (outcome text).fault refl
   where
-    by_rest : (rest : List (Spanned TokenView)) → drop h (map shown_lexeme (outcome text).lexemes) ≡ rest → (fault : Option (Spanned Fault)) → (outcome text).fault ≡ fault → (item : Item) × (slice_get (items text) h ≡ Some item)
+    by_rest : (rest : List (Spanned TokenView)) → drop h (map shown_lexeme (outcome text).lexemes) ≡ rest → (fault : Option (Spanned Fault)) → (outcome text).fault ≡ fault → (item : LexerItem) × (slice_get (items text) h ≡ Some item)
     by_rest (x ∷ more) e fault has = (Given x, lexeme_item text h x more e)
     by_rest [] e (Some fault) has = (Refused fault, fault_item text h fault inside e has)
     by_rest [] e None has = absurd (some e has)

@@ -8,7 +8,7 @@ use Rattle.starlark_grammar.specs.Reading.{History, lexemes_along, outcome, outc
 use Rattle.starlark_syntax.specs.Lexemes.{fault_view, shown_lexeme}
 use Rattle.starlark_syntax.specs.Joints.Nesting.{bracket_count}
 use Rattle.starlark_syntax.specs.Joints.Pending.{IsFirst, IsIdle, pending_lexemes}
-use Rattle.starlark_syntax.specs.Joints.Reader.{IsAhead, IsAheadBehind, IsKept, IsLeft, IsOver, IsReady, IsSomething, outcome_along, outcome_from}
+use Rattle.starlark_syntax.specs.Joints.Reader.{IsAhead, IsAheadBehind, IsStateAfter, IsLeft, IsOver, IsReady, IsSomething, outcome_along, remaining_outcome}
 use Rattle.starlark_token.specs.TokenViews.{TokenView}
 use Rattle.starlark_error.specs.declared.lexeme_error.LexemeError.{LexemeError}
 use Rattle.starlark_token.specs.declared.tokens.Token.{Token}
@@ -25,7 +25,7 @@ pub record IsHere (old new : Reader) : Type 0 where
   pub levels : new.levels ≡ old.levels
   pub follows_gap : new.follows_gap ≡ old.follows_gap
 
-kept_here : (text : Text) (history : History) (old new : Reader) → IsHere old new → IsKept text history old → IsKept text history new
+kept_here : (text : Text) (history : History) (old new : Reader) → IsHere old new → IsStateAfter text history old → IsStateAfter text history new
 kept_here text history old new here kept = record {
   nesting = rw here.nesting kept.nesting;
   levels = rw here.levels kept.levels;
@@ -37,7 +37,7 @@ kept_here text history old new here kept = record {
 
 pub same_left : (text : Text) (old new : Reader) (stage : Stage) (left : Outcome) → IsHere old new → IsLeft text old stage left → IsLeft text new stage left
 same_left text old new stage.Begin left here h = (h.0, here.at ∙ h.1, rw here.nesting h.2, here.levels ∙ h.3, ap bracket_count here.nesting ∙ h.4)
-same_left text old new stage.Onward left here h = (h.0, kept_here text h.0 old new here h.1, h.2 ∙ ap (λ at. outcome_from h.0 at (drop at text)) (sym here.at))
+same_left text old new stage.Onward left here h = (h.0, kept_here text h.0 old new here h.1, h.2 ∙ ap (λ at. remaining_outcome h.0 at (drop at text)) (sym here.at))
 same_left text old new (stage.Fault begin fault end) left here h = h
 same_left text old new stage.Closed left here h = h
 
@@ -101,8 +101,8 @@ along_something history at pieces (Stands piece) e none = some_lexeme (lexemes_a
 along_something history at pieces (Fails fault) e none = cc
 along_something history at pieces Ends e none = some_lexeme (lexemes_along at pieces) _ _ e
 
-rest_something : (history : History) (at : ℕ) (text : Text) → map shown_lexeme (outcome_from history at text).lexemes ≡ [] → (outcome_from history at text).fault ≡ None → ⊥
-unfolding outcome_from
+rest_something : (history : History) (at : ℕ) (text : Text) → map shown_lexeme (remaining_outcome history at text).lexemes ≡ [] → (remaining_outcome history at text).fault ≡ None → ⊥
+unfolding remaining_outcome
 rest_something history at text e none = along_something history at (read_from language history 0 text).pieces (read_from language history 0 text).last e none
 
 whole_something : (text : Text) → map shown_lexeme (outcome text).lexemes ≡ [] → (outcome text).fault ≡ None → ⊥

@@ -6,7 +6,7 @@ use Rattle.starlark_grammar.specs.Tokens.{Fault, Outcome, Spanned, moved}
 use Rattle.starlark_grammar.specs.Margins.{margin_of}
 use Rattle.starlark_grammar.specs.Pieces.{Ends, Fails, Piece, Stands, Step, first_margin, step_at}
 use Rattle.starlark_grammar.specs.Reading.{History, IsLongestReading, after, after_all, closing, lexemes_along, next_step, nothing, outcome, outcome_in, outcome_of, pieces_len, read, read_from, situation}
-use Rattle.starlark_syntax.specs.Joints.Reader.{outcome_along, outcome_from}
+use Rattle.starlark_syntax.specs.Joints.Reader.{outcome_along, remaining_outcome}
 use Rattle.starlark_grammar.proofs.Reading.Readings.{longest_onward, one_longest, piece_fits, read_from_is, read_is, started, stops_here}
 use Rattle.starlark_grammar.proofs.Reading.Steps.{is_nothing}
 
@@ -33,8 +33,8 @@ along_onward history at piece pieces (Stands more) = record { lexemes = to_end h
 along_onward history at piece pieces Ends = record { lexemes = to_end history at piece pieces; fault = refl }
 
 -- A longest reading from a place on tells what is left of the text.
-left_by : (history : History) (at : ℕ) (text : Text) (pieces : List Piece) (last : Step) → is_nothing history.before ≡ false → IsLongestReading language history text pieces last → outcome_from history at text ≡ outcome_along history at pieces last
-unfolding outcome_from
+left_by : (history : History) (at : ℕ) (text : Text) (pieces : List Piece) (last : Step) → is_nothing history.before ≡ false → IsLongestReading language history text pieces last → remaining_outcome history at text ≡ outcome_along history at pieces last
+unfolding remaining_outcome
 left_by history at text pieces last h longest =
     let both = one_longest language history text (read_from language history 0 text).pieces pieces (read_from language history 0 text).last last (read_from_is language history 0 text h) longest in
     ap (λ (ps : List Piece). outcome_along history at ps (read_from language history 0 text).last) both.0 ∙ ap (outcome_along history at pieces) both.1
@@ -46,21 +46,21 @@ longest_behind history text piece stands =
     let fits = piece_fits language history text piece stands in
     read_from_is language (after history piece) 0 (drop piece.len text) (started history piece fits.sort)
 
-pub onward_stands : (history : History) (at : ℕ) (text : Text) (piece : Piece) → is_nothing history.before ≡ false → next_step language history text ≡ Stands piece → GoesOn at piece (outcome_from history at text) (outcome_from (after history piece) (at + piece.len) (drop piece.len text))
-unfolding outcome_from
+pub onward_stands : (history : History) (at : ℕ) (text : Text) (piece : Piece) → is_nothing history.before ≡ false → next_step language history text ≡ Stands piece → GoesOn at piece (remaining_outcome history at text) (remaining_outcome (after history piece) (at + piece.len) (drop piece.len text))
+unfolding remaining_outcome
 onward_stands history at text piece h stands =
     let rest = longest_behind history text piece stands in
     let whole = left_by history at text _ _ h (longest_onward language history text piece _ _ stands rest) in
     let more = along_onward history at piece (read_from language (after history piece) 0 (drop piece.len text)).pieces (read_from language (after history piece) 0 (drop piece.len text)).last in
     record { lexemes = ap (λ (o : Outcome). o.lexemes) whole ∙ more.lexemes; fault = ap (λ (o : Outcome). o.fault) whole ∙ more.fault }
 
-pub onward_fails : (history : History) (at : ℕ) (text : Text) (fault : Spanned Fault) → is_nothing history.before ≡ false → next_step language history text ≡ Fails fault → outcome_from history at text ≡ record { lexemes = []; fault = Some (moved at fault) }
+pub onward_fails : (history : History) (at : ℕ) (text : Text) (fault : Spanned Fault) → is_nothing history.before ≡ false → next_step language history text ≡ Fails fault → remaining_outcome history at text ≡ record { lexemes = []; fault = Some (moved at fault) }
 onward_fails history at text fault h fails =
     let here : at + pieces_len [] ≡ at = omega arith in
     left_by history at text [] (Fails fault) h (stops_here language history text (Fails fault) fails (λ piece e. cc))
     ∙ ap (λ n. record { lexemes = []; fault = Some (moved n fault) }) here
 
-pub onward_ends : (history : History) (at : ℕ) (text : Text) → is_nothing history.before ≡ false → next_step language history text ≡ Ends → outcome_from history at text ≡ record { lexemes = closing at history; fault = None }
+pub onward_ends : (history : History) (at : ℕ) (text : Text) → is_nothing history.before ≡ false → next_step language history text ≡ Ends → remaining_outcome history at text ≡ record { lexemes = closing at history; fault = None }
 onward_ends history at text h ends =
     let here : at + pieces_len [] ≡ at = omega arith in
     left_by history at text [] Ends h (stops_here language history text Ends ends (λ piece e. cc))
@@ -84,8 +84,8 @@ begun_along text piece pieces (Fails fault) = let same : pieces_len (piece ∷ p
 begun_along text piece pieces (Stands more) = let same : pieces_len (piece ∷ pieces) ≡ 0 + pieces_len (piece ∷ pieces) = omega arith in ap (λ n. record { lexemes = lexemes_along 0 (piece ∷ pieces) ++ closing n (after_all nothing (piece ∷ pieces)); fault = None }) same
 begun_along text piece pieces Ends = let same : pieces_len (piece ∷ pieces) ≡ 0 + pieces_len (piece ∷ pieces) = omega arith in ap (λ n. record { lexemes = lexemes_along 0 (piece ∷ pieces) ++ closing n (after_all nothing (piece ∷ pieces)); fault = None }) same
 
-pub first_stands : (text : Text) (piece : Piece) → first_margin text ≡ Stands piece → GoesOn 0 piece (outcome text) (outcome_from (after nothing piece) (0 + piece.len) (drop piece.len text))
-unfolding outcome_from
+pub first_stands : (text : Text) (piece : Piece) → first_margin text ≡ Stands piece → GoesOn 0 piece (outcome text) (remaining_outcome (after nothing piece) (0 + piece.len) (drop piece.len text))
+unfolding remaining_outcome
 first_stands text piece e =
     let stands : next_step language nothing text ≡ Stands piece = margin_first text ∙ e in
     let rest = longest_behind nothing text piece stands in

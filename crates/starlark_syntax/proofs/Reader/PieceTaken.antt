@@ -4,16 +4,16 @@ use Rattle.std.specs.Prelude.{Option}
 use Rattle.std.specs.Str.{IsUtf8}
 use Rattle.starlark_grammar.specs.Words.{Text, language}
 use Rattle.starlark_grammar.specs.Tokens.{Fault, Spanned}
-use Rattle.starlark_grammar.specs.Depths.{is_balanced, where_after}
+use Rattle.starlark_grammar.specs.Depths.{is_balanced, mode_after}
 use Rattle.starlark_grammar.specs.Margins.{open_widths}
 use Rattle.starlark_grammar.specs.Pieces as pieces
 use Rattle.starlark_grammar.specs.Pieces.{Piece, Situation, Stands, step_at}
 use Rattle.starlark_grammar.specs.Reading.{History, next_step, situation}
-use Rattle.starlark_syntax.specs.Joints.Nesting.{Represents, place_view}
+use Rattle.starlark_syntax.specs.Joints.Nesting.{Represents, mode_view}
 use Rattle.starlark_syntax.specs.Joints.Pending.{IsIdle}
 use Rattle.starlark_token.specs.declared.tokens.Token.{Token}
 use Rattle.starlark_syntax.specs.Joints.Pieces.{IsBehind, IsPiece, nothing_of}
-use Rattle.starlark_syntax.specs.Joints.Reader.{IsAhead, IsAheadBehind, IsKept, IsRead, left_here, step_here}
+use Rattle.starlark_syntax.specs.Joints.Reader.{IsAhead, IsAheadBehind, IsStateAfter, IsRead, left_here, step_here}
 use Rattle.starlark_token.specs.TokenViews.{TokenView}
 use Rattle.starlark_syntax.specs.declared.lexer.nesting.Place.{Place}
 use Rattle.starlark_syntax.specs.declared.lexer.reading.Piece as code
@@ -24,17 +24,17 @@ use Rattle.starlark_syntax.proofs.Reader.Taken.{none_before, read_ahead, took}
 use Rattle.starlark_syntax.proofs.Reader.Waiting.{hands_none}
 
 -- what was read at a reader's place stands there
-pub piece_read : (text : Text) (history : History) (reader : Reader) (place : Place) (balanced : Bool) (rest : Text) (piece : code.Piece) → rest ≡ drop reader.at text → IsKept text history reader
-    → ((tokens : List Rattle.starlark_grammar.specs.Tokens.Token) → Represents tokens reader.nesting → place_view place ≡ where_after tokens)
+pub piece_read : (text : Text) (history : History) (reader : Reader) (place : Place) (balanced : Bool) (rest : Text) (piece : code.Piece) → rest ≡ drop reader.at text → IsStateAfter text history reader
+    → ((tokens : List Rattle.starlark_grammar.specs.Tokens.Token) → Represents tokens reader.nesting → mode_view place ≡ mode_after tokens)
     → ((tokens : List Rattle.starlark_grammar.specs.Tokens.Token) → Represents tokens reader.nesting → balanced ≡ is_balanced tokens)
-    → ((s : Situation) → s.place ≡ place_view place → s.is_balanced ≡ balanced → IsBehind reader.follows_gap s.before → IsPiece s.levels rest (step_at language s rest) piece)
+    → ((s : Situation) → s.place ≡ mode_view place → s.is_balanced ≡ balanced → IsBehind reader.follows_gap s.before → IsPiece s.levels rest (step_at language s rest) piece)
     → IsPiece (open_widths history.widths) (drop reader.at text) (step_here text history reader) piece
 unfolding next_step situation
 piece_read text history reader place balanced rest piece e kept here count is =
     subst (λ (t : Text). IsPiece (open_widths history.widths) t (step_at language (situation history) t) piece) e (is (situation history) (sym (here history.tokens kept.nesting)) (sym (count history.tokens kept.nesting)) kept.before)
 
 -- what is ahead stays ahead where what stands here is read, behind whichever history it is
-pub onward_ahead : (text : Text) (old : Reader) (given : Option (ℕ × Token × ℕ)) (new : Reader) (lexemes : List (Spanned TokenView)) (fault : Option (Spanned Fault)) → ((history : History) → IsKept text history old → IsRead text (left_here text history old) given new)
+pub onward_ahead : (text : Text) (old : Reader) (given : Option (ℕ × Token × ℕ)) (new : Reader) (lexemes : List (Spanned TokenView)) (fault : Option (Spanned Fault)) → ((history : History) → IsStateAfter text history old → IsRead text (left_here text history old) given new)
     → IsIdle text old.pending → IsAhead text old stage.Onward lexemes fault → IsAheadBehind text given new lexemes fault
 onward_ahead text old given new lexemes fault read idle ahead =
     let history = ahead.is_left.0 in
@@ -54,14 +54,14 @@ nothing_len len true = refl
 nothing_len len false = refl
 
 -- bytes that give nothing have some length, and lie inside
-pub nothing_here : (text : Text) (history : History) (reader : Reader) (len : ℕ) (is_gap : Bool) → IsKept text history reader → step_here text history reader ≡ nothing_of len is_gap → (1 ≤ len) × (reader.at + len ≤ length text)
+pub nothing_here : (text : Text) (history : History) (reader : Reader) (len : ℕ) (is_gap : Bool) → IsStateAfter text history reader → step_here text history reader ≡ nothing_of len is_gap → (1 ≤ len) × (reader.at + len ≤ length text)
 nothing_here text history reader len is_gap kept stands =
     let here = piece_here text history reader (nothing_piece len is_gap) kept (stands ∙ nothing_stands len is_gap) in
     let same = nothing_len len is_gap in
     (omega (arith, here.0, same), omega (arith, here.1, same))
 
 -- they leave all as it is but for the place
-pub nothing_taken : (text : Text) (history : History) (old new : Reader) (len : ℕ) (is_gap : Bool) → IsUtf8 text → IsKept text history old → step_here text history old ≡ nothing_of len is_gap → IsIdle text old.pending
+pub nothing_taken : (text : Text) (history : History) (old new : Reader) (len : ℕ) (is_gap : Bool) → IsUtf8 text → IsStateAfter text history old → step_here text history old ≡ nothing_of len is_gap → IsIdle text old.pending
     → new ≡ record old { at = old.at + len; follows_gap = is_gap; stage = stage.Onward } → IsRead text (left_here text history old) None new
 nothing_taken text history old new len true utf8 kept stands idle is =
     let here = piece_here text history old (nothing_piece len true) kept stands in

@@ -17,7 +17,7 @@ use Rattle.starlark_syntax.specs.Joints.Layout.{IsRefused, IsTaken}
 use Rattle.starlark_syntax.specs.Joints.Pending.{IsIdle, IsPending, pending_lexemes}
 use Rattle.starlark_syntax.specs.Joints.Nesting.{Represents, bracket_count, change_by, closes, fstring_of, opens}
 use Rattle.starlark_syntax.specs.Joints.Pieces.{IsBehind}
-use Rattle.starlark_syntax.specs.Joints.Reader.{IsAhead, IsAheadBehind, IsKept, IsLeft, IsRead, left_here, left_to_read, outcome_from, step_here}
+use Rattle.starlark_syntax.specs.Joints.Reader.{IsAhead, IsAheadBehind, IsStateAfter, IsLeft, IsRead, left_here, left_to_read, remaining_outcome, step_here}
 use Rattle.starlark_token.specs.TokenViews.{TokenView, Whole, token_view}
 use Rattle.starlark_error.specs.declared.lexeme_error.LexemeError.{LexemeError}
 use Rattle.starlark_syntax.specs.declared.lexer.nesting.Nesting.{Nesting}
@@ -35,7 +35,8 @@ use Rattle.starlark_syntax.proofs.Nesting.Counts.{closed_onward, fstring_onward,
 use Rattle.starlark_syntax.proofs.Reader.Onward.{GoesOn, first_fails, first_stands, margin_first, onward_ends, onward_fails, onward_stands}
 use Rattle.starlark_grammar.proofs.Reading.Readings.{fault_fits, one_least, piece_fits}
 use Rattle.starlark_syntax.proofs.Nesting.FStrings.{innermost_onward, keeps, outer_onward}
-use Rattle.starlark_grammar.proofs.Reading.Steps.{Each, either, is_nothing}
+use Rattle.starlark_grammar.proofs.Reading.Steps.{Each, is_nothing}
+use Rattle.starlark_grammar.proofs.Choices.{either}
 use Rattle.starlark_syntax.proofs.Reader.Waiting.{Hands, hands_first, hands_later}
 
 -- What is kept is kept behind the text's first margin.
@@ -155,7 +156,7 @@ first_is_quiet text piece e = subst (Each IsLayout (λ fault. ⊤)) e (margin_is
 -- what is kept behind one piece more
 kept_behind : (text : Text) (history : History) (at : ℕ) (new : Reader) (piece : Piece) → IsUtf8 text → IsCharBoundary text at → next_step language history (drop at text) ≡ Stands piece
     → Represents (tokens_onto history.tokens piece.lexemes) new.nesting → new.levels ≡ open_widths (history.widths ++ option_to_list piece.width) → IsBehind new.follows_gap piece.sort → new.at ≡ at + piece.len → bracket_count new.nesting ≤ new.at
-    → IsKept text (after history piece) new
+    → IsStateAfter text (after history piece) new
 unfolding after
 kept_behind text history at new piece utf8 here stands nesting levels before is_at few =
     let found = piece_bounded history (drop at text) piece (IsUtf8-drop text at utf8 here) stands in
@@ -171,12 +172,12 @@ kept_behind text history at new piece utf8 here stands nesting levels before is_
     }
 
 -- a piece was read, by what is left behind it
-read_piece : (text : Text) (whole : Outcome) (history : History) (at : ℕ) (given : Option (ℕ × Token × ℕ)) (new : Reader) (piece : Piece) → GoesOn at piece whole (outcome_from (after history piece) (at + piece.len) (drop piece.len (drop at text)))
-    → IsKept text (after history piece) new → new.at ≡ at + piece.len → new.stage ≡ stage.Onward → Hands text given new.pending (map (moved at) piece.lexemes) → IsRead text whole given new
+read_piece : (text : Text) (whole : Outcome) (history : History) (at : ℕ) (given : Option (ℕ × Token × ℕ)) (new : Reader) (piece : Piece) → GoesOn at piece whole (remaining_outcome (after history piece) (at + piece.len) (drop piece.len (drop at text)))
+    → IsStateAfter text (after history piece) new → new.at ≡ at + piece.len → new.stage ≡ stage.Onward → Hands text given new.pending (map (moved at) piece.lexemes) → IsRead text whole given new
 read_piece text whole history at given new piece goes kept is_at is_onward hands =
     let behind : drop piece.len (drop at text) ≡ drop new.at text = sym (drop-sum at piece.len text) ∙ ap (λ n. drop n text) (sym is_at) in
-    let rest = outcome_from (after history piece) (at + piece.len) (drop piece.len (drop at text)) in
-    let left : rest ≡ outcome_from (after history piece) new.at (drop new.at text) = ap (λ n. outcome_from (after history piece) n (drop piece.len (drop at text))) (sym is_at) ∙ ap (outcome_from (after history piece) new.at) behind in
+    let rest = remaining_outcome (after history piece) (at + piece.len) (drop piece.len (drop at text)) in
+    let left : rest ≡ remaining_outcome (after history piece) new.at (drop new.at text) = ap (λ n. remaining_outcome (after history piece) n (drop piece.len (drop at text))) (sym is_at) ∙ ap (remaining_outcome (after history piece) new.at) behind in
     record {
       lexemes = map (moved at) piece.lexemes;
       left = rest;
@@ -187,7 +188,7 @@ read_piece text whole history at given new piece goes kept is_at is_onward hands
       handed_out = hands.1;
     }
 
-pub took : (text : Text) (history : History) (old : Reader) (given : Option (ℕ × Token × ℕ)) (new : Reader) (piece : Piece) → IsUtf8 text → IsKept text history old → step_here text history old ≡ Stands piece
+pub took : (text : Text) (history : History) (old : Reader) (given : Option (ℕ × Token × ℕ)) (new : Reader) (piece : Piece) → IsUtf8 text → IsStateAfter text history old → step_here text history old ≡ Stands piece
     → Represents (tokens_onto history.tokens piece.lexemes) new.nesting → new.levels ≡ open_widths (history.widths ++ option_to_list piece.width) → IsBehind new.follows_gap piece.sort → new.at ≡ old.at + piece.len → bracket_count new.nesting ≤ new.at
     → new.stage ≡ stage.Onward → Hands text given new.pending (map (moved old.at) piece.lexemes) → IsRead text (left_here text history old) given new
 took text history old given new piece utf8 kept stands nesting levels before is_at few is_onward hands =
@@ -201,7 +202,7 @@ took_first text new piece utf8 stands nesting levels before is_at few is_onward 
     read_piece text (outcome text) nothing 0 None new piece (first_stands text piece stands)
     (kept_behind text nothing 0 new piece utf8 (IsCharBoundary-start text utf8) (margin_first text ∙ stands) nesting levels before is_at few) is_at is_onward hands
 
-pub piece_inside : (text : Text) (history : History) (old : Reader) (piece : Piece) → IsKept text history old → step_here text history old ≡ Stands piece → (old.at < old.at + piece.len) × (old.at + piece.len ≤ length text)
+pub piece_inside : (text : Text) (history : History) (old : Reader) (piece : Piece) → IsStateAfter text history old → step_here text history old ≡ Stands piece → (old.at < old.at + piece.len) × (old.at + piece.len ≤ length text)
 piece_inside text history old piece kept stands =
     let fits = piece_fits language history (drop old.at text) piece stands in
     let least = one_least history.before (begun old.follows_gap history.before kept.before) in
@@ -225,7 +226,7 @@ read_fault text whole at lexemes new fault error left view is hands = record {
   handed_out = hands.1;
 }
 
-pub failed : (text : Text) (history : History) (old new : Reader) (fault : Spanned grammar.Fault) (error : LexemeError) → IsKept text history old → step_here text history old ≡ Fails fault → fault_view error ≡ Some fault.node
+pub failed : (text : Text) (history : History) (old new : Reader) (fault : Spanned grammar.Fault) (error : LexemeError) → IsStateAfter text history old → step_here text history old ≡ Fails fault → fault_view error ≡ Some fault.node
     → new.stage ≡ stage.Fault (old.at + fault.begin) error (old.at + fault.end) → Hands text None new.pending [] → IsRead text (left_here text history old) None new
 failed text history old new fault error kept fails view is hands =
     read_fault text (left_here text history old) old.at [] new fault error (onward_fails history old.at (drop old.at text) fault (begun old.follows_gap history.before kept.before) fails) view is hands
@@ -234,7 +235,7 @@ pub failed_first : (text : Text) (new : Reader) (fault : Spanned grammar.Fault) 
     → new.stage ≡ stage.Fault (0 + fault.begin) error (0 + fault.end) → Hands text None new.pending (margin_of text).comments → IsRead text (outcome text) None new
 failed_first text new fault error fails view is hands = read_fault text (outcome text) 0 (margin_of text).comments new fault error (first_fails text fault fails) view is hands
 
-pub fault_inside : (text : Text) (history : History) (old : Reader) (fault : Spanned grammar.Fault) → IsKept text history old → step_here text history old ≡ Fails fault → (old.at + fault.begin ≤ length text) × (old.at + fault.end ≤ length text)
+pub fault_inside : (text : Text) (history : History) (old : Reader) (fault : Spanned grammar.Fault) → IsStateAfter text history old → step_here text history old ≡ Fails fault → (old.at + fault.begin ≤ length text) × (old.at + fault.end ≤ length text)
 fault_inside text history old fault kept fails =
     let fits = fault_fits language history (drop old.at text) fault fails in
     let order = fits.order in
@@ -244,7 +245,7 @@ fault_inside text history old fault kept fails =
 
 -- The text's end
 
-pub closed : (text : Text) (history : History) (old : Reader) (given : Option (ℕ × Token × ℕ)) (new : Reader) → IsKept text history old → step_here text history old ≡ Ends → Hands text given new.pending (closing old.at history) → new.stage ≡ stage.Closed → IsRead text (left_here text history old) given new
+pub closed : (text : Text) (history : History) (old : Reader) (given : Option (ℕ × Token × ℕ)) (new : Reader) → IsStateAfter text history old → step_here text history old ≡ Ends → Hands text given new.pending (closing old.at history) → new.stage ≡ stage.Closed → IsRead text (left_here text history old) given new
 closed text history old given new kept ends hands is =
     let left = onward_ends history old.at (drop old.at text) (begun old.follows_gap history.before kept.before) ends in
     record {
@@ -296,7 +297,7 @@ read_ahead text whole given new lexemes fault read ahead behind = by given read.
 
 -- Less is left to read
 
-pub less_taken : (text : Text) (history : History) (old new : Reader) (piece : Piece) → IsKept text history old → step_here text history old ≡ Stands piece → new.stage ≡ stage.Onward → new.at ≡ old.at + piece.len → left_to_read text new new.stage < left_to_read text old stage.Onward
+pub less_taken : (text : Text) (history : History) (old new : Reader) (piece : Piece) → IsStateAfter text history old → step_here text history old ≡ Stands piece → new.stage ≡ stage.Onward → new.at ≡ old.at + piece.len → left_to_read text new new.stage < left_to_read text old stage.Onward
 less_taken text history old new piece kept stands is is_at =
     let inside = piece_inside text history old piece kept stands in
     let onward : left_to_read text new stage.Onward < left_to_read text old stage.Onward = omega (arith, inside.0, inside.1, is_at) in
@@ -314,7 +315,7 @@ less_closed text old new is =
 
 -- Margins, as they were read
 
-module _ (text : Text) (history : History) (old : Reader) (len : ℕ) (kept : IsKept text history old)
+module _ (text : Text) (history : History) (old : Reader) (len : ℕ) (kept : IsStateAfter text history old)
     (here : step_here text history old ≡ line_end len (open_widths history.widths) (drop len (drop old.at text))) where
   -- the lexeme of the line end
   abbrev given_line : List Lexeme

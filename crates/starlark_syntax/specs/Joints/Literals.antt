@@ -3,7 +3,6 @@ use Rattle.std.specs.Prelude.{◌≡◌, Bool, true, false, [], ◌∷◌, ⊤, 
 use Rattle.starlark_grammar.specs.Words.{Text}
 use Rattle.starlark_grammar.specs.Tokens as grammar
 use Rattle.starlark_grammar.specs.Items as items
-use Rattle.starlark_token.specs.Joints.Words.{kind_view, quote_view}
 use Rattle.starlark_syntax.specs.declared.lexer.literal.items.Opening.{Opening}
 use Rattle.starlark_syntax.specs.declared.lexer.literal.items.Literal.{Literal}
 use Rattle.starlark_syntax.specs.declared.lexer.literal.items.Value.{Value}
@@ -17,10 +16,10 @@ use Rattle.starlark_syntax.specs.declared.lexer.literal.body.LiteralValue.TheVar
 use Rattle.starlark_syntax.specs.declared.lexer.literal.body.Body.{Body}
 
 abbrev pub opening_view : Opening → grammar.Opening
-opening_view opening = record { is_raw = opening.is_raw; quote = quote_view opening.quote; is_triple = opening.is_triple }
+opening_view opening = record { is_raw = opening.is_raw; quote = opening.quote; is_triple = opening.is_triple }
 
 abbrev pub literal_view : Literal → items.Literal
-literal_view literal = record { kind = kind_view literal.kind; opening = opening_view literal.opening }
+literal_view literal = record { kind = literal.kind; opening = opening_view literal.opening }
 
 -- the bytes that a value is
 abbrev pub value_view : Value → Text

@@ -1,9 +1,9 @@
 -- What the code keeps of the tokens before a place, as the grammar sees it.
 use Rattle.std.specs.Prelude.{◌≡◌, ℕ, ◌+◌, List, count_by, Option, option_map, reverse}
 use Rattle.std.specs.List.{slice_get}
-use Rattle.starlark_grammar.specs.Words as word
+use Rattle.starlark_grammar.specs.declared.class.Terminal.TheVariants as terminal
 use Rattle.starlark_grammar.specs.Tokens as grammar
-use Rattle.starlark_grammar.specs.Depths.{Where, Outside, InText, AtTop, Deeper, Round, Square, Curly, is_opening, is_closing, is_any_opening, is_any_closing, open_fstring, expression_tokens, depth}
+use Rattle.starlark_grammar.specs.Depths.{Mode, Outside, InText, AtTop, Deeper, Round, Square, Curly, is_opening, is_closing, is_any_opening, is_any_closing, open_fstring, expression_tokens, depth}
 use Rattle.starlark_syntax.specs.Joints.Literals.{opening_view}
 use Rattle.starlark_token.specs.TokenViews.{TokenView, Whole}
 use Rattle.starlark_syntax.specs.declared.lexer.nesting.Place.{Place}
@@ -14,20 +14,20 @@ use Rattle.starlark_syntax.specs.declared.lexer.nesting.changes.Change.TheVarian
 use Rattle.starlark_syntax.specs.declared.lexer.nesting.counts.Brackets.{Brackets}
 use Rattle.starlark_syntax.specs.declared.lexer.nesting.counts.OpenFString.{OpenFString}
 
-abbrev pub place_view : Place → Where
-place_view place.Outside = Outside
-place_view (place.InText opening) = InText (opening_view opening)
-place_view place.AtTop = AtTop
-place_view place.Deeper = Deeper
+abbrev pub mode_view : Place → Mode
+mode_view place.Outside = Outside
+mode_view (place.InText opening) = InText (opening_view opening)
+mode_view place.AtTop = AtTop
+mode_view place.Deeper = Deeper
 
 -- What a token does to brackets and f-strings, but for one that begins an f-string.
 unfoldable pub change_by : TokenView → Change
-change_by (Whole (grammar.Word word.OpeningRound)) = change.OpensRound
-change_by (Whole (grammar.Word word.OpeningSquare)) = change.OpensSquare
-change_by (Whole (grammar.Word word.OpeningCurly)) = change.OpensCurly
-change_by (Whole (grammar.Word word.ClosingRound)) = change.ClosesRound
-change_by (Whole (grammar.Word word.ClosingSquare)) = change.ClosesSquare
-change_by (Whole (grammar.Word word.ClosingCurly)) = change.ClosesCurly
+change_by (Whole (grammar.Word terminal.OpeningRound)) = change.OpensRound
+change_by (Whole (grammar.Word terminal.OpeningSquare)) = change.OpensSquare
+change_by (Whole (grammar.Word terminal.OpeningCurly)) = change.OpensCurly
+change_by (Whole (grammar.Word terminal.ClosingRound)) = change.ClosesRound
+change_by (Whole (grammar.Word terminal.ClosingSquare)) = change.ClosesSquare
+change_by (Whole (grammar.Word terminal.ClosingCurly)) = change.ClosesCurly
 change_by (Whole grammar.FStringExprStart) = change.BeginsExpression
 change_by (Whole grammar.FStringExprEnd) = change.EndsExpression
 change_by (Whole grammar.FStringEnd) = change.EndsFString

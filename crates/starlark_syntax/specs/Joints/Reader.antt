@@ -24,14 +24,14 @@ outcome_along history at pieces (Fails fault) = record { lexemes = lexemes_along
 outcome_along history at pieces step = record { lexemes = lexemes_along at pieces ++ closing (at + pieces_len pieces) (after_all history pieces); fault = None }
 
 -- What the rest of a text comes to, from a place on and behind a history.
-unfoldable pub outcome_from : History → ℕ → Text → grammar.Outcome
-outcome_from history at text = go (read_from language history 0 text)
+unfoldable pub remaining_outcome : History → ℕ → Text → grammar.Outcome
+remaining_outcome history at text = go (read_from language history 0 text)
   where
     go : Reading → grammar.Outcome
     go reading = outcome_along history at reading.pieces reading.last
 
 -- What is kept of a history before a place is what its tokens, widths and last piece say.
-pub record IsKept (text : Text) (history : History) (reader : Reader) : Type 0 where
+pub record IsStateAfter (text : Text) (history : History) (reader : Reader) : Type 0 where
   pub nesting : Represents history.tokens reader.nesting
   pub levels : reader.levels ≡ open_widths history.widths
   pub before : IsBehind reader.follows_gap history.before
@@ -42,7 +42,7 @@ pub record IsKept (text : Text) (history : History) (reader : Reader) : Type 0 w
 -- What is still to be read at a stage: the whole text, the rest from a place on, a fault, or nothing.
 abbrev pub IsLeft : Text → Reader → Stage → grammar.Outcome → Type 0
 IsLeft text reader stage.Begin left = (left ≡ outcome text) × (reader.at ≡ 0) × (Represents [] reader.nesting) × (reader.levels ≡ []) × (bracket_count reader.nesting ≡ 0)
-IsLeft text reader stage.Onward left = (history : History) × IsKept text history reader × (left ≡ outcome_from history reader.at (drop reader.at text))
+IsLeft text reader stage.Onward left = (history : History) × IsStateAfter text history reader × (left ≡ remaining_outcome history reader.at (drop reader.at text))
 IsLeft text reader (stage.Fault begin fault end) left = (node : grammar.Fault) × (fault_view fault ≡ Some node) × (left ≡ record { lexemes = []; fault = Some (record { begin = begin; node = node; end = end }) })
 IsLeft text reader stage.Closed left = left ≡ record { lexemes = []; fault = None }
 
@@ -80,7 +80,7 @@ step_here text history reader = next_step language history (drop reader.at text)
 
 -- what is left of a text from where a reader is, behind a history
 abbrev pub left_here : Text → History → Reader → grammar.Outcome
-left_here text history reader = outcome_from history reader.at (drop reader.at text)
+left_here text history reader = remaining_outcome history reader.at (drop reader.at text)
 
 -- A number that is less after each piece.
 abbrev pub left_to_read : Text → Reader → Stage → ℕ

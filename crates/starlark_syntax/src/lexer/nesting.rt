@@ -6,10 +6,10 @@ mod counts;
 mod tests;
 
 ghost use Rattle.std.specs.Prelude.{◌≡◌, ◌+◌, ◌<◌, ◌≤◌, ◌^◌, ◌∷◌, [], List, false, OnErr, OnOk};
-ghost use Rattle.starlark_grammar.specs.Depths.{is_balanced, where_after};
-ghost use Rattle.starlark_syntax.specs.Joints.Steps.{begins_fstring};
+ghost use Rattle.starlark_grammar.specs.Depths.{is_balanced, mode_after};
+ghost use Rattle.starlark_syntax.specs.Joints.Steps.{is_fstring_start};
 ghost use Rattle.starlark_syntax.specs.Joints.Literals.{opening_view};
-ghost use Rattle.starlark_syntax.specs.Joints.Nesting.{IsUnchanged, Represents, bracket_count, place_view};
+ghost use Rattle.starlark_syntax.specs.Joints.Nesting.{IsUnchanged, Represents, bracket_count, mode_view};
 ghost use Rattle.starlark_token.specs.TokenViews.{Whole, token_view};
 ghost use Rattle.starlark_grammar.specs.Tokens as grammar;
 
@@ -50,7 +50,7 @@ impl Nesting {
 
     /// Where the place is.
     pub fn place(&self) -> Place
-        ensures { (tokens : List grammar.Token) → Represents tokens self.now → place_view result ≡ where_after tokens }
+        ensures { (tokens : List grammar.Token) → Represents tokens self.now → mode_view result ≡ mode_after tokens }
     {
         match self.fstrings.last() {
             None => Place::Outside,
@@ -68,7 +68,7 @@ impl Nesting {
     /// Goes on behind a token that begins no f-string.
     pub fn pass(&mut self, token: &Token)
         requires room { bracket_count self.old + 1 < 2 ^ 64 }
-        ensures passes { (tokens : List grammar.Token) (node : grammar.Token) → token_view token.now ≡ Whole node → begins_fstring node ≡ false →
+        ensures passes { (tokens : List grammar.Token) (node : grammar.Token) → token_view token.now ≡ Whole node → is_fstring_start node ≡ false →
             Represents tokens self.old → Represents (node ∷ tokens) self.new }
         ensures count { bracket_count self.new ≤ bracket_count self.old + 1 }
     {

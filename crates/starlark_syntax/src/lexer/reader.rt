@@ -8,7 +8,7 @@ ghost use Rattle.starlark_syntax.specs.Joints.Literals.{opening_view};
 ghost use Rattle.starlark_grammar.specs.Margins.{open_widths};
 ghost use Rattle.starlark_grammar.specs.Pieces as grammar;
 ghost use Rattle.starlark_syntax.specs.Joints.Pending.{IsIdle};
-ghost use Rattle.starlark_syntax.specs.Joints.Reader.{IsAhead, IsAheadBehind, IsKept, IsNext, IsOver, IsRead, IsReady, IsSomething, left_here, left_to_read, step_here};
+ghost use Rattle.starlark_syntax.specs.Joints.Reader.{IsAhead, IsAheadBehind, IsStateAfter, IsNext, IsOver, IsRead, IsReady, IsSomething, left_here, left_to_read, step_here};
 ghost use Rattle.starlark_grammar.specs.Reading.{History, outcome};
 ghost use Rattle.starlark_token.specs.TokenViews.{TokenView};
 ghost use Rattle.starlark_grammar.specs.Tokens.{FStringStart, Fault, Spanned};
@@ -129,9 +129,9 @@ impl Reader {
     /// Reads a line end that counts, and the margin behind it.
     fn read_line_end(&mut self, text: &str, len: usize) -> Result<Option<PlacedToken>, AllocError>
         requires fits { length text.now < 2 ^ 32 }
-        requires stands { (history : History) × IsKept text.now history self.old × (step_here text.now history self.old ≡ grammar.line_end len (open_widths history.widths) (drop len (drop self.old.at text.now))) }
+        requires stands { (history : History) × IsStateAfter text.now history self.old × (step_here text.now history self.old ≡ grammar.line_end len (open_widths history.widths) (drop len (drop self.old.at text.now))) }
         requires cut { IsCharBoundary text.now (self.old.at + len) }
-        ensures read { IfOk result (λ given. (history : History) → IsKept text.now history self.old → step_here text.now history self.old ≡ grammar.line_end len (open_widths history.widths) (drop len (drop self.old.at text.now)) →
+        ensures read { IfOk result (λ given. (history : History) → IsStateAfter text.now history self.old → step_here text.now history self.old ≡ grammar.line_end len (open_widths history.widths) (drop len (drop self.old.at text.now)) →
             IsRead text.now (left_here text.now history self.old) given self.new) }
         ensures less { OnOk result (left_to_read text.now self.new self.new.stage < left_to_read text.now self.old Stage.Onward) }
     {
@@ -166,9 +166,9 @@ impl Reader {
         text: &str,
     ) -> Result<PlacedToken, AllocError>
         requires fits { length text.now < 2 ^ 32 }
-        requires stands { (history : History) × IsKept text.now history self.old × (step_here text.now history self.old ≡ grammar.token len (FStringStart (opening_view opening))) }
+        requires stands { (history : History) × IsStateAfter text.now history self.old × (step_here text.now history self.old ≡ grammar.token len (FStringStart (opening_view opening))) }
         requires idle { IsIdle text.now self.old.pending }
-        ensures read { IfOk result (λ given. (history : History) → IsKept text.now history self.old → step_here text.now history self.old ≡ grammar.token len (FStringStart (opening_view opening)) →
+        ensures read { IfOk result (λ given. (history : History) → IsStateAfter text.now history self.old → step_here text.now history self.old ≡ grammar.token len (FStringStart (opening_view opening)) →
             IsRead text.now (left_here text.now history self.old) (Some given) self.new) }
         ensures less { OnOk result (left_to_read text.now self.new self.new.stage < left_to_read text.now self.old Stage.Onward) }
     {
@@ -181,9 +181,9 @@ impl Reader {
     /// Takes a token that was read here.
     fn take_token(&mut self, token: Token, len: usize, text: &str) -> PlacedToken
         requires fits { length text.now < 2 ^ 32 }
-        requires stands { (history : History) × IsKept text.now history self.old × IsStep (step_here text.now history self.old) (Step.Token token len) }
+        requires stands { (history : History) × IsStateAfter text.now history self.old × IsStep (step_here text.now history self.old) (Step.Token token len) }
         requires idle { IsIdle text.now self.old.pending }
-        ensures read { (history : History) → IsKept text.now history self.old → IsStep (step_here text.now history self.old) (Step.Token token len) →
+        ensures read { (history : History) → IsStateAfter text.now history self.old → IsStep (step_here text.now history self.old) (Step.Token token len) →
             IsRead text.now (left_here text.now history self.old) (Some result) self.new }
         ensures less { left_to_read text.now self.new self.new.stage < left_to_read text.now self.old Stage.Onward }
     {
@@ -203,9 +203,9 @@ impl Reader {
         text: &str,
     ) -> PlacedToken
         requires fits { length text.now < 2 ^ 32 }
-        requires stands { (history : History) × IsKept text.now history self.old × IsStep (step_here text.now history self.old) (Step.Text chunk chunk_len stop len) }
+        requires stands { (history : History) × IsStateAfter text.now history self.old × IsStep (step_here text.now history self.old) (Step.Text chunk chunk_len stop len) }
         requires idle { IsIdle text.now self.old.pending }
-        ensures read { (history : History) → IsKept text.now history self.old → IsStep (step_here text.now history self.old) (Step.Text chunk chunk_len stop len) →
+        ensures read { (history : History) → IsStateAfter text.now history self.old → IsStep (step_here text.now history self.old) (Step.Text chunk chunk_len stop len) →
             IsRead text.now (left_here text.now history self.old) (Some result) self.new }
         ensures less { left_to_read text.now self.new self.new.stage < left_to_read text.now self.old Stage.Onward }
     {
@@ -228,9 +228,9 @@ impl Reader {
     /// Takes a token or a fault that was read here.
     fn take(&mut self, step: Step, text: &str) -> Option<PlacedToken>
         requires fits { length text.now < 2 ^ 32 }
-        requires stands { (history : History) × IsKept text.now history self.old × IsStep (step_here text.now history self.old) step }
+        requires stands { (history : History) × IsStateAfter text.now history self.old × IsStep (step_here text.now history self.old) step }
         requires idle { IsIdle text.now self.old.pending }
-        ensures read { (history : History) → IsKept text.now history self.old → IsStep (step_here text.now history self.old) step →
+        ensures read { (history : History) → IsStateAfter text.now history self.old → IsStep (step_here text.now history self.old) step →
             IsRead text.now (left_here text.now history self.old) result self.new }
         ensures less { left_to_read text.now self.new self.new.stage < left_to_read text.now self.old Stage.Onward }
     {
@@ -251,7 +251,7 @@ impl Reader {
 
     /// Closes a text without fault at its end: with a `Newline` of no bytes, and a `Dedent` for each open width.
     fn close(&mut self, text: &str) -> PlacedToken
-        ensures read { (history : History) → IsKept text.now history self.old → step_here text.now history self.old ≡ grammar.Ends → IsRead text.now (left_here text.now history self.old) (Some result) self.new }
+        ensures read { (history : History) → IsStateAfter text.now history self.old → step_here text.now history self.old ≡ grammar.Ends → IsRead text.now (left_here text.now history self.old) (Some result) self.new }
         ensures less { left_to_read text.now self.new self.new.stage < left_to_read text.now self.old Stage.Onward }
     {
         self.pending = Pending::only(Behind::Dedents {

@@ -5,13 +5,14 @@ ghost use Rattle.std.specs.Str.{IsCharBoundary};
 ghost use Rattle.starlark_grammar.specs.Front.{language_front};
 ghost use Rattle.starlark_syntax.specs.Joints.Steps.{IsStep};
 ghost use Rattle.starlark_grammar.specs.Cuts.{is_outside};
-ghost use Rattle.starlark_syntax.specs.Joints.Nesting.{place_view};
+ghost use Rattle.starlark_syntax.specs.Joints.Nesting.{mode_view};
 ghost use Rattle.starlark_grammar.specs.Pieces as grammar;
 ghost use Rattle.starlark_syntax.specs.Joints.Pieces.{IsBehind, IsPiece};
-ghost use Rattle.starlark_token.specs.Joints.Words.{class_view, kind_view, quote_view};
 ghost use Rattle.starlark_grammar.specs.Tokens.{InvalidInput};
 ghost use Rattle.starlark_grammar.specs.Characters.{first_character};
 ghost use Rattle.starlark_grammar.specs.Words as word;
+ghost use Rattle.starlark_grammar.specs.declared.class.Class.TheVariants as class;
+ghost use Rattle.starlark_grammar.specs.declared.class.LiteralKind.TheVariants as kind;
 ghost use Rattle.starlark_grammar.specs.Words.{class_in, language};
 
 mod terminals;
@@ -42,29 +43,29 @@ pub enum Piece {
 
 /// Whether a place is outside of f-strings.
 fn is_outside(place: Place) -> bool
-    ensures { result ≡ is_outside (place_view place) }
+    ensures { result ≡ is_outside (mode_view place) }
 {
     matches!(place, Place::Outside)
 }
 
 /// Whether line ends count: where all brackets are closed and no f-string is open.
 fn counts(place: Place, is_balanced: bool) -> bool
-    ensures { result ≡ grammar.counts (place_view place) is_balanced }
+    ensures { result ≡ grammar.counts (mode_view place) is_balanced }
 {
     is_outside(place) && is_balanced
 }
 
 /// Whether a bang may stand at a place: at the top of an expression, and not right behind a skipped piece.
 fn takes_bang(place: Place, follows_gap: bool) -> bool
-    ensures { (before : grammar.Before) → IsBehind follows_gap before → result ≡ grammar.takes_bang (place_view place) before }
+    ensures { (before : grammar.Before) → IsBehind follows_gap before → result ≡ grammar.takes_bang (mode_view place) before }
 {
     matches!(place, Place::AtTop) && !follows_gap
 }
 
 /// A line end of so many bytes.
 fn line_end(place: Place, is_balanced: bool, len: usize) -> Piece
-    ensures { (s : grammar.Situation) (front behind text : word.Text) → s.place ≡ place_view place → s.is_balanced ≡ is_balanced → length front ≡ len → drop len text ≡ behind → IsCharBoundary text len →
-        IsPiece s.levels text (grammar.word_step s word.LineEnd front behind) result }
+    ensures { (s : grammar.Situation) (front behind text : word.Text) → s.place ≡ mode_view place → s.is_balanced ≡ is_balanced → length front ≡ len → drop len text ≡ behind → IsCharBoundary text len →
+        IsPiece s.levels text (grammar.word_step s class.LineEnd front behind) result }
 {
     if counts(place, is_balanced) {
         Piece::LineEnd { len }
@@ -77,7 +78,7 @@ fn line_end(place: Place, is_balanced: bool, len: usize) -> Piece
 fn fstring(is_raw: bool, quote: Quote, len: usize, behind: &str) -> Piece
     requires { len + length behind.now < 2 ^ 64 }
     ensures { (s : grammar.Situation) (front text : word.Text) → length front ≡ len →
-        IsPiece s.levels text (grammar.word_step s (word.Opener word.OfFString is_raw (quote_view quote)) front behind.now) result }
+        IsPiece s.levels text (grammar.word_step s (class.Opener kind.FString is_raw quote) front behind.now) result }
 {
     let opening = opening_of(is_raw, quote, behind);
     let len = if opening.is_triple { len + 2 } else { len };
@@ -95,8 +96,8 @@ fn opener(
     behind: &str,
 ) -> Result<Piece, AllocError>
     requires { len + length behind.now < 2 ^ 64 }
-    ensures { IfOk result (λ piece. (s : grammar.Situation) (front text : word.Text) → s.place ≡ place_view place → length front ≡ len →
-        IsPiece s.levels text (grammar.word_step s (word.Opener (kind_view kind) is_raw (quote_view quote)) front behind.now) piece) }
+    ensures { IfOk result (λ piece. (s : grammar.Situation) (front text : word.Text) → s.place ≡ mode_view place → length front ≡ len →
+        IsPiece s.levels text (grammar.word_step s (class.Opener kind is_raw quote) front behind.now) piece) }
 {
     match kind {
         LiteralKind::FString => Ok(fstring(is_raw, quote, len, behind)),
@@ -117,10 +118,10 @@ fn word_piece(
     front: &str,
     behind: &str,
 ) -> Result<Piece, AllocError>
-    requires known { class_in language front.now ≡ Some (class_view class) }
+    requires known { class_in language front.now ≡ Some class }
     requires fits { length front.now + length behind.now < 2 ^ 64 }
-    ensures { IfOk result (λ piece. (s : grammar.Situation) (text : word.Text) → s.place ≡ place_view place → s.is_balanced ≡ is_balanced → drop (length front.now) text ≡ behind.now → IsCharBoundary text (length front.now) →
-        IsPiece s.levels text (grammar.word_step s (class_view class) front.now behind.now) piece) }
+    ensures { IfOk result (λ piece. (s : grammar.Situation) (text : word.Text) → s.place ≡ mode_view place → s.is_balanced ≡ is_balanced → drop (length front.now) text ≡ behind.now → IsCharBoundary text (length front.now) →
+        IsPiece s.levels text (grammar.word_step s class front.now behind.now) piece) }
 {
     let len = front.len();
     match class {
@@ -172,7 +173,7 @@ fn is_bang(text: &[u8]) -> bool
 
 /// Whether a bang stands at the front of a text, by where that is and what stands before.
 fn bang_stands(place: Place, follows_gap: bool, text: &str) -> bool
-    ensures { (before : grammar.Before) → IsBehind follows_gap before → result ≡ (grammar.takes_bang (place_view place) before && grammar.is_bang text.now) }
+    ensures { (before : grammar.Before) → IsBehind follows_gap before → result ≡ (grammar.takes_bang (mode_view place) before && grammar.is_bang text.now) }
 {
     takes_bang(place, follows_gap) && is_bang(text.as_bytes())
 }
@@ -184,7 +185,7 @@ fn code_piece(
     is_balanced: bool,
     text: &str,
 ) -> Result<Piece, AllocError>
-    ensures { IfOk result (λ piece. (s : grammar.Situation) → s.place ≡ place_view place → s.is_balanced ≡ is_balanced →
+    ensures { IfOk result (λ piece. (s : grammar.Situation) → s.place ≡ mode_view place → s.is_balanced ≡ is_balanced →
         IsPiece s.levels text.now (grammar.front_step s text.now (language_front text.now)) piece) }
 {
     match first_word(text) {
@@ -205,7 +206,7 @@ pub fn piece_at(
     follows_gap: bool,
     text: &str,
 ) -> Result<Piece, AllocError>
-    ensures { IfOk result (λ piece. (s : grammar.Situation) → s.place ≡ place_view place → s.is_balanced ≡ is_balanced → IsBehind follows_gap s.before →
+    ensures { IfOk result (λ piece. (s : grammar.Situation) → s.place ≡ mode_view place → s.is_balanced ≡ is_balanced → IsBehind follows_gap s.before →
         IsPiece s.levels text.now (grammar.step_at language s text.now) piece) }
 {
     if let Place::InText(opening) = place {

@@ -1,7 +1,9 @@
 -- Skipped pieces, one identifier, skipped pieces.
 use Rattle.std.proofs.Common.{◌≡◌, ◌↔◌, ℕ, zero, suc, ◌≤◌, ◌==◌, true, false, List, [], ◌∷◌, ◌++◌, length, map, take, drop, refl, sym, ap, subst, ◌∙◌, Option, Some, None, unwrap_or, arith}
 use Rattle.std.proofs.lemmas.List.{length-take}
-use Rattle.starlark_grammar.specs.Words.{Text, Class, Skipped, Identifier}
+use Rattle.starlark_grammar.specs.Words.{Text}
+use Rattle.starlark_grammar.specs.declared.class.Class.{Class}
+use Rattle.starlark_grammar.specs.declared.class.Class.TheVariants.{Skipped, Identifier}
 use Rattle.starlark_grammar.specs.Front.{language_front, longest_front}
 use Rattle.starlark_token.specs.OneIdentifier.{Reads, skipped, IsOneIdentifier, IsBehindSkipped, if_skipped, if_identifier}
 

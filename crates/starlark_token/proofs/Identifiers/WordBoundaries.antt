@@ -8,7 +8,9 @@ use Rattle.std.specs.List.{list_all}
 use Rattle.std.specs.Map.{lookup}
 use Rattle.std.specs.Option.{option_or}
 use Rattle.std.specs.Str.{bytes_eq, IsUtf8, IsCharBoundary}
-use Rattle.starlark_grammar.specs.Words.{Text, Class, Skipped, Comment, Tabs, Identifier, Decimal, Hexadecimal, Octal, Binary, Float, class_in, openers, line_ends, symbols, names, patterns, language, is_run, is_identifier, is_in_name, begins_name}
+use Rattle.starlark_grammar.specs.Words.{Text, class_in, openers, line_ends, symbols, names, patterns, language, is_run, is_identifier, is_in_name, is_name_start}
+use Rattle.starlark_grammar.specs.declared.class.Class.{Class}
+use Rattle.starlark_grammar.specs.declared.class.Class.TheVariants.{Skipped, Comment, Tabs, Identifier, Decimal, Hexadecimal, Octal, Binary, Float}
 use Rattle.starlark_grammar.specs.Front.{language_front}
 use Rattle.starlark_token.specs.OneIdentifier.{IsCut, if_skipped, if_identifier}
 use Rattle.starlark_grammar.proofs.Words.Fronts.{front_sound}
@@ -37,7 +39,7 @@ blank_is_ascii b h = rw (← eqb-true 32 b h) refl
 name_is_ascii : (b : ℕ) → is_in_name b ≡ true → is_ascii b ≡ true
 name_is_ascii b h = lt-ltb b 128 (in_name_is_ascii b h)
 
-begin_is_ascii : (b : ℕ) → begins_name b ≡ true → is_ascii b ≡ true
+begin_is_ascii : (b : ℕ) → is_name_start b ≡ true → is_ascii b ≡ true
 begin_is_ascii b h = name_is_ascii b (rw h refl)
 
 blanks_are_ascii : (word : Text) → is_run (nat_eq 32) word ≡ true → AllAscii word

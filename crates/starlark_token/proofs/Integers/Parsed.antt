@@ -6,7 +6,7 @@ use Rattle.std.specs.List.{list_all}
 use Rattle.std.specs.Int.{w32}
 use Rattle.std.specs.Str.Parse.{AllDigits, IsNumeral, without_leading_sign, starts_with_minus, signed_digits_value, digits_value}
 use Rattle.starlark_grammar.specs.Words.{Text, is_run, unsigned}
-use Rattle.starlark_token.specs.BigIntegers.{IsKept}
+use Rattle.starlark_token.specs.BigIntegers.{IsCanonical}
 use Rattle.starlark_grammar.proofs.Words.IntegerValues.{plain_value}
 use Rattle.starlark_token.proofs.Integers.PlainDigits.{plain_digits_are_plain}
 use Rattle.starlark_grammar.specs.Numbers.{Small, Big, is_negative, is_number, is_small, signed, plain_digits, integer_of, integer_in}
@@ -97,7 +97,7 @@ pub not_parsed : (base : ℕ) (text : Text) → is_number base text ≡ true →
 not_parsed base text number refused = written_big base text number (big base text number refused)
 
 pub is_kept : (base : ℕ) (text : Text) → 2 ≤ base → base ≤ 36 → is_number base text ≡ true → ¬ (IsParsed base text)
-    → IsKept (record { is_negative = is_negative text; digits = plain_digits (unsigned text); radix = base })
+    → IsCanonical (record { is_negative = is_negative text; digits = plain_digits (unsigned text); radix = base })
 is_kept base text least most number refused = record {
   least = least;
   most = most;

@@ -7,7 +7,11 @@ use Rattle.std.specs.List.{list_all, prefix_len, slice_get}
 use Rattle.std.specs.Map.{lookup}
 use Rattle.std.specs.Option.{option_map, option_or}
 use Rattle.std.specs.Str.{bytes_eq}
-use Rattle.starlark_grammar.specs.Words.{Text, Class, Skipped, Comment, Tabs, Opener, OfText, SingleQuote, DoubleQuote, Identifier, class_in, openers, line_ends, symbols, names, patterns, language, begins_name, is_in_name, is_in_line, is_based, is_float, is_fraction, is_pointed, begins, begins_with_digit, is_point, is_identifier, is_comment, is_run, is_octal_digit, is_binary_digit}
+use Rattle.starlark_grammar.specs.Words.{Text, class_in, openers, line_ends, symbols, names, patterns, language, is_name_start, is_in_name, is_in_line, is_based, is_float, is_fraction, is_pointed, begins, begins_with_digit, is_point, is_identifier, is_comment, is_run, is_octal_digit, is_binary_digit}
+use Rattle.starlark_grammar.specs.declared.class.Class.{Class}
+use Rattle.starlark_grammar.specs.declared.class.Class.TheVariants.{Skipped, Comment, Tabs, Opener, Identifier}
+use Rattle.starlark_grammar.specs.declared.class.LiteralKind.TheVariants.{Text as OfText}
+use Rattle.starlark_grammar.specs.declared.class.Quote.TheVariants.{Single as SingleQuote, Double as DoubleQuote}
 use Rattle.starlark_grammar.specs.Front.{longer, longest_front, language_front}
 use Rattle.starlark_token.specs.Joints.Words.{begins_number, is_quote, marks}
 use Rattle.starlark_grammar.proofs.Words.Fronts.{front_single, front_run}
@@ -67,21 +71,21 @@ no_number b word digit zero point =
     rw (digit, not_based 120 88 is_ascii_hexdigit b word zero, not_based 111 79 is_octal_digit b word zero, not_based 98 66 is_binary_digit b word zero, point) refl
 
 -- the patterns, for words that begin with a plain byte
-patterns_plain : (b : ℕ) (word : Text) → Plain b → class_in patterns (b ∷ word) ≡ cond (begins_name b && list_all is_in_name word) (Some Identifier) None
+patterns_plain : (b : ℕ) (word : Text) → Plain b → class_in patterns (b ∷ word) ≡ cond (is_name_start b && list_all is_in_name word) (Some Identifier) None
 patterns_plain b word h = no_number b word h.digit h.zero (not_pointed b word h.point) ∙ rw (h.blank, h.hash, h.tab) refl
 
 -- names
 
-name_is_plain : (b : ℕ) → b < 256 → begins_name b ≡ true → Plain b
-name_is_plain b small h = plain b (implied _ _ (each_byte (λ b. not (begins_name b) || is_plain b) b refl small) h)
+name_is_plain : (b : ℕ) → b < 256 → is_name_start b ≡ true → Plain b
+name_is_plain b small h = plain b (implied _ _ (each_byte (λ b. not (is_name_start b) || is_plain b) b refl small) h)
 
-no_line_end_is_name : (b : ℕ) → b < 256 → begins_name b ≡ true → all_pass (begins_otherwise b) line_ends ≡ true
+no_line_end_is_name : (b : ℕ) → b < 256 → is_name_start b ≡ true → all_pass (begins_otherwise b) line_ends ≡ true
 unfolding line_ends
-no_line_end_is_name b small h = implied _ _ (each_byte (λ b. not (begins_name b) || all_pass (begins_otherwise b) line_ends) b refl small) h
+no_line_end_is_name b small h = implied _ _ (each_byte (λ b. not (is_name_start b) || all_pass (begins_otherwise b) line_ends) b refl small) h
 
-no_symbol_is_name : (b : ℕ) → b < 256 → begins_name b ≡ true → all_pass (begins_otherwise b) symbols ≡ true
+no_symbol_is_name : (b : ℕ) → b < 256 → is_name_start b ≡ true → all_pass (begins_otherwise b) symbols ≡ true
 unfolding symbols
-no_symbol_is_name b small h = implied _ _ (each_byte (λ b. not (begins_name b) || all_pass (begins_otherwise b) symbols) b refl small) h
+no_symbol_is_name b small h = implied _ _ (each_byte (λ b. not (is_name_start b) || all_pass (begins_otherwise b) symbols) b refl small) h
 
 names_are_names : all_pass is_identifier names ≡ true
 unfolding names
@@ -111,10 +115,10 @@ goes_on (b ∷ front) c d word all fails =
     let parts = and_parts (is_in_name b) (list_all is_in_name front) all in
     rw parts.0 (goes_on front c d word parts.1 fails)
 
-in_name : (b : ℕ) → begins_name b ≡ true → is_in_name b ≡ true
+in_name : (b : ℕ) → is_name_start b ≡ true → is_in_name b ≡ true
 in_name b h = rw h refl
 
-class_of_named : (b : ℕ) (word : Text) → b < 256 → begins_name b ≡ true → class_in language (b ∷ word) ≡ cond (list_all is_in_name word) (Some (class_of_name (b ∷ word))) (opener_of (b ∷ word))
+class_of_named : (b : ℕ) (word : Text) → b < 256 → is_name_start b ≡ true → class_in language (b ∷ word) ≡ cond (list_all is_in_name word) (Some (class_of_name (b ∷ word))) (opener_of (b ∷ word))
 class_of_named b word small h = class_in-language (b ∷ word) ∙ go (list_all is_in_name word) refl
   where
     or_none : (found : Option Class) → option_or found None ≡ found
@@ -153,7 +157,7 @@ named (Some opener) name n = Some (opener, n + 1)
 named None name n = Some (name, n)
 
 -- a text that begins with a name's byte
-pub front_named : (text : Text) (n : ℕ) → ((i : ℕ) → get_or text i 0 < 256) → begins begins_name text ≡ true → n ≡ prefix_len is_in_name text → language_front text ≡ named (opener_of (take (n + 1) text)) (class_of_name (take n text)) n
+pub front_named : (text : Text) (n : ℕ) → ((i : ℕ) → get_or text i 0 < 256) → begins is_name_start text ≡ true → n ≡ prefix_len is_in_name text → language_front text ≡ named (opener_of (take (n + 1) text)) (class_of_name (take n text)) n
 unfolding language_front
 front_named [] n small h e = cc
 front_named (b ∷ rest) n small h e =
@@ -254,7 +258,7 @@ class_of_quote b word small h =
       lookup_elsewhere b word symbols (implied _ _ (each_byte (λ b. not (is_quote b) || all_pass (begins_otherwise b) symbols) b refl small) h),
       lookup_elsewhere b word names (implied _ _ (each_byte (λ b. not (is_quote b) || all_pass (begins_otherwise b) names) b refl small) h),
       patterns_plain b word (quote_is_plain b small h),
-      not-true _ (implied _ _ (each_byte (λ b. not (is_quote b) || not (begins_name b)) b refl small) h),
+      not-true _ (implied _ _ (each_byte (λ b. not (is_quote b) || not (is_name_start b)) b refl small) h),
     ) (or_none _)
   where
     or_none : (found : Option Class) → option_or found None ≡ found
@@ -297,7 +301,7 @@ class_of_mark b word opener name pattern =
 is_mark_byte : ℕ → Bool
 is_mark_byte b = is_plain b && (all_pass (begins_otherwise b) openers && all_pass (begins_otherwise b) names)
 
-class_of_mark_byte : (b : ℕ) (word : Text) → is_mark_byte b ≡ true → begins_name b ≡ false → class_in language (b ∷ word) ≡ class_in marks (b ∷ word)
+class_of_mark_byte : (b : ℕ) (word : Text) → is_mark_byte b ≡ true → is_name_start b ≡ false → class_in language (b ∷ word) ≡ class_in marks (b ∷ word)
 unfolding is_mark_byte
 class_of_mark_byte b word h name =
     let one = and_parts _ _ h in
@@ -313,13 +317,13 @@ unfolding longest_front
 front_point [] h = ap (option_map (λ class. (class, 1))) (class_of_point [] refl)
 front_point (c ∷ rest) h = λ i. longer (longer (longest_front (λ word. class_of_point (c ∷ word) h i) rest) (class_of_point (c ∷ []) h i)) (class_of_point [] refl i)
 
-front_mark_byte : (b : ℕ) (rest : Text) → is_mark_byte b ≡ true → begins_name b ≡ false → longest_front (class_in language) (b ∷ rest) ≡ longest_front (class_in marks) (b ∷ rest)
+front_mark_byte : (b : ℕ) (rest : Text) → is_mark_byte b ≡ true → is_name_start b ≡ false → longest_front (class_in language) (b ∷ rest) ≡ longest_front (class_in marks) (b ∷ rest)
 unfolding longest_front
 front_mark_byte b rest h name = λ i. longer (longest_front (λ word. class_of_mark_byte b word h name i) rest) (class_of_mark_byte b [] h name i)
 
 -- a byte with a branch of its own
 is_branch : ℕ → Bool
-is_branch b = b == 32 || (b == 9 || (b == 35 || (b == 39 || (b == 34 || (begins_name b || is_ascii_digit b)))))
+is_branch b = b == 32 || (b == 9 || (b == 35 || (b == 39 || (b == 34 || (is_name_start b || is_ascii_digit b)))))
 
 or_right : (x y : Bool) → (x || y) ≡ true → x ≡ false → y ≡ true
 or_right true y h e = cc
@@ -336,12 +340,12 @@ mark_or_point : (b : ℕ) → b < 256 → is_branch b ≡ false → (b == 46 || 
 unfolding is_branch is_mark_byte openers names
 mark_or_point b small h = or_right _ _ (each_byte (λ b. is_branch b || (b == 46 || is_mark_byte b)) b refl small) h
 
-no_branch : (b : ℕ) → b ≢ 32 → b ≢ 9 → b ≢ 35 → b ≢ 39 → b ≢ 34 → begins_name b ≡ false → is_ascii_digit b ≡ false → is_branch b ≡ false
+no_branch : (b : ℕ) → b ≢ 32 → b ≢ 9 → b ≢ 35 → b ≢ 39 → b ≢ 34 → is_name_start b ≡ false → is_ascii_digit b ≡ false → is_branch b ≡ false
 unfolding is_branch
 no_branch b blank tab hash single double name digit = rw (ne_eqb b 32 blank, ne_eqb b 9 tab, ne_eqb b 35 hash, ne_eqb b 39 single, ne_eqb b 34 double, name, digit) refl
 
 -- a text that begins with any other byte
-pub front_mark : (text : Text) (b : ℕ) → slice_get text 0 ≡ Some b → b < 256 → b ≢ 32 → b ≢ 9 → b ≢ 35 → b ≢ 39 → b ≢ 34 → begins_name b ≡ false → begins_number text ≡ false → language_front text ≡ longest_front (class_in marks) text
+pub front_mark : (text : Text) (b : ℕ) → slice_get text 0 ≡ Some b → b < 256 → b ≢ 32 → b ≢ 9 → b ≢ 35 → b ≢ 39 → b ≢ 34 → is_name_start b ≡ false → begins_number text ≡ false → language_front text ≡ longest_front (class_in marks) text
 unfolding language_front
 front_mark [] b e small blank tab hash single double name number = cc
 front_mark (x ∷ rest) b e small blank tab hash single double name number =

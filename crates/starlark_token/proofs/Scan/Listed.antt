@@ -5,7 +5,9 @@ use Rattle.std.proofs.lemmas.Slice.Eq.{bytes_eq-Decides}
 use Rattle.std.specs.List.{list_all}
 use Rattle.std.specs.Map.{lookup}
 use Rattle.std.specs.Str.{bytes_eq}
-use Rattle.starlark_grammar.specs.Words.{Text, Class, Identifier, openers, names}
+use Rattle.starlark_grammar.specs.Words.{Text, openers, names}
+use Rattle.starlark_grammar.specs.declared.class.Class.{Class}
+use Rattle.starlark_grammar.specs.declared.class.Class.TheVariants.{Identifier}
 
 -- the class of a name
 abbrev pub class_of_name : Text → Class

@@ -5,7 +5,8 @@ use Rattle.std.specs.Map.{lookup}
 use Rattle.std.specs.Option.{option_map, option_or}
 use Rattle.std.specs.Str.{bytes_eq}
 use Rattle.starlark_token.specs.Joints.Words.{marks}
-use Rattle.starlark_grammar.specs.Words.{Text, Class, class_in, listed, line_ends, symbols}
+use Rattle.starlark_grammar.specs.Words.{Text, class_in, listed, line_ends, symbols}
+use Rattle.starlark_grammar.specs.declared.class.Class.{Class}
 use Rattle.starlark_grammar.specs.Front.{longer, longest_front}
 use Rattle.starlark_token.proofs.Scan.Listed.{all_pass, lookup_fails}
 use Rattle.starlark_token.proofs.Scan.Fronts.{front_triple}

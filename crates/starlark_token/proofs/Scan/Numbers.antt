@@ -5,19 +5,20 @@ use Rattle.std.proofs.lemmas.Bool.{eqb-true, not-true, and_parts, agree_below}
 use Rattle.std.specs.Char.{is_ascii_digit, is_ascii_hexdigit}
 use Rattle.std.specs.List.{prefix_len, list_all}
 use Rattle.std.specs.Option.{option_map, option_or}
-use Rattle.starlark_grammar.specs.Words.{Text, Class, Decimal, Hexadecimal, Octal, Binary, Float, class_in, language, openers, line_ends, symbols, names, patterns, begins_name, numbers, based, has_base, is_octal_digit, is_binary_digit, begins, is_run, sign_len, is_sign, unsigned, is_exponent_letter, is_exponent, behind_digits, ends_float, is_point, is_fraction, makes_float}
+use Rattle.starlark_grammar.specs.Words.{Text, class_in, language, openers, line_ends, symbols, names, patterns, is_name_start, numbers, based, has_base, is_octal_digit, is_binary_digit, begins, is_run, sign_len, is_sign, unsigned, is_exponent_letter, is_exponent, behind_digits, ends_float, is_point, is_fraction, makes_float}
+use Rattle.starlark_grammar.specs.declared.class.Class.{Class}
+use Rattle.starlark_grammar.specs.declared.class.Class.TheVariants.{Decimal, Hexadecimal, Octal, Binary, Float}
 use Rattle.starlark_grammar.specs.Front.{longest_front, language_front}
 use Rattle.starlark_grammar.specs.Lengths.{longest_len}
-use Rattle.starlark_token.specs.Joints.Words.{begins_number, word_view, class_view}
-use Rattle.starlark_token.specs.declared.scanner.class.Class as code
+use Rattle.starlark_token.specs.Joints.Words.{begins_number, word_view}
 use Rattle.starlark_grammar.proofs.Words.Tables.{class_in-language}
 use Rattle.starlark_token.proofs.Scan.Listed.{all_pass, lookup_fails, begins_otherwise, lookup_elsewhere, each_byte, implied}
-use Rattle.starlark_token.proofs.Scan.Residuals.{front_next, front_some, longer_by, or_empty, if_some, when, front_on, front_first, front_same, front_never, front_end, front_into, front_of_some, front_of_test, len_of_test, longer_by_none, front_run, front_on_longest}
+use Rattle.starlark_token.proofs.Scan.Residuals.{front_next, front_some, longer_by, or_empty, if_some, if_passes, front_on, front_first, front_same, front_never, front_end, front_into, front_of_some, front_of_test, len_of_test, longer_by_none, front_run, front_on_longest}
 
 -- no word goes on with the text's first byte
 pub len_never : (test : Text → Bool) (b : ℕ) (rest : Text) → ((word : Text) → test (b ∷ word) ≡ false) → longest_len test (b ∷ rest) ≡ 0
 len_never test b rest h =
-    len_of_test {C = ℕ} 0 test (b ∷ rest) 0 (rw (front_first (when {C = ℕ} 0 test) b rest, front_never (λ word. when {C = ℕ} 0 test (b ∷ word)) rest (λ word. rw (h word) refl)) refl)
+    len_of_test {C = ℕ} 0 test (b ∷ rest) 0 (rw (front_first (if_passes {C = ℕ} 0 test) b rest, front_never (λ word. if_passes {C = ℕ} 0 test (b ∷ word)) rest (λ word. rw (h word) refl)) refl)
 
 pub len_nothing : (test : Text → Bool) → longest_len test [] ≡ 0
 unfolding longest_len longest_front
@@ -30,7 +31,7 @@ front_alike class_of other b rest h = rw (front_first class_of b rest, front_fir
 pub len_alike : (test other : Text → Bool) (b : ℕ) (rest : Text) → ((word : Text) → test (b ∷ word) ≡ other (b ∷ word)) → longest_len test (b ∷ rest) ≡ longest_len other (b ∷ rest)
 len_alike test other b rest h =
     len_of_test {C = ℕ} 0 test (b ∷ rest) (longest_len other (b ∷ rest))
-    (front_alike (when {C = ℕ} 0 test) (when {C = ℕ} 0 other) b rest (λ word. rw (h word) refl) ∙ front_of_test {C = ℕ} 0 other (b ∷ rest))
+    (front_alike (if_passes {C = ℕ} 0 test) (if_passes {C = ℕ} 0 other) b rest (λ word. rw (h word) refl) ∙ front_of_test {C = ℕ} 0 other (b ∷ rest))
 
 -- no exponent without its letter
 pub exponent_none : (text : Text) → begins is_exponent_letter text ≡ false → longest_len is_exponent text ≡ 0
@@ -46,15 +47,15 @@ pub exponent_of_some : (sign digits : ℕ) → digits ≢ 0 → exponent_of sign
 exponent_of_some sign zero other = absurd (other refl)
 exponent_of_some sign (suc digits) other = omega arith
 
-power_front : (text : Text) → front_on (when {C = ℕ} 0 (λ word. is_run is_ascii_digit (unsigned word))) text ≡ longer_by (sign_len text) (if_some {C = ℕ} 0 (prefix_len is_ascii_digit (unsigned text)))
-power_front [] = front_end (when {C = ℕ} 0 (λ word. is_run is_ascii_digit (unsigned word)))
+power_front : (text : Text) → front_on (if_passes {C = ℕ} 0 (λ word. is_run is_ascii_digit (unsigned word))) text ≡ longer_by (sign_len text) (if_some {C = ℕ} 0 (prefix_len is_ascii_digit (unsigned text)))
+power_front [] = front_end (if_passes {C = ℕ} 0 (λ word. is_run is_ascii_digit (unsigned word)))
 power_front (b ∷ rest) = go (is_sign b) refl
   where
     power : Text → Option ℕ
-    power = when {C = ℕ} 0 (λ word. is_run is_ascii_digit (unsigned word))
+    power = if_passes {C = ℕ} 0 (λ word. is_run is_ascii_digit (unsigned word))
 
     digits : Text → Option ℕ
-    digits = when {C = ℕ} 0 (is_run is_ascii_digit)
+    digits = if_passes {C = ℕ} 0 (is_run is_ascii_digit)
 
     go : (signed : Bool) → is_sign b ≡ signed → front_on power (b ∷ rest) ≡ longer_by (sign_len (b ∷ rest)) (if_some {C = ℕ} 0 (prefix_len is_ascii_digit (unsigned (b ∷ rest))))
     go true e = rw (front_into power digits b rest (λ word. rw e refl) refl, front_of_some {C = ℕ} is_ascii_digit 0 rest, e) refl
@@ -66,7 +67,7 @@ pub exponent_some : (text : Text) → begins is_exponent_letter text ≡ true �
 exponent_some [] h = cc
 exponent_some (b ∷ rest) h =
     len_of_test {C = ℕ} 0 is_exponent (b ∷ rest) (exponent_of (sign_len rest) (prefix_len is_ascii_digit (unsigned rest)))
-    (rw (front_first (when {C = ℕ} 0 is_exponent) b rest, front_same (λ word. when {C = ℕ} 0 is_exponent (b ∷ word)) (when {C = ℕ} 0 (λ word. is_run is_ascii_digit (unsigned word))) rest (λ word. rw h refl), power_front rest)
+    (rw (front_first (if_passes {C = ℕ} 0 is_exponent) b rest, front_same (λ word. if_passes {C = ℕ} 0 is_exponent (b ∷ word)) (if_passes {C = ℕ} 0 (λ word. is_run is_ascii_digit (unsigned word))) rest (λ word. rw h refl), power_front rest)
     (go (sign_len rest) (prefix_len is_ascii_digit (unsigned rest))))
   where
     plain : ℕ → Option (ℕ × ℕ)
@@ -92,14 +93,14 @@ behind_digit b text e = rw (e, one-add) refl
 -- Behind digits: a class for the digits alone, and one for digits and what follows them.
 module _ {C : Type 0} (alone with_end : C) (ends : Text → Bool) where
   digits_and_end : Text → Option C
-  digits_and_end word = cond (list_all is_ascii_digit word) (Some alone) (when with_end ends (behind_digits word))
+  digits_and_end word = cond (list_all is_ascii_digit word) (Some alone) (if_passes with_end ends (behind_digits word))
 
   -- the class of digits with an end of so many bytes, perhaps none
   abbrev pub ended : ℕ → Option (C × ℕ)
   ended zero = Some (alone, 0)
   ended (suc n) = Some (with_end, suc n)
 
-  pub front_behind_digits : (text : Text) → front_on (λ word. cond (list_all is_ascii_digit word) (Some alone) (when with_end ends (behind_digits word))) text
+  pub front_behind_digits : (text : Text) → front_on (λ word. cond (list_all is_ascii_digit word) (Some alone) (if_passes with_end ends (behind_digits word))) text
       ≡ longer_by (prefix_len is_ascii_digit text) (ended (longest_len ends (behind_digits text)))
   unfolding digits_and_end
   front_behind_digits text =
@@ -113,7 +114,7 @@ module _ {C : Type 0} (alone with_end : C) (ends : Text → Bool) where
       at_end : (rest : Text) → begins is_ascii_digit rest ≡ false → front_on digits_and_end rest ≡ ended (longest_len ends rest)
       at_end [] e = rw (front_end digits_and_end, len_nothing ends) refl
       at_end (b ∷ rest) e =
-          rw (front_on_longest digits_and_end (b ∷ rest), front_alike digits_and_end (when with_end ends) b rest (λ word. rw e refl), front_of_test with_end ends (b ∷ rest))
+          rw (front_on_longest digits_and_end (b ∷ rest), front_alike digits_and_end (if_passes with_end ends) b rest (λ word. rw e refl), front_of_test with_end ends (b ∷ rest))
           (chosen (longest_len ends (b ∷ rest)))
 
 -- no fraction without its point
@@ -131,11 +132,11 @@ pub fraction_some : (text : Text) → begins is_point text ≡ true
 fraction_some [] h = cc
 fraction_some (b ∷ rest) h =
     len_of_test {C = ℕ} 0 is_fraction (b ∷ rest) (suc (prefix_len is_ascii_digit rest + longest_len is_exponent (behind_digits rest)))
-    (rw (front_first (when {C = ℕ} 0 is_fraction) b rest, front_same (λ word. when {C = ℕ} 0 is_fraction (b ∷ word)) fraction rest same, front_behind_digits {C = ℕ} 0 0 is_exponent rest, ended_plain (longest_len is_exponent (behind_digits rest)))
+    (rw (front_first (if_passes {C = ℕ} 0 is_fraction) b rest, front_same (λ word. if_passes {C = ℕ} 0 is_fraction (b ∷ word)) fraction rest same, front_behind_digits {C = ℕ} 0 0 is_exponent rest, ended_plain (longest_len is_exponent (behind_digits rest)))
     (ap plain (omega arith)))
   where
     fraction : Text → Option ℕ
-    fraction word = cond (list_all is_ascii_digit word) (Some 0) (when {C = ℕ} 0 is_exponent (behind_digits word))
+    fraction word = cond (list_all is_ascii_digit word) (Some 0) (if_passes {C = ℕ} 0 is_exponent (behind_digits word))
 
     plain : ℕ → Option (ℕ × ℕ)
     plain n = Some (0, n)
@@ -148,7 +149,7 @@ fraction_some (b ∷ rest) h =
         go true e more = rw (e, one-add) more
         go false e more = rw e refl
 
-    same : (word : Text) → when {C = ℕ} 0 is_fraction (b ∷ word) ≡ fraction word
+    same : (word : Text) → if_passes {C = ℕ} 0 is_fraction (b ∷ word) ≡ fraction word
     same word = rw h (all_digits word)
 
 -- the first of two lengths that isn't 0
@@ -186,7 +187,7 @@ front_on_alike class_of other b rest h empty = rw (front_on_longest class_of (b 
 
 -- digits, perhaps with what makes them a float
 abbrev pub decimal_or_float : Text → Option Class
-decimal_or_float word = cond (list_all is_ascii_digit word) (Some Decimal) (when Float makes_float (behind_digits word))
+decimal_or_float word = cond (list_all is_ascii_digit word) (Some Decimal) (if_passes Float makes_float (behind_digits word))
 
 -- so many digits, and so many bytes that make them a float
 abbrev pub digits_front : ℕ → ℕ → Option (Class × ℕ)
@@ -250,8 +251,8 @@ module _ (b : ℕ) (digit : is_ascii_digit b ≡ true) (no_point : (b == 46) ≡
       rw (front_first (class_in numbers) b [], front_first (class_in based) b [], front_end (λ word. class_in numbers (b ∷ word)), front_end (λ word. class_in based (b ∷ word)), digits_alone, base_alone, digit, len_nothing makes_float) refl
 
 -- a base, and digits of it
-module _ (class : Class) (test : ℕ → Bool) (letter : ℕ) (known : (word : Text) → class_in numbers (48 ∷ letter ∷ word) ≡ when class (is_run test) word)
-    (known_base : (word : Text) → class_in based (48 ∷ letter ∷ word) ≡ when class (is_run test) word) (no_digit : is_ascii_digit letter ≡ false) where
+module _ (class : Class) (test : ℕ → Bool) (letter : ℕ) (known : (word : Text) → class_in numbers (48 ∷ letter ∷ word) ≡ if_passes class (is_run test) word)
+    (known_base : (word : Text) → class_in based (48 ∷ letter ∷ word) ≡ if_passes class (is_run test) word) (no_digit : is_ascii_digit letter ≡ false) where
   number_based : (rest : Text) → longest_len makes_float (letter ∷ rest) ≡ 0 → longest_front (class_in numbers) (48 ∷ letter ∷ rest) ≡ number_front (48 ∷ letter ∷ rest)
   number_based rest no_float =
       rw (
@@ -261,8 +262,8 @@ module _ (class : Class) (test : ℕ → Bool) (letter : ℕ) (known : (word : T
         front_on_longest (λ word. class_in based (48 ∷ word)) (letter ∷ rest),
         front_first (λ word. class_in numbers (48 ∷ word)) letter rest,
         front_first (λ word. class_in based (48 ∷ word)) letter rest,
-        front_same (λ word. class_in numbers (48 ∷ letter ∷ word)) (when class (is_run test)) rest known,
-        front_same (λ word. class_in based (48 ∷ letter ∷ word)) (when class (is_run test)) rest known_base,
+        front_same (λ word. class_in numbers (48 ∷ letter ∷ word)) (if_passes class (is_run test)) rest known,
+        front_same (λ word. class_in based (48 ∷ letter ∷ word)) (if_passes class (is_run test)) rest known_base,
         front_of_some test class rest,
         no_digit,
         digits_alone 48 refl refl,
@@ -322,7 +323,7 @@ is_no_pointed : Text → Bool
 is_no_pointed (b ∷ c ∷ word) = not (b == 46 && is_ascii_digit c)
 is_no_pointed word = true
 
-pointed_class : (d : ℕ) (word : Text) → is_ascii_digit d ≡ true → class_in language (46 ∷ d ∷ word) ≡ when Float is_fraction (46 ∷ d ∷ word)
+pointed_class : (d : ℕ) (word : Text) → is_ascii_digit d ≡ true → class_in language (46 ∷ d ∷ word) ≡ if_passes Float is_fraction (46 ∷ d ∷ word)
 unfolding class_in patterns openers line_ends symbols names is_no_pointed
 pointed_class d word digit =
     class_in-language (46 ∷ d ∷ word)
@@ -337,10 +338,10 @@ pointed_front : (d : ℕ) (rest : Text) → is_ascii_digit d ≡ true → langua
 unfolding language_front
 pointed_front d rest digit =
     two_bytes (class_in language) ∙ ap (longer_by 1) (rw (front_same (λ word. class_in language (46 ∷ d ∷ word)) fraction rest (λ word. pointed_class d word digit)) (go (front_on fraction rest) (class_in language (46 ∷ [])) (front_some fraction rest Float known)))
-    ∙ sym (two_bytes (when Float is_fraction)) ∙ front_of_test Float is_fraction (46 ∷ d ∷ rest)
+    ∙ sym (two_bytes (if_passes Float is_fraction)) ∙ front_of_test Float is_fraction (46 ∷ d ∷ rest)
   where
     fraction : Text → Option Class
-    fraction word = when Float is_fraction (46 ∷ d ∷ word)
+    fraction word = if_passes Float is_fraction (46 ∷ d ∷ word)
 
     known : fraction [] ≡ Some Float
     known = rw digit refl
@@ -365,7 +366,7 @@ digit_class b word small digit =
       no_byte (λ b. nat_eq 32 b) refl,
       no_byte (λ b. b == 35) refl,
       no_byte (λ b. nat_eq 9 b) refl,
-      no_byte begins_name refl,
+      no_byte is_name_start refl,
     ) refl
   where
     no_row : (rows : List (Text × Class)) → agree_below (λ b. not (is_ascii_digit b) || all_pass (begins_otherwise b) rows) (λ _. true) 256 ≡ true → all_pass (begins_otherwise b) rows ≡ true
@@ -413,14 +414,14 @@ abbrev pub if_based : Class → ℕ → Option (Class × ℕ)
 if_based class zero = None
 if_based class (suc digits) = Some (class, suc digits + 2)
 
-module _ (class : Class) (test : ℕ → Bool) (letter : ℕ) (known : (word : Text) → class_in based (48 ∷ letter ∷ word) ≡ when class (is_run test) word) where
+module _ (class : Class) (test : ℕ → Bool) (letter : ℕ) (known : (word : Text) → class_in based (48 ∷ letter ∷ word) ≡ if_passes class (is_run test) word) where
   base_digits : (rest : Text) → longest_front (class_in based) (48 ∷ letter ∷ rest) ≡ if_based class (prefix_len test rest)
   base_digits rest =
       rw (
         front_first (class_in based) 48 (letter ∷ rest),
         front_on_longest (λ word. class_in based (48 ∷ word)) (letter ∷ rest),
         front_first (λ word. class_in based (48 ∷ word)) letter rest,
-        front_same (λ word. class_in based (48 ∷ letter ∷ word)) (when class (is_run test)) rest known,
+        front_same (λ word. class_in based (48 ∷ letter ∷ word)) (if_passes class (is_run test)) rest known,
         front_of_some test class rest,
         base_alone 48 refl refl,
       )
@@ -466,6 +467,6 @@ no_base (b ∷ l ∷ rest) e f g =
     rw (front_first (class_in based) b (l ∷ rest), front_on_alike (λ word. class_in based (b ∷ word)) (λ word. None) l rest (λ word. rw (e, f, g) refl) refl, front_never {C = Class} (λ word. None) (l ∷ rest) (λ word. refl)) refl
 
 -- the class and the length of the code's word
-pub if_based_word : (class : code.Class) (n : ℕ) → option_map word_view (if n == 0 then None else Some (record { class = class; len = n + 2 })) ≡ if_based (class_view class) n
+pub if_based_word : (class : Class) (n : ℕ) → option_map word_view (if n == 0 then None else Some (record { class = class; len = n + 2 })) ≡ if_based class n
 if_based_word class zero = refl
 if_based_word class (suc n) = rw eqb-suc-zero refl

@@ -158,15 +158,15 @@ front_of_some {C} test class (b ∷ rest) = go (test b) refl
     go false e = rw (front_stops run b rest (λ word. rw e refl), e) refl
 
 -- the words that pass a test
-abbrev pub when : {C : Type 0} → C → (Text → Bool) → Text → Option C
-when class test word = cond (test word) (Some class) None
+abbrev pub if_passes : {C : Type 0} → C → (Text → Bool) → Text → Option C
+if_passes class test word = cond (test word) (Some class) None
 
 -- The longest front that passes a test, from its length.
-pub front_of_test : {C : Type 0} (class : C) (test : Text → Bool) (text : Text) → longest_front (when class test) text ≡ if_some class (longest_len test text)
+pub front_of_test : {C : Type 0} (class : C) (test : Text → Bool) (text : Text) → longest_front (if_passes class test) text ≡ if_some class (longest_len test text)
 unfolding longest_front longest_len
 front_of_test class test [] = refl
 front_of_test {C} class test (b ∷ rest) =
-    go (longest_len (λ word. test (b ∷ word)) rest) (longest_front (when class (λ word. test (b ∷ word))) rest) (longest_front (when {C = ℕ} 0 (λ word. test (b ∷ word))) rest)
+    go (longest_len (λ word. test (b ∷ word)) rest) (longest_front (if_passes class (λ word. test (b ∷ word))) rest) (longest_front (if_passes {C = ℕ} 0 (λ word. test (b ∷ word))) rest)
     (test (b ∷ [])) (front_of_test class (λ word. test (b ∷ word)) rest) (front_of_test {C = ℕ} 0 (λ word. test (b ∷ word)) rest)
   where
     go : (n : ℕ) (more : Option (C × ℕ)) (plain : Option (ℕ × ℕ)) (alone : Bool) → more ≡ if_some class n → plain ≡ if_some {C = ℕ} 0 n
@@ -176,7 +176,7 @@ front_of_test {C} class test (b ∷ rest) =
     go (suc n) more plain alone e f = rw (e, f, add-one) refl
 
 -- the length from the front
-pub len_of_test : {C : Type 0} (class : C) (test : Text → Bool) (text : Text) (n : ℕ) → longest_front (when class test) text ≡ if_some class n → longest_len test text ≡ n
+pub len_of_test : {C : Type 0} (class : C) (test : Text → Bool) (text : Text) (n : ℕ) → longest_front (if_passes class test) text ≡ if_some class n → longest_len test text ≡ n
 len_of_test {C} class test text n e = go (longest_len test text) n (sym (front_of_test class test text) ∙ e)
   where
     go : (m n : ℕ) → ◌≡◌ {A = Option (C × ℕ)} (if_some class m) (if_some class n) → m ≡ n

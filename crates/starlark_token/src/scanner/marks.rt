@@ -3,15 +3,15 @@
 ghost use Rattle.std.specs.Prelude.{◌≡◌, ◌∷◌, []};
 ghost use Rattle.std.specs.Option.{option_map};
 ghost use Rattle.starlark_grammar.specs.Front.{longest_front};
-ghost use Rattle.starlark_token.specs.Joints.Words.{class_view, marks, word_view};
+ghost use Rattle.starlark_token.specs.Joints.Words.{marks, word_view};
 ghost use Rattle.starlark_grammar.specs.Words.{class_in};
 
-use super::class::{Class, Terminal, Word};
+use super::{Class, Terminal, Word};
 
 #[tactic(auto, unfolding(starlark_grammar::specs::Words::class_in, starlark_grammar::specs::Words::line_ends, starlark_grammar::specs::Words::symbols))]
 /// The class of a mark of one byte.
 fn single(byte: u8) -> Option<Class>
-    ensures { option_map class_view result ≡ class_in marks (byte ∷ []) }
+    ensures { result ≡ class_in marks (byte ∷ []) }
 {
     match byte {
         b'\n' => Some(Class::LineEnd),
@@ -44,7 +44,7 @@ fn single(byte: u8) -> Option<Class>
 #[tactic(auto, unfolding(starlark_grammar::specs::Words::class_in, starlark_grammar::specs::Words::line_ends, starlark_grammar::specs::Words::symbols))]
 /// The class of a mark of two bytes.
 fn double(first: u8, second: u8) -> Option<Class>
-    ensures { option_map class_view result ≡ class_in marks (first ∷ second ∷ []) }
+    ensures { result ≡ class_in marks (first ∷ second ∷ []) }
 {
     match (first, second) {
         (b'\r', b'\n') => Some(Class::LineEnd),
@@ -73,7 +73,7 @@ fn double(first: u8, second: u8) -> Option<Class>
 #[tactic(auto, unfolding(starlark_grammar::specs::Words::class_in, starlark_grammar::specs::Words::line_ends, starlark_grammar::specs::Words::symbols))]
 /// The class of a mark of three bytes.
 fn triple(first: u8, second: u8, third: u8) -> Option<Class>
-    ensures { option_map class_view result ≡ class_in marks (first ∷ second ∷ third ∷ []) }
+    ensures { result ≡ class_in marks (first ∷ second ∷ third ∷ []) }
 {
     match (first, second, third) {
         (b'\\', b'\r', b'\n') => Some(Class::Skipped),

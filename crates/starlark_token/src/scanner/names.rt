@@ -6,18 +6,19 @@ ghost use Rattle.std.specs.Map.{lookup};
 ghost use Rattle.std.specs.Option.{option_map};
 ghost use Rattle.std.specs.Str.{bytes_eq};
 ghost use Rattle.starlark_grammar.specs.Front.{language_front};
-ghost use Rattle.starlark_token.specs.Joints.Words.{class_view, is_quote, word_view};
+ghost use Rattle.starlark_token.specs.Joints.Words.{is_quote, word_view};
 ghost use Rattle.starlark_grammar.specs.Words as grammar;
+ghost use Rattle.starlark_grammar.specs.declared.class.Class.TheVariants as class;
 
-use super::class::{Class, Terminal, Word};
 use super::openers::opener_class;
+use super::{Class, Terminal, Word};
 
 /// The greatest length of a literal's prefix.
 const PREFIX_LEN: usize = 2;
 
 /// Whether a name may begin with the byte.
-pub fn begins_name(byte: u8) -> bool
-    ensures { result ≡ grammar.begins_name byte }
+pub fn is_name_start(byte: u8) -> bool
+    ensures { result ≡ grammar.is_name_start byte }
 {
     byte.is_ascii_alphabetic() || byte == b'_'
 }
@@ -28,13 +29,13 @@ fn name_len(text: &[u8]) -> usize
     ensures within { result ≤ length text.now }
 {
     text.iter()
-        .take_while(|byte| begins_name(**byte) || byte.is_ascii_digit())
+        .take_while(|byte| is_name_start(**byte) || byte.is_ascii_digit())
         .count()
 }
 
 /// The class of a name.
 fn name_class(name: &str) -> Class
-    ensures { class_view result ≡ unwrap_or (lookup (bytes_eq name.now) grammar.names) grammar.Identifier }
+    ensures { result ≡ unwrap_or (lookup (bytes_eq name.now) grammar.names) class.Identifier }
 {
     match name {
         "and" => Class::Fixed(Terminal::And),
@@ -88,7 +89,7 @@ fn is_quote_at(text: &[u8], at: usize) -> bool
 /// name as a prefix, and a quote.
 fn prefixed_opener(text: &str, len: usize) -> Option<Class>
     requires { len ≡ prefix_len grammar.is_in_name text.now }
-    ensures opener { option_map class_view result ≡ lookup (bytes_eq (take (len + 1) text.now)) grammar.openers }
+    ensures opener { result ≡ lookup (bytes_eq (take (len + 1) text.now)) grammar.openers }
     ensures within { IfSome result (λ class. len < length text.now) }
 {
     if len > PREFIX_LEN {
@@ -102,7 +103,7 @@ fn prefixed_opener(text: &str, len: usize) -> Option<Class>
 
 /// The longest word at the front of a text that begins with a letter or `_`.
 pub fn name_from(text: &str) -> Word
-    requires { grammar.begins grammar.begins_name text.now ≡ true }
+    requires { grammar.begins grammar.is_name_start text.now ≡ true }
     ensures { Some (word_view result) ≡ language_front text.now }
 {
     let len = name_len(text.as_bytes());

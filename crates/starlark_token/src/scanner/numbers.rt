@@ -9,7 +9,7 @@ ghost use Rattle.starlark_grammar.specs.Lengths.{longest_len};
 ghost use Rattle.starlark_token.specs.Joints.Words.{begins_number, word_view};
 ghost use Rattle.starlark_grammar.specs.Words as grammar;
 
-use super::class::{Class, Word};
+use super::{Class, Word};
 
 fn digits_len(text: &[u8]) -> usize
     ensures value { result ≡ prefix_len is_ascii_digit text.now }

@@ -4,14 +4,14 @@ ghost use Rattle.std.specs.Prelude.{◌≡◌};
 ghost use Rattle.std.specs.Map.{lookup};
 ghost use Rattle.std.specs.Option.{option_map};
 ghost use Rattle.std.specs.Str.{bytes_eq};
-ghost use Rattle.starlark_token.specs.Joints.Words.{class_view, kind_view, quote_view};
 ghost use Rattle.starlark_grammar.specs.Words as grammar;
+ghost use Rattle.starlark_grammar.specs.declared.class.Class.TheVariants as class;
 
-use super::class::{Class, LiteralKind, Quote};
+use super::{Class, LiteralKind, Quote};
 
 /// The opener of a literal of the given kind.
 fn opener(kind: LiteralKind, is_raw: bool, quote: Quote) -> Class
-    ensures { class_view result ≡ grammar.Opener (kind_view kind) is_raw (quote_view quote) }
+    ensures { result ≡ class.Opener kind is_raw quote }
 {
     Class::Opener {
         kind,
@@ -22,7 +22,7 @@ fn opener(kind: LiteralKind, is_raw: bool, quote: Quote) -> Class
 
 /// The opener that a word is, if it is one.
 pub fn opener_class(word: &str) -> Option<Class>
-    ensures { option_map class_view result ≡ lookup (bytes_eq word.now) grammar.openers }
+    ensures { result ≡ lookup (bytes_eq word.now) grammar.openers }
 {
     match word {
         "'" => Some(opener(LiteralKind::Text, false, Quote::Single)),

@@ -4,7 +4,6 @@ ghost use Rattle.std.specs.Prelude.{◌≡◌, ◌++◌, [], not, string_bytes, 
 ghost use Rattle.std.specs.Str.{IsCharBoundary};
 ghost use Rattle.starlark_grammar.specs.Items as grammar;
 ghost use Rattle.starlark_syntax.specs.Joints.Literals.{IsBody, IsCharacters, Takes, bytes_of, holds_text, literal_view, value_view};
-ghost use Rattle.starlark_token.specs.Joints.Words.{kind_view};
 
 use super::items::{Found, Literal, Stop, Value, found_at};
 use starlark_token::scanner::LiteralKind;
@@ -20,7 +19,7 @@ pub enum LiteralValue {
 impl LiteralValue {
     fn new(alloc: Global, kind: LiteralKind) -> Self
         ensures bytes { bytes_of result ≡ [] }
-        ensures kind { holds_text result ≡ not (grammar.is_of_bytes (kind_view kind)) }
+        ensures kind { holds_text result ≡ not (grammar.is_of_bytes kind) }
     {
         match kind {
             LiteralKind::Bytes => LiteralValue::Bytes(Vec::new(alloc)),
@@ -75,7 +74,7 @@ pub struct Body {
 /// The body at the front of a text.
 pub fn read_body(alloc: Global, literal: Literal, text: &str) -> Result<Body, AllocError>
     ensures body { IfOk result (IsBody (grammar.body_at (literal_view literal) text.now)) }
-    ensures kind { IfOk result (λ body. holds_text body.value ≡ not (grammar.is_of_bytes (kind_view literal.kind))) }
+    ensures kind { IfOk result (λ body. holds_text body.value ≡ not (grammar.is_of_bytes literal.kind)) }
     ensures boundary { IfOk result (λ body. IsCharBoundary text.now body.len) }
 {
     let mut value = LiteralValue::new(alloc, literal.kind);

@@ -7,7 +7,6 @@ ghost use Rattle.std.specs.Map.{lookup};
 ghost use Rattle.starlark_grammar.specs.Characters as characters;
 ghost use Rattle.starlark_grammar.specs.Items as grammar;
 ghost use Rattle.starlark_syntax.specs.Joints.Literals.{IsCharacters, IsText, found_view, value_view};
-ghost use Rattle.starlark_token.specs.Joints.Words.{kind_view};
 ghost use Rattle.starlark_grammar.specs.Words.{is_octal_digit};
 
 use super::items::{Found, Item, Stop, Value, behind_first, part};
@@ -177,7 +176,7 @@ fn simple(first: u8, text: &str) -> Found<'_>
 }
 
 fn is_of_bytes(kind: LiteralKind) -> bool
-    ensures { result ≡ grammar.is_of_bytes (kind_view kind) }
+    ensures { result ≡ grammar.is_of_bytes kind }
 {
     matches!(kind, LiteralKind::Bytes)
 }
@@ -185,8 +184,8 @@ fn is_of_bytes(kind: LiteralKind) -> bool
 /// An escape, by the text from its backslash on.
 pub fn escape(kind: LiteralKind, text: &str) -> Found<'_>
     requires { text.now ≡ 92 ∷ drop 1 text.now }
-    ensures value { found_view result ≡ grammar.escape (kind_view kind) (drop 1 text.now) }
-    ensures text { grammar.is_of_bytes (kind_view kind) ≡ false → IsText result }
+    ensures value { found_view result ≡ grammar.escape kind (drop 1 text.now) }
+    ensures text { grammar.is_of_bytes kind ≡ false → IsText result }
 {
     let behind = behind_first(text);
     let Some(first) = behind.as_bytes().first() else {

@@ -4,9 +4,8 @@ ghost use Rattle.std.specs.Prelude.{◌≡◌, ◌<◌, ◌==◌, ◌&&◌, ◌�
 ghost use Rattle.starlark_grammar.specs.Characters as characters;
 ghost use Rattle.starlark_grammar.specs.Items as grammar;
 ghost use Rattle.starlark_syntax.specs.Joints.Literals.{IsText, found_view, literal_view, opening_view};
-ghost use Rattle.starlark_token.specs.Joints.Words.{kind_view, quote_view};
-ghost use Rattle.starlark_token.specs.TokenViews.{opening_view as token_opening};
-ghost use Rattle.starlark_grammar.specs.Words.{OfFString};
+ghost use Rattle.starlark_token.specs.TokenViews.{fstring_quote_view};
+ghost use Rattle.starlark_grammar.specs.declared.class.LiteralKind.TheVariants.{FString as OfFString};
 
 use super::escapes::escape;
 use starlark_token::fstring_style::FStringQuote;
@@ -23,7 +22,7 @@ pub struct Opening {
 impl Opening {
     /// The quotes, which a token tells.
     pub fn quotes(self) -> FStringQuote
-        ensures { token_opening result ≡ record { is_raw = false; quote = quote_view self.quote; is_triple = self.is_triple } }
+        ensures { fstring_quote_view result ≡ record { is_raw = false; quote = self.quote; is_triple = self.is_triple } }
     {
         match (self.quote, self.is_triple) {
             (Quote::Single, false) => FStringQuote::Single,
@@ -105,7 +104,7 @@ pub fn closing_len(opening: Opening) -> usize
 }
 
 fn is_quote(quote: Quote, byte: u8) -> bool
-    ensures { result ≡ (byte == grammar.quote_byte (quote_view quote)) }
+    ensures { result ≡ (byte == grammar.quote_byte quote) }
 {
     match quote {
         Quote::Single => byte == b'\'',
@@ -115,7 +114,7 @@ fn is_quote(quote: Quote, byte: u8) -> bool
 
 /// Whether a raw backslash is dropped before a byte.
 fn drops_backslash(kind: LiteralKind, quote: Quote, byte: u8) -> bool
-    ensures { result ≡ grammar.drops_backslash (kind_view kind) (quote_view quote) byte }
+    ensures { result ≡ grammar.drops_backslash kind quote byte }
 {
     match kind {
         LiteralKind::FString => is_quote(quote, byte),
@@ -142,7 +141,7 @@ pub fn first_character(text: &str) -> &str
 /// A backslash that stands for itself or is dropped, and the character that it takes, by the text behind it.
 fn raw_pair(literal: Literal, text: &str) -> Found<'_>
     requires { text.now ≡ 92 ∷ drop 1 text.now }
-    ensures value { found_view result ≡ grammar.raw_pair (kind_view literal.kind) (quote_view literal.opening.quote) (drop 1 text.now) }
+    ensures value { found_view result ≡ grammar.raw_pair literal.kind literal.opening.quote (drop 1 text.now) }
     ensures text { IsText result }
 {
     let behind = behind_first(text);
@@ -175,7 +174,7 @@ fn brace(first: u8, text: &str) -> Found<'_>
 }
 
 fn is_brace(kind: LiteralKind, byte: u8) -> bool
-    ensures { result ≡ grammar.is_brace (kind_view kind) byte }
+    ensures { result ≡ grammar.is_brace kind byte }
 {
     match kind {
         LiteralKind::FString => byte == b'{' || byte == b'}',
@@ -193,7 +192,7 @@ fn ends_line(opening: Opening, byte: u8) -> bool
 /// What stands at the front of the rest of a body.
 pub fn found_at(literal: Literal, text: &str) -> Found<'_>
     ensures value { found_view result ≡ grammar.found_at (literal_view literal) text.now }
-    ensures text { grammar.is_of_bytes (kind_view literal.kind) ≡ false → IsText result }
+    ensures text { grammar.is_of_bytes literal.kind ≡ false → IsText result }
 {
     let bytes = text.as_bytes();
     let Some(first) = bytes.first() else {

@@ -1,16 +1,16 @@
 //! String and bytes literals as lexemes.
 
 ghost use Rattle.std.specs.Prelude.{◌≡◌, ◌≢◌, ◌+◌, ◌<◌, ◌^◌, Some, false, length, not, IfOk};
-ghost use Rattle.starlark_grammar.specs.Depths.{Where};
+ghost use Rattle.starlark_grammar.specs.Depths.{Mode};
 ghost use Rattle.starlark_grammar.specs.Items as items;
-ghost use Rattle.starlark_syntax.specs.Joints.Steps.{IsStep, begins_fstring, text_end_node};
+ghost use Rattle.starlark_syntax.specs.Joints.Steps.{IsStep, is_fstring_start, text_end_node};
 ghost use Rattle.starlark_syntax.specs.Lexemes.{fault_view};
 ghost use Rattle.starlark_grammar.specs.Cuts.{is_outside};
 ghost use Rattle.starlark_syntax.specs.Joints.Literals.{bytes_of, holds_text, opening_view};
 ghost use Rattle.starlark_grammar.specs.Pieces as grammar;
-ghost use Rattle.starlark_token.specs.Joints.Words.{kind_view, quote_view};
 ghost use Rattle.starlark_token.specs.TokenViews.{Whole, token_view};
-ghost use Rattle.starlark_grammar.specs.Words.{Kind, OfFString};
+ghost use Rattle.starlark_grammar.specs.declared.class.LiteralKind.{LiteralKind as Kind};
+ghost use Rattle.starlark_grammar.specs.declared.class.LiteralKind.TheVariants.{FString as OfFString};
 
 use super::body::{LiteralValue, read_body};
 use super::items::{Literal, Opening, Stop, closing_len};
@@ -72,7 +72,7 @@ fn is_plain(opening: Opening, text: &[u8]) -> bool
 
 /// The fault of a literal that isn't closed, by the text behind its opening.
 fn unfinished(outside: bool, literal: Literal, behind: &str) -> LexemeError
-    ensures { (place : Where) → is_outside place ≡ outside → fault_view result ≡ Some (grammar.unfinished place (kind_view literal.kind) (opening_view literal.opening) behind.now) }
+    ensures { (place : Mode) → is_outside place ≡ outside → fault_view result ≡ Some (grammar.unfinished place literal.kind (opening_view literal.opening) behind.now) }
 {
     if !outside
         && literal.kind == LiteralKind::Text
@@ -86,7 +86,7 @@ fn unfinished(outside: bool, literal: Literal, behind: &str) -> LexemeError
 
 fn literal_token(value: LiteralValue) -> Token
     ensures token { (kind : Kind) → holds_text value ≡ not (items.is_of_bytes kind) → token_view result ≡ Whole (grammar.literal_token kind (bytes_of value)) }
-    ensures own { (kind : Kind) → begins_fstring (grammar.literal_token kind (bytes_of value)) ≡ false }
+    ensures own { (kind : Kind) → is_fstring_start (grammar.literal_token kind (bytes_of value)) ≡ false }
 {
     match value {
         LiteralValue::Text(text) => Token::String(text),
@@ -123,7 +123,7 @@ fn literal_from(
     behind: &str,
 ) -> Result<Step, AllocError>
     requires { len + length behind.now < 2 ^ 64 }
-    ensures { IfOk result (λ step. (place : Where) → is_outside place ≡ outside → IsStep (grammar.literal place (kind_view literal.kind) (opening_view literal.opening) len behind.now) step) }
+    ensures { IfOk result (λ step. (place : Mode) → is_outside place ≡ outside → IsStep (grammar.literal place literal.kind (opening_view literal.opening) len behind.now) step) }
 {
     let body = read_body(alloc, literal, behind)?;
     match body.stop {
@@ -153,7 +153,7 @@ fn literal_from(
 
 /// Whether two more of its quotes stand behind an opener.
 fn is_triple(quote: Quote, behind: &str) -> bool
-    ensures { result ≡ (grammar.opening_of false (quote_view quote) behind.now).is_triple }
+    ensures { result ≡ (grammar.opening_of false quote behind.now).is_triple }
 {
     let quotes = match quote {
         Quote::Single => "''",
@@ -164,7 +164,7 @@ fn is_triple(quote: Quote, behind: &str) -> bool
 
 /// How a literal begins, by its opener and the text behind that.
 pub fn opening_of(is_raw: bool, quote: Quote, behind: &str) -> Opening
-    ensures { opening_view result ≡ grammar.opening_of is_raw (quote_view quote) behind.now }
+    ensures { opening_view result ≡ grammar.opening_of is_raw quote behind.now }
 {
     Opening {
         is_raw,
@@ -183,10 +183,10 @@ pub fn literal_piece(
     len: usize,
     behind: &str,
 ) -> Result<Step, AllocError>
-    requires kind { kind_view kind ≢ OfFString }
+    requires kind { kind ≢ OfFString }
     requires fits { len + length behind.now < 2 ^ 64 }
-    ensures { IfOk result (λ step. (place : Where) → is_outside place ≡ outside →
-        IsStep (grammar.opener place (kind_view kind) (grammar.opening_of is_raw (quote_view quote) behind.now) len behind.now) step) }
+    ensures { IfOk result (λ step. (place : Mode) → is_outside place ≡ outside →
+        IsStep (grammar.opener place kind (grammar.opening_of is_raw quote behind.now) len behind.now) step) }
 {
     let opening = Opening {
         is_raw,

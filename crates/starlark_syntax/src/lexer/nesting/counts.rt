@@ -3,7 +3,7 @@
 ghost use Rattle.std.specs.Prelude.{◌≡◌, ◌+◌, ◌<◌, ◌^◌, ◌∷◌, [], List};
 ghost use Rattle.starlark_grammar.specs.Depths as depths;
 ghost use Rattle.starlark_syntax.specs.Joints.Literals.{opening_view};
-ghost use Rattle.starlark_syntax.specs.Joints.Nesting.{brackets_of, change_by, closes, fstring_of, fstring_view, opens, place_view};
+ghost use Rattle.starlark_syntax.specs.Joints.Nesting.{brackets_of, change_by, closes, fstring_of, fstring_view, opens, mode_view};
 ghost use Rattle.starlark_token.specs.TokenViews.{Whole};
 ghost use Rattle.starlark_grammar.specs.Tokens as grammar;
 
@@ -86,7 +86,7 @@ impl OpenFString {
 
     /// Where the end of its tokens is.
     pub fn place(&self) -> Place
-        ensures { (found : grammar.Opening × List grammar.Token) → fstring_view self.now ≡ fstring_of found → place_view result ≡ depths.inside found }
+        ensures { (found : grammar.Opening × List grammar.Token) → fstring_view self.now ≡ fstring_of found → mode_view result ≡ depths.inside found }
     {
         let Some(curly) = self.expression else {
             return Place::InText(self.opening);

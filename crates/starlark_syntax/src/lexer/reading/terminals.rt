@@ -1,10 +1,9 @@
 //! Keywords and symbols as tokens.
 
 ghost use Rattle.std.specs.Prelude.{◌≡◌, false};
-ghost use Rattle.starlark_syntax.specs.Joints.Steps.{begins_fstring};
-ghost use Rattle.starlark_syntax.specs.Joints.Nesting.{place_view};
+ghost use Rattle.starlark_syntax.specs.Joints.Steps.{is_fstring_start};
+ghost use Rattle.starlark_syntax.specs.Joints.Nesting.{mode_view};
 ghost use Rattle.starlark_grammar.specs.Pieces as grammar;
-ghost use Rattle.starlark_token.specs.Joints.Words.{terminal_view};
 ghost use Rattle.starlark_token.specs.TokenViews.{Whole, token_view};
 ghost use Rattle.starlark_grammar.specs.Tokens.{Word};
 
@@ -15,7 +14,7 @@ use starlark_token::tokens::Token;
 #[tactic(auto, unfolding(starlark_token::specs::TokenViews::token_view))]
 /// The token of a word that is one of its own.
 fn own_token(terminal: Terminal) -> Token
-    ensures { token_view result ≡ Whole (Word (terminal_view terminal)) }
+    ensures { token_view result ≡ Whole (Word terminal) }
 {
     match terminal {
         Terminal::And => Token::And,
@@ -82,8 +81,8 @@ fn own_token(terminal: Terminal) -> Token
 #[tactic(auto, unfolding(starlark_token::specs::TokenViews::token_view))]
 /// The token of such a word at a place. At the top of an expression of an f-string a closing brace ends the expression.
 pub fn terminal_token(place: Place, terminal: Terminal) -> Token
-    ensures token { token_view result ≡ Whole (grammar.terminal_token (place_view place) (terminal_view terminal)) }
-    ensures own { begins_fstring (grammar.terminal_token (place_view place) (terminal_view terminal)) ≡ false }
+    ensures token { token_view result ≡ Whole (grammar.terminal_token (mode_view place) terminal) }
+    ensures own { is_fstring_start (grammar.terminal_token (mode_view place) terminal) ≡ false }
 {
     match place {
         Place::AtTop => match terminal {

@@ -6,8 +6,8 @@ ghost use Rattle.starlark_syntax.specs.Joints.Steps.{IsStep};
 ghost use Rattle.starlark_grammar.specs.Numbers.{integer_of};
 ghost use Rattle.starlark_grammar.specs.Pieces as grammar;
 ghost use Rattle.starlark_grammar.specs.Tokens as tokens;
-ghost use Rattle.starlark_grammar.specs.Words as class;
-ghost use Rattle.starlark_grammar.specs.Words.{class_in, is_run, language};
+ghost use Rattle.starlark_grammar.specs.declared.class.Class.TheVariants as class;
+ghost use Rattle.starlark_grammar.specs.Words.{Text, class_in, is_run, language};
 
 use crate::lexer::literal::Step;
 use starlark_error::lexeme_error::LexemeError;
@@ -94,7 +94,7 @@ fn starts_zero(word: &[u8]) -> bool
 /// A decimal integer. One that begins with a 0 too many is a fault.
 pub fn decimal(alloc: Global, word: &str) -> Result<Step, AllocError>
     requires { class_in language word.now ≡ Some class.Decimal }
-    ensures { IfOk result (λ step. (s : grammar.Situation) (behind : class.Text) → IsStep (grammar.word_step s class.Decimal word.now behind) step) }
+    ensures { IfOk result (λ step. (s : grammar.Situation) (behind : Text) → IsStep (grammar.word_step s class.Decimal word.now behind) step) }
 {
     if starts_zero(word.as_bytes()) {
         return Ok(Step::Fault {

@@ -58,4 +58,4 @@ returns-in_default c =
     let number : begins_number c.args.text.now ≡ false = sym (ap begins_number c.as_bytes-bytes.ensures.value) ∙ sym c.if-begins_number.ensures in
     c.mark_from.ensures
     ∙ ap (longest_front (class_in marks)) c.as_bytes-bytes.ensures.value
-    ∙ sym (front_mark c.args.text.now b first small (omega arith) (omega arith) (omega arith) (omega arith) (omega arith) (sym c.if-begins_name.ensures) number)
+    ∙ sym (front_mark c.args.text.now b first small (omega arith) (omega arith) (omega arith) (omega arith) (omega arith) (sym c.if-is_name_start.ensures) number)

@@ -1,9 +1,9 @@
 use Rattle.std.proofs.Common.{◌≡◌, Bool, true, false, [], ◌∷◌, length, refl, ap, sym, ◌∙◌, arith}
 use Rattle.std.specs.Prelude.{◌&&◌, ◌==◌}
-use Rattle.starlark_grammar.specs.Depths.{Where, InText}
+use Rattle.starlark_grammar.specs.Depths.{Mode, InText}
 use Rattle.starlark_grammar.specs.Front.{language_front}
 use Rattle.starlark_syntax.specs.Joints.Literals.{opening_view}
-use Rattle.starlark_syntax.specs.Joints.Nesting.{place_view}
+use Rattle.starlark_syntax.specs.Joints.Nesting.{mode_view}
 use Rattle.starlark_grammar.specs.Pieces.{Situation, Before, Nothing, Layout, Gap, Other, Ends, token, chunk, front_step, takes_bang, is_bang, in_code, by_place, by_before, step_at}
 use Rattle.starlark_syntax.specs.Joints.Pieces.{IsBehind}
 use Rattle.starlark_token.specs.TokenViews.{token_view}
@@ -31,10 +31,10 @@ in_text : (follows_gap : Bool) (s : Situation) (text : Text) (opening : Opening)
 in_text follows_gap s text opening behind here = by_read follows_gap s text behind ∙ ap (λ p. by_place language s p text) here
 
 -- and elsewhere
-elsewhere : (follows_gap : Bool) (s : Situation) (text : Text) (at : Place) → ((opening : code.Opening) → at ≡ place.InText opening → ⊥) → IsBehind follows_gap s.before → s.place ≡ place_view at → step_at language s text ≡ in_code language s text
+elsewhere : (follows_gap : Bool) (s : Situation) (text : Text) (at : Place) → ((opening : code.Opening) → at ≡ place.InText opening → ⊥) → IsBehind follows_gap s.before → s.place ≡ mode_view at → step_at language s text ≡ in_code language s text
 elsewhere follows_gap s text at other behind here = by_read follows_gap s text behind ∙ ap (λ p. by_place language s p text) here ∙ go at other
   where
-    go : (at : Place) → ((opening : code.Opening) → at ≡ place.InText opening → ⊥) → by_place language s (place_view at) text ≡ in_code language s text
+    go : (at : Place) → ((opening : code.Opening) → at ≡ place.InText opening → ⊥) → by_place language s (mode_view at) text ≡ in_code language s text
     go place.Outside other = refl
     go (place.InText opening) other = absurd (other opening refl)
     go place.AtTop other = refl
@@ -56,11 +56,11 @@ code_front s [] some bang = grind arith
 code_front s (b ∷ bs) some bang = rw bang refl
 
 -- whether a bang stands, by the situation
-bang_by : (s : Situation) (text : Text) (at : Where) (stands known : Bool) → s.place ≡ at → stands ≡ (takes_bang at s.before && is_bang text) → stands ≡ known → (takes_bang s.place s.before && is_bang text) ≡ known
+bang_by : (s : Situation) (text : Text) (at : Mode) (stands known : Bool) → s.place ≡ at → stands ≡ (takes_bang at s.before && is_bang text) → stands ≡ known → (takes_bang s.place s.before && is_bang text) ≡ known
 bang_by s text at stands known here is e = ap (λ p. takes_bang p s.before && is_bang text) here ∙ sym is ∙ e
 
 pub returns-in-InText : goal.returns-in-InText
-returns-in-InText c = λ s here balanced behind. rw (in_text c.args.follows_gap s c.args.text.now (opening_view c.in-InText.opening) behind (here ∙ ap place_view c.in-InText.is)) c.in_ok-chunk_from.ensures
+returns-in-InText c = λ s here balanced behind. rw (in_text c.args.follows_gap s c.args.text.now (opening_view c.in-InText.opening) behind (here ∙ ap mode_view c.in-InText.is)) c.in_ok-chunk_from.ensures
 
 pub returns-then-is_empty : goal.returns-then-is_empty
 returns-then-is_empty c = λ s here balanced behind.
@@ -71,11 +71,11 @@ pub returns-then-bang_stands : goal.returns-then-bang_stands
 unfolding token_view
 returns-then-bang_stands c = λ s here balanced behind.
     let some : (length c.args.text.now == 0) ≡ false = sym c.is_empty.ensures ∙ c.if-is_empty.false in
-    let bang = bang_by s c.args.text.now (place_view c.args.place) c.bang_stands.result true here (c.bang_stands.ensures s.before behind) c.if-bang_stands.true in
+    let bang = bang_by s c.args.text.now (mode_view c.args.place) c.bang_stands.result true here (c.bang_stands.ensures s.before behind) c.if-bang_stands.true in
     (FStringBang, refl, refl, elsewhere c.args.follows_gap s c.args.text.now c.args.place c.in_default.not-InText behind here ∙ code_bang s c.args.text.now some bang)
 
 pub returns : goal.returns
 returns c = if_ok _ _ c.code_piece.result (λ piece is s here balanced behind.
     let some : (length c.args.text.now == 0) ≡ false = sym c.is_empty.ensures ∙ c.if-is_empty.false in
-    let no_bang = bang_by s c.args.text.now (place_view c.args.place) c.bang_stands.result false here (c.bang_stands.ensures s.before behind) c.if-bang_stands.false in
+    let no_bang = bang_by s c.args.text.now (mode_view c.args.place) c.bang_stands.result false here (c.bang_stands.ensures s.before behind) c.if-bang_stands.false in
     rw (elsewhere c.args.follows_gap s c.args.text.now c.args.place c.in_default.not-InText behind here, code_front s c.args.text.now some no_bang) (is s here balanced)) c.code_piece.ensures

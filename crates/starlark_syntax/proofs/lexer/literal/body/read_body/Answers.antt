@@ -5,7 +5,6 @@ use Rattle.std.specs.Str.{IsCharBoundary}
 use Rattle.starlark_grammar.specs.Items as grammar
 use Rattle.starlark_grammar.specs.Words.{Text}
 use Rattle.starlark_syntax.specs.Joints.Literals.{bytes_of, literal_view, stop_view, value_view}
-use Rattle.starlark_token.specs.Joints.Words.{kind_view}
 use Rattle.starlark_syntax.proofs.Literals.BodySteps.{front_none, front_more, front_stops, item_fits, takes}
 use Rattle.starlark_grammar.proofs.Order.Edges.{boundary_shift}
 use Rattle.starlark_syntax.proofs.Literals.ItemEdges.{item_edge}
@@ -22,7 +21,7 @@ pub range_from-requires : goal.range_from-requires
 range_from-requires c = λ some. c.loop-item.invariant.boundary
 
 pub append-requires : goal.append-requires
-append-requires c = takes c.loop-item.value c.in-Goes.item.value (grammar.is_of_bytes (kind_view c.args.literal.kind)) c.loop-item.invariant.kind (λ kind. c.in-Goes.ensures.text kind)
+append-requires c = takes c.loop-item.value c.in-Goes.item.value (grammar.is_of_bytes c.args.literal.kind) c.loop-item.invariant.kind (λ kind. c.in-Goes.ensures.text kind)
 
 pub overflow_add-len : goal.overflow_add-len
 overflow_add-len c =

@@ -2,14 +2,13 @@ use Rattle.std.proofs.Common.{◌≡◌, ◌-◌, length, not}
 use Rattle.std.specs.Str.{IsCharBoundary}
 use Rattle.starlark_grammar.specs.Items as grammar
 use Rattle.starlark_syntax.specs.Joints.Literals.{bytes_of, holds_text, literal_view}
-use Rattle.starlark_token.specs.Joints.Words.{kind_view}
 use Rattle.starlark_syntax.proofs.Literals.BodySteps.{IsFront}
 use Rattle.starlark_syntax.proofs.lexer.literal.body.read_body.Given as goal
 
 abbrev pub invariant-loop-item : goal.invariant-loop-item
 invariant-loop-item l = record {
   front : IsFront (literal_view l.literal) l.text l.len (bytes_of l.value);
-  kind : holds_text l.value ≡ not (grammar.is_of_bytes (kind_view l.literal.kind));
+  kind : holds_text l.value ≡ not (grammar.is_of_bytes l.literal.kind);
   boundary : IsCharBoundary l.text l.len;
 }
 

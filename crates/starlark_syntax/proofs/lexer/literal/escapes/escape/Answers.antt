@@ -1,7 +1,6 @@
 use Rattle.std.proofs.Common.{◌≡◌, ◌∙◌, true, false, drop, sym, ap, Some, None, arith}
 use Rattle.std.specs.List.{slice_get}
 use Rattle.starlark_grammar.specs.Items.{escape, octal}
-use Rattle.starlark_token.specs.Joints.Words.{kind_view}
 use Rattle.starlark_grammar.specs.Words.{is_octal_digit}
 use Rattle.starlark_syntax.proofs.Literals.Escapes.{with_first, escape_end, escape_feed, escape_return, escape_x, escape_u, escape_long, escape_octal, escape_other}
 use Rattle.starlark_syntax.proofs.lexer.literal.escapes.escape.Goals as goal
@@ -20,7 +19,7 @@ returns-then-is_octal_digit-clause-value c =
     let behind = c.behind_first-behind.ensures in
     let bytes = c.as_bytes.ensures.value in
     let first : slice_get (drop 1 c.args.text.now) 0 ≡ Some c.in-Some.first.now = cc in
-    let text = ap (escape (kind_view c.args.kind)) (with_first (drop 1 c.args.text.now) c.in-Some.first.now first) in
+    let text = ap (escape c.args.kind) (with_first (drop 1 c.args.text.now) c.in-Some.first.now first) in
     let digit : is_octal_digit c.in-Some.first.now ≡ true = sym c.is_octal_digit.ensures ∙ c.if-is_octal_digit.true in
     rw (c.octal.ensures.value, c.is_of_bytes-is_byte.ensures, behind) (sym (text ∙ escape_octal _ _ _ digit ∙ ap (octal _) (sym (with_first _ c.in-Some.first.now first))))
 
@@ -31,7 +30,7 @@ returns-in-10-clause-value c =
     let behind = c.behind_first-behind.ensures in
     let bytes = c.as_bytes.ensures.value in
     let first : slice_get (drop 1 c.args.text.now) 0 ≡ Some 10 = cc in
-    let text = ap (escape (kind_view c.args.kind)) (with_first (drop 1 c.args.text.now) 10 first) in
+    let text = ap (escape c.args.kind) (with_first (drop 1 c.args.text.now) 10 first) in
     c.part.ensures.value ∙ sym (text ∙ escape_feed _ _)
 
 pub returns-in-13-clause-value : goal.returns-in-13-clause-value
@@ -41,7 +40,7 @@ returns-in-13-clause-value c =
     let behind = c.behind_first-behind.ensures in
     let bytes = c.as_bytes.ensures.value in
     let first : slice_get (drop 1 c.args.text.now) 0 ≡ Some 13 = cc in
-    let text = ap (escape (kind_view c.args.kind)) (with_first (drop 1 c.args.text.now) 13 first) in
+    let text = ap (escape c.args.kind) (with_first (drop 1 c.args.text.now) 13 first) in
     rw (c.escaped_feed.ensures.value, c.behind_first.ensures, behind) (sym (text ∙ escape_return _ _))
 
 pub returns-in-120-clause-value : goal.returns-in-120-clause-value
@@ -51,7 +50,7 @@ returns-in-120-clause-value c =
     let behind = c.behind_first-behind.ensures in
     let bytes = c.as_bytes.ensures.value in
     let first : slice_get (drop 1 c.args.text.now) 0 ≡ Some 120 = cc in
-    let text = ap (escape (kind_view c.args.kind)) (with_first (drop 1 c.args.text.now) 120 first) in
+    let text = ap (escape c.args.kind) (with_first (drop 1 c.args.text.now) 120 first) in
     rw (c.hexadecimal.ensures.value, c.is_of_bytes-is_byte.ensures, c.behind_first-in-120.ensures, behind) (sym (text ∙ escape_x _ _))
 
 pub returns-in-117-clause-value : goal.returns-in-117-clause-value
@@ -61,7 +60,7 @@ returns-in-117-clause-value c =
     let behind = c.behind_first-behind.ensures in
     let bytes = c.as_bytes.ensures.value in
     let first : slice_get (drop 1 c.args.text.now) 0 ≡ Some 117 = cc in
-    let text = ap (escape (kind_view c.args.kind)) (with_first (drop 1 c.args.text.now) 117 first) in
+    let text = ap (escape c.args.kind) (with_first (drop 1 c.args.text.now) 117 first) in
     rw (c.hexadecimal-in-117.ensures.value, c.behind_first-in-117.ensures, behind) (sym (text ∙ escape_u _ _))
 
 pub returns-in-85-clause-value : goal.returns-in-85-clause-value
@@ -71,7 +70,7 @@ returns-in-85-clause-value c =
     let behind = c.behind_first-behind.ensures in
     let bytes = c.as_bytes.ensures.value in
     let first : slice_get (drop 1 c.args.text.now) 0 ≡ Some 85 = cc in
-    let text = ap (escape (kind_view c.args.kind)) (with_first (drop 1 c.args.text.now) 85 first) in
+    let text = ap (escape c.args.kind) (with_first (drop 1 c.args.text.now) 85 first) in
     rw (c.hexadecimal-in-85.ensures.value, c.behind_first-in-85.ensures, behind) (sym (text ∙ escape_long _ _))
 
 pub returns-in_default-first-clause-value : goal.returns-in_default-first-clause-value
@@ -81,4 +80,4 @@ returns-in_default-first-clause-value c =
     let bytes = c.as_bytes.ensures.value in
     let first : slice_get (drop 1 c.args.text.now) 0 ≡ Some c.in-Some.first.now = cc in
     let other : is_octal_digit c.in-Some.first.now ≡ false = sym c.is_octal_digit.ensures ∙ c.if-is_octal_digit.false in
-    c.simple.ensures.value ∙ sym (escape_other (kind_view c.args.kind) (drop 1 c.args.text.now) c.in-Some.first.now first other (omega arith) (omega arith) (omega arith) (omega arith) (omega arith))
+    c.simple.ensures.value ∙ sym (escape_other c.args.kind (drop 1 c.args.text.now) c.in-Some.first.now first other (omega arith) (omega arith) (omega arith) (omega arith) (omega arith))

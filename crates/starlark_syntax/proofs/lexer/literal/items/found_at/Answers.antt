@@ -2,7 +2,6 @@ use Rattle.std.proofs.Common.{◌≡◌, ◌∙◌, true, false, sym, refl, Some
 use Rattle.std.specs.List.{slice_get}
 use Rattle.starlark_grammar.specs.Items.{is_brace}
 use Rattle.starlark_syntax.specs.Joints.Literals.{literal_view}
-use Rattle.starlark_token.specs.Joints.Words.{kind_view}
 use Rattle.starlark_syntax.proofs.Literals.Found.{closes, ends_line, at_end, at_closing, at_line, at_return, at_raw, at_escape, at_brace, at_plain}
 use Rattle.starlark_syntax.proofs.lexer.literal.items.found_at.Goals as goal
 
@@ -68,7 +67,7 @@ returns-then-is_brace-clause-value c =
     let same : c.starts_with.result ≡ closes (literal_view c.args.literal) c.args.text.now = rw (c.starts_with.ensures.value, c.as_bytes.ensures.value, c.closing_quotes.ensures, bytes) refl in
     let stays : closes (literal_view c.args.literal) c.args.text.now ≡ false = sym same ∙ c.if-starts_with.false in
     let line : ends_line (literal_view c.args.literal) c.in-Some.first.now ≡ false = sym c.ends_line.ensures ∙ c.if-ends_line.false in
-    let braced : is_brace (kind_view c.args.literal.kind) c.in-Some.first.now ≡ true = sym c.is_brace.ensures ∙ c.if-is_brace.true in
+    let braced : is_brace c.args.literal.kind c.in-Some.first.now ≡ true = sym c.is_brace.ensures ∙ c.if-is_brace.true in
     c.brace.ensures.value ∙ sym (at_brace (literal_view c.args.literal) c.args.text.now c.in-Some.first.now first stays line c.if-byte-eq13.false c.if-byte-eq92.false braced)
 
 pub returns-clause-value : goal.returns-clause-value
@@ -79,6 +78,6 @@ returns-clause-value c =
     let same : c.starts_with.result ≡ closes (literal_view c.args.literal) c.args.text.now = rw (c.starts_with.ensures.value, c.as_bytes.ensures.value, c.closing_quotes.ensures, bytes) refl in
     let stays : closes (literal_view c.args.literal) c.args.text.now ≡ false = sym same ∙ c.if-starts_with.false in
     let line : ends_line (literal_view c.args.literal) c.in-Some.first.now ≡ false = sym c.ends_line.ensures ∙ c.if-ends_line.false in
-    let braced : is_brace (kind_view c.args.literal.kind) c.in-Some.first.now ≡ false = sym c.is_brace.ensures ∙ c.if-is_brace.false in
+    let braced : is_brace c.args.literal.kind c.in-Some.first.now ≡ false = sym c.is_brace.ensures ∙ c.if-is_brace.false in
     let plain = at_plain (literal_view c.args.literal) c.args.text.now c.in-Some.first.now first stays line c.if-byte-eq13.false c.if-byte-eq92.false braced in
     rw (c.part-2.ensures.value, c.first_character-character.ensures) (sym plain)

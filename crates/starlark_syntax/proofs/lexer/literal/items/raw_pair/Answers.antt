@@ -2,7 +2,6 @@ use Rattle.std.proofs.Common.{◌≡◌, ◌∙◌, true, false, drop, sym, Some
 use Rattle.std.proofs.Math.Nat.{sub-zero}
 use Rattle.std.specs.List.{slice_get}
 use Rattle.starlark_grammar.specs.Items.{drops_backslash}
-use Rattle.starlark_token.specs.Joints.Words.{kind_view, quote_view}
 use Rattle.starlark_syntax.proofs.Literals.Found.{raw_end, raw_dropped, raw_kept, cut_behind}
 use Rattle.starlark_syntax.proofs.lexer.literal.items.raw_pair.Goals as goal
 
@@ -12,7 +11,7 @@ returns-in_default-clause-value c =
     let behind = c.behind_first-behind.ensures in
     let bytes = c.as_bytes.ensures.value in
     let end : slice_get (drop 1 c.args.text.now) 0 ≡ None = cc in
-    sym (raw_end (kind_view c.args.literal.kind) (quote_view c.args.literal.opening.quote) (drop 1 c.args.text.now) end)
+    sym (raw_end c.args.literal.kind c.args.literal.opening.quote (drop 1 c.args.text.now) end)
 
 pub returns-then-drops_backslash-clause-value : goal.returns-then-drops_backslash-clause-value
 returns-then-drops_backslash-clause-value c =
@@ -20,8 +19,8 @@ returns-then-drops_backslash-clause-value c =
     let behind = c.behind_first-behind.ensures in
     let bytes = c.as_bytes.ensures.value in
     let first : slice_get (drop 1 c.args.text.now) 0 ≡ Some c.in-Some.first.now = cc in
-    let drops : drops_backslash (kind_view c.args.literal.kind) (quote_view c.args.literal.opening.quote) c.in-Some.first.now ≡ true = sym c.drops_backslash.ensures ∙ c.if-drops_backslash.true in
-    rw (c.part.ensures.value, c.first_character.ensures, c.first_character_len-len.ensures.whole, behind) (sym (raw_dropped (kind_view c.args.literal.kind) (quote_view c.args.literal.opening.quote) (drop 1 c.args.text.now) c.in-Some.first.now first drops))
+    let drops : drops_backslash c.args.literal.kind c.args.literal.opening.quote c.in-Some.first.now ≡ true = sym c.drops_backslash.ensures ∙ c.if-drops_backslash.true in
+    rw (c.part.ensures.value, c.first_character.ensures, c.first_character_len-len.ensures.whole, behind) (sym (raw_dropped c.args.literal.kind c.args.literal.opening.quote (drop 1 c.args.text.now) c.in-Some.first.now first drops))
 
 pub returns-else-drops_backslash-clause-value : goal.returns-else-drops_backslash-clause-value
 returns-else-drops_backslash-clause-value c =
@@ -29,5 +28,5 @@ returns-else-drops_backslash-clause-value c =
     let behind = c.behind_first-behind.ensures in
     let bytes = c.as_bytes.ensures.value in
     let first : slice_get (drop 1 c.args.text.now) 0 ≡ Some c.in-Some.first.now = cc in
-    let keeps : drops_backslash (kind_view c.args.literal.kind) (quote_view c.args.literal.opening.quote) c.in-Some.first.now ≡ false = sym c.drops_backslash.ensures ∙ c.if-drops_backslash.false in
-    rw (c.part-else-drops_backslash.ensures.value, c.range.ensures.value, sub-zero, cut_behind c.args.text.now (drop 1 c.args.text.now) c.first_character_len-len.result c.requires, ← behind, c.first_character_len-len.ensures.character, c.first_character_len-len.ensures.whole, behind) (sym (raw_kept (kind_view c.args.literal.kind) (quote_view c.args.literal.opening.quote) (drop 1 c.args.text.now) c.in-Some.first.now first keeps))
+    let keeps : drops_backslash c.args.literal.kind c.args.literal.opening.quote c.in-Some.first.now ≡ false = sym c.drops_backslash.ensures ∙ c.if-drops_backslash.false in
+    rw (c.part-else-drops_backslash.ensures.value, c.range.ensures.value, sub-zero, cut_behind c.args.text.now (drop 1 c.args.text.now) c.first_character_len-len.result c.requires, ← behind, c.first_character_len-len.ensures.character, c.first_character_len-len.ensures.whole, behind) (sym (raw_kept c.args.literal.kind c.args.literal.opening.quote (drop 1 c.args.text.now) c.in-Some.first.now first keeps))

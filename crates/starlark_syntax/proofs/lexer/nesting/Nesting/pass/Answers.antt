@@ -5,7 +5,7 @@ use Rattle.starlark_syntax.specs.Joints.Nesting.{brackets_of, change_by}
 use Rattle.starlark_syntax.specs.contracts.lexer.nesting.changes.Change.{the_type}
 use Rattle.starlark_syntax.specs.declared.lexer.nesting.counts.OpenFString.{OpenFString}
 use Rattle.starlark_syntax.specs.declared.lexer.nesting.changes.Change.TheVariants as change
-use Rattle.starlark_syntax.proofs.Nesting.FStrings.{AreOpen, AreCounted, but_last, counted, ends_fstring, keeps_fstrings, last_of, last_set, none_onward, nothing_last, onward}
+use Rattle.starlark_syntax.proofs.Nesting.FStrings.{AreOpen, AreCounted, but_last, counted, ends_fstring, keeps_fstrings, last_of, last_set, none_onward, nothing_last, some_onward}
 use Rattle.starlark_syntax.proofs.lexer.nesting.Nesting.pass.Goals as goal
 use denote.Enum.Bare.{same_true, same_false}
 
@@ -37,7 +37,7 @@ returns-in-Some-clause-passes c = λ tokens node e begins h.
     let written = last_set c.args.self.now.fstrings.items (vec_len c.args.self.now.fstrings - 1) c.after.result len in
     let rest : List OpenFString = reverse (take (vec_len c.args.self.now.fstrings - 1) c.args.self.now.fstrings.items) in
     let innermost : AreOpen (c.in-Some.innermost.now ∷ rest) tokens = subst (λ (fstrings : List OpenFString). AreOpen fstrings tokens) last h.fstrings in
-    let more = onward node tokens c.in-Some.innermost.now c.after.result rest keeps room (λ found few view. c.after.ensures found node does few view) innermost in
+    let more = some_onward node tokens c.in-Some.innermost.now c.after.result rest keeps room (λ found few view. c.after.ensures found node does few view) innermost in
     record {
       fstrings = subst (λ (fstrings : List OpenFString). AreOpen fstrings (node ∷ tokens)) (sym written) more;
       opened = counts.opened;

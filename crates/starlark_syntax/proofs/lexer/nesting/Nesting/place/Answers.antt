@@ -1,7 +1,7 @@
 use Rattle.std.proofs.Common.{◌≡◌, ◌-◌, List, None, Some, length, subst, take}
 use Rattle.std.specs.Prelude.{reverse}
 use Rattle.std.specs.List.{slice_get}
-use Rattle.starlark_syntax.specs.Joints.Nesting.{place_view}
+use Rattle.starlark_syntax.specs.Joints.Nesting.{mode_view}
 use Rattle.starlark_syntax.specs.declared.lexer.nesting.counts.OpenFString.{OpenFString}
 use Rattle.starlark_syntax.proofs.Nesting.FStrings.{AreOpen, last_none, last_some, outside_is, place_is}
 use Rattle.starlark_syntax.proofs.lexer.nesting.Nesting.place.Goals as goal
@@ -19,4 +19,4 @@ returns-in-Some c = λ tokens h.
     let last = c.in-Some.ensures.value in
     let some : Some c.in-Some.innermost.now ≡ slice_get c.args.self.now.fstrings.items (length c.args.self.now.fstrings.items - 1) = rw (← items) last in
     let rest : List OpenFString = reverse (take (length c.args.self.now.fstrings.items - 1) c.args.self.now.fstrings.items) in
-    place_is c.in-Some.innermost.now rest tokens (place_view c.place.result) (subst (λ (fstrings : List OpenFString). AreOpen fstrings tokens) (last_some c.args.self.now.fstrings.items c.in-Some.innermost.now some) h.fstrings) c.place.ensures
+    place_is c.in-Some.innermost.now rest tokens (mode_view c.place.result) (subst (λ (fstrings : List OpenFString). AreOpen fstrings tokens) (last_some c.args.self.now.fstrings.items c.in-Some.innermost.now some) h.fstrings) c.place.ensures

@@ -29,7 +29,7 @@ step_over-requires c =
 abbrev start : ℕ → Opening → Lexeme
 start len opening = record { begin = 0; node = FStringStart opening; end = len }
 
-start_shown : (at len : ℕ) (opening : Opening) (quotes : FStringQuote) → views.opening_view quotes ≡ record { is_raw = false; quote = opening.quote; is_triple = opening.is_triple } → lexeme_view (at, token.FStringStart quotes, at + len) ≡ shown_lexeme (moved at (start len opening))
+start_shown : (at len : ℕ) (opening : Opening) (quotes : FStringQuote) → views.fstring_quote_view quotes ≡ record { is_raw = false; quote = opening.quote; is_triple = opening.is_triple } → lexeme_view (at, token.FStringStart quotes, at + len) ≡ shown_lexeme (moved at (start len opening))
 unfolding token_view
 start_shown at len opening quotes e = rw (e, add-zero at) refl
 

@@ -1,4 +1,4 @@
-//! The classes of words.
+//! The words of the language: what they are to code and to definitions.
 
 /// The quote that a literal stands in.
 #[derive(Clone, Copy, Debug, PartialEq, Eq)]
@@ -99,11 +99,4 @@ pub enum Class {
     Binary,
     Float,
     Fixed(Terminal),
-}
-
-/// A word at the front of a text: its class, and its length in bytes.
-#[derive(Clone, Copy, Debug, PartialEq, Eq)]
-pub struct Word {
-    pub class: Class,
-    pub len: usize,
 }
