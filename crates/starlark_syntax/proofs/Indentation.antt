@@ -1,5 +1,7 @@
 -- Margins, and the open widths that are kept.
 pub mod Margins
 pub mod CommentLines
+pub mod Blanks
+pub mod Pending
 pub mod Levels
 pub mod Laid

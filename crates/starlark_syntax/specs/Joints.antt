@@ -2,5 +2,6 @@
 pub mod Steps
 pub mod Nesting
 pub mod Pieces
+pub mod Pending
 pub mod Layout
 pub mod Reader

@@ -9,7 +9,7 @@ use Rattle.std.proofs.lemmas.List.Sums.{prefix_len-le-length}
 use Rattle.std.proofs.lemmas.Str.{IsCharBoundary-after_ascii}
 use Rattle.starlark_grammar.specs.Words.{Text}
 use Rattle.starlark_grammar.specs.Margins.{begins_comment, blanks_len, comment_lines, comment_of, comment_part, comments_from, is_comment_only, lines, margin_of, without_return}
-use Rattle.starlark_grammar.specs.Tokens.{Comment, moved}
+use Rattle.starlark_grammar.specs.Tokens.{Comment}
 use Rattle.starlark_token.specs.TokenViews.{Whole, token_view}
 use Rattle.starlark_syntax.specs.Lexemes.{lexeme_view, shown_lexeme}
 use Rattle.starlark_token.specs.declared.tokens.Token.{Token}
@@ -109,8 +109,8 @@ comment_begin text at len from utf8 inside h e =
 pub comment_inside : (line : Text) (k n : ℕ) → is_comment_only line ≡ true → k ≡ blanks_len line → n ≡ length (comment_part line) → k + 1 ≤ n
 comment_inside line k n h e f = omega (arith, comment_spans line h, e, f)
 
-pub comment_lexeme : (begin at k n : ℕ) (line value : Text) (found : Token) → k ≡ blanks_len line → n ≡ length (comment_part line) → value ≡ drop (suc (blanks_len line)) (comment_part line) → token_view found ≡ Whole (Comment value) → lexeme_view (begin + (at + k), found, begin + (at + n)) ≡ shown_lexeme (moved begin (comment_of at line))
-comment_lexeme begin at k n line value found e f h same = rw (e, f, same, h) refl
+pub comment_lexeme : (at k n : ℕ) (line value : Text) (found : Token) → k ≡ blanks_len line → n ≡ length (comment_part line) → value ≡ drop (suc (blanks_len line)) (comment_part line) → token_view found ≡ Whole (Comment value) → lexeme_view (at + k, found, at + n) ≡ shown_lexeme (comment_of at line)
+comment_lexeme at k n line value found e f h same = rw (e, f, same, h) refl
 
 -- The comments of a margin, one after another
 

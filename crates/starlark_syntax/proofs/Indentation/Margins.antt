@@ -1,13 +1,15 @@
 -- Margins, line by line.
-use Rattle.std.proofs.Common.{◌≡◌, ℕ, zero, suc, ◌+◌, ◌≤◌, ◌<◌, Bool, true, false, cond, not, List, [], ◌∷◌, ◌++◌, length, take, drop, refl, ap, ◌∙◌, sym, subst, arith, one-add, zero-add, Some, nat_eq}
-use Rattle.std.specs.Prelude.{if◌then◌else◌, count_by, take_while}
-use Rattle.std.specs.List.{list_any, prefix_len, onto_first}
+use Rattle.std.proofs.Common.{◌≡◌, ℕ, zero, suc, ◌+◌, ◌-◌, ◌≤◌, ◌<◌, Bool, true, false, cond, not, List, [], ◌∷◌, ◌++◌, length, take, drop, refl, ap, ◌∙◌, sym, subst, arith, one-add, zero-add}
+use Rattle.std.specs.Prelude.{if◌then◌else◌, take_while}
+use Rattle.std.specs.List.{prefix_len, onto_first}
 use Rattle.std.proofs.lemmas.Bool.Decides.{nat_tests}
-use Rattle.std.proofs.lemmas.List.{drop_all, length-drop, take_all}
+use Rattle.std.proofs.lemmas.List.{drop_all, length-drop, length-take-le, take_all}
+use Rattle.std.proofs.lemmas.List.Folds.{length-prefix_len}
+use Rattle.std.proofs.lemmas.List.Sums.{sum_by-cons}
 use Rattle.starlark_grammar.specs.Words.{Text}
 use Rattle.starlark_grammar.specs.Margins.{is_blank, is_feed, blanks_len, lines, begins_comment, is_comment_only, comment_lines, is_content, margin_of}
-use Rattle.starlark_syntax.specs.Joints.Layout.{IsFirstComment, IsMargin}
-use Rattle.starlark_syntax.specs.declared.lexer.layout.margins.Margin.{Margin}
+use Rattle.starlark_syntax.specs.Joints.Layout.{IsBlanks, IsMargin}
+use Rattle.starlark_syntax.specs.declared.lexer.layout.margins.Blanks.{Blanks}
 use Rattle.starlark_grammar.proofs.Lists.{drop-sum}
 use Rattle.starlark_grammar.proofs.Order.Lexemes.{Split, first_line, lines_sum}
 
@@ -83,7 +85,7 @@ begins_taken n (b ∷ bs) h = h
 
 pub first_comment : (text : Text) (n : ℕ) → begins_comment (drop (blanks_len text) text) ≡ true
     → (0 < length (drop (blanks_len text) text) → lines (drop (blanks_len text) text) ≡ take n (drop (blanks_len text) text) ∷ lines (drop n (drop (blanks_len text) text)))
-    → n ≤ length (drop (blanks_len text) text) → IsFirstComment text (Some (blanks_len text + n))
+    → n ≤ length (drop (blanks_len text) text) → (comment_lines text ≡ take (blanks_len text + n) text ∷ comment_lines (drop (blanks_len text + n) text)) × (0 < blanks_len text + n) × (blanks_len text + n ≤ length text)
 first_comment text zero h line inside =
     let same = line (some (drop (blanks_len text) text) h) in
     let less : length (lines (drop (blanks_len text) text)) ≡ suc (length (lines (drop (blanks_len text) text))) = ap (λ (ls : List Text). length ls) same in
@@ -134,30 +136,48 @@ line_whole (b ∷ bs) len e some h =
     let none : drop len (b ∷ bs) ≡ [] = drop_all len (b ∷ bs) h in
     rw (whole, none) (line_to_end b bs (omega (arith, h, e)))
 
--- the same of what was read
-pub read_comment : (text behind : Text) (k n : ℕ) → k ≡ blanks_len text → behind ≡ drop k text → begins_comment behind ≡ true → (0 < length behind → lines behind ≡ take n behind ∷ lines (drop n behind)) → n ≤ length behind → IsFirstComment text (Some (k + n))
-read_comment text behind k n e f h line inside =
-    let same : behind ≡ drop (blanks_len text) text = f ∙ ap (λ i. drop i text) e in
-    rw e (first_comment text n
-    (subst (λ (t : Text). begins_comment t ≡ true) same h)
-    (subst (λ (t : Text). 0 < length t → lines t ≡ take n t ∷ lines (drop n t)) same line)
-    (subst (λ (t : Text). n ≤ length t) same inside))
+-- One pass over a margin
 
-pub read_other : (text behind : Text) (k : ℕ) → k ≡ blanks_len text → behind ≡ drop k text → begins_comment behind ≡ false → comment_lines text ≡ []
-read_other text behind k e f h = no_comment text (subst (λ (t : Text). begins_comment t ≡ false) (f ∙ ap (λ i. drop i text) e) h)
+-- So many bytes are comment-only lines at the front of a text.
+pub record ArePassed (text : Text) (at : ℕ) : Type 0 where
+  pub inside : at ≤ length text
+  pub total : at + lines_sum (comment_lines (drop at text)) ≡ lines_sum (comment_lines text)
 
--- a margin by what was read of it
-pub is_margin : (text : Text) (found : Margin) (blanks behind : Text) → found.at ≡ lines_sum (comment_lines text) → blanks ≡ take (blanks_len (drop found.at text)) (drop found.at text) → behind ≡ drop (blanks_len (drop found.at text)) (drop found.at text)
-    → found.blanks_len ≡ length blanks → found.width ≡ count_by (nat_eq 32) blanks → found.has_tab ≡ list_any (nat_eq 9) blanks → found.is_content ≡ is_content behind → IsMargin (margin_of text) found
+pub none_passed : (text : Text) → ArePassed text 0
+none_passed text = record { inside = omega arith; total = zero-add _ }
+
+pub one_passed : (text line behind : Text) (at n : ℕ) (blanks : Blanks) → ArePassed text at → line ≡ drop at text → IsBlanks (take (blanks_len line) line) blanks → behind ≡ drop blanks.len line → begins_comment behind ≡ true
+    → (0 < length behind → lines behind ≡ take n behind ∷ lines (drop n behind)) → n ≤ length behind → (at < at + (blanks.len + n)) × ArePassed text (at + (blanks.len + n))
+one_passed text line behind at n blanks passed e same f h split inside =
+    let len : blanks.len ≡ blanks_len line = same.len ∙ length-prefix_len is_blank line in
+    let there : behind ≡ drop (blanks_len line) line = f ∙ ap (λ i. drop i line) len in
+    let first = first_comment line n (subst (λ (t : Text). begins_comment t ≡ true) there h) (subst (λ (t : Text). 0 < length t → lines t ≡ take n t ∷ lines (drop n t)) there split) (subst (λ (t : Text). n ≤ length t) there inside) in
+    let all : length line ≡ length text - at = ap (λ (t : Text). length t) e ∙ length-drop at text in
+    let sum : lines_sum (comment_lines line) ≡ length (take (blanks_len line + n) line) + lines_sum (comment_lines (drop (blanks_len line + n) line)) =
+    ap lines_sum first.0 ∙ sum_by-cons (λ (line : Text). length line) (take (blanks_len line + n) line) (comment_lines (drop (blanks_len line + n) line)) in
+    let whole : length (take (blanks_len line + n) line) ≡ blanks_len line + n = length-take-le (blanks_len line + n) line first.2 in
+    let rest : drop (at + (blanks.len + n)) text ≡ drop (blanks_len line + n) line = drop-sum at (blanks.len + n) text ∙ ap (λ (t : Text). drop (blanks.len + n) t) (sym e) ∙ ap (λ i. drop (i + n) line) len in
+    let before : at + lines_sum (comment_lines line) ≡ lines_sum (comment_lines text) = ap (λ (t : Text). at + lines_sum (comment_lines t)) e ∙ passed.total in
+    let behind_sum : lines_sum (comment_lines (drop (at + (blanks.len + n)) text)) ≡ lines_sum (comment_lines (drop (blanks_len line + n) line)) = ap (λ (t : Text). lines_sum (comment_lines t)) rest in (
+      omega (arith, first.1, len),
+      record {
+        inside = omega (arith, first.2, len, all, passed.inside);
+        total = omega (arith, behind_sum, len, whole, sum, before);
+      },
+    )
+
+pub last_passed : (text line behind : Text) (at : ℕ) (found : Blanks) (content : Bool) → ArePassed text at → line ≡ drop at text → IsBlanks (take (blanks_len line) line) found → behind ≡ drop found.len line → begins_comment behind ≡ false → content ≡ is_content behind
+    → IsMargin (margin_of text) (record { at = at; blanks = found; is_content = content })
 unfolding margin_of
-is_margin text found blanks behind at e f len width tab content =
-    let there : drop found.at text ≡ drop (lines_sum (comment_lines text)) text = ap (λ n. drop n text) at in
-    let same : blanks ≡ take (blanks_len (drop (lines_sum (comment_lines text)) text)) (drop (lines_sum (comment_lines text)) text) = e ∙ ap (λ (t : Text). take (blanks_len t) t) there in
-    let rest : behind ≡ drop (blanks_len (drop (lines_sum (comment_lines text)) text)) (drop (lines_sum (comment_lines text)) text) = f ∙ ap (λ (t : Text). drop (blanks_len t) t) there in
+last_passed text line behind at found content passed e same f h is =
+    let len : found.len ≡ blanks_len line = same.len ∙ length-prefix_len is_blank line in
+    let there : behind ≡ drop (blanks_len line) line = f ∙ ap (λ i. drop i line) len in
+    let none : comment_lines line ≡ [] = no_comment line (subst (λ (t : Text). begins_comment t ≡ false) there h) in
+    let zero_more : lines_sum (comment_lines (drop at text)) ≡ 0 = ap (λ (t : Text). lines_sum (comment_lines t)) (sym e) ∙ ap lines_sum none in
+    let place : at ≡ lines_sum (comment_lines text) = omega (arith, passed.total, zero_more) in
+    let here : line ≡ drop (lines_sum (comment_lines text)) text = e ∙ ap (λ n. drop n text) place in
     record {
-      at = at;
-      blanks_len = len ∙ ap (λ (t : Text). length t) same;
-      width = width ∙ ap (λ (t : Text). count_by (nat_eq 32) t) same;
-      has_tab = tab ∙ ap (λ (t : Text). list_any (nat_eq 9) t) same;
-      is_content = content ∙ ap is_content rest;
+      at = place;
+      blanks = subst (λ (t : Text). IsBlanks (take (blanks_len t) t) found) here same;
+      is_content = is ∙ ap is_content (there ∙ ap (λ (t : Text). drop (blanks_len t) t) here);
     }

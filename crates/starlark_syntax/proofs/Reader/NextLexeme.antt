@@ -1,21 +1,24 @@
 -- What a reader hands out next.
-use Rattle.std.proofs.Common.{◌≡◌, ℕ, List, [], ◌∷◌, ◌++◌, map, drop, refl, sym, ap, subst, ◌∙◌, append-nil, None, Some}
-use Rattle.std.specs.Prelude.{Option, Result, Ok, Err, OnErr}
+use Rattle.std.proofs.Common.{◌≡◌, ℕ, List, [], ◌∷◌, ◌++◌, map, drop, refl, sym, ap, subst, ◌∙◌, None, Some, ◌⊎◌, inl, inr}
+use Rattle.std.specs.Prelude.{Option}
 use Rattle.starlark_grammar.specs.Words.{Text, language}
 use Rattle.starlark_grammar.specs.Tokens.{Fault, Lexeme, Outcome, Spanned}
 use Rattle.starlark_grammar.specs.Pieces.{Piece, Step, Stands, Fails, Ends}
 use Rattle.starlark_grammar.specs.Reading.{History, lexemes_along, outcome, outcome_in, outcome_of, read, read_from}
-use Rattle.starlark_syntax.specs.Lexemes.{fault_view, lexeme_view, shown_lexeme}
+use Rattle.starlark_syntax.specs.Lexemes.{fault_view, shown_lexeme}
 use Rattle.starlark_syntax.specs.Joints.Nesting.{bracket_count}
-use Rattle.starlark_syntax.specs.Joints.Reader.{IsAhead, IsStateAfter, IsLeft, IsSomething, outcome_along, remaining_outcome}
+use Rattle.starlark_syntax.specs.Joints.Pending.{IsFirst, IsIdle, pending_lexemes}
+use Rattle.starlark_syntax.specs.Joints.Reader.{IsAhead, IsAheadBehind, IsStateAfter, IsLeft, IsOver, IsReady, IsSomething, outcome_along, remaining_outcome}
 use Rattle.starlark_token.specs.TokenViews.{TokenView}
 use Rattle.starlark_error.specs.declared.lexeme_error.LexemeError.{LexemeError}
 use Rattle.starlark_token.specs.declared.tokens.Token.{Token}
 use Rattle.starlark_syntax.specs.declared.lexer.reader.Reader.{Reader}
 use Rattle.starlark_syntax.specs.declared.lexer.reader.Stage.{Stage}
 use Rattle.starlark_syntax.specs.declared.lexer.reader.Stage.TheVariants as stage
+use Rattle.starlark_syntax.specs.declared.lexer.layout.pending.Pending.{Pending}
+use Rattle.starlark_syntax.proofs.Reader.Taken.{none_before}
 
--- between two readers at most the stage and what waits differ
+-- between two readers at most the stage, and what was read and is still to be handed out, differ
 pub record IsHere (old new : Reader) : Type 0 where
   pub at : new.at ≡ old.at
   pub nesting : new.nesting ≡ old.nesting
@@ -39,55 +42,50 @@ same_left text old new (stage.Fault begin fault end) left here h = h
 same_left text old new stage.Closed left here h = h
 
 -- what is ahead of a reader is ahead of one that stands where it does
-pub ahead_here : (text : Text) (old new : Reader) (stage : Stage) (lexemes : List (Spanned TokenView)) (fault : Option (Spanned Fault)) → IsHere old new → new.waiting.items ≡ old.waiting.items → old.stage ≡ stage
-    → IsAhead text old old.stage lexemes fault → IsAhead text new stage lexemes fault
-ahead_here text old new stage lexemes fault here waits e ahead = record {
+pub ahead_here : (text : Text) (old new : Reader) (lexemes : List (Spanned TokenView)) (fault : Option (Spanned Fault)) → IsHere old new → new.stage ≡ old.stage → new.pending ≡ old.pending → IsAhead text old old.stage lexemes fault → IsAhead text new new.stage lexemes fault
+ahead_here text old new lexemes fault here same pending ahead = record {
   left = ahead.left;
-  is_left = same_left text old new stage ahead.left here (subst (λ (s : Stage). IsLeft text old s ahead.left) e ahead.is_left);
-  ahead = ahead.ahead ∙ ap (λ ws. map lexeme_view ws ++ map shown_lexeme ahead.left.lexemes) (sym waits);
+  is_left = same_left text old new new.stage ahead.left here (subst (λ (s : Stage). IsLeft text old s ahead.left) (sym same) ahead.is_left);
+  is_pending = rw pending ahead.is_pending;
+  ahead = ahead.ahead ∙ ap (λ (p : Pending). map shown_lexeme (pending_lexemes text p) ++ map shown_lexeme ahead.left.lexemes) (sym pending);
   behind_them = ahead.behind_them;
 }
 
--- the first lexeme that waits
-pub lexeme_next : (text : Text) (old new : Reader) (x : ℕ × Token × ℕ) (lexemes : List (Spanned TokenView)) (fault : Option (Spanned Fault)) → IsHere old new → new.stage ≡ old.stage → old.waiting.items ≡ x ∷ new.waiting.items
-    → IsAhead text old old.stage lexemes fault → (more : List (Spanned TokenView)) × (lexemes ≡ lexeme_view x ∷ more) × IsAhead text new new.stage more fault
-lexeme_next text old new x lexemes fault here same waits ahead = (
-  map lexeme_view new.waiting.items ++ map shown_lexeme ahead.left.lexemes,
-  ahead.ahead ∙ ap (λ ws. map lexeme_view ws ++ map shown_lexeme ahead.left.lexemes) waits,
+-- the first lexeme that was read and is to be handed out
+pub lexeme_next : (text : Text) (old new : Reader) (x : ℕ × Token × ℕ) (lexemes : List (Spanned TokenView)) (fault : Option (Spanned Fault)) → IsHere old new → new.stage ≡ old.stage → IsFirst text old.pending new.pending (Some x)
+    → IsAhead text old old.stage lexemes fault → IsAheadBehind text (Some x) new lexemes fault
+lexeme_next text old new x lexemes fault here same first ahead = (
+  map shown_lexeme (pending_lexemes text new.pending) ++ map shown_lexeme ahead.left.lexemes,
+  ahead.ahead ∙ ap (λ vs. vs ++ map shown_lexeme ahead.left.lexemes) first.1,
   record {
     left = ahead.left;
     is_left = same_left text old new new.stage ahead.left here (subst (λ (s : Stage). IsLeft text old s ahead.left) (sym same) ahead.is_left);
+    is_pending = first.0;
     ahead = refl;
     behind_them = ahead.behind_them;
   },
 )
 
--- where none waits, what is ahead is what is still to be read
-none_waits : (text : Text) (reader : Reader) (stage : Stage) (lexemes : List (Spanned TokenView)) (fault : Option (Spanned Fault)) (left : Outcome) (ahead : IsAhead text reader stage lexemes fault) → reader.waiting.items ≡ [] → ahead.left ≡ left
-    → (lexemes ≡ map shown_lexeme left.lexemes) × (fault ≡ left.fault)
-none_waits text reader stage lexemes fault left ahead none same = (
-  ahead.ahead ∙ ap (λ ws. map lexeme_view ws ++ map shown_lexeme ahead.left.lexemes) none ∙ ap (λ (l : Outcome). map shown_lexeme l.lexemes) same,
-  ahead.behind_them ∙ ap (λ (l : Outcome). l.fault) same,
-)
-
-pub fault_next : (text : Text) (reader : Reader) (lexemes : List (Spanned TokenView)) (fault : Option (Spanned Fault)) (begin : ℕ) (error : LexemeError) (end : ℕ) → reader.waiting.items ≡ [] → reader.stage ≡ stage.Fault begin error end
-    → IsAhead text reader reader.stage lexemes fault → (node : Fault) × (fault_view error ≡ Some node) × (lexemes ≡ []) × (fault ≡ Some (record { begin = begin; node = node; end = end }))
-fault_next text reader lexemes fault begin error end none e ahead =
+-- what comes behind the last lexeme
+pub fault_next : (text : Text) (reader : Reader) (lexemes : List (Spanned TokenView)) (fault : Option (Spanned Fault)) (begin : ℕ) (error : LexemeError) (end : ℕ) → IsIdle text reader.pending → reader.stage ≡ stage.Fault begin error end → IsAhead text reader reader.stage lexemes fault
+    → (node : Fault) × (fault_view error ≡ Some node) × (lexemes ≡ []) × (fault ≡ Some (record { begin = begin; node = node; end = end }))
+fault_next text reader lexemes fault begin error end idle e ahead =
     let is = subst (λ (s : Stage). IsLeft text reader s ahead.left) e ahead.is_left in
-    let both = none_waits text reader reader.stage lexemes fault _ ahead none is.2 in
+    let both = none_before text reader reader.stage lexemes fault _ idle ahead is.2 in
     (is.0, is.1, both.0, both.1)
 
-pub nothing_next : (text : Text) (old new : Reader) (lexemes : List (Spanned TokenView)) (fault : Option (Spanned Fault)) → old.waiting.items ≡ [] → new.waiting.items ≡ [] → old.stage ≡ stage.Closed → new.stage ≡ stage.Closed
+pub nothing_next : (text : Text) (old new : Reader) (lexemes : List (Spanned TokenView)) (fault : Option (Spanned Fault)) → IsIdle text old.pending → new.pending ≡ old.pending → old.stage ≡ stage.Closed → new.stage ≡ stage.Closed
     → IsAhead text old old.stage lexemes fault → (lexemes ≡ []) × (fault ≡ None) × IsAhead text new new.stage [] None
-nothing_next text old new lexemes fault none none_now e e_now ahead =
+nothing_next text old new lexemes fault idle same e e_now ahead =
     let is = subst (λ (s : Stage). IsLeft text old s ahead.left) e ahead.is_left in
-    let both = none_waits text old old.stage lexemes fault _ ahead none is in (
+    let both = none_before text old old.stage lexemes fault _ idle ahead is in (
       both.0,
       both.1,
       record {
         left = record { lexemes = []; fault = None };
         is_left = subst (λ (s : Stage). IsLeft text new s (record { lexemes = []; fault = None })) (sym e_now) refl;
-        ahead = ap (map lexeme_view) (sym none_now) ∙ sym (append-nil (map lexeme_view new.waiting.items));
+        is_pending = rw same idle.0;
+        ahead = ap (λ ls. map shown_lexeme ls ++ []) (sym (ap (pending_lexemes text) same ∙ idle.1));
         behind_them = refl;
       },
     )
@@ -116,19 +114,47 @@ whole_something text e none = go (read language text).pieces (read language text
     go pieces (Fails fault) e none = cc
     go pieces Ends e none = some_lexeme (lexemes_along 0 pieces) _ _ e
 
-pub begin_something : (text : Text) (reader : Reader) (lexemes : List (Spanned TokenView)) (fault : Option (Spanned Fault)) → reader.waiting.items ≡ [] → reader.stage ≡ stage.Begin → IsAhead text reader reader.stage lexemes fault → IsSomething lexemes fault
-begin_something text reader lexemes fault none e ahead =
+pub begin_something : (text : Text) (reader : Reader) (lexemes : List (Spanned TokenView)) (fault : Option (Spanned Fault)) → IsIdle text reader.pending → reader.stage ≡ stage.Begin → IsAhead text reader reader.stage lexemes fault → IsSomething lexemes fault
+begin_something text reader lexemes fault idle e ahead =
     let is = subst (λ (s : Stage). IsLeft text reader s ahead.left) e ahead.is_left in
-    let both = none_waits text reader reader.stage lexemes fault (outcome text) ahead none is.0 in
+    let both = none_before text reader reader.stage lexemes fault (outcome text) idle ahead is.0 in
     λ empty faultless. whole_something text (sym both.0 ∙ empty) (sym both.1 ∙ faultless)
 
-pub onward_something : (text : Text) (reader : Reader) (lexemes : List (Spanned TokenView)) (fault : Option (Spanned Fault)) → reader.waiting.items ≡ [] → reader.stage ≡ stage.Onward → IsAhead text reader reader.stage lexemes fault → IsSomething lexemes fault
-onward_something text reader lexemes fault none e ahead =
+pub onward_something : (text : Text) (reader : Reader) (lexemes : List (Spanned TokenView)) (fault : Option (Spanned Fault)) → IsIdle text reader.pending → reader.stage ≡ stage.Onward → IsAhead text reader reader.stage lexemes fault → IsSomething lexemes fault
+onward_something text reader lexemes fault idle e ahead =
     let is = subst (λ (s : Stage). IsLeft text reader s ahead.left) e ahead.is_left in
-    let both = none_waits text reader reader.stage lexemes fault _ ahead none is.2 in
+    let both = none_before text reader reader.stage lexemes fault _ idle ahead is.2 in
     λ empty faultless. rest_something is.0 reader.at (drop reader.at text) (sym both.0 ∙ empty) (sym both.1 ∙ faultless)
 
--- what is so after each error
-pub after_error : {A E : Type 0} (result : Result A E) (P : Type 0) → P → OnErr result P
-after_error (Ok x) P p = tt
-after_error (Err e) P p = p
+-- lexemes that were read are still to be handed out
+pub pending_something : (text : Text) (reader : Reader) (lexemes : List (Spanned TokenView)) (fault : Option (Spanned Fault)) → (pending_lexemes text reader.pending ≡ [] → ⊥) → IsAhead text reader reader.stage lexemes fault → IsSomething lexemes fault
+pending_something text reader lexemes fault some ahead = λ empty faultless. go (pending_lexemes text reader.pending) refl (sym ahead.ahead ∙ empty)
+  where
+    go : (ls : List Lexeme) → pending_lexemes text reader.pending ≡ ls → map shown_lexeme ls ++ map shown_lexeme ahead.left.lexemes ≡ [] → ⊥
+    go [] e h = some e
+    go (l ∷ ls) e h = cc
+
+-- where no lexeme came, none was left
+pub none_left : (text : Text) (old : Reader) (new : Pending) (found : Option (ℕ × Token × ℕ)) → ((x : ℕ × Token × ℕ) → found ≡ Some x → ⊥) → IsFirst text old.pending new found → IsReady text old old.stage → IsIdle text old.pending × (new ≡ old.pending)
+none_left text old new None none first ready = ((ready.2.is_pending, first.0), first.1)
+none_left text old new (Some x) none first ready = absurd (none x refl)
+
+-- what is ahead stays so
+pub ahead_now : (text : Text) (old : Reader) (new : Pending) (now : Stage) (lexemes : List (Spanned TokenView)) (fault : Option (Spanned Fault)) → new ≡ old.pending → old.stage ≡ now → IsAhead text old old.stage lexemes fault → IsAhead text (record old { pending = new }) now lexemes fault
+ahead_now text old new now lexemes fault same e ahead =
+    subst (λ (s : Stage). IsAhead text (record old { pending = new }) s lexemes fault) e (ahead_here text old (record old { pending = new }) lexemes fault (record { at = refl; nesting = refl; levels = refl; follows_gap = refl }) refl same ahead)
+
+-- behind the last lexeme
+pub over : (now : Stage) → ((begin : ℕ) × (error : LexemeError) × (end : ℕ) × (now ≡ stage.Fault begin error end)) ⊎ (now ≡ stage.Closed) → IsOver now
+over now (inl at_fault) = subst IsOver (sym at_fault.3) tt
+over now (inr closed) = subst IsOver (sym closed) tt
+
+pub last_next : (text : Text) (old new : Reader) (lexemes : List (Spanned TokenView)) (fault : Option (Spanned Fault)) → IsIdle text old.pending → new.pending ≡ old.pending → IsOver old.stage → ((begin : ℕ) (error : LexemeError) (end : ℕ) → old.stage ≡ stage.Fault begin error end → ⊥)
+    → new.stage ≡ stage.Closed → IsAhead text old old.stage lexemes fault → (lexemes ≡ []) × (fault ≡ None) × IsAhead text new new.stage [] None
+last_next text old new lexemes fault idle same all none e_now ahead = by old.stage refl all
+  where
+    by : (now : Stage) → old.stage ≡ now → IsOver now → (lexemes ≡ []) × (fault ≡ None) × IsAhead text new new.stage [] None
+    by stage.Begin e h = absurd h
+    by stage.Onward e h = absurd h
+    by (stage.Fault begin error end) e h = absurd (none begin error end e)
+    by stage.Closed e h = nothing_next text old new lexemes fault idle same e e_now ahead

@@ -1,5 +1,5 @@
 -- What a reader makes of the piece that stands where it is.
-use Rattle.std.proofs.Common.{◌≡◌, ℕ, ◌+◌, ◌≤◌, Bool, true, false, List, [], ◌++◌, map, length, drop, refl, sym, ap, ◌∙◌, subst, arith, append-nil, None}
+use Rattle.std.proofs.Common.{◌≡◌, ℕ, ◌+◌, ◌≤◌, Bool, true, false, List, [], length, drop, refl, sym, ap, ◌∙◌, subst, arith, append-nil, None}
 use Rattle.std.specs.Prelude.{Option}
 use Rattle.std.specs.Str.{IsUtf8}
 use Rattle.starlark_grammar.specs.Words.{Text, language}
@@ -10,16 +10,18 @@ use Rattle.starlark_grammar.specs.Pieces as pieces
 use Rattle.starlark_grammar.specs.Pieces.{Piece, Situation, Stands, step_at}
 use Rattle.starlark_grammar.specs.Reading.{History, next_step, situation}
 use Rattle.starlark_syntax.specs.Joints.Nesting.{Represents, mode_view}
+use Rattle.starlark_syntax.specs.Joints.Pending.{IsIdle}
+use Rattle.starlark_token.specs.declared.tokens.Token.{Token}
 use Rattle.starlark_syntax.specs.Joints.Pieces.{IsBehind, IsPiece, nothing_of}
-use Rattle.starlark_syntax.specs.Joints.Reader.{IsAhead, IsStateAfter, IsRead, left_here, step_here}
+use Rattle.starlark_syntax.specs.Joints.Reader.{IsAhead, IsAheadBehind, IsStateAfter, IsRead, left_here, step_here}
 use Rattle.starlark_token.specs.TokenViews.{TokenView}
 use Rattle.starlark_syntax.specs.declared.lexer.nesting.Place.{Place}
 use Rattle.starlark_syntax.specs.declared.lexer.reading.Piece as code
 use Rattle.starlark_syntax.specs.declared.lexer.reader.Reader.{Reader}
 use Rattle.starlark_syntax.specs.declared.lexer.reader.Stage.TheVariants as stage
 use Rattle.starlark_syntax.proofs.Reader.Here.{piece_here}
-use Rattle.starlark_syntax.proofs.Reader.Taken.{read_ahead, took}
-use Rattle.starlark_syntax.proofs.Reader.Waiting.{queued_none}
+use Rattle.starlark_syntax.proofs.Reader.Taken.{none_before, read_ahead, took}
+use Rattle.starlark_syntax.proofs.Reader.Waiting.{hands_none}
 
 -- what was read at a reader's place stands there
 pub piece_read : (text : Text) (history : History) (reader : Reader) (place : Place) (balanced : Bool) (rest : Text) (piece : code.Piece) → rest ≡ drop reader.at text → IsStateAfter text history reader
@@ -32,14 +34,12 @@ piece_read text history reader place balanced rest piece e kept here count is =
     subst (λ (t : Text). IsPiece (open_widths history.widths) t (step_at language (situation history) t) piece) e (is (situation history) (sym (here history.tokens kept.nesting)) (sym (count history.tokens kept.nesting)) kept.before)
 
 -- what is ahead stays ahead where what stands here is read, behind whichever history it is
-pub onward_ahead : (text : Text) (old new : Reader) (lexemes : List (Spanned TokenView)) (fault : Option (Spanned Fault)) → ((history : History) → IsStateAfter text history old → IsRead text (left_here text history old) old new)
-    → IsAhead text old stage.Onward lexemes fault → IsAhead text new new.stage lexemes fault
-onward_ahead text old new lexemes fault read ahead =
+pub onward_ahead : (text : Text) (old : Reader) (given : Option (ℕ × Token × ℕ)) (new : Reader) (lexemes : List (Spanned TokenView)) (fault : Option (Spanned Fault)) → ((history : History) → IsStateAfter text history old → IsRead text (left_here text history old) given new)
+    → IsIdle text old.pending → IsAhead text old stage.Onward lexemes fault → IsAheadBehind text given new lexemes fault
+onward_ahead text old given new lexemes fault read idle ahead =
     let history = ahead.is_left.0 in
-    let same = ahead.is_left.2 in
-    read_ahead text (left_here text history old) old new lexemes fault (read history ahead.is_left.1)
-    (ahead.ahead ∙ ap (λ (left : Rattle.starlark_grammar.specs.Tokens.Outcome). map Rattle.starlark_syntax.specs.Lexemes.lexeme_view old.waiting.items ++ map Rattle.starlark_syntax.specs.Lexemes.shown_lexeme left.lexemes) same)
-    (ahead.behind_them ∙ ap (λ (left : Rattle.starlark_grammar.specs.Tokens.Outcome). left.fault) same)
+    let both = none_before text old stage.Onward lexemes fault (left_here text history old) idle ahead ahead.is_left.2 in
+    read_ahead text (left_here text history old) given new lexemes fault (read history ahead.is_left.1) both.0 both.1
 
 abbrev pub nothing_piece : ℕ → Bool → Piece
 nothing_piece len true = record { len = len; lexemes = []; width = None; sort = pieces.Gap }
@@ -61,11 +61,11 @@ nothing_here text history reader len is_gap kept stands =
     (omega (arith, here.0, same), omega (arith, here.1, same))
 
 -- they leave all as it is but for the place
-pub nothing_taken : (text : Text) (history : History) (old new : Reader) (len : ℕ) (is_gap : Bool) → IsUtf8 text → IsStateAfter text history old → step_here text history old ≡ nothing_of len is_gap
-    → new ≡ record old { at = old.at + len; follows_gap = is_gap; stage = stage.Onward } → IsRead text (left_here text history old) old new
-nothing_taken text history old new len true utf8 kept stands is =
+pub nothing_taken : (text : Text) (history : History) (old new : Reader) (len : ℕ) (is_gap : Bool) → IsUtf8 text → IsStateAfter text history old → step_here text history old ≡ nothing_of len is_gap → IsIdle text old.pending
+    → new ≡ record old { at = old.at + len; follows_gap = is_gap; stage = stage.Onward } → IsRead text (left_here text history old) None new
+nothing_taken text history old new len true utf8 kept stands idle is =
     let here = piece_here text history old (nothing_piece len true) kept stands in
-    rw is (took text history old _ (nothing_piece len true) utf8 kept stands kept.nesting (kept.levels ∙ ap open_widths (sym (append-nil history.widths))) refl refl (omega (arith, kept.few, here.0)) refl (queued_none old.waiting.items))
-nothing_taken text history old new len false utf8 kept stands is =
+    rw is (took text history old None _ (nothing_piece len true) utf8 kept stands kept.nesting (kept.levels ∙ ap open_widths (sym (append-nil history.widths))) refl refl (omega (arith, kept.few, here.0)) refl (hands_none text old.pending idle))
+nothing_taken text history old new len false utf8 kept stands idle is =
     let here = piece_here text history old (nothing_piece len false) kept stands in
-    rw is (took text history old _ (nothing_piece len false) utf8 kept stands kept.nesting (kept.levels ∙ ap open_widths (sym (append-nil history.widths))) refl refl (omega (arith, kept.few, here.0)) refl (queued_none old.waiting.items))
+    rw is (took text history old None _ (nothing_piece len false) utf8 kept stands kept.nesting (kept.levels ∙ ap open_widths (sym (append-nil history.widths))) refl refl (omega (arith, kept.few, here.0)) refl (hands_none text old.pending idle))

@@ -1,5 +1,5 @@
 -- A reader before and after a piece.
-use Rattle.std.proofs.Common.{◌≡◌, ℕ, zero, suc, ◌+◌, ◌≤◌, ◌<◌, Bool, true, false, not, List, [], ◌∷◌, ◌++◌, length, drop, map, refl, ap, ◌∙◌, sym, subst, Option, Some, None, arith, append_assoc, append-nil, nat_lt}
+use Rattle.std.proofs.Common.{◌≡◌, ℕ, zero, suc, ◌+◌, ◌≤◌, ◌<◌, Bool, true, false, not, List, [], ◌∷◌, ◌++◌, length, drop, map, refl, ap, ◌∙◌, sym, subst, Option, Some, None, arith, append-nil, nat_lt}
 use Rattle.std.specs.Prelude.{⊤, ◌&&◌, if◌then◌else◌, count_by, option_map, option_to_list, replicate}
 use Rattle.std.specs.List.{AllByRecursion}
 use Rattle.std.specs.Str.{IsCharBoundary, IsUtf8}
@@ -13,16 +13,19 @@ use Rattle.starlark_grammar.specs.Margins.{Margin, comment_lines, comments_from,
 use Rattle.starlark_grammar.specs.Pieces.{Before, Ends, Fails, Gap, Layout, Nothing, Other, Piece, Stands, first_margin, line_end, margin_step}
 use Rattle.starlark_grammar.specs.Reading.{History, after, closing, next_step, nothing, outcome, tokens_onto}
 use Rattle.starlark_syntax.specs.Lexemes.{fault_view, lexeme_view, shown_lexeme}
-use Rattle.starlark_syntax.specs.Joints.Layout.{IsRefused, IsTaken, Queued}
+use Rattle.starlark_syntax.specs.Joints.Layout.{IsRefused, IsTaken}
+use Rattle.starlark_syntax.specs.Joints.Pending.{IsIdle, IsPending, pending_lexemes}
 use Rattle.starlark_syntax.specs.Joints.Nesting.{Represents, bracket_count, change_by, closes, fstring_of, opens}
 use Rattle.starlark_syntax.specs.Joints.Pieces.{IsBehind}
-use Rattle.starlark_syntax.specs.Joints.Reader.{IsAhead, IsStateAfter, IsLeft, IsRead, left_here, left_to_read, remaining_outcome, step_here}
-use Rattle.starlark_token.specs.TokenViews.{TokenView, Whole}
+use Rattle.starlark_syntax.specs.Joints.Reader.{IsAhead, IsAheadBehind, IsStateAfter, IsLeft, IsRead, left_here, left_to_read, remaining_outcome, step_here}
+use Rattle.starlark_token.specs.TokenViews.{TokenView, Whole, token_view}
 use Rattle.starlark_error.specs.declared.lexeme_error.LexemeError.{LexemeError}
 use Rattle.starlark_syntax.specs.declared.lexer.nesting.Nesting.{Nesting}
 use Rattle.starlark_syntax.specs.declared.lexer.nesting.changes.Change.TheVariants as change
 use Rattle.starlark_syntax.specs.declared.lexer.reader.Reader.{Reader}
+use Rattle.starlark_syntax.specs.declared.lexer.reader.Stage.{Stage}
 use Rattle.starlark_syntax.specs.declared.lexer.reader.Stage.TheVariants as stage
+use Rattle.starlark_syntax.specs.declared.lexer.layout.pending.Pending.{Pending}
 use Rattle.starlark_token.specs.declared.tokens.Token.{Token}
 use Rattle.starlark_grammar.proofs.Order.WholeTexts.{piece_bounded}
 use Rattle.starlark_syntax.proofs.Indentation.CommentLines.{margin_comments}
@@ -34,7 +37,7 @@ use Rattle.starlark_grammar.proofs.Reading.Readings.{fault_fits, one_least, piec
 use Rattle.starlark_syntax.proofs.Nesting.FStrings.{innermost_onward, keeps, outer_onward}
 use Rattle.starlark_grammar.proofs.Reading.Steps.{Each, is_nothing}
 use Rattle.starlark_grammar.proofs.Choices.{either}
-use Rattle.starlark_syntax.proofs.Reader.Waiting.{queued_none}
+use Rattle.starlark_syntax.proofs.Reader.Waiting.{Hands, hands_first, hands_later}
 
 -- What is kept is kept behind the text's first margin.
 pub begun : (follows_gap : Bool) (before : Before) → IsBehind follows_gap before → is_nothing before ≡ false
@@ -169,9 +172,9 @@ kept_behind text history at new piece utf8 here stands nesting levels before is_
     }
 
 -- a piece was read, by what is left behind it
-read_piece : (text : Text) (whole : Outcome) (history : History) (at : ℕ) (old new : Reader) (piece : Piece) → GoesOn at piece whole (remaining_outcome (after history piece) (at + piece.len) (drop piece.len (drop at text)))
-    → IsStateAfter text (after history piece) new → new.at ≡ at + piece.len → new.stage ≡ stage.Onward → Queued old.waiting.items (map (moved at) piece.lexemes) new.waiting.items → IsRead text whole old new
-read_piece text whole history at old new piece goes kept is_at is_onward queued =
+read_piece : (text : Text) (whole : Outcome) (history : History) (at : ℕ) (given : Option (ℕ × Token × ℕ)) (new : Reader) (piece : Piece) → GoesOn at piece whole (remaining_outcome (after history piece) (at + piece.len) (drop piece.len (drop at text)))
+    → IsStateAfter text (after history piece) new → new.at ≡ at + piece.len → new.stage ≡ stage.Onward → Hands text given new.pending (map (moved at) piece.lexemes) → IsRead text whole given new
+read_piece text whole history at given new piece goes kept is_at is_onward hands =
     let behind : drop piece.len (drop at text) ≡ drop new.at text = sym (drop-sum at piece.len text) ∙ ap (λ n. drop n text) (sym is_at) in
     let rest = remaining_outcome (after history piece) (at + piece.len) (drop piece.len (drop at text)) in
     let left : rest ≡ remaining_outcome (after history piece) new.at (drop new.at text) = ap (λ n. remaining_outcome (after history piece) n (drop piece.len (drop at text))) (sym is_at) ∙ ap (remaining_outcome (after history piece) new.at) behind in
@@ -181,22 +184,23 @@ read_piece text whole history at old new piece goes kept is_at is_onward queued 
       is_left = subst (λ now. IsLeft text new now rest) (sym is_onward) (after history piece, kept, left);
       parts = goes.lexemes;
       fault = goes.fault;
-      queued = queued;
+      is_pending = hands.0;
+      handed_out = hands.1;
     }
 
-pub took : (text : Text) (history : History) (old new : Reader) (piece : Piece) → IsUtf8 text → IsStateAfter text history old → step_here text history old ≡ Stands piece
+pub took : (text : Text) (history : History) (old : Reader) (given : Option (ℕ × Token × ℕ)) (new : Reader) (piece : Piece) → IsUtf8 text → IsStateAfter text history old → step_here text history old ≡ Stands piece
     → Represents (tokens_onto history.tokens piece.lexemes) new.nesting → new.levels ≡ open_widths (history.widths ++ option_to_list piece.width) → IsBehind new.follows_gap piece.sort → new.at ≡ old.at + piece.len → bracket_count new.nesting ≤ new.at
-    → new.stage ≡ stage.Onward → Queued old.waiting.items (map (moved old.at) piece.lexemes) new.waiting.items → IsRead text (left_here text history old) old new
-took text history old new piece utf8 kept stands nesting levels before is_at few is_onward queued =
-    read_piece text (left_here text history old) history old.at old new piece (onward_stands history old.at (drop old.at text) piece (begun old.follows_gap history.before kept.before) stands)
-    (kept_behind text history old.at new piece utf8 kept.boundary stands nesting levels before is_at few) is_at is_onward queued
+    → new.stage ≡ stage.Onward → Hands text given new.pending (map (moved old.at) piece.lexemes) → IsRead text (left_here text history old) given new
+took text history old given new piece utf8 kept stands nesting levels before is_at few is_onward hands =
+    read_piece text (left_here text history old) history old.at given new piece (onward_stands history old.at (drop old.at text) piece (begun old.follows_gap history.before kept.before) stands)
+    (kept_behind text history old.at new piece utf8 kept.boundary stands nesting levels before is_at few) is_at is_onward hands
 
-pub took_first : (text : Text) (old new : Reader) (piece : Piece) → IsUtf8 text → first_margin text ≡ Stands piece
+pub took_first : (text : Text) (new : Reader) (piece : Piece) → IsUtf8 text → first_margin text ≡ Stands piece
     → Represents (tokens_onto [] piece.lexemes) new.nesting → new.levels ≡ open_widths ([] ++ option_to_list piece.width) → IsBehind new.follows_gap piece.sort → new.at ≡ 0 + piece.len → bracket_count new.nesting ≤ new.at
-    → new.stage ≡ stage.Onward → Queued old.waiting.items (map (moved 0) piece.lexemes) new.waiting.items → IsRead text (outcome text) old new
-took_first text old new piece utf8 stands nesting levels before is_at few is_onward queued =
-    read_piece text (outcome text) nothing 0 old new piece (first_stands text piece stands)
-    (kept_behind text nothing 0 new piece utf8 (IsCharBoundary-start text utf8) (margin_first text ∙ stands) nesting levels before is_at few) is_at is_onward queued
+    → new.stage ≡ stage.Onward → Hands text None new.pending (map (moved 0) piece.lexemes) → IsRead text (outcome text) None new
+took_first text new piece utf8 stands nesting levels before is_at few is_onward hands =
+    read_piece text (outcome text) nothing 0 None new piece (first_stands text piece stands)
+    (kept_behind text nothing 0 new piece utf8 (IsCharBoundary-start text utf8) (margin_first text ∙ stands) nesting levels before is_at few) is_at is_onward hands
 
 pub piece_inside : (text : Text) (history : History) (old : Reader) (piece : Piece) → IsStateAfter text history old → step_here text history old ≡ Stands piece → (old.at < old.at + piece.len) × (old.at + piece.len ≤ length text)
 piece_inside text history old piece kept stands =
@@ -210,30 +214,26 @@ piece_inside text history old piece kept stands =
 -- A fault
 
 -- a fault was read, by the lexemes before it
-read_fault : (text : Text) (whole : Outcome) (at : ℕ) (lexemes : List Lexeme) (old new : Reader) (fault : Spanned grammar.Fault) (error : LexemeError) → whole ≡ record { lexemes = lexemes; fault = Some (moved at fault) }
-    → fault_view error ≡ Some fault.node → new.stage ≡ stage.Fault (at + fault.begin) error (at + fault.end) → Queued old.waiting.items lexemes new.waiting.items → IsRead text whole old new
-read_fault text whole at lexemes old new fault error left view is queued = record {
+read_fault : (text : Text) (whole : Outcome) (at : ℕ) (lexemes : List Lexeme) (new : Reader) (fault : Spanned grammar.Fault) (error : LexemeError) → whole ≡ record { lexemes = lexemes; fault = Some (moved at fault) }
+    → fault_view error ≡ Some fault.node → new.stage ≡ stage.Fault (at + fault.begin) error (at + fault.end) → Hands text None new.pending lexemes → IsRead text whole None new
+read_fault text whole at lexemes new fault error left view is hands = record {
   lexemes = lexemes;
   left = record { lexemes = []; fault = Some (moved at fault) };
   is_left = subst (λ now. IsLeft text new now (record { lexemes = []; fault = Some (moved at fault) })) (sym is) (fault.node, view, refl);
   parts = ap (λ (o : Outcome). o.lexemes) left ∙ sym (append-nil lexemes);
   fault = ap (λ (o : Outcome). o.fault) left;
-  queued = queued;
+  is_pending = hands.0;
+  handed_out = hands.1;
 }
 
-pub failed_queued : (text : Text) (history : History) (old new : Reader) (fault : Spanned grammar.Fault) (error : LexemeError) → IsStateAfter text history old → step_here text history old ≡ Fails fault → fault_view error ≡ Some fault.node
-    → new.stage ≡ stage.Fault (old.at + fault.begin) error (old.at + fault.end) → Queued old.waiting.items [] new.waiting.items → IsRead text (left_here text history old) old new
-failed_queued text history old new fault error kept fails view is queued =
-    read_fault text (left_here text history old) old.at [] old new fault error (onward_fails history old.at (drop old.at text) fault (begun old.follows_gap history.before kept.before) fails) view is queued
-
 pub failed : (text : Text) (history : History) (old new : Reader) (fault : Spanned grammar.Fault) (error : LexemeError) → IsStateAfter text history old → step_here text history old ≡ Fails fault → fault_view error ≡ Some fault.node
-    → new.stage ≡ stage.Fault (old.at + fault.begin) error (old.at + fault.end) → new.waiting.items ≡ old.waiting.items → IsRead text (left_here text history old) old new
-failed text history old new fault error kept fails view is same =
-    failed_queued text history old new fault error kept fails view is (rw same (queued_none old.waiting.items))
+    → new.stage ≡ stage.Fault (old.at + fault.begin) error (old.at + fault.end) → Hands text None new.pending [] → IsRead text (left_here text history old) None new
+failed text history old new fault error kept fails view is hands =
+    read_fault text (left_here text history old) old.at [] new fault error (onward_fails history old.at (drop old.at text) fault (begun old.follows_gap history.before kept.before) fails) view is hands
 
-pub failed_first : (text : Text) (old new : Reader) (fault : Spanned grammar.Fault) (error : LexemeError) → first_margin text ≡ Fails fault → fault_view error ≡ Some fault.node
-    → new.stage ≡ stage.Fault (0 + fault.begin) error (0 + fault.end) → Queued old.waiting.items (margin_of text).comments new.waiting.items → IsRead text (outcome text) old new
-failed_first text old new fault error fails view is queued = read_fault text (outcome text) 0 (margin_of text).comments old new fault error (first_fails text fault fails) view is queued
+pub failed_first : (text : Text) (new : Reader) (fault : Spanned grammar.Fault) (error : LexemeError) → first_margin text ≡ Fails fault → fault_view error ≡ Some fault.node
+    → new.stage ≡ stage.Fault (0 + fault.begin) error (0 + fault.end) → Hands text None new.pending (margin_of text).comments → IsRead text (outcome text) None new
+failed_first text new fault error fails view is hands = read_fault text (outcome text) 0 (margin_of text).comments new fault error (first_fails text fault fails) view is hands
 
 pub fault_inside : (text : Text) (history : History) (old : Reader) (fault : Spanned grammar.Fault) → IsStateAfter text history old → step_here text history old ≡ Fails fault → (old.at + fault.begin ≤ length text) × (old.at + fault.end ≤ length text)
 fault_inside text history old fault kept fails =
@@ -245,8 +245,8 @@ fault_inside text history old fault kept fails =
 
 -- The text's end
 
-pub closed : (text : Text) (history : History) (old new : Reader) → IsStateAfter text history old → step_here text history old ≡ Ends → Queued old.waiting.items (closing old.at history) new.waiting.items → new.stage ≡ stage.Closed → IsRead text (left_here text history old) old new
-closed text history old new kept ends queued is =
+pub closed : (text : Text) (history : History) (old : Reader) (given : Option (ℕ × Token × ℕ)) (new : Reader) → IsStateAfter text history old → step_here text history old ≡ Ends → Hands text given new.pending (closing old.at history) → new.stage ≡ stage.Closed → IsRead text (left_here text history old) given new
+closed text history old given new kept ends hands is =
     let left = onward_ends history old.at (drop old.at text) (begun old.follows_gap history.before kept.before) ends in
     record {
       lexemes = closing old.at history;
@@ -254,22 +254,46 @@ closed text history old new kept ends queued is =
       is_left = rw is refl;
       parts = ap (λ (o : Outcome). o.lexemes) left ∙ sym (append-nil (closing old.at history));
       fault = ap (λ (o : Outcome). o.fault) left;
-      queued = queued;
+      is_pending = hands.0;
+      handed_out = hands.1;
     }
+
+-- what closes a text
+pub closing_hands : (text : Text) (history : History) (at count : ℕ) (levels : List ℕ) (pending : Pending) (found : Token) → token_view found ≡ Whole grammar.Newline → levels ≡ open_widths history.widths → count ≡ length levels
+    → (pending_lexemes text pending ≡ replicate count (record { begin = at; node = grammar.Dedent; end = at })) × IsPending text pending → Hands text (Some (at, found, at)) pending (closing at history)
+closing_hands text history at count levels pending found is open_now counted waits =
+    let total : count ≡ length (open_widths history.widths) = counted ∙ ap (λ (ws : List ℕ). length ws) open_now in
+    hands_first text pending (at, found, at) (record { begin = at; node = grammar.Newline; end = at }) (replicate (length (open_widths history.widths)) (record { begin = at; node = grammar.Dedent; end = at })) waits.1
+    (ap (λ view. record { begin = at; node = view; end = at }) is) (sym (waits.0 ∙ ap (λ n. replicate n (record { begin = at; node = grammar.Dedent; end = at })) total))
 
 -- What is ahead, where something was read
 
-pub read_ahead : (text : Text) (whole : Outcome) (old new : Reader) (lexemes : List (Spanned TokenView)) (fault : Option (Spanned grammar.Fault)) → IsRead text whole old new
-    → lexemes ≡ map lexeme_view old.waiting.items ++ map shown_lexeme whole.lexemes → fault ≡ whole.fault → IsAhead text new new.stage lexemes fault
-read_ahead text whole old new lexemes fault read ahead behind =
-    let before = map lexeme_view old.waiting.items in
-    let parts : map shown_lexeme whole.lexemes ≡ map shown_lexeme read.lexemes ++ map shown_lexeme read.left.lexemes = ap (λ ls. map shown_lexeme ls) read.parts ∙ map-append shown_lexeme read.lexemes read.left.lexemes in
-    record {
+pub read_ahead : (text : Text) (whole : Outcome) (given : Option (ℕ × Token × ℕ)) (new : Reader) (lexemes : List (Spanned TokenView)) (fault : Option (Spanned grammar.Fault)) → IsRead text whole given new
+    → lexemes ≡ map shown_lexeme whole.lexemes → fault ≡ whole.fault → IsAheadBehind text given new lexemes fault
+read_ahead text whole given new lexemes fault read ahead behind = by given read.handed_out
+  where
+    parts : lexemes ≡ map shown_lexeme read.lexemes ++ map shown_lexeme read.left.lexemes
+    parts = ahead ∙ ap (λ ls. map shown_lexeme ls) read.parts ∙ map-append shown_lexeme read.lexemes read.left.lexemes
+
+    by : (given : Option (ℕ × Token × ℕ)) → map shown_lexeme read.lexemes ≡ map lexeme_view (option_to_list given) ++ map shown_lexeme (pending_lexemes text new.pending) → IsAheadBehind text given new lexemes fault
+    by None e = record {
       left = read.left;
       is_left = read.is_left;
-      ahead = ahead ∙ ap (λ vs. before ++ vs) parts ∙ sym (append_assoc before (map shown_lexeme read.lexemes) (map shown_lexeme read.left.lexemes)) ∙ ap (λ vs. vs ++ map shown_lexeme read.left.lexemes) (sym read.queued);
+      is_pending = read.is_pending;
+      ahead = parts ∙ ap (λ vs. vs ++ map shown_lexeme read.left.lexemes) e;
       behind_them = behind ∙ read.fault;
     }
+    by (Some x) e = (
+      map shown_lexeme (pending_lexemes text new.pending) ++ map shown_lexeme read.left.lexemes,
+      parts ∙ ap (λ vs. vs ++ map shown_lexeme read.left.lexemes) e,
+      record {
+        left = read.left;
+        is_left = read.is_left;
+        is_pending = read.is_pending;
+        ahead = refl;
+        behind_them = behind ∙ read.fault;
+      },
+    )
 
 -- Less is left to read
 
@@ -291,38 +315,45 @@ less_closed text old new is =
 
 -- Margins, as they were read
 
-module _ (text : Text) (history : History) (old : Reader) (len : ℕ) (behind : Text) (kept : IsStateAfter text history old)
-    (here : step_here text history old ≡ line_end len (open_widths history.widths) (drop len (drop old.at text))) (left : behind ≡ drop (old.at + len) text) where
-  -- what stands here, by the text behind the line end
-  line_here : step_here text history old ≡ line_end len (open_widths history.widths) behind
-  line_here = here ∙ ap (line_end len (open_widths history.widths)) (sym (drop-sum old.at len text) ∙ sym left)
+module _ (text : Text) (history : History) (old : Reader) (len : ℕ) (kept : IsStateAfter text history old)
+    (here : step_here text history old ≡ line_end len (open_widths history.widths) (drop len (drop old.at text))) where
+  -- the lexeme of the line end
+  abbrev given_line : List Lexeme
+  given_line = record { begin = old.at; node = grammar.Newline; end = old.at + len } ∷ []
 
-  pub line_inside : {levels : List ℕ} {before after : List (ℕ × Token × ℕ)} {whole : ℕ} → IsTaken old.at (line_end len (open_widths history.widths) behind) history.widths levels before after whole → (old.at < old.at + whole) × (old.at + whole ≤ length text)
+  -- what stands here, by the text behind the line end
+  line_here : step_here text history old ≡ line_end len (open_widths history.widths) (drop (old.at + len) text)
+  line_here = here ∙ ap (line_end len (open_widths history.widths)) (sym (drop-sum old.at len text))
+
+  pub line_inside : {levels : List ℕ} {pending : Pending} {whole : ℕ} → IsTaken text old.at (line_end len (open_widths history.widths) (drop (old.at + len) text)) given_line history.widths levels pending whole → (old.at < old.at + whole) × (old.at + whole ≤ length text)
   line_inside taken =
       let inside = piece_inside text history old taken.piece kept (line_here ∙ taken.stands) in
       (omega (arith, inside.0, taken.whole), omega (arith, inside.1, taken.whole))
 
-  pub line_fault_inside : {handed_out : List Lexeme} {levels : List ℕ} {before after : List (ℕ × Token × ℕ)} {begin : ℕ} {error : LexemeError} {end : ℕ} → IsRefused (line_end len (open_widths history.widths) behind) handed_out history.widths levels before after begin error end
-      → (old.at + begin ≤ length text) × (old.at + end ≤ length text)
-  line_fault_inside {begin = begin} {end = end} refused = fault_inside text history old (record { begin = begin; node = refused.node; end = end }) kept (line_here ∙ refused.stands)
+  pub line_fault_inside : {handed_out : List Lexeme} {levels : List ℕ} {pending : Pending} {error : LexemeError} {end : ℕ} → IsRefused text (line_end len (open_widths history.widths) (drop (old.at + len) text)) handed_out history.widths levels pending error end
+      → (old.at ≤ length text) × (old.at + end ≤ length text)
+  line_fault_inside {end = end} refused = (kept.inside, (fault_inside text history old (record { begin = 0; node = refused.node; end = end }) kept (line_here ∙ refused.stands)).1)
 
-  pub line_less : {levels : List ℕ} {before after : List (ℕ × Token × ℕ)} {whole : ℕ} (new : Reader) → IsTaken old.at (line_end len (open_widths history.widths) behind) history.widths levels before after whole
+  pub line_less : {levels : List ℕ} {pending : Pending} {whole : ℕ} (new : Reader) → IsTaken text old.at (line_end len (open_widths history.widths) (drop (old.at + len) text)) given_line history.widths levels pending whole
       → new.stage ≡ stage.Onward → new.at ≡ old.at + whole → left_to_read text new new.stage < left_to_read text old stage.Onward
   line_less new taken is is_at = less_taken text history old new taken.piece kept (line_here ∙ taken.stands) is (is_at ∙ ap (λ n. old.at + n) (sym taken.whole))
 
-  pub line_taken : (new : Reader) (whole : ℕ) → IsUtf8 text → IsTaken old.at (line_end len (open_widths history.widths) behind) history.widths new.levels old.waiting.items new.waiting.items whole
-      → new.nesting ≡ old.nesting → new.follows_gap ≡ false → new.at ≡ old.at + whole → new.stage ≡ stage.Onward → IsRead text (left_here text history old) old new
-  line_taken new whole utf8 taken nesting before is_at is_onward =
+  pub line_taken : (new : Reader) (whole : ℕ) (found : Token) → token_view found ≡ Whole grammar.Newline → IsUtf8 text → IsTaken text old.at (line_end len (open_widths history.widths) (drop (old.at + len) text)) given_line history.widths new.levels new.pending whole
+      → new.nesting ≡ old.nesting → new.follows_gap ≡ false → new.at ≡ old.at + whole → new.stage ≡ stage.Onward → IsRead text (left_here text history old) (Some (old.at, found, old.at + len)) new
+  line_taken new whole found is utf8 taken nesting before is_at is_onward =
       let stands : step_here text history old ≡ Stands taken.piece = line_here ∙ taken.stands in
-      let layout = line_is_quiet len (open_widths history.widths) behind taken.piece taken.stands in
+      let layout = line_is_quiet len (open_widths history.widths) (drop (old.at + len) text) taken.piece taken.stands in
       let few : bracket_count old.nesting ≤ new.at = omega (arith, kept.few, is_at) in
-      took text history old new taken.piece utf8 kept stands
-      (rw nesting (quiet_kept taken.piece.lexemes history.tokens old.nesting layout.tokens kept.nesting)) taken.open_now (rw layout.sort before) (is_at ∙ ap (λ n. old.at + n) (sym taken.whole)) (rw nesting few) is_onward taken.queued
+      let hands : Hands text (Some (old.at, found, old.at + len)) new.pending (map (moved old.at) taken.piece.lexemes) =
+      rw taken.lexemes (hands_first text new.pending (old.at, found, old.at + len) (record { begin = old.at; node = grammar.Newline; end = old.at + len }) (pending_lexemes text new.pending) taken.is_pending
+      (ap (λ view. record { begin = old.at; node = view; end = old.at + len }) is) refl) in
+      took text history old (Some (old.at, found, old.at + len)) new taken.piece utf8 kept stands
+      (rw nesting (quiet_kept taken.piece.lexemes history.tokens old.nesting layout.tokens kept.nesting)) taken.open_now (rw layout.sort before) (is_at ∙ ap (λ n. old.at + n) (sym taken.whole)) (rw nesting few) is_onward hands
 
-  pub line_refused : (new : Reader) (begin : ℕ) (error : LexemeError) (end : ℕ) → IsRefused (line_end len (open_widths history.widths) behind) [] history.widths new.levels old.waiting.items new.waiting.items begin error end
-      → new.stage ≡ stage.Fault (old.at + begin) error (old.at + end) → IsRead text (left_here text history old) old new
-  line_refused new begin error end refused is =
-      failed_queued text history old new (record { begin = begin; node = refused.node; end = end }) error kept (line_here ∙ refused.stands) refused.is is refused.queued
+  pub line_refused : (new : Reader) (error : LexemeError) (end : ℕ) → IsRefused text (line_end len (open_widths history.widths) (drop (old.at + len) text)) [] history.widths new.levels new.pending error end
+      → new.stage ≡ stage.Fault (old.at + 0) error (old.at + end) → IsRead text (left_here text history old) None new
+  line_refused new error end refused is =
+      failed text history old new (record { begin = 0; node = refused.node; end = end }) error kept (line_here ∙ refused.stands) refused.is is (hands_later text new.pending [] refused.is_pending refused.lexemes)
 
 -- Nothing is kept yet.
 pub record IsNew (reader : Reader) : Type 0 where
@@ -332,25 +363,33 @@ pub record IsNew (reader : Reader) : Type 0 where
   pub few : bracket_count reader.nesting ≡ 0
 
 module _ (text : Text) (old new : Reader) (is_new : IsNew old) where
-  pub margin_taken : (whole : ℕ) → IsUtf8 text → IsTaken 0 (first_margin text) [] new.levels old.waiting.items new.waiting.items whole
-      → new.nesting ≡ old.nesting → new.follows_gap ≡ false → new.at ≡ old.at + whole → new.stage ≡ stage.Onward → IsRead text (outcome text) old new
+  pub margin_taken : (whole : ℕ) → IsUtf8 text → IsTaken text 0 (first_margin text) [] [] new.levels new.pending whole
+      → new.nesting ≡ old.nesting → new.follows_gap ≡ false → new.at ≡ old.at + whole → new.stage ≡ stage.Onward → IsRead text (outcome text) None new
   margin_taken whole utf8 taken nesting before is_at is_onward =
       let layout = first_is_quiet text taken.piece taken.stands in
       let few : bracket_count old.nesting ≤ new.at = omega (arith, is_new.few) in
       let end : new.at ≡ 0 + taken.piece.len = omega (arith, is_at, is_new.at, taken.whole) in
-      took_first text old new taken.piece utf8 taken.stands
-      (rw nesting (quiet_kept taken.piece.lexemes [] old.nesting layout.tokens is_new.nesting)) taken.open_now (rw layout.sort before) end (rw nesting few) is_onward taken.queued
+      took_first text new taken.piece utf8 taken.stands
+      (rw nesting (quiet_kept taken.piece.lexemes [] old.nesting layout.tokens is_new.nesting)) taken.open_now (rw layout.sort before) end (rw nesting few) is_onward (hands_later text new.pending _ taken.is_pending taken.lexemes)
 
-  pub margin_refused : (begin : ℕ) (error : LexemeError) (end : ℕ) → IsRefused (first_margin text) (margin_of text).comments [] new.levels old.waiting.items new.waiting.items begin error end
-      → new.stage ≡ stage.Fault (old.at + begin) error (old.at + end) → IsRead text (outcome text) old new
-  margin_refused begin error end refused is =
-      failed_first text old new (record { begin = begin; node = refused.node; end = end }) error refused.stands refused.is (is ∙ ap (λ n. stage.Fault (n + begin) error (n + end)) is_new.at) refused.queued
+  pub margin_refused : (error : LexemeError) (end : ℕ) → IsRefused text (first_margin text) (margin_of text).comments [] new.levels new.pending error end
+      → new.stage ≡ stage.Fault (old.at + 0) error (old.at + end) → IsRead text (outcome text) None new
+  margin_refused error end refused is =
+      failed_first text new (record { begin = 0; node = refused.node; end = end }) error refused.stands refused.is (is ∙ ap (λ n. stage.Fault (n + 0) error (n + end)) is_new.at) (hands_later text new.pending _ refused.is_pending refused.lexemes)
+
+-- what is ahead where nothing is to be handed out before it
+pub none_before : (text : Text) (reader : Reader) (now : Stage) (lexemes : List (Spanned TokenView)) (fault : Option (Spanned grammar.Fault)) (left : Outcome) → IsIdle text reader.pending → (ahead : IsAhead text reader now lexemes fault) → ahead.left ≡ left
+    → (lexemes ≡ map shown_lexeme left.lexemes) × (fault ≡ left.fault)
+none_before text reader now lexemes fault left idle ahead e = (
+  ahead.ahead ∙ ap (λ ls. map shown_lexeme ls ++ map shown_lexeme ahead.left.lexemes) idle.1 ∙ ap (λ (o : Outcome). map shown_lexeme o.lexemes) e,
+  ahead.behind_them ∙ ap (λ (o : Outcome). o.fault) e,
+)
 
 -- what a text comes to is ahead, where something was read from its begin on
-pub first_ahead : (text : Text) (old new : Reader) (lexemes : List (Spanned TokenView)) (fault : Option (Spanned grammar.Fault)) → IsRead text (outcome text) old new → IsAhead text old stage.Begin lexemes fault → IsAhead text new new.stage lexemes fault
-first_ahead text old new lexemes fault read ahead =
-    read_ahead text (outcome text) old new lexemes fault read
-    (ahead.ahead ∙ ap (λ (o : Outcome). map lexeme_view old.waiting.items ++ map shown_lexeme o.lexemes) ahead.is_left.0) (ahead.behind_them ∙ ap (λ (o : Outcome). o.fault) ahead.is_left.0)
+pub first_ahead : (text : Text) (old new : Reader) (lexemes : List (Spanned TokenView)) (fault : Option (Spanned grammar.Fault)) → IsRead text (outcome text) None new → IsIdle text old.pending → IsAhead text old stage.Begin lexemes fault → IsAhead text new new.stage lexemes fault
+first_ahead text old new lexemes fault read idle ahead =
+    let both = none_before text old stage.Begin lexemes fault (outcome text) idle ahead ahead.is_left.0 in
+    read_ahead text (outcome text) None new lexemes fault read both.0 both.1
 
 pub new_ahead : (text : Text) (old : Reader) (lexemes : List (Spanned TokenView)) (fault : Option (Spanned grammar.Fault)) → IsAhead text old stage.Begin lexemes fault → IsNew old
 new_ahead text old lexemes fault ahead = record { at = ahead.is_left.1; nesting = ahead.is_left.2; levels = ahead.is_left.3; few = ahead.is_left.4 }

@@ -1,5 +1,5 @@
 -- What the reader of a text has in front of it, as the grammar sees it.
-use Rattle.std.specs.Prelude.{◌≡◌, ℕ, ◌+◌, ◌-◌, ◌≤◌, List, [], ◌∷◌, ◌++◌, map, length, drop, Option, Some, None}
+use Rattle.std.specs.Prelude.{◌≡◌, ℕ, ◌+◌, ◌-◌, ◌≤◌, List, [], ◌∷◌, ◌++◌, map, length, drop, Option, Some, None, option_to_list, ⊤}
 use Rattle.std.specs.Str.{IsCharBoundary}
 use Rattle.starlark_grammar.specs.Words.{Text, language}
 use Rattle.starlark_grammar.specs.Tokens as grammar
@@ -7,10 +7,11 @@ use Rattle.starlark_grammar.specs.Margins.{open_widths}
 use Rattle.starlark_grammar.specs.Pieces.{Step, Piece, Fails}
 use Rattle.starlark_grammar.specs.Reading.{History, Reading, after_all, pieces_len, lexemes_along, closing, next_step, read_from, outcome}
 use Rattle.starlark_syntax.specs.Lexemes.{fault_view, lexeme_view, shown_lexeme}
-use Rattle.starlark_syntax.specs.Joints.Layout.{Queued}
+use Rattle.starlark_syntax.specs.Joints.Pending.{IsPending, pending_lexemes}
 use Rattle.starlark_syntax.specs.Joints.Nesting.{Represents, bracket_count}
 use Rattle.starlark_syntax.specs.Joints.Pieces.{IsBehind}
 use Rattle.starlark_token.specs.TokenViews.{TokenView}
+use Rattle.starlark_token.specs.declared.tokens.Token.{Token}
 use Rattle.starlark_syntax.specs.declared.lexer.reader.Reader.{Reader}
 use Rattle.starlark_syntax.specs.declared.lexer.reader.Next.{Next}
 use Rattle.starlark_syntax.specs.declared.lexer.reader.Next.TheVariants as next
@@ -29,12 +30,6 @@ remaining_outcome history at text = go (read_from language history 0 text)
     go : Reading → grammar.Outcome
     go reading = outcome_along history at reading.pieces reading.last
 
--- Nothing but the nesting and the lexemes that wait may be another.
-pub record IsElsewhere (old new : Reader) : Type 0 where
-  pub at : new.at ≡ old.at
-  pub levels : new.levels ≡ old.levels
-  pub follows_gap : new.follows_gap ≡ old.follows_gap
-
 -- What is kept of a history before a place is what its tokens, widths and last piece say.
 pub record IsStateAfter (text : Text) (history : History) (reader : Reader) : Type 0 where
   pub nesting : Represents history.tokens reader.nesting
@@ -51,25 +46,33 @@ IsLeft text reader stage.Onward left = (history : History) × IsStateAfter text 
 IsLeft text reader (stage.Fault begin fault end) left = (node : grammar.Fault) × (fault_view fault ≡ Some node) × (left ≡ record { lexemes = []; fault = Some (record { begin = begin; node = node; end = end }) })
 IsLeft text reader stage.Closed left = left ≡ record { lexemes = []; fault = None }
 
--- What is still to be handed out of a text: the lexemes that wait, those still to be read, and the fault behind them.
+-- What is still to be handed out of a text: the lexemes that were read, those still to be read, and the fault behind
+-- them.
 pub record IsAhead (text : Text) (reader : Reader) (stage : Stage) (lexemes : List (grammar.Spanned TokenView)) (fault : Option (grammar.Spanned grammar.Fault)) : Type 0 where
   pub left : grammar.Outcome
   pub is_left : IsLeft text reader stage left
-  pub ahead : lexemes ≡ map lexeme_view reader.waiting.items ++ map shown_lexeme left.lexemes
+  pub is_pending : IsPending text reader.pending
+  pub ahead : lexemes ≡ map shown_lexeme (pending_lexemes text reader.pending) ++ map shown_lexeme left.lexemes
   pub behind_them : fault ≡ left.fault
 
 -- Something is still to be handed out, if only the end.
 abbrev pub IsReady : Text → Reader → Stage → Type 0
 IsReady text reader stage = (lexemes : List (grammar.Spanned TokenView)) × (fault : Option (grammar.Spanned grammar.Fault)) × IsAhead text reader stage lexemes fault
 
--- Some lexemes of an outcome were put behind those that wait, and the rest of it is still to be read.
-pub record IsRead (text : Text) (whole : grammar.Outcome) (old new : Reader) : Type 0 where
+-- the same behind a lexeme, where one was handed out
+abbrev pub IsAheadBehind : Text → Option (ℕ × Token × ℕ) → Reader → List (grammar.Spanned TokenView) → Option (grammar.Spanned grammar.Fault) → Type 0
+IsAheadBehind text None reader lexemes fault = IsAhead text reader reader.stage lexemes fault
+IsAheadBehind text (Some lexeme) reader lexemes fault = (more : List (grammar.Spanned TokenView)) × (lexemes ≡ lexeme_view lexeme ∷ more) × IsAhead text reader reader.stage more fault
+
+-- Some lexemes of an outcome were read, of which the first may be handed out, and the rest of it is still to be read.
+pub record IsRead (text : Text) (whole : grammar.Outcome) (given : Option (ℕ × Token × ℕ)) (new : Reader) : Type 0 where
   pub lexemes : List grammar.Lexeme
   pub left : grammar.Outcome
   pub is_left : IsLeft text new new.stage left
   pub parts : whole.lexemes ≡ lexemes ++ left.lexemes
   pub fault : whole.fault ≡ left.fault
-  pub queued : Queued old.waiting.items lexemes new.waiting.items
+  pub is_pending : IsPending text new.pending
+  pub handed_out : map shown_lexeme lexemes ≡ map lexeme_view (option_to_list given) ++ map shown_lexeme (pending_lexemes text new.pending)
 
 -- the step that stands where a reader is, behind a history
 abbrev pub step_here : Text → History → Reader → Step
@@ -86,12 +89,18 @@ left_to_read text reader stage.Onward = length text - reader.at + 2
 left_to_read text reader (stage.Fault begin fault end) = 1
 left_to_read text reader stage.Closed = 0
 
+-- all pieces of a text are read
+abbrev pub IsOver : Stage → Type 0
+IsOver (stage.Fault begin fault end) = ⊤
+IsOver stage.Closed = ⊤
+IsOver now = ⊥
+
 -- a lexeme is ahead, or the fault
 abbrev pub IsSomething : List (grammar.Spanned TokenView) → Option (grammar.Spanned grammar.Fault) → Type 0
 IsSomething lexemes fault = lexemes ≡ [] → fault ≡ None → ⊥
 
 -- What comes next, and what is ahead behind it: the first lexeme that is ahead, the fault where none is, or neither.
 abbrev pub IsNext : Text → List (grammar.Spanned TokenView) → Option (grammar.Spanned grammar.Fault) → Next → Reader → Type 0
-IsNext text lexemes fault (next.Lexeme lexeme) reader = (more : List (grammar.Spanned TokenView)) × (lexemes ≡ lexeme_view lexeme ∷ more) × IsAhead text reader reader.stage more fault
+IsNext text lexemes fault (next.Lexeme lexeme) reader = IsAheadBehind text (Some lexeme) reader lexemes fault
 IsNext text lexemes fault (next.Fault begin error end) reader = (node : grammar.Fault) × (fault_view error ≡ Some node) × (lexemes ≡ []) × (fault ≡ Some (record { begin = begin; node = node; end = end }))
 IsNext text lexemes fault next.Nothing reader = (lexemes ≡ []) × (fault ≡ None) × IsAhead text reader reader.stage [] None

@@ -1,29 +1,26 @@
 //! Reads a text piece by piece, and keeps what later pieces depend on.
 
-ghost use Rattle.std.specs.Prelude.{◌≡◌, ◌<◌, ◌≤◌, ◌+◌, ◌^◌, ◌∷◌, ◌++◌, [], ℕ, false, List, Option, drop, length, map, string_bytes, OnErr, OnOk, IfOk};
+ghost use Rattle.std.specs.Prelude.{◌≡◌, ◌<◌, ◌≤◌, ◌+◌, ◌^◌, [], ℕ, None, Some, List, Option, drop, length, map, OnErr, OnOk, IfOk};
 ghost use Rattle.std.specs.Str.{IsCharBoundary};
-ghost use Rattle.starlark_syntax.specs.Joints.Steps.{IsStep, is_fstring_start};
+ghost use Rattle.starlark_syntax.specs.Joints.Steps.{IsStep};
 ghost use Rattle.starlark_syntax.specs.Lexemes.{shown_lexeme};
 ghost use Rattle.starlark_scanner.specs.Joints.Literals.{opening_view};
 ghost use Rattle.starlark_grammar.specs.Margins.{open_widths};
 ghost use Rattle.starlark_grammar.specs.Pieces as grammar;
-ghost use Rattle.starlark_syntax.specs.Joints.Reader.{IsAhead, IsElsewhere, IsStateAfter, IsNext, IsRead, IsReady, IsSomething, left_here, left_to_read, step_here};
+ghost use Rattle.starlark_syntax.specs.Joints.Pending.{IsIdle};
+ghost use Rattle.starlark_syntax.specs.Joints.Reader.{IsAhead, IsAheadBehind, IsStateAfter, IsNext, IsOver, IsRead, IsReady, IsSomething, left_here, left_to_read, step_here};
 ghost use Rattle.starlark_grammar.specs.Reading.{History, outcome};
-ghost use Rattle.starlark_syntax.specs.Joints.Layout.{Queued};
-ghost use Rattle.starlark_syntax.specs.Joints.Nesting.{Represents, bracket_count};
-ghost use Rattle.starlark_token.specs.TokenViews.{TokenView, Whole, token_view};
-ghost use Rattle.starlark_grammar.specs.Tokens as grammar_token;
-ghost use Rattle.starlark_grammar.specs.Tokens.{FStringStart, Fault, Spanned, moved};
+ghost use Rattle.starlark_token.specs.TokenViews.{TokenView};
+ghost use Rattle.starlark_grammar.specs.Tokens.{FStringStart, Fault, Spanned};
 ghost use Rattle.starlark_grammar.specs.Words.{Text};
 
-use crate::lexer::layout::{Laid, Levels, PlacedToken, first_margin, line_end, push_closing};
-use crate::lexer::literal::{Opening, Step, quotes_of};
+use crate::lexer::layout::{Behind, Laid, Levels, Pending, PlacedToken, first_margin, line_end};
+use crate::lexer::literal::{Opening, Step, TextEnd, quotes_of};
 use crate::lexer::nesting::Nesting;
 use crate::lexer::reading::{Piece, piece_at};
 use starlark_error::lexeme_error::LexemeError;
 use starlark_token::tokens::Token;
 use std::alloc::{AllocError, Global};
-use std::collections::VecDeque;
 use std::mem;
 
 /// How far a text is read: not at all, up to a place, up to its fault, or to its end.
@@ -40,7 +37,7 @@ enum Stage {
 }
 
 /// What was read of a text up to a place: the brackets, f-strings and widths that are open there, whether a skipped piece
-/// stands right before it, and the lexemes that wait to be handed out.
+/// stands right before it, and what is still to be handed out.
 #[derive(Debug, Drop)]
 pub struct Reader {
     alloc: Global,
@@ -48,7 +45,7 @@ pub struct Reader {
     nesting: Nesting,
     levels: Levels,
     follows_gap: bool,
-    waiting: VecDeque<PlacedToken>,
+    pending: Pending,
     stage: Stage,
 }
 
@@ -75,7 +72,7 @@ impl Reader {
             nesting: Nesting::new(alloc),
             levels: Levels::new(alloc),
             follows_gap: false,
-            waiting: VecDeque::new(alloc),
+            pending: Pending::nothing(),
             stage: Stage::Begin,
         }
     }
@@ -107,155 +104,170 @@ impl Reader {
     fn read_first_margin(&mut self, text: &str) -> Result<(), AllocError>
         requires fits { length text.now < 2 ^ 32 }
         requires ready { IsReady text.now self.old Stage.Begin }
+        requires idle { IsIdle text.now self.old.pending }
         ensures ahead { OnOk result ((lexemes : List (Spanned TokenView)) (fault : Option (Spanned Fault)) → IsAhead text.now self.old Stage.Begin lexemes fault → IsAhead text.now self.new self.new.stage lexemes fault) }
         ensures less { OnOk result (left_to_read text.now self.new self.new.stage < left_to_read text.now self.old Stage.Begin) }
     {
-        match first_margin(self.alloc, &mut self.levels, &mut self.waiting, text)? {
-            Laid::Taken { len } => self.step_over(len, false),
-            Laid::Fault { begin, fault, end } => self.refuse(begin, fault, end),
+        let laid = first_margin(&mut self.levels, text)?;
+        match laid {
+            Laid::Taken { pending, len } => {
+                self.pending = pending;
+                self.step_over(len, false);
+            }
+            Laid::Fault {
+                pending,
+                fault,
+                end,
+            } => {
+                self.pending = pending;
+                self.refuse(0, fault, end);
+            }
         }
         Ok(())
     }
 
     /// Reads a line end that counts, and the margin behind it.
-    fn read_line_end(&mut self, text: &str, len: usize) -> Result<(), AllocError>
+    fn read_line_end(&mut self, text: &str, len: usize) -> Result<Option<PlacedToken>, AllocError>
         requires fits { length text.now < 2 ^ 32 }
         requires stands { (history : History) × IsStateAfter text.now history self.old × (step_here text.now history self.old ≡ grammar.line_end len (open_widths history.widths) (drop len (drop self.old.at text.now))) }
         requires cut { IsCharBoundary text.now (self.old.at + len) }
-        ensures read { OnOk result ((history : History) → IsStateAfter text.now history self.old → step_here text.now history self.old ≡ grammar.line_end len (open_widths history.widths) (drop len (drop self.old.at text.now)) →
-            IsRead text.now (left_here text.now history self.old) self.old self.new) }
+        ensures read { IfOk result (λ given. (history : History) → IsStateAfter text.now history self.old → step_here text.now history self.old ≡ grammar.line_end len (open_widths history.widths) (drop len (drop self.old.at text.now)) →
+            IsRead text.now (left_here text.now history self.old) given self.new) }
         ensures less { OnOk result (left_to_read text.now self.new self.new.stage < left_to_read text.now self.old Stage.Onward) }
     {
-        let behind = &text[self.at + len..];
-        let laid = line_end(
-            self.alloc,
-            &mut self.levels,
-            &mut self.waiting,
-            self.at,
-            len,
-            behind,
-        )?;
+        let begin = self.at;
+        let laid = line_end(&mut self.levels, begin, len, text)?;
         match laid {
-            Laid::Taken { len } => self.step_over(len, false),
-            Laid::Fault { begin, fault, end } => self.refuse(begin, fault, end),
-        }
-        Ok(())
-    }
-
-    /// Takes the start of an f-string.
-    fn begin_fstring(&mut self, opening: Opening, len: usize, text: &str) -> Result<(), AllocError>
-        requires fits { length text.now < 2 ^ 32 }
-        requires stands { (history : History) × IsStateAfter text.now history self.old × (step_here text.now history self.old ≡ grammar.token len (FStringStart (opening_view opening))) }
-        ensures read { OnOk result ((history : History) → IsStateAfter text.now history self.old → step_here text.now history self.old ≡ grammar.token len (FStringStart (opening_view opening)) →
-            IsRead text.now (left_here text.now history self.old) self.old self.new) }
-        ensures less { OnOk result (left_to_read text.now self.new self.new.stage < left_to_read text.now self.old Stage.Onward) }
-    {
-        self.nesting.begin_fstring(opening)?;
-        let token = Token::FStringStart(quotes_of(opening));
-        self.waiting.push_back((self.at, token, self.at + len))?;
-        self.step_over(len, false);
-        Ok(())
-    }
-
-    /// Puts a token, from one place to another, behind those that wait.
-    fn push(&mut self, begin: usize, token: Token, end: usize) -> Result<(), AllocError>
-        requires room { bracket_count self.old.nesting + 1 < 2 ^ 64 }
-        ensures passes { OnOk result ((tokens : List grammar_token.Token) (node : grammar_token.Token) → token_view token ≡ Whole node → is_fstring_start node ≡ false → Represents tokens self.old.nesting → Represents (node ∷ tokens) self.new.nesting) }
-        ensures count { OnOk result (bracket_count self.new.nesting ≤ bracket_count self.old.nesting + 1) }
-        ensures waits { OnOk result (self.new.waiting.items ≡ self.old.waiting.items ++ (begin, token, end) ∷ []) }
-        ensures stays { OnOk result (IsElsewhere self.old self.new) }
-    {
-        self.nesting.pass(&token);
-        self.waiting.push_back((begin, token, end))?;
-        Ok(())
-    }
-
-    /// Takes a token that was read here.
-    fn take_token(&mut self, token: Token, len: usize, text: &str) -> Result<(), AllocError>
-        requires fits { length text.now < 2 ^ 32 }
-        requires stands { (history : History) × IsStateAfter text.now history self.old × IsStep (step_here text.now history self.old) (Step.Token token len) }
-        ensures read { OnOk result ((history : History) → IsStateAfter text.now history self.old → IsStep (step_here text.now history self.old) (Step.Token token len) →
-            IsRead text.now (left_here text.now history self.old) self.old self.new) }
-        ensures less { OnOk result (left_to_read text.now self.new self.new.stage < left_to_read text.now self.old Stage.Onward) }
-    {
-        self.push(self.at, token, self.at + len)?;
-        self.step_over(len, false);
-        Ok(())
-    }
-
-    /// Puts a text of an f-string, up to a place, behind the lexemes that wait, where it denotes something.
-    fn push_text(&mut self, chunk: String, end: usize) -> Result<(), AllocError>
-        ensures waits { OnOk result ((len : ℕ) → end ≡ self.old.at + len → Queued self.old.waiting.items (map (moved self.old.at) (grammar.chunk_text len (string_bytes chunk))) self.new.waiting.items) }
-        ensures nesting { OnOk result (self.new.nesting ≡ self.old.nesting) }
-        ensures stays { OnOk result (IsElsewhere self.old self.new) }
-    {
-        if !chunk.is_empty() {
-            self.waiting
-                .push_back((self.at, Token::FStringText(chunk), end))?;
-        }
-        Ok(())
-    }
-
-    /// Takes a text of an f-string that was read here, and the token behind it.
-    fn take_chunk(
-        &mut self,
-        chunk: String,
-        chunk_len: usize,
-        token: Token,
-        len: usize,
-        text: &str,
-    ) -> Result<(), AllocError>
-        requires fits { length text.now < 2 ^ 32 }
-        requires stands { (history : History) × IsStateAfter text.now history self.old × IsStep (step_here text.now history self.old) (Step.Text chunk chunk_len token len) }
-        ensures read { OnOk result ((history : History) → IsStateAfter text.now history self.old → IsStep (step_here text.now history self.old) (Step.Text chunk chunk_len token len) →
-            IsRead text.now (left_here text.now history self.old) self.old self.new) }
-        ensures less { OnOk result (left_to_read text.now self.new self.new.stage < left_to_read text.now self.old Stage.Onward) }
-    {
-        let between = self.at + chunk_len;
-        self.push_text(chunk, between)?;
-        self.push(between, token, between + len)?;
-        self.step_over(chunk_len + len, false);
-        Ok(())
-    }
-
-    /// Takes a token or a fault that was read here.
-    fn take(&mut self, step: Step, text: &str) -> Result<(), AllocError>
-        requires fits { length text.now < 2 ^ 32 }
-        requires stands { (history : History) × IsStateAfter text.now history self.old × IsStep (step_here text.now history self.old) step }
-        ensures read { OnOk result ((history : History) → IsStateAfter text.now history self.old → IsStep (step_here text.now history self.old) step →
-            IsRead text.now (left_here text.now history self.old) self.old self.new) }
-        ensures less { OnOk result (left_to_read text.now self.new self.new.stage < left_to_read text.now self.old Stage.Onward) }
-    {
-        match step {
-            Step::Token { token, len } => self.take_token(token, len, text),
-            Step::Text {
-                text: chunk,
-                text_len,
-                token,
-                len,
-            } => self.take_chunk(chunk, text_len, token, len, text),
-            Step::Fault { begin, fault, end } => {
-                self.refuse(begin, fault, end);
-                Ok(())
+            Laid::Taken {
+                pending,
+                len: whole,
+            } => {
+                self.pending = pending;
+                self.step_over(whole, false);
+                Ok(Some((begin, Token::Newline, begin + len)))
+            }
+            Laid::Fault {
+                pending,
+                fault,
+                end: fault_end,
+            } => {
+                self.pending = pending;
+                self.refuse(0, fault, fault_end);
+                Ok(None)
             }
         }
     }
 
-    /// Closes a text without fault at its end.
-    fn close(&mut self, text: &str) -> Result<(), AllocError>
-        ensures read { OnOk result ((history : History) → IsStateAfter text.now history self.old → step_here text.now history self.old ≡ grammar.Ends → IsRead text.now (left_here text.now history self.old) self.old self.new) }
+    /// Takes the start of an f-string.
+    fn begin_fstring(
+        &mut self,
+        opening: Opening,
+        len: usize,
+        text: &str,
+    ) -> Result<PlacedToken, AllocError>
+        requires fits { length text.now < 2 ^ 32 }
+        requires stands { (history : History) × IsStateAfter text.now history self.old × (step_here text.now history self.old ≡ grammar.token len (FStringStart (opening_view opening))) }
+        requires idle { IsIdle text.now self.old.pending }
+        ensures read { IfOk result (λ given. (history : History) → IsStateAfter text.now history self.old → step_here text.now history self.old ≡ grammar.token len (FStringStart (opening_view opening)) →
+            IsRead text.now (left_here text.now history self.old) (Some given) self.new) }
         ensures less { OnOk result (left_to_read text.now self.new self.new.stage < left_to_read text.now self.old Stage.Onward) }
     {
-        push_closing(&mut self.waiting, &self.levels, self.at)?;
-        self.stage = Stage::Closed;
-        Ok(())
+        let begin = self.at;
+        self.nesting.begin_fstring(opening)?;
+        self.step_over(len, false);
+        Ok((begin, Token::FStringStart(quotes_of(opening)), begin + len))
     }
 
-    /// Reads the piece here.
-    fn read_piece(&mut self, text: &str) -> Result<(), AllocError>
+    /// Takes a token that was read here.
+    fn take_token(&mut self, token: Token, len: usize, text: &str) -> PlacedToken
+        requires fits { length text.now < 2 ^ 32 }
+        requires stands { (history : History) × IsStateAfter text.now history self.old × IsStep (step_here text.now history self.old) (Step.Token token len) }
+        requires idle { IsIdle text.now self.old.pending }
+        ensures read { (history : History) → IsStateAfter text.now history self.old → IsStep (step_here text.now history self.old) (Step.Token token len) →
+            IsRead text.now (left_here text.now history self.old) (Some result) self.new }
+        ensures less { left_to_read text.now self.new self.new.stage < left_to_read text.now self.old Stage.Onward }
+    {
+        let begin = self.at;
+        self.nesting.pass(&token);
+        self.step_over(len, false);
+        (begin, token, begin + len)
+    }
+
+    /// Takes a text of an f-string that was read here, and what ends it. A text that denotes nothing is no lexeme.
+    fn take_chunk(
+        &mut self,
+        chunk: String,
+        chunk_len: usize,
+        stop: TextEnd,
+        len: usize,
+        text: &str,
+    ) -> PlacedToken
+        requires fits { length text.now < 2 ^ 32 }
+        requires stands { (history : History) × IsStateAfter text.now history self.old × IsStep (step_here text.now history self.old) (Step.Text chunk chunk_len stop len) }
+        requires idle { IsIdle text.now self.old.pending }
+        ensures read { (history : History) → IsStateAfter text.now history self.old → IsStep (step_here text.now history self.old) (Step.Text chunk chunk_len stop len) →
+            IsRead text.now (left_here text.now history self.old) (Some result) self.new }
+        ensures less { left_to_read text.now self.new self.new.stage < left_to_read text.now self.old Stage.Onward }
+    {
+        let begin = self.at;
+        let between = begin + chunk_len;
+        let end = between + len;
+        self.nesting.pass(&stop.token());
+        self.step_over(chunk_len + len, false);
+        if chunk.is_empty() {
+            return (between, stop.token(), end);
+        }
+        self.pending = Pending::only(Behind::TextEnd {
+            begin: between,
+            stop,
+            end,
+        });
+        (begin, Token::FStringText(chunk), between)
+    }
+
+    /// Takes a token or a fault that was read here.
+    fn take(&mut self, step: Step, text: &str) -> Option<PlacedToken>
+        requires fits { length text.now < 2 ^ 32 }
+        requires stands { (history : History) × IsStateAfter text.now history self.old × IsStep (step_here text.now history self.old) step }
+        requires idle { IsIdle text.now self.old.pending }
+        ensures read { (history : History) → IsStateAfter text.now history self.old → IsStep (step_here text.now history self.old) step →
+            IsRead text.now (left_here text.now history self.old) result self.new }
+        ensures less { left_to_read text.now self.new self.new.stage < left_to_read text.now self.old Stage.Onward }
+    {
+        match step {
+            Step::Token { token, len } => Some(self.take_token(token, len, text)),
+            Step::Text {
+                text: chunk,
+                text_len,
+                stop,
+                len,
+            } => Some(self.take_chunk(chunk, text_len, stop, len, text)),
+            Step::Fault { begin, fault, end } => {
+                self.refuse(begin, fault, end);
+                None
+            }
+        }
+    }
+
+    /// Closes a text without fault at its end: with a `Newline` of no bytes, and a `Dedent` for each open width.
+    fn close(&mut self, text: &str) -> PlacedToken
+        ensures read { (history : History) → IsStateAfter text.now history self.old → step_here text.now history self.old ≡ grammar.Ends → IsRead text.now (left_here text.now history self.old) (Some result) self.new }
+        ensures less { left_to_read text.now self.new self.new.stage < left_to_read text.now self.old Stage.Onward }
+    {
+        self.pending = Pending::only(Behind::Dedents {
+            at: self.at,
+            count: self.levels.len(),
+        });
+        self.stage = Stage::Closed;
+        (self.at, Token::Newline, self.at)
+    }
+
+    /// Reads the piece here, where nothing else is to be handed out. Answers its first lexeme, if it has one.
+    fn read_piece(&mut self, text: &str) -> Result<Option<PlacedToken>, AllocError>
         requires fits { length text.now < 2 ^ 32 }
         requires ready { IsReady text.now self.old Stage.Onward }
-        ensures ahead { OnOk result ((lexemes : List (Spanned TokenView)) (fault : Option (Spanned Fault)) → IsAhead text.now self.old Stage.Onward lexemes fault → IsAhead text.now self.new self.new.stage lexemes fault) }
+        requires idle { IsIdle text.now self.old.pending }
+        ensures ahead { IfOk result (λ given. (lexemes : List (Spanned TokenView)) (fault : Option (Spanned Fault)) → IsAhead text.now self.old Stage.Onward lexemes fault → IsAheadBehind text.now given self.new lexemes fault) }
         ensures less { OnOk result (left_to_read text.now self.new self.new.stage < left_to_read text.now self.old Stage.Onward) }
     {
         let place = self.nesting.place();
@@ -265,12 +277,22 @@ impl Reader {
         match piece {
             Piece::Nothing { len, is_gap } => {
                 self.step_over(len, is_gap);
-                Ok(())
+                Ok(None)
             }
             Piece::LineEnd { len } => self.read_line_end(text, len),
-            Piece::FString { opening, len } => self.begin_fstring(opening, len, text),
-            Piece::Lexed(step) => self.take(step, text),
-            Piece::End => self.close(text),
+            Piece::FString { opening, len } => Ok(Some(self.begin_fstring(opening, len, text)?)),
+            Piece::Lexed(step) => Ok(self.take(step, text)),
+            Piece::End => Ok(Some(self.close(text))),
+        }
+    }
+
+    /// What stands behind the last lexeme of a text that is read: its fault, which isn't answered again, or nothing.
+    fn last(&mut self) -> Next
+        ensures { (text : Text) (lexemes : List (Spanned TokenView)) (fault : Option (Spanned Fault)) → IsIdle text self.old.pending → IsOver self.old.stage → IsAhead text self.old self.old.stage lexemes fault → IsNext text lexemes fault result self.new }
+    {
+        match mem::replace(&mut self.stage, Stage::Closed) {
+            Stage::Fault { begin, fault, end } => Next::Fault { begin, fault, end },
+            _ => Next::Nothing,
         }
     }
 
@@ -283,16 +305,17 @@ impl Reader {
         ensures memory { OnErr result ((lexemes : List (Spanned TokenView)) (fault : Option (Spanned Fault)) → IsAhead text.now self.old self.old.stage lexemes fault → IsSomething lexemes fault) }
     {
         loop {
-            if let Some(lexeme) = self.waiting.pop_front() {
+            if let Some(lexeme) = self.pending.next(self.alloc, text)? {
                 return Ok(Next::Lexeme(lexeme));
             }
-            match mem::replace(&mut self.stage, Stage::Closed) {
+            match self.stage {
                 Stage::Begin => self.read_first_margin(text)?,
-                Stage::Onward => self.read_piece(text)?,
-                Stage::Fault { begin, fault, end } => {
-                    return Ok(Next::Fault { begin, fault, end });
+                Stage::Onward => {
+                    if let Some(lexeme) = self.read_piece(text)? {
+                        return Ok(Next::Lexeme(lexeme));
+                    }
                 }
-                Stage::Closed => return Ok(Next::Nothing),
+                Stage::Fault { .. } | Stage::Closed => return Ok(self.last()),
             }
         }
     }

@@ -1,20 +1,25 @@
 //! What the margin at the front of a text is.
 
-ghost use Rattle.std.specs.Prelude.{◌≡◌, ◌+◌, ◌≤◌, ◌<◌, ◌∷◌, count_by, drop, length, nat_eq, not, sum_by, take};
-ghost use Rattle.std.specs.List.{list_any, prefix_len};
-ghost use Rattle.starlark_syntax.specs.Joints.Layout.{IsFirstComment, IsMargin};
+ghost use Rattle.std.specs.Prelude.{◌≡◌, ◌+◌, ◌≤◌, ◌<◌, ◌^◌, ◌∷◌, drop, length, not, take};
+ghost use Rattle.std.specs.List.{prefix_len};
+ghost use Rattle.starlark_syntax.specs.Joints.Layout.{IsBlanks, IsMargin, IsWith};
 ghost use Rattle.starlark_grammar.specs.Margins as grammar;
 
 use super::feeds::before_feed_len;
 
-/// A margin: where its last line begins behind its comment-only lines, how many blanks stand there, how many of them
-/// are spaces, whether one is a tab, and whether content follows.
+/// The blanks at the front of a text: how many, how many of them are spaces, and whether one is a tab.
+#[derive(Clone, Copy, Debug, PartialEq, Eq)]
+pub struct Blanks {
+    pub len: usize,
+    pub width: usize,
+    pub has_tab: bool,
+}
+
+/// A margin: where its last line begins behind its comment-only lines, the blanks there, and whether content follows.
 #[derive(Clone, Copy, Debug, PartialEq, Eq)]
 pub struct Margin {
     pub at: usize,
-    pub blanks_len: usize,
-    pub width: usize,
-    pub has_tab: bool,
+    pub blanks: Blanks,
     pub is_content: bool,
 }
 
@@ -28,58 +33,64 @@ pub fn blanks_len(text: &[u8]) -> usize
         .count()
 }
 
-/// The length of the first line of a text, with its LF.
-fn line_len(text: &[u8]) -> usize
+/// The length of the first line of a text with its LF, by how many bytes stand before that.
+pub fn line_len(text: &[u8], feed: usize) -> usize
+    requires { feed ≡ prefix_len (λ b. not (grammar.is_feed b)) text.now }
     ensures line { 0 < length text.now → grammar.lines text.now ≡ take result text.now ∷ grammar.lines (drop result text.now) }
     ensures within { result ≤ length text.now }
+    ensures feed { feed ≤ result }
 {
-    let len = before_feed_len(text);
-    if len < text.len() { len + 1 } else { len }
+    if feed < text.len() { feed + 1 } else { feed }
+}
+
+impl Blanks {
+    /// These blanks and a byte behind them; `None` where that is no blank.
+    fn with(self, byte: u8) -> Option<Blanks>
+        requires len { self.len + 1 < 2 ^ 64 }
+        requires width { self.width + 1 < 2 ^ 64 }
+        ensures { IsWith self byte result }
+    {
+        let len = self.len + 1;
+        match byte {
+            b' ' => Some(Blanks {
+                len,
+                width: self.width + 1,
+                ..self
+            }),
+            b'\t' => Some(Blanks {
+                len,
+                has_tab: true,
+                ..self
+            }),
+            b'\r' => Some(Blanks { len, ..self }),
+            _ => None,
+        }
+    }
+}
+
+/// The blanks at the front of a text.
+fn blanks_of(text: &[u8]) -> Blanks
+    ensures value { IsBlanks (take (grammar.blanks_len text.now) text.now) result }
+    ensures within { result.len ≤ length text.now }
+{
+    let mut blanks = Blanks {
+        len: 0,
+        width: 0,
+        has_tab: false,
+    };
+    while let Some(byte) = text.get(blanks.len) {
+        let Some(more) = blanks.with(*byte) else {
+            break;
+        };
+        blanks = more;
+    }
+    blanks
 }
 
 fn begins_comment(text: &[u8]) -> bool
     ensures { result ≡ grammar.begins_comment text.now }
 {
     matches!(text, [b'#', ..])
-}
-
-/// The length of a text's first line, with its LF, where that is blanks and a comment; otherwise `None`.
-pub fn comment_line_len(text: &[u8]) -> Option<usize>
-    ensures { IsFirstComment text.now result }
-{
-    let blanks_len = blanks_len(text);
-    let behind = &text[blanks_len..];
-    if begins_comment(behind) {
-        Some(blanks_len + line_len(behind))
-    } else {
-        None
-    }
-}
-
-/// The length of the comment-only lines at the front of a text.
-fn comment_lines_len(text: &[u8]) -> usize
-    ensures value { result ≡ sum_by length (grammar.comment_lines text.now) }
-    ensures within { result ≤ length text.now }
-{
-    let mut at = 0;
-    while let Some(len) = comment_line_len(&text[at..]) {
-        at += len;
-    }
-    at
-}
-
-/// The number of spaces in a text.
-fn spaces(text: &[u8]) -> usize
-    ensures { result ≡ count_by (nat_eq 32) text.now }
-{
-    text.iter().filter(|byte| **byte == b' ').count()
-}
-
-/// Whether a text has a tab.
-fn has_tab(text: &[u8]) -> bool
-    ensures { result ≡ list_any (nat_eq 9) text.now }
-{
-    text.iter().any(|byte| *byte == b'\t')
 }
 
 /// Whether content stands at the front of a text: neither its end nor an LF.
@@ -92,17 +103,21 @@ fn is_content(text: &[u8]) -> bool
 /// The margin at the front of a text.
 pub fn margin_of(text: &str) -> Margin
     ensures margin { IsMargin (grammar.margin_of text.now) result }
-    ensures within { result.at + result.blanks_len ≤ length text.now }
+    ensures within { result.at + result.blanks.len ≤ length text.now }
 {
     let bytes = text.as_bytes();
-    let at = comment_lines_len(bytes);
-    let line = &bytes[at..];
-    let (blanks, behind) = line.split_at(blanks_len(line));
-    Margin {
-        at,
-        blanks_len: blanks.len(),
-        width: spaces(blanks),
-        has_tab: has_tab(blanks),
-        is_content: is_content(behind),
+    let mut at = 0;
+    loop {
+        let line = &bytes[at..];
+        let blanks = blanks_of(line);
+        let behind = &line[blanks.len..];
+        if !begins_comment(behind) {
+            return Margin {
+                at,
+                blanks,
+                is_content: is_content(behind),
+            };
+        }
+        at += blanks.len + line_len(behind, before_feed_len(behind));
     }
 }

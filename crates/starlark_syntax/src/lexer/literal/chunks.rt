@@ -5,13 +5,12 @@ ghost use Rattle.starlark_syntax.specs.Joints.Steps.{IsStep};
 ghost use Rattle.starlark_scanner.specs.Joints.Literals.{opening_view};
 ghost use Rattle.starlark_grammar.specs.Pieces as grammar;
 
-use super::pieces::Step;
+use super::pieces::{Step, TextEnd};
 use starlark_error::lexeme_error::LexemeError;
 use starlark_scanner::literal::{
     Body, Literal, LiteralValue, Opening, Stop, closing_len, read_body,
 };
 use starlark_scanner::scanner::LiteralKind;
-use starlark_token::tokens::Token;
 use std::alloc::{AllocError, Global};
 
 /// The text of an f-string up to its first stop.
@@ -34,13 +33,13 @@ pub fn chunk_from(alloc: Global, opening: Opening, text: &str) -> Result<Step, A
         Stop::OpeningBrace => Ok(Step::Text {
             text: value,
             text_len,
-            token: Token::FStringExprStart,
+            stop: TextEnd::Expression,
             len: 1,
         }),
         Stop::Closing => Ok(Step::Text {
             text: value,
             text_len,
-            token: Token::FStringEnd,
+            stop: TextEnd::FString,
             len: closing_len(opening),
         }),
         Stop::ClosingBrace => Ok(Step::Fault {

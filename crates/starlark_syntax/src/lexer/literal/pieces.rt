@@ -3,7 +3,7 @@
 ghost use Rattle.std.specs.Prelude.{◌≡◌, ◌≢◌, ◌+◌, ◌<◌, ◌^◌, Some, false, length, not, IfOk};
 ghost use Rattle.starlark_grammar.specs.Depths.{Mode};
 ghost use Rattle.starlark_grammar.specs.Items as items;
-ghost use Rattle.starlark_syntax.specs.Joints.Steps.{IsStep, is_fstring_start};
+ghost use Rattle.starlark_syntax.specs.Joints.Steps.{IsStep, is_fstring_start, text_end_node};
 ghost use Rattle.starlark_syntax.specs.Lexemes.{fault_view};
 ghost use Rattle.starlark_grammar.specs.Cuts.{is_outside};
 ghost use Rattle.starlark_scanner.specs.Joints.Literals.{bytes_of, holds_text, opening_view};
@@ -19,8 +19,28 @@ use starlark_token::fstring_style::FStringQuote;
 use starlark_token::tokens::Token;
 use std::alloc::{AllocError, Global};
 
+/// What ends a text of an f-string: the start of an expression, or the end of the f-string.
+#[derive(Clone, Copy, Debug, PartialEq, Eq)]
+pub enum TextEnd {
+    Expression,
+    FString,
+}
+
+impl TextEnd {
+    /// As a token.
+    #[tactic(auto, unfolding(starlark_token::specs::TokenViews::token_view))]
+    pub fn token(self) -> Token
+        ensures { token_view result ≡ Whole (text_end_node self) }
+    {
+        match self {
+            TextEnd::Expression => Token::FStringExprStart,
+            TextEnd::FString => Token::FStringEnd,
+        }
+    }
+}
+
 /// What stands at a place: a token of so many bytes; a text of an f-string, of `text_len` bytes, which is no lexeme
-/// where it denotes nothing, and a token behind it; or a fault, from one place to another. Places are in bytes from
+/// where it denotes nothing, and what ends it; or a fault, from one place to another. Places are in bytes from
 /// there on.
 #[derive(Debug, Drop)]
 pub enum Step {
@@ -31,7 +51,7 @@ pub enum Step {
     Text {
         text: String,
         text_len: usize,
-        token: Token,
+        stop: TextEnd,
         len: usize,
     },
     Fault {

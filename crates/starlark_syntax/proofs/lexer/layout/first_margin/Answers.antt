@@ -1,12 +1,17 @@
 use Rattle.std.proofs.Common.{[]}
+use Rattle.std.proofs.lemmas.Str.{IsCharBoundary-start}
 use Rattle.starlark_grammar.specs.Margins.{margin_of}
-use Rattle.starlark_syntax.proofs.Indentation.Laid.{first_refused, first_taken}
+use Rattle.starlark_syntax.proofs.Indentation.Laid.{comments_wait_first, first_refused, first_taken}
 use Rattle.starlark_syntax.proofs.lexer.layout.first_margin.Goals as goal
 
-pub returns-in_ok-take_margin-in-Taken : goal.returns-in_ok-take_margin-in-Taken
-returns-in_ok-take_margin-in-Taken c =
-    first_taken c.args.text.now c.args.levels.now c.args.waiting.now.items c.take_margin.new.waiting.items c.requires c.take_margin.new.levels c.in-Taken.len (c.in-Taken.ensures [] (margin_of c.args.text.now) c.margin_of-margin.ensures.margin) c.in_ok-take_margin-in-Taken.ensures.lexemes c.in_ok-take_margin-in-Taken.ensures.widths
+pub returns-in_ok-take_margin-in-None : goal.returns-in_ok-take_margin-in-None
+returns-in_ok-take_margin-in-None c =
+    let margin = c.margin_of-margin.ensures.margin in
+    first_taken c.args.text.now c.args.levels.now c.margin_of-margin.result c.requires margin c.take_margin.new.levels c.in_ok-take_margin-in-None.field-0 (c.in-None.ensures [] (margin_of c.args.text.now) margin)
+    (c.in_ok-take_margin-in-None.ensures.lexemes c.args.text.now c.utf8.text (IsCharBoundary-start c.args.text.now c.utf8.text) margin) c.in_ok-take_margin-in-None.ensures.widths
 
-pub returns-in_ok-push_comments-in_default : goal.returns-in_ok-push_comments-in_default
-returns-in_ok-push_comments-in_default c =
-    first_refused c.args.text.now c.args.levels.now c.args.waiting.now.items c.push_comments.new.waiting.items c.requires c.decide.result c.in_default.not-Taken (c.decide.ensures [] (margin_of c.args.text.now) c.margin_of-margin.ensures.margin) c.in_ok-push_comments-in_default.ensures
+pub returns-in-Some : goal.returns-in-Some
+returns-in-Some c =
+    let margin = c.margin_of-margin.ensures.margin in
+    first_refused c.args.text.now c.args.levels.now c.margin_of-margin.result c.requires margin c.in-Some.fault c.in-Some.end _ (c.in-Some.ensures [] (margin_of c.args.text.now) margin)
+    (comments_wait_first c.args.text.now c.margin_of-margin.result c.utf8.text margin c.nothing.result c.nothing.ensures)

@@ -1,18 +1,19 @@
-use Rattle.std.proofs.Common.{[], ◌∷◌, refl}
+use Rattle.std.proofs.Common.{[], ◌∷◌, ◌+◌, drop}
 use Rattle.starlark_grammar.specs.Margins.{margin_of}
-use Rattle.starlark_token.specs.TokenViews.{token_view}
 use Rattle.starlark_grammar.specs.Tokens.{Newline}
-use Rattle.starlark_token.specs.declared.tokens.Token.TheVariants as token
+use Rattle.starlark_syntax.specs.Joints.Layout.{IsMargin}
 use Rattle.starlark_syntax.proofs.Indentation.Laid.{end_refused, end_taken}
 use Rattle.starlark_syntax.proofs.lexer.layout.line_end.Goals as goal
 
-pub returns-in_ok-take_margin-in-Taken : goal.returns-in_ok-take_margin-in-Taken
-unfolding token_view
-returns-in_ok-take_margin-in-Taken c = λ widths open_now.
-    end_taken c.args.at c.args.len c.args.behind.now c.args.levels.now widths open_now c.take_margin.new.levels c.in-Taken.whole c.args.waiting.now.items c.push_back.new.self.items c.take_margin.new.waiting.items token.Newline refl c.in_ok-push_back-in-Taken.ensures.items
-    (c.in-Taken.ensures (record { begin = 0; node = Newline; end = c.args.len } ∷ []) (margin_of c.args.behind.now) c.margin_of-margin.ensures.margin) c.in_ok-take_margin-in-Taken.ensures.lexemes c.in_ok-take_margin-in-Taken.ensures.widths
+pub returns-in_ok-take_margin-in-None : goal.returns-in_ok-take_margin-in-None
+returns-in_ok-take_margin-in-None c = λ widths open_now.
+    let margin : IsMargin (margin_of (drop (c.args.at + c.args.len) c.args.text.now)) c.margin_of-margin.result = rw c.range_from.ensures.value at c.margin_of-margin.ensures.margin in
+    end_taken c.args.text.now c.args.at c.args.len c.args.levels.now widths c.margin_of-margin.result open_now margin c.take_margin.new.levels c.in_ok-take_margin-in-None.field-0
+    (c.in-None.ensures (record { begin = 0; node = Newline; end = c.args.len } ∷ []) (margin_of (drop (c.args.at + c.args.len) c.args.text.now)) margin)
+    (c.in_ok-take_margin-in-None.ensures.lexemes c.args.text.now c.utf8.text c.requires margin) c.in_ok-take_margin-in-None.ensures.widths
 
-pub returns-in_default : goal.returns-in_default
-returns-in_default c = λ widths open_now.
-    end_refused c.args.at c.args.len c.args.behind.now c.args.levels.now widths open_now c.decide.result c.args.waiting.now.items c.in_default.not-Taken
-    (c.decide.ensures (record { begin = 0; node = Newline; end = c.args.len } ∷ []) (margin_of c.args.behind.now) c.margin_of-margin.ensures.margin)
+pub returns-in-Some : goal.returns-in-Some
+returns-in-Some c = λ widths open_now.
+    let margin : IsMargin (margin_of (drop (c.args.at + c.args.len) c.args.text.now)) c.margin_of-margin.result = rw c.range_from.ensures.value at c.margin_of-margin.ensures.margin in
+    end_refused c.args.text.now c.args.at c.args.len c.args.levels.now widths c.margin_of-margin.result open_now margin c.in-Some.fault c.in-Some.end c.nothing.result
+    (c.in-Some.ensures (record { begin = 0; node = Newline; end = c.args.len } ∷ []) (margin_of (drop (c.args.at + c.args.len) c.args.text.now)) margin) (c.nothing.ensures c.args.text.now)

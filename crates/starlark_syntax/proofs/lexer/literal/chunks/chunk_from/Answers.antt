@@ -2,8 +2,7 @@ use Rattle.std.proofs.Common.{◌≡◌, ◌∙◌, ◌+◌, ◌-◌, ◌≤◌,
 use Rattle.std.specs.Prelude.{codes, string_bytes}
 use Rattle.starlark_grammar.specs.Items as items
 use Rattle.starlark_scanner.specs.Joints.Literals.{bytes_of, opening_view, stop_view}
-use Rattle.starlark_token.specs.TokenViews.{token_view}
-use Rattle.starlark_grammar.specs.Tokens.{FStringExprStart, FStringEnd, InvalidInput, InvalidEscapeSequence, UnfinishedStringLiteral}
+use Rattle.starlark_grammar.specs.Tokens.{InvalidInput, InvalidEscapeSequence, UnfinishedStringLiteral}
 use Rattle.starlark_syntax.proofs.Literals.Chunks.{bad_chunk_fits, chunk_is, fstring}
 use Rattle.starlark_syntax.proofs.lexer.literal.chunks.chunk_from.Goals as goal
 
@@ -28,18 +27,16 @@ overflow_add-result-in-BadEscape-2 c =
     search (rules, inside)
 
 pub returns-in-OpeningBrace : goal.returns-in-OpeningBrace
-unfolding token_view
 returns-in-OpeningBrace c =
     let why : items.OpeningBrace ≡ (items.body_at (fstring (opening_view c.args.opening)) c.args.text.now).stop = sym (ap stop_view c.in-OpeningBrace.is) ∙ c.in_ok-text_len.ensures.body.stop in
     let denoted : string_bytes c.in-Text.value ≡ items.body_value (items.body_at (fstring (opening_view c.args.opening)) c.args.text.now) = sym (ap bytes_of c.in-Text.is) ∙ c.in_ok-text_len.ensures.body.value in
-    (FStringExprStart, refl, refl, chunk_is (opening_view c.args.opening) c.args.text.now c.in_ok-text_len.field-0.len (string_bytes c.in-Text.value) items.OpeningBrace c.in_ok-text_len.ensures.body.len denoted why)
+    chunk_is (opening_view c.args.opening) c.args.text.now c.in_ok-text_len.field-0.len (string_bytes c.in-Text.value) items.OpeningBrace c.in_ok-text_len.ensures.body.len denoted why
 
 pub returns-in-Closing : goal.returns-in-Closing
-unfolding token_view
 returns-in-Closing c =
     let why : items.Closing ≡ (items.body_at (fstring (opening_view c.args.opening)) c.args.text.now).stop = sym (ap stop_view c.in-Closing.is) ∙ c.in_ok-text_len.ensures.body.stop in
     let denoted : string_bytes c.in-Text.value ≡ items.body_value (items.body_at (fstring (opening_view c.args.opening)) c.args.text.now) = sym (ap bytes_of c.in-Text.is) ∙ c.in_ok-text_len.ensures.body.value in
-    rw c.closing_len.ensures (FStringEnd, refl, refl, chunk_is (opening_view c.args.opening) c.args.text.now c.in_ok-text_len.field-0.len (string_bytes c.in-Text.value) items.Closing c.in_ok-text_len.ensures.body.len denoted why)
+    rw c.closing_len.ensures (chunk_is (opening_view c.args.opening) c.args.text.now c.in_ok-text_len.field-0.len (string_bytes c.in-Text.value) items.Closing c.in_ok-text_len.ensures.body.len denoted why)
 
 pub returns-in_ok-from_str-in-ClosingBrace : goal.returns-in_ok-from_str-in-ClosingBrace
 returns-in_ok-from_str-in-ClosingBrace c =

@@ -1,4 +1,4 @@
-use Rattle.std.proofs.Common.{◌≡◌, ℕ, ◌+◌, ◌≤◌, false, add-zero, ap, append-nil, arith, refl, rules, sym, ◌∙◌}
+use Rattle.std.proofs.Common.{◌≡◌, ℕ, ◌+◌, ◌≤◌, false, Some, add-zero, ap, append-nil, arith, refl, rules, sym, ◌∙◌}
 use Rattle.starlark_syntax.specs.Lexemes.{lexeme_view, shown_lexeme}
 use Rattle.starlark_scanner.specs.Joints.Literals.{opening_view}
 use Rattle.starlark_grammar.specs.Margins.{open_widths}
@@ -10,11 +10,11 @@ use Rattle.starlark_token.specs.declared.fstring_style.FStringQuote.{FStringQuot
 use Rattle.starlark_syntax.specs.declared.lexer.reader.Reader.{Reader}
 use Rattle.starlark_token.specs.declared.tokens.Token.TheVariants as token
 use Rattle.starlark_syntax.proofs.Reader.Taken.{less_taken, piece_inside, took}
-use Rattle.starlark_syntax.proofs.Reader.Waiting.{queued_one}
+use Rattle.starlark_syntax.proofs.Reader.Waiting.{hands_one}
 use Rattle.starlark_syntax.proofs.lexer.reader.Reader.begin_fstring.Goals as goal
 
-pub overflow_add-self : goal.overflow_add-self
-overflow_add-self c =
+pub overflow_add-result : goal.overflow_add-result
+overflow_add-result c =
     let stands = c.requires.stands in
     let inside : c.args.self.now.at + c.args.len ≤ _ = (piece_inside c.args.text.now stands.0 c.args.self.now _ stands.1 stands.2).1 in
     search (rules, inside)
@@ -36,18 +36,16 @@ start_shown at len opening quotes e = rw (e, add-zero at) refl
 pub returns-clause-read : goal.returns-clause-read
 returns-clause-read c = λ history kept stands.
     let opening = opening_view c.args.opening in
-    let new = c.step_over.ensures in
     let nesting = c.in_ok-begin_fstring.ensures.begins history.tokens kept.nesting in
     let few : bracket_count c.begin_fstring.new.self ≤ c.args.self.now.at + c.args.len = omega (arith, c.begin_fstring.ensures.count, kept.few) in
-    let queued = queued_one c.args.self.now.waiting.items (c.args.self.now.at, token.FStringStart c.quotes_of.result, c.args.self.now.at + c.args.len) (moved c.args.self.now.at (start c.args.len opening)) (start_shown c.args.self.now.at c.args.len opening c.quotes_of.result c.quotes_of.ensures) in
-    took c.args.text.now history c.args.self.now c.step_over.new.self _ c.utf8.text kept stands
-    (rw new nesting)
-    (ap (λ (reader : Reader). reader.levels) new ∙ kept.levels ∙ ap open_widths (sym (append-nil history.widths)))
-    (ap (λ (reader : Reader). reader.follows_gap) new)
-    (ap (λ (reader : Reader). reader.at) new)
-    (rw new few)
-    (ap (λ (reader : Reader). reader.stage) new)
-    (rw (new, c.in_ok-push_back.ensures.items) queued)
+    rw c.step_over.ensures (took c.args.text.now history c.args.self.now (Some (c.args.self.now.at, token.FStringStart c.quotes_of.result, c.args.self.now.at + c.args.len)) _ _ c.utf8.text kept stands
+    nesting
+    (kept.levels ∙ ap open_widths (sym (append-nil history.widths)))
+    refl
+    refl
+    few
+    refl
+    (hands_one c.args.text.now c.args.self.now.pending (c.args.self.now.at, token.FStringStart c.quotes_of.result, c.args.self.now.at + c.args.len) (moved c.args.self.now.at (start c.args.len opening)) c.requires.idle (start_shown c.args.self.now.at c.args.len opening c.quotes_of.result c.quotes_of.ensures)))
 
 pub returns-clause-less : goal.returns-clause-less
 returns-clause-less c =

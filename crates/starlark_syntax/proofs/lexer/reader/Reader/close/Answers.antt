@@ -1,6 +1,10 @@
 use Rattle.std.proofs.Common.{refl}
-use Rattle.starlark_syntax.proofs.Reader.Taken.{closed}
+use Rattle.starlark_token.specs.TokenViews.{token_view}
+use Rattle.starlark_token.specs.declared.tokens.Token.TheVariants as token
+use Rattle.starlark_syntax.proofs.Reader.Taken.{closed, closing_hands}
 use Rattle.starlark_syntax.proofs.lexer.reader.Reader.close.Goals as goal
 
 pub returns-clause-read : goal.returns-clause-read
-returns-clause-read c = λ history kept ends. closed c.args.text.now history c.args.self.now _ kept ends (c.in_ok-push_closing.ensures history kept.levels) refl
+unfolding token_view
+returns-clause-read c = λ history kept ends.
+    closed c.args.text.now history c.args.self.now _ _ kept ends (closing_hands c.args.text.now history c.args.self.now.at c.len.result c.args.self.now.levels c.only-self.result token.Newline refl kept.levels c.len.ensures (c.only-self.ensures c.args.text.now)) refl

@@ -1,34 +1,37 @@
-use Rattle.std.proofs.Common.{◌≡◌, List, refl, rules, sym, ◌∙◌}
-use Rattle.std.specs.Prelude.{Option}
-use Rattle.starlark_syntax.specs.Joints.Reader.{IsAhead}
-use Rattle.starlark_token.specs.TokenViews.{TokenView}
-use Rattle.starlark_grammar.specs.Tokens.{Fault, Spanned}
-use Rattle.starlark_syntax.proofs.Reader.NextLexeme.{after_error, ahead_here, begin_something, fault_next, lexeme_next, nothing_next, onward_something}
+use Rattle.std.proofs.Common.{refl, sym, subst}
+use Rattle.starlark_syntax.specs.Joints.Pending.{IsFirst, IsIdle}
+use Rattle.starlark_syntax.specs.Joints.Reader.{IsAheadBehind}
+use Rattle.starlark_syntax.specs.declared.lexer.reader.Stage.TheVariants as stage
+use Rattle.starlark_syntax.proofs.Reader.NextLexeme.{ahead_now, begin_something, lexeme_next, none_left, onward_something, over, pending_something}
+use Rattle.starlark_syntax.proofs.Reader.Waiting.{after_error}
 use Rattle.starlark_syntax.proofs.lexer.reader.Reader.next.Goals as goal
 
+pub returns-in_err-lexeme-clause-memory : goal.returns-in_err-lexeme-clause-memory
+returns-in_err-lexeme-clause-memory c = after_error c.from_residual.result _ (λ lexemes fault ahead. pending_something c.args.text.now c.loop-lexeme.self lexemes fault c.in_err-lexeme.ensures.memory (c.loop-lexeme.invariant.ahead lexemes fault ahead))
+
 pub returns-in-Some-clause-next : goal.returns-in-Some-clause-next
-returns-in-Some-clause-next c = λ lexemes fault ahead. lexeme_next c.args.text.now c.loop-lexeme.self _ c.in-Some.lexeme lexemes fault (record { at = refl; nesting = refl; levels = refl; follows_gap = refl }) refl c.in-Some.ensures.items (c.loop-lexeme.invariant.ahead lexemes fault ahead)
-
-pub loop-lexeme-preserved : goal.loop-lexeme-preserved
-loop-lexeme-preserved c =
-    let on = c.in_ok-read_piece-in-Onward.ensures.ahead in
-    let ready = c.loop-lexeme.invariant.ready in
-    let waits : c.pop_front.new.self.items ≡ c.loop-lexeme.self.waiting.items = search rules in
-    let here : (lexemes : List (Spanned TokenView)) (fault : Option (Spanned Fault)) → IsAhead c.args.text.now c.loop-lexeme.self c.loop-lexeme.self.stage lexemes fault → IsAhead c.args.text.now c.read_piece.new.self c.read_piece.new.self.stage lexemes fault =
-    λ lexemes fault ahead. on lexemes fault (ahead_here c.args.text.now c.loop-lexeme.self _ _ lexemes fault (record { at = refl; nesting = refl; levels = refl; follows_gap = refl }) waits (sym c.replace.ensures.value ∙ c.in-Onward.is) ahead) in
-    record {
-      ready = (ready.0, ready.1, here ready.0 ready.1 ready.2);
-      ahead = λ lexemes fault ahead. here lexemes fault (c.loop-lexeme.invariant.ahead lexemes fault ahead);
-    }
-
-pub returns-in-Fault-clause-next : goal.returns-in-Fault-clause-next
-returns-in-Fault-clause-next c = λ lexemes fault ahead. fault_next c.args.text.now c.loop-lexeme.self lexemes fault c.in-Fault.begin c.in-Fault.fault c.in-Fault.end (search rules) (sym c.replace.ensures.value ∙ c.in-Fault.is) (c.loop-lexeme.invariant.ahead lexemes fault ahead)
-
-pub returns-in-Closed-clause-next : goal.returns-in-Closed-clause-next
-returns-in-Closed-clause-next c = λ lexemes fault ahead. nothing_next c.args.text.now c.loop-lexeme.self _ lexemes fault (search rules) (search rules) (sym c.replace.ensures.value ∙ c.in-Closed.is) c.replace.ensures.after (c.loop-lexeme.invariant.ahead lexemes fault ahead)
+returns-in-Some-clause-next c = λ lexemes fault ahead.
+    lexeme_next c.args.text.now c.loop-lexeme.self _ c.in-Some.lexeme lexemes fault (record { at = refl; nesting = refl; levels = refl; follows_gap = refl }) refl
+    (subst (IsFirst c.args.text.now c.loop-lexeme.self.pending c.next.new.self) c.in-Some.is c.in_ok-lexeme.ensures.next) (c.loop-lexeme.invariant.ahead lexemes fault ahead)
 
 pub returns-in_err-read_first_margin-in-Begin-clause-memory : goal.returns-in_err-read_first_margin-in-Begin-clause-memory
-returns-in_err-read_first_margin-in-Begin-clause-memory c = after_error c.from_residual.result _ (λ lexemes fault ahead. begin_something c.args.text.now c.loop-lexeme.self lexemes fault (search rules) (sym c.replace.ensures.value ∙ c.in-Begin.is) (c.loop-lexeme.invariant.ahead lexemes fault ahead))
+returns-in_err-read_first_margin-in-Begin-clause-memory c = after_error c.from_residual-in_err-read_first_margin-in-Begin.result _ (λ lexemes fault ahead.
+    let none = none_left c.args.text.now c.loop-lexeme.self c.next.new.self c.in_ok-lexeme.field-0 c.in_default.not-Some c.in_ok-lexeme.ensures.next c.loop-lexeme.invariant.ready in
+    begin_something c.args.text.now c.loop-lexeme.self lexemes fault none.0 c.in-Begin.is (c.loop-lexeme.invariant.ahead lexemes fault ahead))
 
-pub returns-in_err-read_piece-in-Onward-clause-memory : goal.returns-in_err-read_piece-in-Onward-clause-memory
-returns-in_err-read_piece-in-Onward-clause-memory c = after_error c.from_residual-in_err-read_piece-in-Onward.result _ (λ lexemes fault ahead. onward_something c.args.text.now c.loop-lexeme.self lexemes fault (search rules) (sym c.replace.ensures.value ∙ c.in-Onward.is) (c.loop-lexeme.invariant.ahead lexemes fault ahead))
+pub returns-in_err-lexeme-in-Onward-clause-memory : goal.returns-in_err-lexeme-in-Onward-clause-memory
+returns-in_err-lexeme-in-Onward-clause-memory c = after_error c.from_residual-in_err-lexeme-in-Onward.result _ (λ lexemes fault ahead.
+    let none = none_left c.args.text.now c.loop-lexeme.self c.next.new.self c.in_ok-lexeme.field-0 c.in_default.not-Some c.in_ok-lexeme.ensures.next c.loop-lexeme.invariant.ready in
+    onward_something c.args.text.now c.loop-lexeme.self lexemes fault none.0 c.in-Onward.is (c.loop-lexeme.invariant.ahead lexemes fault ahead))
+
+pub returns-in-Some-2-clause-next : goal.returns-in-Some-2-clause-next
+returns-in-Some-2-clause-next c = λ lexemes fault ahead.
+    let none = none_left c.args.text.now c.loop-lexeme.self c.next.new.self c.in_ok-lexeme.field-0 c.in_default.not-Some c.in_ok-lexeme.ensures.next c.loop-lexeme.invariant.ready in
+    subst (λ given. IsAheadBehind c.args.text.now given c.read_piece.new.self lexemes fault) c.in-Some-2.is
+    (c.in_ok-lexeme-in-Onward.ensures.ahead lexemes fault (ahead_now c.args.text.now c.loop-lexeme.self c.next.new.self stage.Onward lexemes fault none.1 c.in-Onward.is (c.loop-lexeme.invariant.ahead lexemes fault ahead)))
+
+pub returns-in-Fault-clause-next : goal.returns-in-Fault-clause-next
+returns-in-Fault-clause-next c = λ lexemes fault ahead.
+    let none = none_left c.args.text.now c.loop-lexeme.self c.next.new.self c.in_ok-lexeme.field-0 c.in_default.not-Some c.in_ok-lexeme.ensures.next c.loop-lexeme.invariant.ready in
+    c.last.ensures c.args.text.now lexemes fault (subst (IsIdle c.args.text.now) (sym none.1) none.0) (over c.loop-lexeme.self.stage c.in-Fault.is)
+    (ahead_now c.args.text.now c.loop-lexeme.self c.next.new.self c.loop-lexeme.self.stage lexemes fault none.1 refl (c.loop-lexeme.invariant.ahead lexemes fault ahead))

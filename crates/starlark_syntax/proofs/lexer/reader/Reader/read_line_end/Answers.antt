@@ -1,4 +1,6 @@
-use Rattle.std.proofs.Common.{ap, arith}
+use Rattle.std.proofs.Common.{ap, arith, refl}
+use Rattle.starlark_token.specs.TokenViews.{token_view}
+use Rattle.starlark_token.specs.declared.tokens.Token.TheVariants as token
 use Rattle.starlark_syntax.specs.declared.lexer.reader.Reader.{Reader}
 use Rattle.starlark_syntax.proofs.Reader.Taken.{line_fault_inside, line_inside, line_less, line_refused, line_taken}
 use Rattle.starlark_syntax.proofs.lexer.reader.Reader.read_line_end.Goals as goal
@@ -7,28 +9,27 @@ pub step_over-requires : goal.step_over-requires
 step_over-requires c =
     let stands = c.requires.stands in
     let taken = rw c.in-Taken.is at (c.in_ok-laid.ensures stands.0.widths stands.1.levels) in
-    let inside = line_inside c.args.text.now stands.0 c.args.self.now c.args.len c.range_from-behind.result.now stands.1 stands.2 c.range_from-behind.ensures.value taken in
+    let inside = line_inside c.args.text.now stands.0 c.args.self.now c.args.len stands.1 stands.2 taken in
     omega (arith, inside.1, c.requires.fits)
 
 pub refuse-requires-clause-begin : goal.refuse-requires-clause-begin
 refuse-requires-clause-begin c =
-    let stands = c.requires.stands in
-    let refused = rw c.in-Fault.is at (c.in_ok-laid.ensures stands.0.widths stands.1.levels) in
-    let inside = line_fault_inside c.args.text.now stands.0 c.args.self.now c.args.len c.range_from-behind.result.now stands.1 stands.2 c.range_from-behind.ensures.value refused in
-    omega (arith, inside.0, c.requires.fits)
+    let inside = c.requires.stands.1.inside in
+    omega (arith, inside, c.requires.fits)
 
 pub refuse-requires-clause-end : goal.refuse-requires-clause-end
 refuse-requires-clause-end c =
     let stands = c.requires.stands in
     let refused = rw c.in-Fault.is at (c.in_ok-laid.ensures stands.0.widths stands.1.levels) in
-    let inside = line_fault_inside c.args.text.now stands.0 c.args.self.now c.args.len c.range_from-behind.result.now stands.1 stands.2 c.range_from-behind.ensures.value refused in
+    let inside = line_fault_inside c.args.text.now stands.0 c.args.self.now c.args.len stands.1 stands.2 refused in
     omega (arith, inside.1, c.requires.fits)
 
 pub returns-in-Taken-clause-read : goal.returns-in-Taken-clause-read
+unfolding token_view
 returns-in-Taken-clause-read c = λ history kept stands.
     let new = c.step_over.ensures in
     let taken = rw c.in-Taken.is at (c.in_ok-laid.ensures history.widths kept.levels) in
-    line_taken c.args.text.now history c.args.self.now c.args.len c.range_from-behind.result.now kept stands c.range_from-behind.ensures.value c.step_over.new.self c.in-Taken.len c.utf8.text (rw new taken)
+    line_taken c.args.text.now history c.args.self.now c.args.len kept stands c.step_over.new.self c.in-Taken.whole token.Newline refl c.utf8.text (rw new taken)
     (ap (λ (reader : Reader). reader.nesting) new) (ap (λ (reader : Reader). reader.follows_gap) new) (ap (λ (reader : Reader). reader.at) new) (ap (λ (reader : Reader). reader.stage) new)
 
 pub returns-in-Taken-clause-less : goal.returns-in-Taken-clause-less
@@ -36,11 +37,11 @@ returns-in-Taken-clause-less c =
     let new = c.step_over.ensures in
     let stands = c.requires.stands in
     let taken = rw c.in-Taken.is at (c.in_ok-laid.ensures stands.0.widths stands.1.levels) in
-    line_less c.args.text.now stands.0 c.args.self.now c.args.len c.range_from-behind.result.now stands.1 stands.2 c.range_from-behind.ensures.value c.step_over.new.self taken
+    line_less c.args.text.now stands.0 c.args.self.now c.args.len stands.1 stands.2 c.step_over.new.self taken
     (ap (λ (reader : Reader). reader.stage) new) (ap (λ (reader : Reader). reader.at) new)
 
 pub returns-in-Fault-clause-read : goal.returns-in-Fault-clause-read
 returns-in-Fault-clause-read c = λ history kept stands.
     let new = c.refuse.ensures in
     let refused = rw c.in-Fault.is at (c.in_ok-laid.ensures history.widths kept.levels) in
-    line_refused c.args.text.now history c.args.self.now c.args.len c.range_from-behind.result.now kept stands c.range_from-behind.ensures.value c.refuse.new.self c.in-Fault.begin c.in-Fault.fault c.in-Fault.end (rw new refused) (ap (λ (reader : Reader). reader.stage) new)
+    line_refused c.args.text.now history c.args.self.now c.args.len kept stands c.refuse.new.self c.in-Fault.fault c.in-Fault.fault_end (rw new refused) (ap (λ (reader : Reader). reader.stage) new)

@@ -1,5 +1,5 @@
-use Rattle.std.proofs.Common.{ap, arith, drop, subst}
-use Rattle.std.proofs.lemmas.Result.{on_ok_weaker}
+use Rattle.std.proofs.Common.{ap, arith, drop, subst, None, Some}
+use Rattle.std.proofs.lemmas.Result.{IfOk-weaker}
 use Rattle.starlark_grammar.specs.Margins.{open_widths}
 use Rattle.starlark_syntax.specs.Joints.Pieces.{IsPiece}
 use Rattle.starlark_syntax.specs.Joints.Reader.{step_here}
@@ -43,9 +43,9 @@ take-requires-clause-stands c =
 
 pub returns-in-Nothing-clause-ahead : goal.returns-in-Nothing-clause-ahead
 returns-in-Nothing-clause-ahead c = λ lexemes fault ahead.
-    onward_ahead c.args.text.now c.args.self.now c.step_over.new.self lexemes fault (λ history kept.
+    onward_ahead c.args.text.now c.args.self.now None c.step_over.new.self lexemes fault (λ history kept.
     let stands : IsPiece (open_widths history.widths) (drop c.args.self.now.at c.args.text.now) (step_here c.args.text.now history c.args.self.now) (piece.Nothing c.in-Nothing.len c.in-Nothing.is_gap) = subst (IsPiece (open_widths history.widths) (drop c.args.self.now.at c.args.text.now) (step_here c.args.text.now history c.args.self.now)) c.in-Nothing.is (piece_read c.args.text.now history c.args.self.now c.place-place.result c.is_balanced-is_balanced.result c.range_from-rest.result.now c.in_ok-piece.piece c.range_from-rest.ensures.value kept c.place-place.ensures c.is_balanced-is_balanced.ensures c.in_ok-piece.ensures) in
-    nothing_taken c.args.text.now history c.args.self.now c.step_over.new.self c.in-Nothing.len c.in-Nothing.is_gap c.utf8.text kept stands c.step_over.ensures) ahead
+    nothing_taken c.args.text.now history c.args.self.now c.step_over.new.self c.in-Nothing.len c.in-Nothing.is_gap c.utf8.text kept stands c.requires.idle c.step_over.ensures) c.requires.idle ahead
 
 pub returns-in-Nothing-clause-less : goal.returns-in-Nothing-clause-less
 returns-in-Nothing-clause-less c =
@@ -56,25 +56,25 @@ returns-in-Nothing-clause-less c =
     less_onward c.args.text.now c.args.self.now c.step_over.new.self c.in-Nothing.len (ap (λ (reader : Reader). reader.stage) is) (ap (λ (reader : Reader). reader.at) is) here.0 here.1
 
 pub returns-in-LineEnd-clause-ahead : goal.returns-in-LineEnd-clause-ahead
-returns-in-LineEnd-clause-ahead c = on_ok_weaker c.read_line_end.result (λ read lexemes fault ahead.
-    onward_ahead c.args.text.now c.args.self.now c.read_line_end.new.self lexemes fault (λ history kept.
+returns-in-LineEnd-clause-ahead c = IfOk-weaker c.read_line_end.result _ _ (λ given read lexemes fault ahead.
+    onward_ahead c.args.text.now c.args.self.now given c.read_line_end.new.self lexemes fault (λ history kept.
     let stands : IsPiece (open_widths history.widths) (drop c.args.self.now.at c.args.text.now) (step_here c.args.text.now history c.args.self.now) (piece.LineEnd c.in-LineEnd.len) = subst (IsPiece (open_widths history.widths) (drop c.args.self.now.at c.args.text.now) (step_here c.args.text.now history c.args.self.now)) c.in-LineEnd.is (piece_read c.args.text.now history c.args.self.now c.place-place.result c.is_balanced-is_balanced.result c.range_from-rest.result.now c.in_ok-piece.piece c.range_from-rest.ensures.value kept c.place-place.ensures c.is_balanced-is_balanced.ensures c.in_ok-piece.ensures) in
-    read history kept stands.0) ahead) c.read_line_end.ensures.read
+    read history kept stands.0) c.requires.idle ahead) c.read_line_end.ensures.read
 
-pub returns-in-FString-clause-ahead : goal.returns-in-FString-clause-ahead
-returns-in-FString-clause-ahead c = on_ok_weaker c.begin_fstring.result (λ read lexemes fault ahead.
-    onward_ahead c.args.text.now c.args.self.now c.begin_fstring.new.self lexemes fault (λ history kept.
+pub returns-in_ok-begin_fstring-in-FString-clause-ahead : goal.returns-in_ok-begin_fstring-in-FString-clause-ahead
+returns-in_ok-begin_fstring-in-FString-clause-ahead c = λ lexemes fault ahead.
+    onward_ahead c.args.text.now c.args.self.now (Some c.in_ok-begin_fstring-in-FString.field-0) c.begin_fstring.new.self lexemes fault (λ history kept.
     let stands : IsPiece (open_widths history.widths) (drop c.args.self.now.at c.args.text.now) (step_here c.args.text.now history c.args.self.now) (piece.FString c.in-FString.opening c.in-FString.len) = subst (IsPiece (open_widths history.widths) (drop c.args.self.now.at c.args.text.now) (step_here c.args.text.now history c.args.self.now)) c.in-FString.is (piece_read c.args.text.now history c.args.self.now c.place-place.result c.is_balanced-is_balanced.result c.range_from-rest.result.now c.in_ok-piece.piece c.range_from-rest.ensures.value kept c.place-place.ensures c.is_balanced-is_balanced.ensures c.in_ok-piece.ensures) in
-    read history kept stands) ahead) c.begin_fstring.ensures.read
+    c.in_ok-begin_fstring-in-FString.ensures.read history kept stands) c.requires.idle ahead
 
 pub returns-in-Lexed-clause-ahead : goal.returns-in-Lexed-clause-ahead
-returns-in-Lexed-clause-ahead c = on_ok_weaker c.take.result (λ read lexemes fault ahead.
-    onward_ahead c.args.text.now c.args.self.now c.take.new.self lexemes fault (λ history kept.
+returns-in-Lexed-clause-ahead c = λ lexemes fault ahead.
+    onward_ahead c.args.text.now c.args.self.now c.take.result c.take.new.self lexemes fault (λ history kept.
     let stands : IsPiece (open_widths history.widths) (drop c.args.self.now.at c.args.text.now) (step_here c.args.text.now history c.args.self.now) (piece.Lexed c.in-Lexed.step) = subst (IsPiece (open_widths history.widths) (drop c.args.self.now.at c.args.text.now) (step_here c.args.text.now history c.args.self.now)) c.in-Lexed.is (piece_read c.args.text.now history c.args.self.now c.place-place.result c.is_balanced-is_balanced.result c.range_from-rest.result.now c.in_ok-piece.piece c.range_from-rest.ensures.value kept c.place-place.ensures c.is_balanced-is_balanced.ensures c.in_ok-piece.ensures) in
-    read history kept stands) ahead) c.take.ensures.read
+    c.take.ensures.read history kept stands) c.requires.idle ahead
 
 pub returns-in-End-clause-ahead : goal.returns-in-End-clause-ahead
-returns-in-End-clause-ahead c = on_ok_weaker c.close.result (λ read lexemes fault ahead.
-    onward_ahead c.args.text.now c.args.self.now c.close.new.self lexemes fault (λ history kept.
+returns-in-End-clause-ahead c = λ lexemes fault ahead.
+    onward_ahead c.args.text.now c.args.self.now (Some c.close.result) c.close.new.self lexemes fault (λ history kept.
     let stands : IsPiece (open_widths history.widths) (drop c.args.self.now.at c.args.text.now) (step_here c.args.text.now history c.args.self.now) (piece.End) = subst (IsPiece (open_widths history.widths) (drop c.args.self.now.at c.args.text.now) (step_here c.args.text.now history c.args.self.now)) c.in-End.is (piece_read c.args.text.now history c.args.self.now c.place-place.result c.is_balanced-is_balanced.result c.range_from-rest.result.now c.in_ok-piece.piece c.range_from-rest.ensures.value kept c.place-place.ensures c.is_balanced-is_balanced.ensures c.in_ok-piece.ensures) in
-    read history kept stands) ahead) c.close.ensures.read
+    c.close.ensures.read history kept stands) c.requires.idle ahead

@@ -1,16 +1,19 @@
-use Rattle.std.proofs.Common.{◌≡◌, ℕ, ◌+◌, ◌≤◌, ◌∷◌, [], ◌++◌, ap, append-nil, arith, length, refl, rules, sym, ◌∙◌, None, string_bytes}
+use Rattle.std.proofs.Common.{ℕ, ◌+◌, ◌≤◌, ◌∷◌, [], ◌++◌, ap, append-nil, arith, length, refl, rules, sym, ◌∙◌, None, Some, string_bytes}
 use Rattle.starlark_grammar.specs.Words.{Text}
 use Rattle.starlark_grammar.specs.Margins.{open_widths}
 use Rattle.starlark_grammar.specs.Pieces as grammar
 use Rattle.starlark_grammar.specs.Pieces.{Piece}
+use Rattle.starlark_grammar.specs.Reading.{History, tokens_onto}
 use Rattle.starlark_grammar.specs.Tokens.{Token}
-use Rattle.starlark_syntax.specs.Joints.Nesting.{Represents, bracket_count}
-use Rattle.starlark_grammar.specs.Reading.{tokens_onto}
+use Rattle.starlark_syntax.specs.Joints.Nesting.{Represents}
+use Rattle.starlark_syntax.specs.Joints.Steps.{text_end_node}
 use Rattle.starlark_syntax.specs.declared.lexer.reader.Reader.{Reader}
-use Rattle.starlark_syntax.proofs.Reader.ChunksTaken.{chunk_waits, onto_last, text_onto}
+use Rattle.starlark_token.specs.declared.tokens.Token.TheVariants as token
+use Rattle.starlark_syntax.proofs.Reader.ChunksTaken.{end_hands, onto_last, own_end, text_hands, text_onto}
 use Rattle.starlark_syntax.proofs.Reader.Here.{less_onward, piece_here}
 use Rattle.starlark_syntax.proofs.Reader.Taken.{took}
 use Rattle.starlark_syntax.proofs.lexer.reader.Reader.take_chunk.Goals as goal
+use Rattle.starlark_syntax.proofs.lexer.reader.Reader.take_chunk.Goals.{After-pass}
 
 abbrev two : Text → ℕ → ℕ → Token → Piece
 two value chunk_len len node = record { len = chunk_len + len; lexemes = grammar.chunk_text chunk_len value ++ record { begin = chunk_len; node = node; end = chunk_len + len } ∷ []; width = None; sort = grammar.Other }
@@ -18,50 +21,71 @@ two value chunk_len len node = record { len = chunk_len + len; lexemes = grammar
 pub overflow_add-between : goal.overflow_add-between
 overflow_add-between c =
     let stands = c.requires.stands in
-    let here = piece_here c.args.text.now stands.0 c.args.self.now (two (string_bytes c.args.chunk) c.args.chunk_len c.args.len stands.2.0) stands.1 stands.2.3 in
+    let here = piece_here c.args.text.now stands.0 c.args.self.now (two (string_bytes c.args.chunk) c.args.chunk_len c.args.len (text_end_node c.args.stop)) stands.1 stands.2 in
     let inside : c.args.self.now.at + c.args.chunk_len ≤ length c.args.text.now = omega (arith, here.1) in
     search (rules, inside)
 
-pub overflow_add-between-2 : goal.overflow_add-between-2
-overflow_add-between-2 c =
+pub overflow_add-end : goal.overflow_add-end
+overflow_add-end c =
     let stands = c.requires.stands in
-    let here = piece_here c.args.text.now stands.0 c.args.self.now (two (string_bytes c.args.chunk) c.args.chunk_len c.args.len stands.2.0) stands.1 stands.2.3 in
+    let here = piece_here c.args.text.now stands.0 c.args.self.now (two (string_bytes c.args.chunk) c.args.chunk_len c.args.len (text_end_node c.args.stop)) stands.1 stands.2 in
     let inside : c.args.self.now.at + c.args.chunk_len + c.args.len ≤ length c.args.text.now = omega (arith, here.1) in
     search (rules, inside)
 
 pub overflow_add-chunk_len : goal.overflow_add-chunk_len
 overflow_add-chunk_len c =
     let stands = c.requires.stands in
-    let here = piece_here c.args.text.now stands.0 c.args.self.now (two (string_bytes c.args.chunk) c.args.chunk_len c.args.len stands.2.0) stands.1 stands.2.3 in
+    let here = piece_here c.args.text.now stands.0 c.args.self.now (two (string_bytes c.args.chunk) c.args.chunk_len c.args.len (text_end_node c.args.stop)) stands.1 stands.2 in
     let inside : c.args.chunk_len + c.args.len ≤ length c.args.text.now = omega (arith, here.1) in
     search (rules, inside)
 
 pub step_over-requires : goal.step_over-requires
 step_over-requires c =
     let stands = c.requires.stands in
-    let here = piece_here c.args.text.now stands.0 c.args.self.now (two (string_bytes c.args.chunk) c.args.chunk_len c.args.len stands.2.0) stands.1 stands.2.3 in
-    omega (arith, here.1, c.in_ok-push.ensures.stays.at, c.in_ok-push_text.ensures.stays.at, c.requires.fits)
+    let here = piece_here c.args.text.now stands.0 c.args.self.now (two (string_bytes c.args.chunk) c.args.chunk_len c.args.len (text_end_node c.args.stop)) stands.1 stands.2 in
+    omega (arith, here.1, c.requires.fits)
+
+-- the tokens behind the chunk
+passed : (c : After-pass) (history : History) → Represents history.tokens c.args.self.now.nesting
+    → Represents (tokens_onto history.tokens (two (string_bytes c.args.chunk) c.args.chunk_len c.args.len (text_end_node c.args.stop)).lexemes) c.pass.new.self
+passed c history same =
+    rw (onto_last history.tokens c.args.chunk_len (string_bytes c.args.chunk) (record { begin = c.args.chunk_len; node = text_end_node c.args.stop; end = c.args.chunk_len + c.args.len }))
+    (c.pass.ensures.passes _ (text_end_node c.args.stop) c.token.ensures (own_end c.args.stop) (text_onto history.tokens c.args.chunk_len (string_bytes c.args.chunk) c.args.self.now.nesting same))
+
+pub returns-then-is_empty-clause-read : goal.returns-then-is_empty-clause-read
+returns-then-is_empty-clause-read c = λ history kept stands.
+    let here = piece_here c.args.text.now history c.args.self.now (two (string_bytes c.args.chunk) c.args.chunk_len c.args.len (text_end_node c.args.stop)) kept stands in
+    rw c.step_over.ensures (took c.args.text.now history c.args.self.now (Some (c.args.self.now.at + c.args.chunk_len, c.token-then-is_empty.result, c.args.self.now.at + c.args.chunk_len + c.args.len)) _ (two (string_bytes c.args.chunk) c.args.chunk_len c.args.len (text_end_node c.args.stop)) c.utf8.text kept stands
+    (passed (goal.at.returns-then-is_empty-clause-read c).After-pass history kept.nesting)
+    (kept.levels ∙ ap open_widths (sym (append-nil history.widths)))
+    refl
+    refl
+    (omega (arith, c.pass.ensures.count, kept.few, here.0))
+    refl
+    (end_hands c.args.text.now c.args.self.now.pending c.args.self.now.at c.args.chunk_len c.args.len (string_bytes c.args.chunk) c.token-then-is_empty.result (text_end_node c.args.stop) c.token-then-is_empty.ensures (own_end c.args.stop) (search rules) c.requires.idle))
 
 pub returns-clause-read : goal.returns-clause-read
 returns-clause-read c = λ history kept stands.
-    let here = piece_here c.args.text.now history c.args.self.now (two (string_bytes c.args.chunk) c.args.chunk_len c.args.len stands.0) kept stands.3 in
-    let text = c.in_ok-push_text.ensures in
-    let same = c.in_ok-push.ensures.stays in
-    let tokens : Represents (tokens_onto history.tokens (grammar.chunk_text c.args.chunk_len (string_bytes c.args.chunk))) c.push_text.new.self.nesting = rw text.nesting (text_onto history.tokens c.args.chunk_len (string_bytes c.args.chunk) c.args.self.now.nesting kept.nesting) in
-    let counted : bracket_count c.push_text.new.self.nesting ≡ bracket_count c.args.self.now.nesting = ap bracket_count text.nesting in
-    rw c.step_over.ensures (took c.args.text.now history c.args.self.now _ (two (string_bytes c.args.chunk) c.args.chunk_len c.args.len stands.0) c.utf8.text kept stands.3
-    (rw (onto_last history.tokens c.args.chunk_len (string_bytes c.args.chunk) (record { begin = c.args.chunk_len; node = stands.0; end = c.args.chunk_len + c.args.len })) (c.in_ok-push.ensures.passes _ stands.0 stands.1 stands.2 tokens))
-    (same.levels ∙ text.stays.levels ∙ kept.levels ∙ ap open_widths (sym (append-nil history.widths)))
+    let here = piece_here c.args.text.now history c.args.self.now (two (string_bytes c.args.chunk) c.args.chunk_len c.args.len (text_end_node c.args.stop)) kept stands in
+    rw c.step_over.ensures (took c.args.text.now history c.args.self.now (Some (c.args.self.now.at, token.FStringText c.args.chunk, c.args.self.now.at + c.args.chunk_len)) _ (two (string_bytes c.args.chunk) c.args.chunk_len c.args.len (text_end_node c.args.stop)) c.utf8.text kept stands
+    (passed (goal.at.returns-clause-read c).After-pass history kept.nesting)
+    (kept.levels ∙ ap open_widths (sym (append-nil history.widths)))
     refl
-    (ap (λ at. at + (c.args.chunk_len + c.args.len)) (same.at ∙ text.stays.at))
-    (omega (arith, c.in_ok-push.ensures.count, kept.few, here.0, same.at, text.stays.at, counted))
     refl
-    (rw c.in_ok-push.ensures.waits (chunk_waits c.args.self.now.waiting.items c.push_text.new.self.waiting.items c.args.self.now.at c.args.chunk_len c.args.len (string_bytes c.args.chunk) c.args.token stands.0 stands.1 stands.2 (text.waits c.args.chunk_len refl))))
+    (omega (arith, c.pass.ensures.count, kept.few, here.0))
+    refl
+    (text_hands c.args.text.now c.only-self.result c.args.self.now.at c.args.chunk_len c.args.len c.args.chunk (text_end_node c.args.stop) (search rules) (c.only-self.ensures c.args.text.now)))
+
+pub returns-then-is_empty-clause-less : goal.returns-then-is_empty-clause-less
+returns-then-is_empty-clause-less c =
+    let stands = c.requires.stands in
+    let here = piece_here c.args.text.now stands.0 c.args.self.now (two (string_bytes c.args.chunk) c.args.chunk_len c.args.len (text_end_node c.args.stop)) stands.1 stands.2 in
+    let is = c.step_over.ensures in
+    less_onward c.args.text.now c.args.self.now c.step_over.new.self (c.args.chunk_len + c.args.len) (ap (λ (reader : Reader). reader.stage) is) (ap (λ (reader : Reader). reader.at) is) here.0 here.1
 
 pub returns-clause-less : goal.returns-clause-less
 returns-clause-less c =
     let stands = c.requires.stands in
-    let here = piece_here c.args.text.now stands.0 c.args.self.now (two (string_bytes c.args.chunk) c.args.chunk_len c.args.len stands.2.0) stands.1 stands.2.3 in
-    let at = c.in_ok-push.ensures.stays.at ∙ c.in_ok-push_text.ensures.stays.at in
+    let here = piece_here c.args.text.now stands.0 c.args.self.now (two (string_bytes c.args.chunk) c.args.chunk_len c.args.len (text_end_node c.args.stop)) stands.1 stands.2 in
     let is = c.step_over.ensures in
-    less_onward c.args.text.now c.args.self.now c.step_over.new.self (c.args.chunk_len + c.args.len) (ap (λ (reader : Reader). reader.stage) is) (ap (λ (reader : Reader). reader.at) is ∙ ap (λ at. at + (c.args.chunk_len + c.args.len)) at) here.0 here.1
+    less_onward c.args.text.now c.args.self.now (record c.step_over.new.self { pending = c.only-self.result }) (c.args.chunk_len + c.args.len) (ap (λ (reader : Reader). reader.stage) is) (ap (λ (reader : Reader). reader.at) is) here.0 here.1

@@ -2,7 +2,7 @@ use Rattle.std.proofs.Common.{◌∙◌, refl, sym}
 use Rattle.std.proofs.lemmas.Bool.{not-false, not-true}
 use Rattle.starlark_grammar.specs.Tokens.{Indentation, InvalidTab}
 use Rattle.starlark_syntax.proofs.Indentation.Laid.{decided_blank, decided_fits, decided_misfit, decided_tab}
-use Rattle.starlark_syntax.proofs.lexer.layout.decide.Goals as goal
+use Rattle.starlark_syntax.proofs.lexer.layout.fault_of.Goals as goal
 
 pub returns-then-not-margin : goal.returns-then-not-margin
 returns-then-not-margin c = λ line_end seen same. decided_blank c.args.len line_end c.args.levels.now seen c.args.margin same (not-true c.args.margin.is_content c.if-not-margin.true)

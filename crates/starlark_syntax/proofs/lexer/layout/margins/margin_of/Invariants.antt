@@ -1,0 +1,9 @@
+use Rattle.std.proofs.Common.{◌-◌, length}
+use Rattle.starlark_syntax.proofs.Indentation.Margins.{ArePassed}
+use Rattle.starlark_syntax.proofs.lexer.layout.margins.margin_of.Given as goal
+
+abbrev pub invariant-loop-bytes : goal.invariant-loop-bytes
+invariant-loop-bytes l = ArePassed l.text l.at
+
+abbrev pub decreases-loop-bytes : goal.decreases-loop-bytes
+decreases-loop-bytes l = length l.text - l.at
