@@ -59,7 +59,7 @@ tab_of margin found e = go (is_content margin.behind) (has_tab margin) (fits (wi
     go true false true one other misfit c t f e = cc
     go true false false one other misfit c t f e = cc
 
-never_ends : (margin : Margin) → margin_step 0 [] [] margin ≡ Ends → ⊥
+pub never_ends : (margin : Margin) → margin_step 0 [] [] margin ≡ Ends → ⊥
 unfolding margin_step
 never_ends margin e = go (not (is_content margin.behind)) (has_tab margin) (fits (width_of margin) []) _ _ _ _ e
   where

@@ -235,7 +235,7 @@ module _ (place : Mode) (is_raw : Bool) (quote : Quote) (front behind : Text) (p
       let found = literal_crlf place kind (opening_of is_raw quote behind) (length front + more_quotes (opening_of is_raw quote behind)) (length front + more_quotes (opening_of is_raw quote behind)) (drop (more_quotes (opening_of is_raw quote behind)) behind) (front ++ behind) (crlf front ++ crlf behind) piece
       (no_return_drop (more_quotes (opening_of is_raw quote behind)) behind h) (quotes_left is_raw quote behind more).1 here there raw e in
       let step : literal place kind (opening_of is_raw quote (crlf behind)) (length (crlf front) + more_quotes (opening_of is_raw quote (crlf behind))) (drop (more_quotes (opening_of is_raw quote (crlf behind))) (crlf behind))
-          ≡ literal place kind (opening_of is_raw quote behind) (length front + more_quotes (opening_of is_raw quote behind)) (crlf (drop (more_quotes (opening_of is_raw quote behind)) behind)) =
+      ≡ literal place kind (opening_of is_raw quote behind) (length front + more_quotes (opening_of is_raw quote behind)) (crlf (drop (more_quotes (opening_of is_raw quote behind)) behind)) =
       ap (λ (t : Text). literal place kind (opening_of is_raw quote (crlf behind)) (length t + more_quotes (opening_of is_raw quote (crlf behind))) (drop (more_quotes (opening_of is_raw quote (crlf behind))) (crlf behind))) (crlf_line front line)
       ∙ ap (λ (o : Opening). literal place kind o (length front + more_quotes o) (drop (more_quotes o) (crlf behind))) (opening_crlf is_raw quote behind)
       ∙ ap (literal place kind (opening_of is_raw quote behind) (length front + more_quotes (opening_of is_raw quote behind))) (quotes_left is_raw quote behind more).0 in

@@ -75,8 +75,7 @@ pub crlf_front : (n : ℕ) (text : Text) → n ≤ length text → in_line (take
 crlf_front n text inside h =
     let whole : crlf text ≡ take n text ++ crlf (drop n text) =
     ap crlf (sym (take-append-drop n text)) ∙ crlf_both (take n text) (drop n text) ∙ ap (λ (t : Text). t ++ crlf (drop n text)) (crlf_line (take n text) h) in
-    let len : length (take n text) ≡ n = length-take-le n text inside in
-    (
+    let len : length (take n text) ≡ n = length-take-le n text inside in (
       ap (take n) whole ∙ ap (λ k. take k (take n text ++ crlf (drop n text))) (sym len) ∙ take-append_seam (take n text) (crlf (drop n text)),
       ap (drop n) whole ∙ ap (λ k. drop k (take n text ++ crlf (drop n text))) (sym len) ∙ drop-append_seam (take n text) (crlf (drop n text)),
     )
