@@ -1,7 +1,6 @@
 -- Readings of a text whose LFs are written as CR LF.
-use Rattle.std.proofs.Common.{◌≡◌, ℕ, zero, suc, ◌+◌, ◌≤◌, ◌<◌, Bool, true, false, not, List, [], ◌∷◌, ◌++◌, length, take, drop, map, refl, ap, ◌∙◌, sym, subst, Option, Some, None, arith, replicate}
-use Rattle.std.specs.Prelude.{⊤, ◌&&◌, ◌==◌, if◌then◌else◌, nat_eq, codes, option_map, option_to_list}
-use Rattle.std.specs.List.{list_all, list_any}
+use Rattle.std.proofs.Common.{◌≡◌, ℕ, ◌+◌, Bool, true, false, not, List, [], ◌∷◌, ◌++◌, length, take, drop, map, refl, ap, ◌∙◌, sym, subst, Option, Some, None, arith}
+use Rattle.std.specs.Prelude.{◌&&◌, if◌then◌else◌, option_map}
 use Rattle.std.specs.Str.{IsUtf8, IsCharBoundary}
 use Rattle.std.proofs.Math.Seq.{drop-append_seam, take-append_seam}
 use Rattle.std.proofs.lemmas.Bool.{and_parts, eqb-true}
@@ -11,13 +10,13 @@ use Rattle.std.proofs.lemmas.List.Sums.{sum_by-cons}
 use Rattle.starlark_grammar.specs.Words as word
 use Rattle.starlark_grammar.specs.Words.{Text, OfText, OfBytes, OfFString, Class, class_in, language, openers, line_ends, symbols, names, patterns}
 use Rattle.starlark_grammar.specs.Front.{longest_front, language_front}
-use Rattle.starlark_grammar.specs.Tokens.{Token, Comment, Newline, Indent, Dedent, Identifier, Int, Float, String, Bytes, FStringStart, FStringText, FStringExprStart, FStringExprEnd, FStringBang, FStringEnd, Word, Lexeme, Spanned, Fault, moved, Outcome}
+use Rattle.starlark_grammar.specs.Tokens.{Token, Comment, Newline, Indent, Dedent, Identifier, Int, Float, String, Bytes, FStringStart, FStringText, FStringExprStart, FStringExprEnd, FStringBang, FStringEnd, Word, Lexeme, moved, Outcome}
 use Rattle.starlark_grammar.specs.Depths.{Mode, Outside, InText, AtTop, Deeper, open_fstring, mode_by, mode_after}
-use Rattle.starlark_grammar.specs.Margins.{is_feed, margin_of, margin_len, is_content, open_widths}
-use Rattle.starlark_grammar.specs.Pieces.{Before, Nothing, Layout, Gap, Other, Piece, Step, Stands, Fails, Ends, Situation, token, word_step, front_step, is_bang, takes_bang, in_code, by_place, by_before, step_at, margin_step}
-use Rattle.starlark_grammar.specs.Reading.{tokens_onto, History, nothing, after, after_all, situation, next_step, IsReading, IsLongestReading, pieces_len, read, lexemes_along, closing, outcome_of, outcome_in, outcome}
+use Rattle.starlark_grammar.specs.Margins.{is_feed, margin_of, margin_len, open_widths}
+use Rattle.starlark_grammar.specs.Pieces.{Before, Nothing, Layout, Gap, Other, Piece, Step, Stands, Fails, Ends, Situation, token, word_step, front_step, is_bang, takes_bang, in_code, by_place, by_before, step_at}
+use Rattle.starlark_grammar.specs.Reading.{tokens_onto, History, nothing, after, after_all, situation, next_step, IsReading, IsLongestReading, pieces_len, read, lexemes_along, closing, outcome_of, outcome}
 use Rattle.starlark_grammar.specs.Cuts.{is_outside}
-use Rattle.starlark_grammar.specs.LineEnds.{crlf_form, holds_escaped_feed, opens_raw, is_raw_in, no_raw_feed}
+use Rattle.starlark_grammar.specs.LineEnds.{holds_escaped_feed, opens_raw, is_raw_in, no_raw_feed}
 use Rattle.starlark_grammar.specs.Laws.{CrlfKeepsTokens}
 use Rattle.starlark_grammar.proofs.Lists.{drop-sum}
 use Rattle.starlark_grammar.proofs.Words.Fronts.{front_single, front_sound}
@@ -30,8 +29,8 @@ use Rattle.starlark_grammar.proofs.Joining.Tabs.{first_step, never_ends, outcome
 use Rattle.starlark_grammar.proofs.LineEnds.Texts.{crlf, crlf_is, crlf_both, no_return, no_return_of, no_return_drop}
 use Rattle.starlark_grammar.proofs.LineEnds.Fronts.{front_crlf}
 use Rattle.starlark_grammar.proofs.LineEnds.Bodies.{apart, utf8_apart, form_other}
-use Rattle.starlark_grammar.proofs.LineEnds.Margins.{nodes, nodes_both, nodes_moved, is_neutral, neutral, Left, Whole, Behind, PieceCrlf, MarginStands, margin_stands, replicate_nodes}
-use Rattle.starlark_grammar.proofs.LineEnds.Pieces.{LeftAt, AtWhole, AtFeed, StandsCrlf, alike, is_raw_kind, is_raw_class, line_end_crlf, word_crlf, chunk_crlf}
+use Rattle.starlark_grammar.proofs.LineEnds.Margins.{nodes, nodes_both, nodes_moved, is_neutral, neutral, Left, Whole, Behind, PieceCrlf, margin_stands, replicate_nodes}
+use Rattle.starlark_grammar.proofs.LineEnds.Pieces.{LeftAt, AtWhole, AtFeed, StandsCrlf, alike, is_raw_class, line_end_crlf, word_crlf, chunk_crlf}
 
 -- Code
 
