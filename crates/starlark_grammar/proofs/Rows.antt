@@ -7,3 +7,4 @@ mod Layout
 mod FStrings
 mod Mixed
 mod Cuts
+mod LineEnds

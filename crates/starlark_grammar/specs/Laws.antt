@@ -1,13 +1,14 @@
 -- What the laws of the grammar say.
-use Rattle.std.specs.Prelude.{◌≡◌, ◌≤◌, ◌<◌, ◌↔◌, ℕ, ◌+◌, ◌*◌, Bool, true, false, ◌⊎◌, List, ◌++◌, length, take, count_by, Some, None, option_map, option_to_list, IfSome}
-use Rattle.std.specs.List.{AllByRecursion}
-use Rattle.std.specs.Str.{IsUtf8, IsCharBoundary}
+use Rattle.std.specs.Prelude.{◌≡◌, ◌≤◌, ◌<◌, ◌↔◌, ℕ, ◌+◌, ◌*◌, Bool, true, false, ◌⊎◌, List, ◌++◌, length, take, count_by, Some, None, option_map, option_to_list, IfSome, nat_eq, map}
+use Rattle.std.specs.List.{AllByRecursion, list_any}
+use Rattle.std.specs.Str.{byte, IsUtf8, IsCharBoundary}
 use Rattle.starlark_grammar.specs.Words.{Text, Class, Table, class_in, language}
 use Rattle.starlark_grammar.specs.Front.{IsLongestFront, language_front}
 use Rattle.starlark_grammar.specs.Tokens.{Token, Indent, Dedent, Spanned, Lexeme, moved, Fault, Outcome}
 use Rattle.starlark_grammar.specs.Margins.{margin_of}
 use Rattle.starlark_grammar.specs.Pieces.{Piece, Stands, Fails}
-use Rattle.starlark_grammar.specs.Reading.{History, nothing, next_step, IsReading, pieces_len, outcome_in, outcome, IsOutcome}
+use Rattle.starlark_grammar.specs.Reading.{History, nothing, next_step, IsReading, pieces_len, read, outcome_in, outcome, IsOutcome}
+use Rattle.starlark_grammar.specs.LineEnds.{crlf_form, no_raw_feed}
 use Rattle.starlark_grammar.specs.Cuts.{InOrder, is_clean_cut, is_kept_cut, without_closing, joined, tabbed}
 
 -- What is computed as the longest front of a text is one, …
@@ -114,3 +115,12 @@ TabsBehindCuts = (first second : Text) (fault : Spanned Fault) → is_clean_cut 
 -- At a kept cut the lexemes of a text begin with those of the text before it, without its closing `Newline`.
 abbrev pub KeptCutsKeep : Type 0
 KeptCutsKeep = (text : Text) (at : ℕ) → is_kept_cut text at ≡ true → (more : List Lexeme) × ((outcome text).lexemes ≡ without_closing (outcome (take at text)).lexemes ++ more)
+
+abbrev pub tokens_of : Text → List Token
+tokens_of text = map (λ (lexeme : Lexeme). lexeme.node) (outcome text).lexemes
+
+-- A text of characters without fault and without CR, in which no raw literal and no text of a raw f-string has a
+-- backslash right before an LF, has no fault and the same tokens with each LF written as CR LF.
+abbrev pub CrlfKeepsTokens : Type 0
+CrlfKeepsTokens = (text : Text) → IsUtf8 text → (outcome text).fault ≡ None → list_any (nat_eq (byte "\r")) text ≡ false → no_raw_feed nothing text (read language text).pieces ≡ true
+    → ((outcome (crlf_form text)).fault ≡ None) × (tokens_of (crlf_form text) ≡ tokens_of text)

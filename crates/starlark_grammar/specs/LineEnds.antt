@@ -1,12 +1,12 @@
 -- Texts with each LF written as CR LF, and the raw texts that this changes.
-use Rattle.std.specs.Prelude.{Bool, true, false, ◌&&◌, ◌||◌, ◌==◌, not, if◌then◌else◌, nat_eq, List, [], ◌∷◌, ℕ, take, drop, codes, flat_map, Option, Some, None}
+use Rattle.std.specs.Prelude.{Bool, true, false, ◌&&◌, ◌||◌, ◌==◌, not, if◌then◌else◌, nat_eq, List, [], ◌∷◌, ℕ, take, drop, codes, flat_map, Option, Some}
 use Rattle.std.specs.List.{starts_with}
 use Rattle.std.specs.Str.{byte}
 use Rattle.starlark_grammar.specs.Words.{Text, OfFString, Class, Opener}
 use Rattle.starlark_grammar.specs.Front.{language_front}
 use Rattle.starlark_grammar.specs.Depths.{Mode, InText}
 use Rattle.starlark_grammar.specs.Margins.{is_feed}
-use Rattle.starlark_grammar.specs.Pieces.{Piece, Situation}
+use Rattle.starlark_grammar.specs.Pieces.{Piece}
 use Rattle.starlark_grammar.specs.Reading.{History, after, situation}
 
 -- a text with each LF written as CR LF

@@ -2,7 +2,7 @@
 //! programs don't call them.
 
 ghost use Rattle.starlark_grammar.specs.IntegerValues.{IntegersKeepTheirValue};
-ghost use Rattle.starlark_grammar.specs.Laws.{FrontIsLongest, LongestFrontIsOne, ReadingsAgree, ReadingsFit, OutcomeIs, OutcomeIsOne, DedentsFollow, BlocksClose, ItemsAreFew, LexemesInOrder, FaultlessInOrder, LexemesAtBoundaries, CutsJoin, FaultsJoin, CutsOfJoined, TabsBehindCuts, KeptCutsKeep, FaultsInside, FaultAtBoundaries};
+ghost use Rattle.starlark_grammar.specs.Laws.{FrontIsLongest, LongestFrontIsOne, ReadingsAgree, ReadingsFit, OutcomeIs, OutcomeIsOne, DedentsFollow, BlocksClose, ItemsAreFew, LexemesInOrder, FaultlessInOrder, LexemesAtBoundaries, CutsJoin, FaultsJoin, CutsOfJoined, TabsBehindCuts, KeptCutsKeep, CrlfKeepsTokens, FaultsInside, FaultAtBoundaries};
 ghost use Rattle.starlark_grammar.specs.PrintedWords.{PrintedWordsReadBack};
 
 /// The longest front of a text that is a word is the longest, and there is only one.
@@ -55,6 +55,12 @@ pub fn joins_at_clean_cuts()
 /// At a kept cut the lexemes of a text begin with those of the text before it, without its closing `Newline`.
 pub fn kept_cuts_keep()
     ensures { KeptCutsKeep }
+{}
+
+/// A text of characters without fault and without CR has no fault and the same tokens with each LF written as CR LF, if no
+/// raw literal and no text of a raw f-string has a backslash right before an LF.
+pub fn line_ends_keep_tokens()
+    ensures { CrlfKeepsTokens }
 {}
 
 /// The integer that a number's text writes has the text's value: neither zeros at the front nor the case of letters

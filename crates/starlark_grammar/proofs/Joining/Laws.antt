@@ -1,5 +1,5 @@
 -- The laws on texts joined at clean cuts.
-use Rattle.std.proofs.Common.{◌≡◌, ◌≢◌, ℕ, ◌+◌, ◌-◌, ◌≤◌, ◌<◌, Bool, true, List, [], ◌∷◌, ◌++◌, length, take, drop, map, refl, ap, ◌∙◌, sym, subst, Option, Some, None, arith, ◌⊎◌, inl, inr, ◌↔◌, length-append}
+use Rattle.std.proofs.Common.{◌≡◌, ◌+◌, ◌-◌, ◌≤◌, ◌<◌, Bool, true, List, [], ◌∷◌, ◌++◌, length, take, drop, map, ap, ◌∙◌, sym, subst, Some, None, arith, ◌⊎◌, inl, inr, ◌↔◌, length-append}
 use Rattle.std.specs.Prelude.{◌&&◌, ◌==◌, nat_eq, nat_le, codes, option_map}
 use Rattle.std.specs.Cmp.Lexicographic.{pointwise}
 use Rattle.std.specs.List.{ends_with}
@@ -7,17 +7,16 @@ use Rattle.std.proofs.Math.Seq.{drop-append-add}
 use Rattle.std.proofs.lemmas.Bool.{and_parts, leb-true}
 use Rattle.std.proofs.lemmas.List.{take-append-drop, length-take}
 use Rattle.starlark_grammar.specs.Words.{Text, language}
-use Rattle.starlark_grammar.specs.Tokens.{Fault, Spanned, Lexeme, moved, Outcome}
-use Rattle.starlark_grammar.specs.Margins.{margin_of, open_widths}
-use Rattle.starlark_grammar.specs.Depths.{mode_after, is_balanced}
-use Rattle.starlark_grammar.specs.Pieces.{Piece, Step, Stands, Fails, Situation}
-use Rattle.starlark_grammar.specs.Reading.{History, nothing, after_all, situation, next_step, IsLongestReading, pieces_len, read, outcome}
+use Rattle.starlark_grammar.specs.Tokens.{Lexeme, moved, Outcome}
+use Rattle.starlark_grammar.specs.Margins.{margin_of}
+use Rattle.starlark_grammar.specs.Pieces.{Piece, Step, Fails, Situation}
+use Rattle.starlark_grammar.specs.Reading.{History, nothing, after_all, situation, IsLongestReading, pieces_len, read, outcome}
 use Rattle.starlark_grammar.specs.Cuts.{is_layout, is_outside, is_settled, is_faultless, is_clean_cut, is_clean_cut_in, is_kept_cut, without_closing}
 use Rattle.starlark_grammar.specs.Laws.{FaultsJoin, CutsOfJoined, TabsBehindCuts, KeptCutsKeep, HasFirstMargin}
 use Rattle.starlark_grammar.proofs.Reading.Readings.{one_longest, longest_onward, read_is}
 use Rattle.starlark_grammar.proofs.Joining.Settled.{Settled, behind, situation_behind, map_none}
-use Rattle.starlark_grammar.proofs.Joining.CleanCuts.{Cut, cut, Begun, begun, longest, past, cuts_join}
-use Rattle.starlark_grammar.proofs.Joining.Tabs.{tab, HasTab, tab_of, margin_tab, first_step, first_margin_is, tab_longest, outcome_by, BehindTab, behind_tab}
+use Rattle.starlark_grammar.proofs.Joining.CleanCuts.{cut, begun, longest, past, cuts_join}
+use Rattle.starlark_grammar.proofs.Joining.Tabs.{tab, HasTab, tab_of, margin_tab, first_step, first_margin_is, tab_longest, outcome_by, behind_tab}
 
 pub tabs_behind_cuts : TabsBehindCuts
 tabs_behind_cuts first second fault h fails = (behind_tab first second h (tab_of (margin_of second) fault (sym (first_step second) ∙ fails))).is

@@ -1,6 +1,6 @@
 -- What a clean cut and a text behind it come to where a tab stands in that text's first margin.
-use Rattle.std.proofs.Common.{◌≡◌, ℕ, ◌+◌, ◌≤◌, ◌<◌, Bool, true, false, not, List, [], ◌∷◌, ◌++◌, length, take, drop, map, refl, ap, ◌∙◌, sym, subst, Option, Some, None, arith, append_assoc, append-nil, ◌⊎◌, inl, inr}
-use Rattle.std.specs.Prelude.{⊤, ◌||◌, ◌==◌, if◌then◌else◌}
+use Rattle.std.proofs.Common.{◌≡◌, ℕ, ◌+◌, ◌≤◌, ◌<◌, Bool, true, false, not, List, [], ◌∷◌, ◌++◌, length, take, drop, map, refl, ap, ◌∙◌, sym, subst, Some, None, arith, append-nil, ◌⊎◌, inl, inr}
+use Rattle.std.specs.Prelude.{◌||◌, ◌==◌, if◌then◌else◌}
 use Rattle.std.specs.List.{list_all}
 use Rattle.std.proofs.lemmas.Bool.{and_parts, both_ways}
 use Rattle.std.proofs.lemmas.List.Sums.{sum_by-cons}
@@ -9,8 +9,8 @@ use Rattle.starlark_grammar.specs.Words as word
 use Rattle.starlark_grammar.specs.Words.{Text, class_in, language}
 use Rattle.starlark_grammar.specs.Front.{longest_front}
 use Rattle.starlark_grammar.specs.Tokens.{Newline, InvalidTab, Lexeme, Spanned, Fault, moved, Outcome}
-use Rattle.starlark_grammar.specs.Margins.{Margin, margin_of, margin_len, is_content, has_tab, width_of, fits, comments_from, comment_lines}
-use Rattle.starlark_grammar.specs.Pieces.{Before, Nothing, Layout, Gap, Other, Piece, Step, Stands, Fails, Ends, Situation, margin_step, first_margin, step_at}
+use Rattle.starlark_grammar.specs.Margins.{Margin, margin_of, is_content, has_tab, width_of, fits, comments_from, comment_lines}
+use Rattle.starlark_grammar.specs.Pieces.{Layout, Piece, Step, Stands, Fails, Ends, Situation, margin_step, step_at}
 use Rattle.starlark_grammar.specs.Reading.{History, nothing, after, after_all, situation, next_step, IsReading, IsLongestReading, pieces_len, lexemes_along, outcome_of, outcome}
 use Rattle.starlark_grammar.specs.Cuts.{is_layout, is_clean_cut, without_closing, is_newline, before_newline, tabbed}
 use Rattle.starlark_grammar.specs.Laws.{HasFirstMargin}
@@ -21,7 +21,7 @@ use Rattle.starlark_grammar.proofs.Reading.Steps.{is_nothing}
 use Rattle.starlark_grammar.proofs.Joining.Followed.{ends_line, ends_line_drop, longest_followed}
 use Rattle.starlark_grammar.proofs.Joining.FollowedMargins.{whole_behind, Followed, Whole, Within, margin_behind, followed, has_whole_lines}
 use Rattle.starlark_grammar.proofs.Joining.Settled.{Settled}
-use Rattle.starlark_grammar.proofs.Joining.Joined.{whole_from_ends, CountedEnd, counted_end, counted_step, margin_step_len, blank_step, next_stays, inside, map_both, all_moved}
+use Rattle.starlark_grammar.proofs.Joining.Joined.{whole_from_ends, CountedEnd, counted_end, counted_step, margin_step_len, blank_step, next_stays, inside, all_moved}
 use Rattle.starlark_grammar.proofs.Joining.CleanCuts.{Cut, cut, along_both, pieces_both, but_last}
 
 -- First margins
@@ -59,7 +59,7 @@ tab_of margin found e = go (is_content margin.behind) (has_tab margin) (fits (wi
     go true false true one other misfit c t f e = cc
     go true false false one other misfit c t f e = cc
 
-never_ends : (margin : Margin) → margin_step 0 [] [] margin ≡ Ends → ⊥
+pub never_ends : (margin : Margin) → margin_step 0 [] [] margin ≡ Ends → ⊥
 unfolding margin_step
 never_ends margin e = go (not (is_content margin.behind)) (has_tab margin) (fits (width_of margin) []) _ _ _ _ e
   where

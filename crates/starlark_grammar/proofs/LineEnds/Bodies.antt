@@ -1,9 +1,9 @@
 -- Bodies of literals in a text whose LFs are written as CR LF.
-use Rattle.std.proofs.Common.{◌≡◌, ℕ, zero, suc, ◌+◌, ◌-◌, ◌*◌, ◌/◌, ◌%◌, ◌≤◌, ◌<◌, Bool, true, false, cond, not, List, [], ◌∷◌, ◌++◌, length, take, drop, refl, ap, ◌∙◌, sym, subst, Option, Some, None, arith, nat_eq, ◌⊎◌, inl, inr, one-add}
-use Rattle.std.specs.Prelude.{⊤, ◌&&◌, ◌||◌, ◌==◌, if◌then◌else◌, nat_lt, encode_utf8, flat_map, codes}
+use Rattle.std.proofs.Common.{◌≡◌, ℕ, zero, suc, ◌+◌, ◌-◌, ◌/◌, ◌%◌, ◌≤◌, ◌<◌, Bool, true, false, cond, not, List, [], ◌∷◌, ◌++◌, length, take, drop, refl, ap, ◌∙◌, sym, subst, Option, Some, None, arith, nat_eq, ◌⊎◌, inl, inr, one-add}
+use Rattle.std.specs.Prelude.{◌&&◌, ◌||◌, ◌==◌, if◌then◌else◌, nat_lt, encode_utf8, codes}
 use Rattle.std.proofs.Math.Utf8.{encode, encodes, scalar, scalars, scalar_cases}
 use Rattle.std.specs.Char.{is_ascii_hexdigit, is_ascii}
-use Rattle.std.specs.List.{list_all, prefix_len, starts_with}
+use Rattle.std.specs.List.{prefix_len, starts_with}
 use Rattle.std.specs.Map.{lookup}
 use Rattle.std.specs.Str.{byte, continuation_len, IsUtf8}
 use Rattle.std.specs.Str.Parse.{digits_value}
@@ -12,12 +12,11 @@ use Rattle.std.proofs.lemmas.Bool.Decides.{nat_tests}
 use Rattle.std.proofs.lemmas.List.{drop-take}
 use Rattle.std.proofs.lemmas.List.Sums.{sum_by-cons}
 use Rattle.starlark_grammar.specs.Words.{Text, Quote, SingleQuote, DoubleQuote, Kind, OfText, OfBytes, OfFString, is_in_line, is_octal_digit}
-use Rattle.starlark_grammar.specs.Items.{Literal, Item, Stop, Closing, Line, Ended, OpeningBrace, ClosingBrace, BadEscape, Found, Goes, Stops, goes, closing_quotes, broken, is_character, numbered, hexadecimal, octal, escaped_feed, simple_escapes, simple, is_of_bytes, escape, drops_backslash, raw_pair, brace, is_brace, found_at, Body, body_len, body_value, body_onward, body_from, body_at}
+use Rattle.starlark_grammar.specs.Items.{Literal, Item, Stop, Line, OpeningBrace, ClosingBrace, Found, Goes, Stops, goes, closing_quotes, broken, is_character, numbered, hexadecimal, octal, simple_escapes, simple, is_of_bytes, escape, drops_backslash, raw_pair, brace, is_brace, found_at, Body, body_len, body_value, body_onward, body_from, body_at}
 use Rattle.starlark_grammar.specs.Characters.{first_character}
 use Rattle.starlark_grammar.specs.Margins.{is_feed}
 use Rattle.starlark_grammar.specs.LineEnds.{holds_escaped_feed}
 use Rattle.starlark_grammar.proofs.Lists.{drop-sum, drop-behind}
-use Rattle.starlark_grammar.proofs.Choices.{either}
 use Rattle.starlark_grammar.proofs.Words.Lines.{in_line}
 use Rattle.starlark_grammar.proofs.Literals.Bodies.{FoundFits, found_fits}
 use Rattle.starlark_grammar.proofs.Order.Edges.{starts_split, digits_run, hex_plain, octal_plain}

@@ -6,13 +6,13 @@ use Rattle.std.specs.List.{list_all}
 use Rattle.std.specs.Map.{lookup}
 use Rattle.std.specs.Option.{option_map, option_or}
 use Rattle.std.specs.Str.{bytes_eq}
-use Rattle.std.proofs.lemmas.Bool.{and_parts, eqb-true}
+use Rattle.std.proofs.lemmas.Bool.{and_parts}
 use Rattle.std.proofs.lemmas.Slice.Eq.{bytes_eq-Decides}
 use Rattle.starlark_grammar.specs.Words.{Text, Class, Skipped, Comment, Tabs, LineEnd, Identifier, Decimal, Hexadecimal, Octal, Binary, Float, class_in, openers, line_ends, symbols, names, patterns, language, is_run, is_identifier, is_comment, is_based, is_octal_digit, is_binary_digit, is_float, is_pointed}
 use Rattle.starlark_grammar.specs.Front.{longer, longest_front}
 use Rattle.starlark_grammar.specs.Margins.{is_feed}
 use Rattle.starlark_grammar.proofs.Words.Tables.{class_in-language}
-use Rattle.starlark_grammar.proofs.Words.Lines.{in_line, line_fits, same_in_line, run_in_line, comment_in_line, identifier_in_line, digit_in_line, based_in_line, hexadecimal_in_line, octal_in_line, binary_in_line, float_in_line, pointed_in_line}
+use Rattle.starlark_grammar.proofs.Words.Lines.{in_line, same_in_line, run_in_line, comment_in_line, identifier_in_line, digit_in_line, based_in_line, hexadecimal_in_line, octal_in_line, binary_in_line, float_in_line, pointed_in_line}
 use Rattle.starlark_grammar.proofs.LineEnds.Texts.{crlf, no_return, crlf_line, stripped, stripped_plain, stripped_crlf}
 
 -- Words that aren't in a line: line ends, and those that are escaped

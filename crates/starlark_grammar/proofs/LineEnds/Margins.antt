@@ -1,15 +1,15 @@
 -- Margins in a text whose LFs are written as CR LF.
-use Rattle.std.proofs.Common.{◌≡◌, ℕ, zero, suc, ◌+◌, ◌≤◌, ◌<◌, Bool, true, false, cond, not, List, [], ◌∷◌, ◌++◌, length, take, drop, map, refl, ap, ◌∙◌, sym, subst, Option, Some, None, arith, ◌⊎◌, inl, inr, one-add, append_assoc, append-nil, length-append, replicate}
-use Rattle.std.specs.Prelude.{⊤, ◌&&◌, ◌||◌, ◌==◌, if◌then◌else◌, nat_eq, nat_lt, sum_by, count_by, take_while}
+use Rattle.std.proofs.Common.{◌≡◌, ℕ, zero, suc, ◌+◌, Bool, true, false, cond, not, List, [], ◌∷◌, ◌++◌, length, take, drop, map, refl, ap, ◌∙◌, sym, subst, Option, Some, None, arith, ◌⊎◌, inl, inr, one-add, append_assoc, length-append, replicate}
+use Rattle.std.specs.Prelude.{◌&&◌, ◌==◌, if◌then◌else◌, nat_eq, nat_lt, sum_by, count_by, take_while}
 use Rattle.std.specs.List.{list_all, onto_first, prefix_len}
 use Rattle.std.proofs.Math.Seq.{drop-append_seam}
 use Rattle.std.proofs.lemmas.Bool.{and_parts, eqb-true}
-use Rattle.std.proofs.lemmas.List.{take-append-drop, length-take-le, length-take}
+use Rattle.std.proofs.lemmas.List.{take-append-drop, length-take-le}
 use Rattle.std.proofs.lemmas.List.Sums.{sum_by-cons, prefix_len-le-length}
 use Rattle.starlark_grammar.specs.Words.{Text}
-use Rattle.starlark_grammar.specs.Tokens.{Token, Newline, Comment, Indent, Dedent, Lexeme, Spanned, Fault, InvalidTab, Indentation, moved}
+use Rattle.starlark_grammar.specs.Tokens.{Token, Newline, Comment, Indent, Dedent, Lexeme, InvalidTab, Indentation, moved}
 use Rattle.starlark_grammar.specs.Margins.{is_blank, is_feed, blanks_len, lines, begins_comment, is_comment_only, without_return, comment_part, comment_of, comments_from, comment_lines, Margin, margin_from, margin_of, margin_len, is_content, has_tab, width_of, is_widest, fits, indentation}
-use Rattle.starlark_grammar.specs.Pieces.{Before, Layout, Piece, Step, Stands, Fails, margin_step}
+use Rattle.starlark_grammar.specs.Pieces.{Layout, Piece, Stands, Fails, margin_step}
 use Rattle.starlark_grammar.proofs.Lists.{drop-sum}
 use Rattle.starlark_grammar.proofs.LineEnds.Texts.{crlf, no_return, crlf_both}
 use Rattle.starlark_grammar.proofs.LineEnds.Bodies.{form_other}

@@ -1,22 +1,20 @@
 -- Pieces in a text whose LFs are written as CR LF.
-use Rattle.std.proofs.Common.{◌≡◌, ℕ, zero, suc, ◌+◌, ◌≤◌, ◌<◌, Bool, true, false, not, List, [], ◌∷◌, ◌++◌, length, take, drop, map, refl, ap, ◌∙◌, sym, subst, Option, Some, None, arith, ◌⊎◌, inl, inr, append_assoc}
-use Rattle.std.specs.Prelude.{⊤, ◌&&◌, ◌||◌, ◌==◌, if◌then◌else◌, nat_eq, codes, option_map}
-use Rattle.std.specs.List.{list_all, starts_with}
-use Rattle.std.specs.Str.{byte, IsUtf8}
-use Rattle.std.proofs.Math.Seq.{drop-append_seam, take-append_seam, drop-append-add, take-add}
-use Rattle.std.proofs.lemmas.Bool.{and_parts, eqb-true}
+use Rattle.std.proofs.Common.{◌≡◌, ℕ, ◌+◌, Bool, true, false, List, [], ◌∷◌, ◌++◌, length, take, drop, refl, ap, ◌∙◌, sym, subst, None, arith, ◌⊎◌, inl, inr}
+use Rattle.std.specs.Prelude.{◌&&◌, ◌||◌, ◌==◌, if◌then◌else◌, nat_eq, codes}
+use Rattle.std.specs.List.{starts_with}
+use Rattle.std.specs.Str.{byte}
+use Rattle.std.proofs.Math.Seq.{drop-append_seam, drop-append-add, take-add}
 use Rattle.std.proofs.lemmas.Bool.Decides.{nat_tests}
-use Rattle.std.proofs.lemmas.List.{take-append-drop, length-take-le, drop-take}
+use Rattle.std.proofs.lemmas.List.{drop-take}
 use Rattle.starlark_grammar.specs.Words as word
 use Rattle.starlark_grammar.specs.Words.{Text, Quote, SingleQuote, DoubleQuote, Kind, OfText, OfBytes, OfFString, Class, class_in, language}
-use Rattle.starlark_grammar.specs.Front.{longest_front}
 use Rattle.starlark_grammar.specs.Numbers.{integer_of}
-use Rattle.starlark_grammar.specs.Tokens.{Token, Newline, Int, StartsZero, Opening, FStringStart, FStringBang, FStringExprStart, FStringEnd, Lexeme, Fault, Spanned}
+use Rattle.starlark_grammar.specs.Tokens.{Token, Newline, Int, StartsZero, Opening, FStringStart, FStringExprStart, FStringEnd, Lexeme}
 use Rattle.starlark_grammar.specs.Items.{Literal, Stop, Closing, Line, Ended, OpeningBrace, ClosingBrace, BadEscape, Body, body_len, body_value, body_at, quote_byte, closing_quotes}
-use Rattle.starlark_grammar.specs.Depths.{Mode, Outside, InText, AtTop, Deeper}
-use Rattle.starlark_grammar.specs.Margins.{is_feed, margin_of, margin_len, is_content}
+use Rattle.starlark_grammar.specs.Depths.{Mode, Outside, InText}
+use Rattle.starlark_grammar.specs.Margins.{margin_of, margin_len}
 use Rattle.starlark_grammar.specs.LineEnds.{holds_escaped_feed}
-use Rattle.starlark_grammar.specs.Pieces.{Before, Nothing, Layout, Gap, Other, Piece, Step, Stands, Fails, Ends, Situation, fault, token, margin_step, opening_of, more_quotes, literal_token, escape_fault, literal_by, literal, opener, chunk_text, chunk_piece, chunk_by, chunk, starts_zero, counts, word_step, front_step, is_bang, takes_bang, in_code}
+use Rattle.starlark_grammar.specs.Pieces.{Before, Layout, Gap, Other, Piece, Step, Stands, Situation, fault, token, margin_step, opening_of, more_quotes, literal_token, escape_fault, literal_by, literal, opener, chunk_text, chunk_by, chunk, starts_zero, counts, word_step}
 use Rattle.starlark_grammar.proofs.Lists.{drop-sum}
 use Rattle.starlark_grammar.proofs.Words.Bytes.{is_plain}
 use Rattle.starlark_grammar.proofs.Words.Lines.{in_line, line_fits}
@@ -24,9 +22,9 @@ use Rattle.starlark_grammar.proofs.Order.Edges.{StopAt, starts_split, stop_at}
 use Rattle.starlark_grammar.proofs.Joining.FollowedBodies.{is_closed, closing_in_line}
 use Rattle.starlark_grammar.proofs.Joining.FollowedPieces.{quotes_in_line}
 use Rattle.starlark_grammar.proofs.Joining.Joined.{outside}
-use Rattle.starlark_grammar.proofs.LineEnds.Texts.{crlf, no_return, no_return_drop, crlf_both, crlf_line, starts_crlf, behind_crlf}
-use Rattle.starlark_grammar.proofs.LineEnds.Bodies.{apart, apart_plain, form_other, BodyCrlf, RawApart, holds_drop, body_crlf}
-use Rattle.starlark_grammar.proofs.LineEnds.Margins.{nodes, nodes_both, neutral, Left, Whole, Behind, PieceCrlf, MarginStands, margin_stands}
+use Rattle.starlark_grammar.proofs.LineEnds.Texts.{crlf, no_return, no_return_drop, crlf_line, starts_crlf, behind_crlf}
+use Rattle.starlark_grammar.proofs.LineEnds.Bodies.{apart, apart_plain, BodyCrlf, RawApart, holds_drop, body_crlf}
+use Rattle.starlark_grammar.proofs.LineEnds.Margins.{nodes, nodes_both, neutral, Left, Whole, Behind, PieceCrlf, margin_stands}
 
 -- How the form of a text goes on behind a piece: by the form of what is left, or from an LF on, behind a line end that counts.
 pub data LeftAt (place : Mode) (piece : Piece) (text other : Text) : Type 0 where
@@ -235,7 +233,7 @@ module _ (place : Mode) (is_raw : Bool) (quote : Quote) (front behind : Text) (p
       let found = literal_crlf place kind (opening_of is_raw quote behind) (length front + more_quotes (opening_of is_raw quote behind)) (length front + more_quotes (opening_of is_raw quote behind)) (drop (more_quotes (opening_of is_raw quote behind)) behind) (front ++ behind) (crlf front ++ crlf behind) piece
       (no_return_drop (more_quotes (opening_of is_raw quote behind)) behind h) (quotes_left is_raw quote behind more).1 here there raw e in
       let step : literal place kind (opening_of is_raw quote (crlf behind)) (length (crlf front) + more_quotes (opening_of is_raw quote (crlf behind))) (drop (more_quotes (opening_of is_raw quote (crlf behind))) (crlf behind))
-          ≡ literal place kind (opening_of is_raw quote behind) (length front + more_quotes (opening_of is_raw quote behind)) (crlf (drop (more_quotes (opening_of is_raw quote behind)) behind)) =
+      ≡ literal place kind (opening_of is_raw quote behind) (length front + more_quotes (opening_of is_raw quote behind)) (crlf (drop (more_quotes (opening_of is_raw quote behind)) behind)) =
       ap (λ (t : Text). literal place kind (opening_of is_raw quote (crlf behind)) (length t + more_quotes (opening_of is_raw quote (crlf behind))) (drop (more_quotes (opening_of is_raw quote (crlf behind))) (crlf behind))) (crlf_line front line)
       ∙ ap (λ (o : Opening). literal place kind o (length front + more_quotes o) (drop (more_quotes o) (crlf behind))) (opening_crlf is_raw quote behind)
       ∙ ap (literal place kind (opening_of is_raw quote behind) (length front + more_quotes (opening_of is_raw quote behind))) (quotes_left is_raw quote behind more).0 in

@@ -1,7 +1,6 @@
 -- Readings of a text whose LFs are written as CR LF.
-use Rattle.std.proofs.Common.{◌≡◌, ℕ, zero, suc, ◌+◌, ◌≤◌, ◌<◌, Bool, true, false, not, List, [], ◌∷◌, ◌++◌, length, take, drop, map, refl, ap, ◌∙◌, sym, subst, Option, Some, None, arith, replicate}
-use Rattle.std.specs.Prelude.{⊤, ◌&&◌, ◌==◌, if◌then◌else◌, nat_eq, codes, option_map, option_to_list}
-use Rattle.std.specs.List.{list_all, list_any}
+use Rattle.std.proofs.Common.{◌≡◌, ℕ, ◌+◌, Bool, true, false, not, List, [], ◌∷◌, ◌++◌, length, take, drop, map, refl, ap, ◌∙◌, sym, subst, Option, Some, None, arith}
+use Rattle.std.specs.Prelude.{◌&&◌, if◌then◌else◌, option_map}
 use Rattle.std.specs.Str.{IsUtf8, IsCharBoundary}
 use Rattle.std.proofs.Math.Seq.{drop-append_seam, take-append_seam}
 use Rattle.std.proofs.lemmas.Bool.{and_parts, eqb-true}
@@ -11,26 +10,27 @@ use Rattle.std.proofs.lemmas.List.Sums.{sum_by-cons}
 use Rattle.starlark_grammar.specs.Words as word
 use Rattle.starlark_grammar.specs.Words.{Text, OfText, OfBytes, OfFString, Class, class_in, language, openers, line_ends, symbols, names, patterns}
 use Rattle.starlark_grammar.specs.Front.{longest_front, language_front}
-use Rattle.starlark_grammar.specs.Tokens.{Token, Comment, Newline, Indent, Dedent, Identifier, Int, Float, String, Bytes, FStringStart, FStringText, FStringExprStart, FStringExprEnd, FStringBang, FStringEnd, Word, Lexeme, Spanned, Fault, moved, Outcome}
+use Rattle.starlark_grammar.specs.Tokens.{Token, Comment, Newline, Indent, Dedent, Identifier, Int, Float, String, Bytes, FStringStart, FStringText, FStringExprStart, FStringExprEnd, FStringBang, FStringEnd, Word, Lexeme, moved, Outcome}
 use Rattle.starlark_grammar.specs.Depths.{Mode, Outside, InText, AtTop, Deeper, open_fstring, mode_by, mode_after}
-use Rattle.starlark_grammar.specs.Margins.{is_feed, margin_of, margin_len, is_content, open_widths}
-use Rattle.starlark_grammar.specs.Pieces.{Before, Nothing, Layout, Gap, Other, Piece, Step, Stands, Fails, Ends, Situation, token, word_step, front_step, is_bang, takes_bang, in_code, by_place, by_before, step_at, margin_step}
-use Rattle.starlark_grammar.specs.Reading.{tokens_onto, History, nothing, after, after_all, situation, next_step, IsReading, IsLongestReading, pieces_len, read, lexemes_along, closing, outcome_of, outcome_in, outcome}
+use Rattle.starlark_grammar.specs.Margins.{is_feed, margin_of, margin_len, open_widths}
+use Rattle.starlark_grammar.specs.Pieces.{Before, Nothing, Layout, Gap, Other, Piece, Step, Stands, Fails, Ends, Situation, token, word_step, front_step, is_bang, takes_bang, in_code, by_place, by_before, step_at}
+use Rattle.starlark_grammar.specs.Reading.{tokens_onto, History, nothing, after, after_all, situation, next_step, IsReading, IsLongestReading, pieces_len, read, lexemes_along, closing, outcome_of, outcome}
 use Rattle.starlark_grammar.specs.Cuts.{is_outside}
-use Rattle.starlark_grammar.specs.LineEnds.{crlf_form, holds_escaped_feed, opens_raw, is_raw_in, no_raw_feed}
+use Rattle.starlark_grammar.specs.LineEnds.{holds_escaped_feed, opens_raw, is_raw_in, no_raw_feed}
+use Rattle.starlark_grammar.specs.Laws.{CrlfKeepsTokens}
 use Rattle.starlark_grammar.proofs.Lists.{drop-sum}
 use Rattle.starlark_grammar.proofs.Words.Fronts.{front_single, front_sound}
 use Rattle.starlark_grammar.proofs.Words.Lines.{language_lines, feed_ends}
 use Rattle.starlark_grammar.proofs.Reading.Steps.{is_nothing}
-use Rattle.starlark_grammar.proofs.Reading.Readings.{started, piece_fits, read_is, ends_at_end, outcome_only}
+use Rattle.starlark_grammar.proofs.Reading.Readings.{started, piece_fits, read_is, reading_fits, ends_at_end}
 use Rattle.starlark_grammar.proofs.Order.WholeTexts.{word_edge, piece_bounded}
 use Rattle.starlark_grammar.proofs.Joining.Settled.{outside_none}
-use Rattle.starlark_grammar.proofs.Joining.Tabs.{first_step, outcome_by}
+use Rattle.starlark_grammar.proofs.Joining.Tabs.{first_step, never_ends, outcome_by}
 use Rattle.starlark_grammar.proofs.LineEnds.Texts.{crlf, crlf_is, crlf_both, no_return, no_return_of, no_return_drop}
 use Rattle.starlark_grammar.proofs.LineEnds.Fronts.{front_crlf}
 use Rattle.starlark_grammar.proofs.LineEnds.Bodies.{apart, utf8_apart, form_other}
-use Rattle.starlark_grammar.proofs.LineEnds.Margins.{nodes, nodes_both, nodes_moved, is_neutral, neutral, Left, Whole, Behind, PieceCrlf, MarginStands, margin_stands, replicate_nodes}
-use Rattle.starlark_grammar.proofs.LineEnds.Pieces.{LeftAt, AtWhole, AtFeed, StandsCrlf, alike, is_raw_kind, is_raw_class, line_end_crlf, word_crlf, chunk_crlf}
+use Rattle.starlark_grammar.proofs.LineEnds.Margins.{nodes, nodes_both, nodes_moved, is_neutral, neutral, Left, Whole, Behind, PieceCrlf, margin_stands, replicate_nodes}
+use Rattle.starlark_grammar.proofs.LineEnds.Pieces.{LeftAt, AtWhole, AtFeed, StandsCrlf, alike, is_raw_class, line_end_crlf, word_crlf, chunk_crlf}
 
 -- Code
 
@@ -360,3 +360,72 @@ ending text other pieces forms past same =
     ∙ ap (λ ts. ts ++ nodes (closing (pieces_len forms) (after_all nothing forms))) same
     ∙ ap (λ ts. nodes (lexemes_along 0 pieces) ++ ts) (ap (λ (history : History). nodes (closing (pieces_len forms) history)) past ∙ closing_nodes (pieces_len pieces) (pieces_len forms) (after_all nothing pieces))
     ∙ sym (nodes_both (lexemes_along 0 pieces) (closing (pieces_len pieces) (after_all nothing pieces)))
+
+-- the reading of a text without fault
+record Faultless (text : Text) : Type 0 where
+  some : ¬ ((read language text).pieces ≡ [])
+  last : (read language text).last ≡ Ends
+  reach : pieces_len (read language text).pieces ≡ length text
+  none : drop (pieces_len (read language text).pieces) text ≡ []
+  is : outcome text ≡ outcome_of text (read language text).pieces Ends
+
+faultless : (text : Text) → (outcome text).fault ≡ None → Faultless text
+faultless text h = record { some = some; last = last; reach = reach; none = none; is = is }
+  where
+    longest : IsLongestReading language nothing text (read language text).pieces (read language text).last
+    longest = read_is language text
+
+    by : outcome text ≡ outcome_of text (read language text).pieces (read language text).last
+    by = outcome_by text (read language text).pieces (read language text).last (read_is language text)
+
+    last : (read language text).last ≡ Ends
+    last = go (read language text).last refl
+      where
+        go : (step : Step) → (read language text).last ≡ step → (read language text).last ≡ Ends
+        go (Stands piece) e = absurd (longest.no_piece piece e)
+        go (Fails fault) e =
+            let wrong : Some (moved (pieces_len (read language text).pieces) fault) ≡ None = sym (ap (λ (step : Step). (outcome_of text (read language text).pieces step).fault) e) ∙ sym (ap (λ (o : Outcome). o.fault) by) ∙ h in cc
+        go Ends e = e
+
+    none : drop (pieces_len (read language text).pieces) text ≡ []
+    none = ends_at_end language (after_all nothing (read language text).pieces) (drop (pieces_len (read language text).pieces) text) (longest.stands_last ∙ last)
+
+    reach : pieces_len (read language text).pieces ≡ length text
+    reach = omega (arith, reading_fits language nothing text (read language text).pieces longest.reads, length-drop (pieces_len (read language text).pieces) text, ap (λ (t : Text). length t) none)
+
+    is : outcome text ≡ outcome_of text (read language text).pieces Ends
+    is = by ∙ ap (outcome_of text (read language text).pieces) last
+
+    some : ¬ ((read language text).pieces ≡ [])
+    some e =
+        let first = subst (λ (ps : List Piece). next_step language (after_all nothing ps) (drop (pieces_len ps) text) ≡ Ends) e (longest.stands_last ∙ last) in
+        never_ends (margin_of text) (sym (first_step text) ∙ first)
+
+pub crlf_keeps : CrlfKeepsTokens
+crlf_keeps text utf8 none plain raw = (
+  ap (λ (t : Text). (outcome t).fault) (crlf_is text) ∙ ap (λ (o : Outcome). o.fault) form_is,
+  ap (λ (t : Text). nodes (outcome t).lexemes) (crlf_is text) ∙ ap (λ (o : Outcome). nodes o.lexemes) form_is
+      ∙ ending text (crlf text) (read language text).pieces found.forms found.past (found.same 0 0) ∙ sym (ap (λ (o : Outcome). nodes o.lexemes) whole.is),
+)
+  where
+    whole : Faultless text
+    whole = faultless text none
+
+    longest : IsLongestReading language nothing text (read language text).pieces (read language text).last
+    longest = read_is language text
+
+    found : ReadingCrlf nothing (crlf text) (read language text).pieces
+    found = whole_crlf text (read language text).pieces (no_return_of text plain) utf8 whole.some longest.reads raw whole.reach
+
+    at_end : next_step language (after_all nothing (read language text).pieces) [] ≡ Ends
+    at_end = subst (λ (t : Text). next_step language (after_all nothing (read language text).pieces) t ≡ Ends) whole.none (longest.stands_last ∙ whole.last)
+
+    form_longest : IsLongestReading language nothing (crlf text) found.forms Ends
+    form_longest = record {
+      reads = found.reads;
+      stands_last = ap (next_step language (after_all nothing found.forms)) found.none ∙ ap (λ (past : History). next_step language past []) found.past ∙ at_end;
+      no_piece = λ piece e. cc;
+    }
+
+    form_is : outcome (crlf text) ≡ outcome_of (crlf text) found.forms Ends
+    form_is = outcome_by (crlf text) found.forms Ends form_longest

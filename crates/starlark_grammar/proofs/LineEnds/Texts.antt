@@ -1,5 +1,5 @@
 -- Texts with each LF written as CR LF: fronts, and what is left behind them.
-use Rattle.std.proofs.Common.{◌≡◌, ℕ, zero, suc, ◌+◌, ◌≤◌, Bool, true, false, cond, not, List, [], ◌∷◌, ◌++◌, length, take, drop, refl, ap, ◌∙◌, sym, subst, arith, nat_eq}
+use Rattle.std.proofs.Common.{◌≡◌, ℕ, zero, suc, ◌+◌, ◌≤◌, Bool, true, false, cond, not, [], ◌∷◌, ◌++◌, length, take, drop, refl, ap, ◌∙◌, sym, subst, nat_eq}
 use Rattle.std.specs.Prelude.{◌&&◌, ◌||◌, ◌==◌, if◌then◌else◌}
 use Rattle.std.specs.List.{list_all, list_any, prefix_len, starts_with}
 use Rattle.std.proofs.Math.Seq.{drop-append_seam, take-append_seam}
@@ -75,8 +75,7 @@ pub crlf_front : (n : ℕ) (text : Text) → n ≤ length text → in_line (take
 crlf_front n text inside h =
     let whole : crlf text ≡ take n text ++ crlf (drop n text) =
     ap crlf (sym (take-append-drop n text)) ∙ crlf_both (take n text) (drop n text) ∙ ap (λ (t : Text). t ++ crlf (drop n text)) (crlf_line (take n text) h) in
-    let len : length (take n text) ≡ n = length-take-le n text inside in
-    (
+    let len : length (take n text) ≡ n = length-take-le n text inside in (
       ap (take n) whole ∙ ap (λ k. take k (take n text ++ crlf (drop n text))) (sym len) ∙ take-append_seam (take n text) (crlf (drop n text)),
       ap (drop n) whole ∙ ap (λ k. drop k (take n text ++ crlf (drop n text))) (sym len) ∙ drop-append_seam (take n text) (crlf (drop n text)),
     )

@@ -3,7 +3,6 @@ use Rattle.std.proofs.Common.{refl}
 use Rattle.std.specs.Prelude.{[], ◌∷◌, codes}
 use Rattle.starlark_grammar.specs.Words as word
 use Rattle.starlark_grammar.specs.Tokens.{Comment, Indent, Dedent, Newline, Identifier, String, Word, Indentation, InvalidInput, InvalidTab}
-use Rattle.starlark_grammar.specs.Margins.{lines}
 use Rattle.starlark_grammar.proofs.Rows.Shapes.{all_definitions, at, Lexes, Stops}
 
 -- lines, margins and widths

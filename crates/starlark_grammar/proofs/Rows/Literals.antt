@@ -3,7 +3,6 @@ use Rattle.std.proofs.Common.{refl}
 use Rattle.std.specs.Prelude.{[], ◌∷◌, codes}
 use Rattle.starlark_grammar.specs.Words as word
 use Rattle.starlark_grammar.specs.Tokens.{Newline, Identifier, String, Bytes, Word, UnfinishedStringLiteral, InvalidEscapeSequence, EmptyEscapeSequence}
-use Rattle.starlark_grammar.specs.Items.{escape}
 use Rattle.starlark_grammar.proofs.Rows.Shapes.{all_definitions, at, utf8, Lexes, Stops}
 
 -- literals and their faults
