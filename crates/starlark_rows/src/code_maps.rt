@@ -2,7 +2,14 @@
 
 use crate::rows::{Answer, Row, given, shown, unknown};
 use starlark_syntax::codemap::{CodeMap, CodeMapId, Pos, Span};
-use std::alloc::Global;
+use std::alloc::{AllocError, Global};
+
+/// The code map of a file, by its name and its source.
+pub fn code_map(alloc: Global, name: &str, source: &str) -> Result<CodeMap, AllocError> {
+    let name = String::from_str(alloc, name)?;
+    let source = String::from_str(alloc, source)?;
+    given(CodeMap::new(alloc, CodeMapId::new(1), name, source))
+}
 
 /// The first and the last place of a span.
 fn bounds(span: Span) -> (u32, u32) {
@@ -55,9 +62,7 @@ fn of_span(alloc: Global, map: &CodeMap, row: &Row) -> Answer {
 
 /// The answer to a call of the code map of a source, which has the name `a`.
 pub fn answer(alloc: Global, row: &Row) -> Answer {
-    let name = String::from_str(alloc, "a")?;
-    let source = String::from_str(alloc, row.text(2))?;
-    let map = given(CodeMap::new(alloc, CodeMapId::new(1), name, source))?;
+    let map = code_map(alloc, "a", row.text(2))?;
     match row.text(1) {
         "full_span" => shown(alloc, &bounds(map.full_span())),
         "line_count" => shown(alloc, &map.line_count()),

@@ -1,8 +1,9 @@
 //! Errors with their places and calls, over the file `f` with the source `ab`.
 
+use crate::code_maps::code_map;
 use crate::rows::{Answer, Row, given, unknown};
 use starlark_syntax::call_stack::CallStack;
-use starlark_syntax::codemap::{CodeMap, CodeMapId, Pos, Span};
+use starlark_syntax::codemap::{CodeMap, Pos, Span};
 use starlark_syntax::diagnostic::WithDiagnostic;
 use starlark_syntax::error::{
     Error, ErrorKind, ParserMessage, error_from_diagnostic, error_from_lexeme,
@@ -26,12 +27,6 @@ fn shown_error(alloc: Global, error: &Error) -> Answer {
     };
     let calls = error.call_stack().frames().len();
     format!(in alloc; "{kind} {calls}|{error}|{error:?}|{error:#}")
-}
-
-fn code_map(alloc: Global) -> Result<CodeMap, AllocError> {
-    let name = String::from_str(alloc, "f")?;
-    let source = String::from_str(alloc, "ab")?;
-    given(CodeMap::new(alloc, CodeMapId::new(1), name, source))
 }
 
 fn first() -> Span {
@@ -183,7 +178,7 @@ fn of_exception(alloc: Global, map: &CodeMap, row: &Row) -> Answer {
 
 /// The answer to a call of an error.
 pub fn answer(alloc: Global, row: &Row) -> Answer {
-    let map = code_map(alloc)?;
+    let map = code_map(alloc, "f", "ab")?;
     match row.text(1) {
         "new_kind" => shown_error(alloc, &new_kind(alloc, row)?),
         "into_internal_error" => into_internal_error(alloc, row),

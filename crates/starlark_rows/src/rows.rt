@@ -14,11 +14,14 @@ pub struct Row {
 
 /// What a character stands for, behind a backslash or without one.
 fn meant(is_escaped: bool, character: char) -> char {
-    match (is_escaped, character) {
-        (true, 'n') => '\n',
-        (true, 'r') => '\r',
-        (true, 't') => '\t',
-        (_, character) => character,
+    if !is_escaped {
+        return character;
+    }
+    match character {
+        'n' => '\n',
+        'r' => '\r',
+        't' => '\t',
+        _ => character,
     }
 }
 

@@ -1,7 +1,8 @@
 //! Integers, identifiers, and the lexemes of a text as they print.
 
+use crate::code_maps::code_map;
 use crate::rows::{Answer, Row, both, given, shown, unknown};
-use starlark_syntax::codemap::{CodeMap, CodeMapId, OrMemory};
+use starlark_syntax::codemap::OrMemory;
 use starlark_syntax::dialect::Dialect;
 use starlark_syntax::lexer::{Lexeme, Lexer, TokenInt, lex_exactly_one_identifier};
 use std::alloc::{AllocError, Global};
@@ -52,9 +53,7 @@ fn add_lexeme(alloc: Global, list: &mut String, lexeme: &Lexeme) -> Result<(), A
 
 /// A lexer of a text, over a code map that has this source.
 fn lexer<'a>(alloc: Global, text: &'a str, source: &str) -> Result<Lexer<'a>, AllocError> {
-    let name = String::from_str(alloc, "f")?;
-    let source = String::from_str(alloc, source)?;
-    let map = given(CodeMap::new(alloc, CodeMapId::EMPTY, name, source))?;
+    let map = code_map(alloc, "f", source)?;
     given(Lexer::new(alloc, text, &Dialect::Standard, map))
 }
 
