@@ -1,8 +1,8 @@
 //! The tokens that a lexer tells apart.
 
-ghost use Rattle.std.specs.Prelude.{◌≡◌, IfOk};
+ghost use Rattle.std.specs.Prelude.{◌≡◌, IfOk, OnErr};
 ghost use Rattle.starlark_token.specs.TokenTexts.{kind_of, fixed_text};
-ghost use Rattle.starlark_token.specs.TokenViews.{token_view};
+ghost use Rattle.starlark_token.specs.TokenViews.{OwnsMemory, token_view};
 
 use crate::fstring_style::FStringQuote;
 use crate::token_int::TokenInt;
@@ -321,9 +321,10 @@ impl Token {
     }
 
     #[tactic(auto, unfolding(crate::specs::TokenViews::token_view))]
-    /// An equal token, its value in memory of its own.
+    /// An equal token, its value in memory of its own. A token without such a value takes none.
     pub fn clone(&self, alloc: Global) -> Result<Token, AllocError>
-        ensures { IfOk result (λ copy. token_view copy ≡ token_view self.now) }
+        ensures value { IfOk result (λ copy. token_view copy ≡ token_view self.now) }
+        ensures memory { OnErr result (OwnsMemory (token_view self.now)) }
     {
         match self {
             Token::Comment(text) => Ok(Token::Comment(String::from_str(alloc, text.as_str())?)),
