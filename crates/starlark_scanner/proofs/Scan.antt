@@ -5,5 +5,6 @@ pub mod Listed
 pub mod Marks
 pub mod Numbers
 pub mod ByFirst
+pub mod ShortMarks
 pub mod Openers
 pub mod FirstCharacter

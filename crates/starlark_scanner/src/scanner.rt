@@ -1,12 +1,13 @@
 //! Finds the longest word at the front of a text.
 
-ghost use Rattle.std.specs.Prelude.{◌≡◌, false, ◌≤◌, ◌==◌, ◌∷◌, Some, length, nat_eq, take, true};
+ghost use Rattle.std.specs.Prelude.{◌≡◌, false, ◌<◌, ◌≤◌, ◌==◌, ◌∷◌, IfSome, None, Some, length, nat_eq, take, true};
 ghost use Rattle.std.specs.List.{prefix_len, slice_get};
 ghost use Rattle.std.specs.Option.{option_map};
 ghost use Rattle.std.specs.Str.{IsCharBoundary};
 ghost use Rattle.starlark_grammar.specs.Front.{language_front};
 ghost use Rattle.starlark_grammar.specs.Characters.{first_character};
 ghost use Rattle.starlark_scanner.specs.Joints.Words.{begins_number, word_view};
+ghost use Rattle.starlark_grammar.specs.Pieces.{is_bang};
 ghost use Rattle.starlark_grammar.specs.Words as grammar;
 ghost use Rattle.starlark_grammar.specs.declared.class.Class.TheVariants as class;
 ghost use Rattle.starlark_grammar.specs.declared.class.LiteralKind.TheVariants as kind;
@@ -39,6 +40,7 @@ fn blanks_len(text: &[u8]) -> usize
 }
 
 /// The length of the run of tabs at the front of a text.
+#[inline(never)]
 fn tabs_len(text: &[u8]) -> usize
     ensures { result ≡ prefix_len (nat_eq 9) text.now }
 {
@@ -46,6 +48,7 @@ fn tabs_len(text: &[u8]) -> usize
 }
 
 /// The length of the front of a text that its first CR or LF ends.
+#[inline(never)]
 fn line_len(text: &[u8]) -> usize
     ensures { result ≡ prefix_len grammar.is_in_line text.now }
 {
@@ -96,15 +99,39 @@ fn quote_word(quote: Quote) -> Word
     }
 }
 
-/// The longest word at the front of a text, or `None` where no word stands there.
-pub fn first_word(text: &str) -> Option<Word>
+/// The length of the run of spaces at the front of a text.
+pub fn spaces_len(text: &str) -> usize
+    ensures word { 0 < result → language_front text.now ≡ Some (class.Skipped, result) }
+    ensures bang { 0 < result → is_bang text.now ≡ false }
+{
+    blanks_len(text.as_bytes())
+}
+
+/// The longest word at the front of a text, where its first byte or its first two tell which it is: a name, or a
+/// symbol of one byte. `None` where they don't.
+#[inline(always)]
+pub fn common_word(text: &str) -> Option<Word>
+    ensures word { IfSome result (λ word. Some (word_view word) ≡ language_front text.now) }
+    ensures bang { IfSome result (λ word. is_bang text.now ≡ false) }
+    ensures none { result ≡ None → grammar.begins grammar.is_name_start text.now ≡ false }
+{
+    let first = *text.as_bytes().first()?;
+    if names::is_name_start(first) {
+        return Some(names::name_from(text));
+    }
+    if marks::is_mark_alone(text.as_bytes()) {
+        return marks::longest_of_one(first);
+    }
+    None
+}
+
+/// The longest word at the front of a text that doesn't begin with a letter or `_`, or `None` where no word stands there.
+fn unnamed_word(text: &str) -> Option<Word>
+    requires { grammar.begins grammar.is_name_start text.now ≡ false }
     ensures { option_map word_view result ≡ language_front text.now }
 {
     let bytes = text.as_bytes();
     let first = *bytes.first()?;
-    if names::is_name_start(first) {
-        return Some(names::name_from(text));
-    }
     if begins_number(bytes) {
         return Some(numbers::number_from(bytes));
     }
@@ -115,6 +142,16 @@ pub fn first_word(text: &str) -> Option<Word>
         b'\'' => Some(quote_word(Quote::Single)),
         b'"' => Some(quote_word(Quote::Double)),
         _ => marks::mark_from(bytes),
+    }
+}
+
+/// The longest word at the front of a text, or `None` where no word stands there.
+pub fn first_word(text: &str) -> Option<Word>
+    ensures { option_map word_view result ≡ language_front text.now }
+{
+    match common_word(text) {
+        Some(word) => Some(word),
+        None => unnamed_word(text),
     }
 }
 

@@ -1,6 +1,6 @@
 -- The longest front of a text, by the text's first byte.
 use Rattle.std.proofs.Common.{◌≡◌, ◌≢◌, ℕ, suc, ◌+◌, ◌<◌, Bool, true, false, cond, not, ◌&&◌, ◌||◌, ◌==◌, nat_eq, [], ◌∷◌, ◌++◌, take, get_or, refl, ap, sym, subst, ◌∙◌, Option, unwrap_or, Some, None, arith}
-use Rattle.std.proofs.lemmas.Bool.{and_parts, not-true, ne_eqb}
+use Rattle.std.proofs.lemmas.Bool.{and_parts, eqb-true, not-true, ne_eqb}
 use Rattle.std.proofs.lemmas.Bool.Decides.{nat_tests}
 use Rattle.std.specs.Char.{is_ascii_digit, is_ascii_hexdigit}
 use Rattle.std.specs.List.{list_all, prefix_len, slice_get}
@@ -12,6 +12,7 @@ use Rattle.starlark_grammar.specs.declared.class.Class.{Class}
 use Rattle.starlark_grammar.specs.declared.class.Class.TheVariants.{Skipped, Comment, Tabs, Opener, Identifier}
 use Rattle.starlark_grammar.specs.declared.class.LiteralKind.TheVariants.{Text as OfText}
 use Rattle.starlark_grammar.specs.declared.class.Quote.TheVariants.{Single as SingleQuote, Double as DoubleQuote}
+use Rattle.starlark_grammar.specs.Pieces.{is_bang}
 use Rattle.starlark_grammar.specs.Front.{longer, longest_front, language_front}
 use Rattle.starlark_scanner.specs.Joints.Words.{begins_number, is_quote, marks}
 use Rattle.starlark_grammar.proofs.Words.Fronts.{front_single, front_run}
@@ -215,6 +216,31 @@ front_blank [] e = cc
 front_blank (b ∷ rest) e =
     let is_blank : b ≡ 32 = cc in
     rw (is_blank, front_run (nat_eq 32) (class_in language) (λ _. Skipped) 32 rest class_of_blank) (ap (λ n. Some (Skipped, n)) (omega arith))
+
+-- a run of spaces
+pub front_spaces : (text : Text) (len : ℕ) → len ≡ prefix_len (nat_eq 32) text → 0 < len → language_front text ≡ Some (Skipped, len)
+front_spaces [] len e some = absurd (omega (arith, e, some))
+front_spaces (b ∷ rest) len e some = go (nat_eq 32 b) refl
+  where
+    go : (blank : Bool) → nat_eq 32 b ≡ blank → language_front (b ∷ rest) ≡ Some (Skipped, len)
+    go true is = front_blank (b ∷ rest) (ap Some (sym (eqb-true 32 b is))) ∙ ap (λ n. Some (Skipped, n)) (sym e)
+    go false is =
+        let none : prefix_len (nat_eq 32) (b ∷ rest) ≡ 0 = rw is refl in
+        absurd (omega (arith, some, e, none))
+
+pub spaces_are_no_bang : (text : Text) (len : ℕ) → len ≡ prefix_len (nat_eq 32) text → 0 < len → is_bang text ≡ false
+spaces_are_no_bang [] len e some = refl
+spaces_are_no_bang (b ∷ rest) len e some = go (nat_eq 32 b) refl
+  where
+    blank : (rest : Text) → is_bang (32 ∷ rest) ≡ false
+    blank [] = refl
+    blank (c ∷ rest) = refl
+
+    go : (is : Bool) → nat_eq 32 b ≡ is → is_bang (b ∷ rest) ≡ false
+    go true is = subst (λ (x : ℕ). is_bang (x ∷ rest) ≡ false) (eqb-true 32 b is) (blank rest)
+    go false is =
+        let none : prefix_len (nat_eq 32) (b ∷ rest) ≡ 0 = rw is refl in
+        absurd (omega (arith, some, e, none))
 
 pub front_tab : (text : Text) → slice_get text 0 ≡ Some 9 → language_front text ≡ Some (Tabs, prefix_len (nat_eq 9) text)
 unfolding language_front

@@ -3,13 +3,56 @@
 ghost use Rattle.std.specs.Prelude.{◌≡◌, ◌∷◌, []};
 ghost use Rattle.std.specs.Option.{option_map};
 ghost use Rattle.starlark_grammar.specs.Front.{longest_front};
-ghost use Rattle.starlark_scanner.specs.Joints.Words.{marks, word_view};
+ghost use Rattle.starlark_scanner.specs.Joints.Words.{goes_on, is_lone_mark, is_mark_alone, is_symbol, marks, word_view};
 ghost use Rattle.starlark_grammar.specs.Words.{class_in};
 
 use super::{Class, Terminal, Word};
 
+/// Whether a byte is a mark with which no longer mark begins.
+#[inline(always)]
+fn is_lone_mark(byte: u8) -> bool
+    ensures { result ≡ is_lone_mark byte }
+{
+    matches!(
+        byte,
+        b'\n' | b',' | b';' | b':' | b'~' | b'[' | b'{' | b'(' | b']' | b'}' | b')'
+    )
+}
+
+/// Whether a byte is a symbol, with which longer ones may begin.
+#[inline(always)]
+fn is_symbol(byte: u8) -> bool
+    ensures { result ≡ is_symbol byte }
+{
+    matches!(
+        byte,
+        b'=' | b'.' | b'<' | b'>' | b'-' | b'+' | b'*' | b'%' | b'/' | b'&' | b'|' | b'^'
+    )
+}
+
+/// Whether a symbol goes on with a byte, or a number.
+#[inline(always)]
+fn goes_on(byte: u8) -> bool
+    ensures { result ≡ goes_on byte }
+{
+    matches!(byte, b'=' | b'*' | b'/' | b'<' | b'>' | b'.' | b'0'..=b'9')
+}
+
+/// Whether the first byte of a text is a mark, which the byte behind it makes no longer.
+#[inline(always)]
+pub fn is_mark_alone(text: &[u8]) -> bool
+    ensures { result ≡ is_mark_alone text.now }
+{
+    match text {
+        [] => false,
+        [first] => is_lone_mark(*first),
+        [first, next, ..] => is_lone_mark(*first) || is_symbol(*first) && !goes_on(*next),
+    }
+}
+
 #[tactic(auto, unfolding(starlark_grammar::specs::Words::class_in, starlark_grammar::specs::Words::line_ends, starlark_grammar::specs::Words::symbols))]
 /// The class of a mark of one byte.
+#[inline(always)]
 fn single(byte: u8) -> Option<Class>
     ensures { result ≡ class_in marks (byte ∷ []) }
 {
@@ -86,7 +129,8 @@ fn triple(first: u8, second: u8, third: u8) -> Option<Class>
 }
 
 /// The mark of one byte, as a word.
-fn longest_of_one(first: u8) -> Option<Word>
+#[inline(always)]
+pub fn longest_of_one(first: u8) -> Option<Word>
     ensures { option_map word_view result ≡ longest_front (class_in marks) (first ∷ []) }
 {
     match single(first) {
@@ -116,6 +160,7 @@ fn longest_of_three(first: u8, second: u8, third: u8) -> Option<Word>
 }
 
 /// The longest mark at the front of a text, or `None` where no mark stands there.
+#[inline(never)]
 pub fn mark_from(text: &[u8]) -> Option<Word>
     ensures { option_map word_view result ≡ longest_front (class_in marks) text.now }
 {

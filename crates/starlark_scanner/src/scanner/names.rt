@@ -1,12 +1,12 @@
 //! Words that begin with a letter or `_`: keywords, reserved words, identifiers, and openers that have a prefix.
 
-ghost use Rattle.std.specs.Prelude.{◌≡◌, ◌≤◌, ◌<◌, ◌+◌, IfSome, get_or, Some, length, take, true, unwrap_or};
+ghost use Rattle.std.specs.Prelude.{◌≡◌, ◌∷◌, [], ◌≤◌, ◌<◌, ◌+◌, IfSome, get_or, Some, length, take, true, unwrap_or};
 ghost use Rattle.std.specs.List.{prefix_len};
 ghost use Rattle.std.specs.Map.{lookup};
 ghost use Rattle.std.specs.Option.{option_map};
 ghost use Rattle.std.specs.Str.{bytes_eq};
 ghost use Rattle.starlark_grammar.specs.Front.{language_front};
-ghost use Rattle.starlark_scanner.specs.Joints.Words.{is_quote, word_view};
+ghost use Rattle.starlark_scanner.specs.Joints.Words.{is_quote, may_be_listed, word_view};
 ghost use Rattle.starlark_grammar.specs.Words as grammar;
 ghost use Rattle.starlark_grammar.specs.declared.class.Class.TheVariants as class;
 
@@ -23,20 +23,77 @@ pub fn is_name_start(byte: u8) -> bool
     byte.is_ascii_alphabetic() || byte == b'_'
 }
 
+// An `x` stands at each byte that a name may have.
+static IN_NAME: [u8; 256] = *b"\
+    --------------------------------\
+    ----------------xxxxxxxxxx------\
+    -xxxxxxxxxxxxxxxxxxxxxxxxxx----x\
+    -xxxxxxxxxxxxxxxxxxxxxxxxxx-----\
+    --------------------------------\
+    --------------------------------\
+    --------------------------------\
+    --------------------------------";
+
+/// Whether a byte is a letter, `_` or a digit.
+#[inline(always)]
+fn is_in_name(byte: u8) -> bool
+    ensures { result ≡ grammar.is_in_name byte }
+{
+    IN_NAME[byte as usize] == b'x'
+}
+
 /// The length of the run of letters, digits and `_` at the front of a text.
 fn name_len(text: &[u8]) -> usize
     ensures value { result ≡ prefix_len grammar.is_in_name text.now }
     ensures within { result ≤ length text.now }
 {
-    text.iter()
-        .take_while(|byte| is_name_start(**byte) || byte.is_ascii_digit())
-        .count()
+    text.iter().take_while(|byte| is_in_name(**byte)).count()
 }
 
-/// The class of a name.
+/// Whether a keyword or a reserved word begins with two bytes.
+#[inline(always)]
+fn begin_listed_name(first: u8, second: u8) -> bool
+    ensures { result ≡ may_be_listed (first ∷ second ∷ []) }
+{
+    matches!(
+        (first, second),
+        (b'a', b'n' | b's' | b'w')
+            | (b'b', b'r')
+            | (b'c', b'o' | b'l')
+            | (b'd', b'e')
+            | (b'e', b'l' | b'x')
+            | (b'f', b'o' | b'i' | b'r')
+            | (b'g', b'l')
+            | (b'i', b'f' | b'n' | b'm' | b's')
+            | (b'l', b'a' | b'o')
+            | (b'n', b'o')
+            | (b'o', b'r')
+            | (b'p', b'a')
+            | (b'r', b'e' | b'a')
+            | (b't', b'r')
+            | (b'w', b'h' | b'i')
+            | (b'y', b'i')
+    )
+}
+
+/// Whether a name may be a keyword or a reserved word, by its first two bytes.
+#[inline(always)]
+fn may_be_listed(name: &[u8]) -> bool
+    ensures { result ≡ may_be_listed name.now }
+{
+    match name {
+        [first, second, ..] => begin_listed_name(*first, *second),
+        _ => false,
+    }
+}
+
+/// The class of a name. Most names are told by their first two bytes.
 fn name_class(name: &str) -> Class
     ensures { result ≡ unwrap_or (lookup (bytes_eq name.now) grammar.names) class.Identifier }
 {
+    if !may_be_listed(name.as_bytes()) {
+        return Class::Identifier;
+    }
     match name {
         "and" => Class::Fixed(Terminal::And),
         "break" => Class::Fixed(Terminal::Break),
@@ -102,6 +159,8 @@ fn prefixed_opener(text: &str, len: usize) -> Option<Class>
 }
 
 /// The longest word at the front of a text that begins with a letter or `_`.
+#[inline(always)]
+#[inline(always)]
 pub fn name_from(text: &str) -> Word
     requires { grammar.begins grammar.is_name_start text.now ≡ true }
     ensures { Some (word_view result) ≡ language_front text.now }

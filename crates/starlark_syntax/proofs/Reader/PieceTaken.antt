@@ -1,6 +1,6 @@
 -- What a reader makes of the piece that stands where it is.
-use Rattle.std.proofs.Common.{◌≡◌, ℕ, ◌+◌, ◌≤◌, Bool, true, false, List, [], length, drop, refl, sym, ap, ◌∙◌, subst, arith, append-nil, None}
-use Rattle.std.specs.Prelude.{Option}
+use Rattle.std.proofs.Common.{◌≡◌, ℕ, ◌+◌, ◌≤◌, Bool, true, false, List, [], length, drop, refl, sym, ap, ◌∙◌, subst, arith, append-nil, None, Some}
+use Rattle.std.specs.Prelude.{IfSome, Option}
 use Rattle.std.specs.Str.{IsUtf8}
 use Rattle.starlark_grammar.specs.Words.{Text, language}
 use Rattle.starlark_grammar.specs.Tokens.{Fault, Spanned}
@@ -12,6 +12,8 @@ use Rattle.starlark_grammar.specs.Reading.{History, next_step, situation}
 use Rattle.starlark_syntax.specs.Joints.Nesting.{Represents, mode_view}
 use Rattle.starlark_syntax.specs.Joints.Pending.{IsIdle}
 use Rattle.starlark_token.specs.declared.tokens.Token.{Token}
+use Rattle.starlark_syntax.specs.Joints.Steps.{IsStep}
+use Rattle.starlark_syntax.specs.declared.lexer.literal.pieces.Step.{Step}
 use Rattle.starlark_syntax.specs.Joints.Pieces.{IsBehind, IsPiece, nothing_of}
 use Rattle.starlark_syntax.specs.Joints.Reader.{IsAhead, IsAheadBehind, IsStateAfter, IsRead, left_here, step_here}
 use Rattle.starlark_token.specs.TokenViews.{TokenView}
@@ -32,6 +34,26 @@ pub piece_read : (text : Text) (history : History) (reader : Reader) (place : Pl
 unfolding next_step situation
 piece_read text history reader place balanced rest piece e kept here count is =
     subst (λ (t : Text). IsPiece (open_widths history.widths) t (step_at language (situation history) t) piece) e (is (situation history) (sym (here history.tokens kept.nesting)) (sym (count history.tokens kept.nesting)) kept.before)
+
+-- the same of a gap, and of a token or a fault
+pub gap_read : (text : Text) (history : History) (reader : Reader) (place : Place) (rest : Text) (len : ℕ) → rest ≡ drop reader.at text → IsStateAfter text history reader
+    → ((tokens : List Rattle.starlark_grammar.specs.Tokens.Token) → Represents tokens reader.nesting → mode_view place ≡ mode_after tokens)
+    → ((s : Situation) (follows_gap : Bool) → s.place ≡ mode_view place → IsBehind follows_gap s.before → step_at language s rest ≡ pieces.gap len)
+    → step_here text history reader ≡ pieces.gap len
+unfolding next_step situation
+gap_read text history reader place rest len e kept here is =
+    subst (λ (t : Text). step_at language (situation history) t ≡ pieces.gap len) e (is (situation history) reader.follows_gap (sym (here history.tokens kept.nesting)) kept.before)
+
+pub step_read : (text : Text) (history : History) (reader : Reader) (place : Place) (rest : Text) (found : Option Step) (step : Step) → rest ≡ drop reader.at text → IsStateAfter text history reader
+    → ((tokens : List Rattle.starlark_grammar.specs.Tokens.Token) → Represents tokens reader.nesting → mode_view place ≡ mode_after tokens)
+    → IfSome found (λ step. (s : Situation) (follows_gap : Bool) → s.place ≡ mode_view place → IsBehind follows_gap s.before → IsStep (step_at language s rest) step)
+    → found ≡ Some step
+    → IsStep (step_here text history reader) step
+unfolding next_step situation
+step_read text history reader place rest None step e kept here is some = cc
+step_read text history reader place rest (Some found) step e kept here is some =
+    let same : found ≡ step = cc in
+    subst (λ (t : Text). IsStep (step_at language (situation history) t) step) e (subst (λ (x : Step). IsStep (step_at language (situation history) rest) x) same (is (situation history) reader.follows_gap (sym (here history.tokens kept.nesting)) kept.before))
 
 -- what is ahead stays ahead where what stands here is read, behind whichever history it is
 pub onward_ahead : (text : Text) (old : Reader) (given : Option (ℕ × Token × ℕ)) (new : Reader) (lexemes : List (Spanned TokenView)) (fault : Option (Spanned Fault)) → ((history : History) → IsStateAfter text history old → IsRead text (left_here text history old) given new)

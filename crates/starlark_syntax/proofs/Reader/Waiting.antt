@@ -37,6 +37,11 @@ unfolding pending_lexemes
 behind_first text old new None is none h = (rw (no_lines_between text old.from old.to none) h.0, rw h.1 refl)
 behind_first text old new (Some found) is none h = (is, rw (no_lines_between text old.from old.to none) h)
 
+-- nothing is left where no comments are and nothing stands behind them
+pub nothing_left : (text : Text) (pending : Pending) → pending.to ≤ pending.from → behind_lexemes pending.behind ≡ [] → pending_lexemes text pending ≡ []
+unfolding pending_lexemes
+nothing_left text pending none empty = rw (no_lines_between text pending.from pending.to none, empty) refl
+
 -- what is so after each error
 pub after_error : {A E : Type 0} (result : Result A E) (P : Type 0) → P → OnErr result P
 after_error (Ok x) P p = tt

@@ -1,6 +1,7 @@
 -- The pieces of the code, as the grammar sees them.
 use Rattle.std.specs.Prelude.{◌≡◌, ℕ, Bool, true, false, List, [], drop}
 use Rattle.std.specs.Str.{IsCharBoundary}
+use Rattle.starlark_grammar.specs.Depths.{Mode, InText}
 use Rattle.starlark_grammar.specs.Words.{Text}
 use Rattle.starlark_grammar.specs.Tokens as tokens
 use Rattle.starlark_grammar.specs.Pieces as grammar
@@ -28,3 +29,8 @@ IsBehind follows_gap grammar.Nothing = ⊥
 IsBehind follows_gap grammar.Layout = follows_gap ≡ false
 IsBehind follows_gap grammar.Gap = follows_gap ≡ true
 IsBehind follows_gap grammar.Other = follows_gap ≡ false
+
+-- a place of code: no text of an f-string
+abbrev pub is_code : Mode → Bool
+is_code (InText opening) = false
+is_code place = true

@@ -90,15 +90,13 @@ impl<'a> Lexer<'a> {
         })
     }
 
-    /// The next lexeme; `None` behind the last, and behind any error. The first error, want of memory too, ends the lexer.
-    pub fn next(&mut self) -> Option<Lexeme>
-        ensures ended { self.old.has_ended ≡ true → AnswersNext self.old.code_map None result }
-        ensures item { self.old.has_ended ≡ false → AnswersNext self.old.code_map (slice_get (items self.old.text) self.old.handed_out) result }
-        ensures after { self.new ≡ record self.old { handed_out = self.old.handed_out + handed_out_by result; has_ended = self.old.has_ended || is_ended_by result } }
+    /// The next lexeme of a lexer that no error has ended, whichever it is.
+    #[inline(never)]
+    fn next_of_all(&mut self) -> Option<Lexeme>
+        requires { self.old.has_ended ≡ false }
+        ensures item { AnswersNext self.old.code_map (slice_get (items self.old.text) self.old.handed_out) result }
+        ensures after { self.new ≡ record self.old { handed_out = self.old.handed_out + handed_out_by result; has_ended = is_ended_by result } }
     {
-        if self.has_ended {
-            return None;
-        }
         match self.reader.next(self.text) {
             Ok(Next::Lexeme(lexeme)) => {
                 self.handed_out += 1;
@@ -115,6 +113,28 @@ impl<'a> Lexer<'a> {
                 }
             }
             Ok(Next::Nothing) => None,
+            Err(_) => {
+                self.has_ended = true;
+                Some(Err(OrMemory::Memory))
+            }
+        }
+    }
+
+    /// The next lexeme; `None` behind the last, and behind any error. The first error, want of memory too, ends the lexer.
+    pub fn next(&mut self) -> Option<Lexeme>
+        ensures ended { self.old.has_ended ≡ true → AnswersNext self.old.code_map None result }
+        ensures item { self.old.has_ended ≡ false → AnswersNext self.old.code_map (slice_get (items self.old.text) self.old.handed_out) result }
+        ensures after { self.new ≡ record self.old { handed_out = self.old.handed_out + handed_out_by result; has_ended = self.old.has_ended || is_ended_by result } }
+    {
+        if self.has_ended {
+            return None;
+        }
+        match self.reader.next_common(self.text) {
+            Ok(Some(lexeme)) => {
+                self.handed_out += 1;
+                Some(Ok(lexeme))
+            }
+            Ok(None) => self.next_of_all(),
             Err(_) => {
                 self.has_ended = true;
                 Some(Err(OrMemory::Memory))

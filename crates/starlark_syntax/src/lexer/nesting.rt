@@ -47,6 +47,7 @@ impl Nesting {
     }
 
     /// Where the place is.
+    #[inline(always)]
     pub fn place(&self) -> Place
         ensures { (tokens : List grammar.Token) → Represents tokens self.now → mode_view result ≡ mode_after tokens }
     {
@@ -64,6 +65,7 @@ impl Nesting {
     }
 
     /// Goes on behind a token that begins no f-string.
+    #[inline(always)]
     pub fn pass(&mut self, token: &Token)
         requires room { bracket_count self.old + 1 < 2 ^ 64 }
         ensures passes { (tokens : List grammar.Token) (node : grammar.Token) → token_view token.now ≡ Whole node → is_fstring_start node ≡ false →

@@ -1,22 +1,27 @@
 //! Reads a text piece by piece, and keeps what later pieces depend on.
 
-ghost use Rattle.std.specs.Prelude.{◌≡◌, ◌<◌, ◌≤◌, ◌+◌, ◌^◌, [], ℕ, None, Some, List, Option, drop, length, map, OnErr, OnOk, IfOk};
+ghost use Rattle.std.specs.Prelude.{◌≡◌, true, ◌<◌, ◌≤◌, ◌+◌, ◌^◌, [], ℕ, None, Some, List, Option, drop, length, map, OnErr, OnOk, IfOk};
 ghost use Rattle.std.specs.Str.{IsCharBoundary};
 ghost use Rattle.starlark_syntax.specs.Joints.Steps.{IsStep};
 ghost use Rattle.starlark_syntax.specs.Lexemes.{shown_lexeme};
 ghost use Rattle.starlark_scanner.specs.Joints.Literals.{opening_view};
 ghost use Rattle.starlark_grammar.specs.Margins.{open_widths};
 ghost use Rattle.starlark_grammar.specs.Pieces as grammar;
-ghost use Rattle.starlark_syntax.specs.Joints.Pending.{IsIdle};
+ghost use Rattle.starlark_syntax.specs.Joints.Pending.{IsIdle, IsPending};
 ghost use Rattle.starlark_syntax.specs.Joints.Reader.{IsAhead, IsAheadBehind, IsStateAfter, IsNext, IsOver, IsRead, IsReady, IsSomething, left_here, left_to_read, step_here};
 ghost use Rattle.starlark_grammar.specs.Reading.{History, outcome};
 ghost use Rattle.starlark_token.specs.TokenViews.{TokenView};
+ghost use Rattle.starlark_grammar.specs.Depths.{mode_after};
 ghost use Rattle.starlark_grammar.specs.Tokens.{FStringStart, Fault, Spanned};
+ghost use Rattle.starlark_grammar.specs.Tokens as tokens;
+ghost use Rattle.starlark_syntax.specs.Joints.Nesting.{Represents, mode_view};
+ghost use Rattle.starlark_syntax.specs.Joints.Pieces.{is_code};
 ghost use Rattle.starlark_grammar.specs.Words.{Text};
 
 use crate::lexer::layout::{Behind, Laid, Levels, Pending, PlacedToken, first_margin, line_end};
 use crate::lexer::literal::{Opening, Step, TextEnd, quotes_of};
-use crate::lexer::nesting::Nesting;
+use crate::lexer::nesting::{Nesting, Place};
+use crate::lexer::reading::common::{common_step, gap_len, is_code};
 use crate::lexer::reading::{Piece, piece_at};
 use starlark_error::lexeme_error::LexemeError;
 use starlark_token::tokens::Token;
@@ -91,6 +96,7 @@ impl Reader {
     }
 
     /// Goes on behind so many bytes.
+    #[inline(always)]
     fn step_over(&mut self, len: usize, is_gap: bool)
         requires { self.old.at + len < 2 ^ 64 }
         ensures { self.new ≡ record self.old { at = self.old.at + len; follows_gap = is_gap; stage = Stage.Onward } }
@@ -179,6 +185,7 @@ impl Reader {
     }
 
     /// Takes a token that was read here.
+    #[inline(always)]
     fn take_token(&mut self, token: Token, len: usize, text: &str) -> PlacedToken
         requires fits { length text.now < 2 ^ 32 }
         requires stands { (history : History) × IsStateAfter text.now history self.old × IsStep (step_here text.now history self.old) (Step.Token token len) }
@@ -226,6 +233,7 @@ impl Reader {
     }
 
     /// Takes a token or a fault that was read here.
+    #[inline(always)]
     fn take(&mut self, step: Step, text: &str) -> Option<PlacedToken>
         requires fits { length text.now < 2 ^ 32 }
         requires stands { (history : History) × IsStateAfter text.now history self.old × IsStep (step_here text.now history self.old) step }
@@ -294,6 +302,67 @@ impl Reader {
             Stage::Fault { begin, fault, end } => Next::Fault { begin, fault, end },
             _ => Next::Nothing,
         }
+    }
+
+    /// Whether the text is to be read on, and nothing else is to be handed out before.
+    #[inline(always)]
+    fn reads_on(&self) -> bool
+        ensures stage { result ≡ true → self.now.stage ≡ Stage.Onward }
+        ensures idle { result ≡ true → (text : Text) → IsPending text self.now.pending → IsIdle text self.now.pending }
+    {
+        matches!(self.stage, Stage::Onward) && self.pending.is_nothing()
+    }
+
+    /// Passes the spaces here, at a place of code.
+    #[inline(always)]
+    fn pass_spaces(&mut self, place: Place, text: &str)
+        requires fits { length text.now < 2 ^ 32 }
+        requires code { is_code (mode_view place) ≡ true }
+        requires here { (before : List tokens.Token) → Represents before self.old.nesting → mode_view place ≡ mode_after before }
+        requires stage { self.old.stage ≡ Stage.Onward }
+        requires ready { IsReady text.now self.old Stage.Onward }
+        requires idle { IsIdle text.now self.old.pending }
+        ensures ahead { (lexemes : List (Spanned TokenView)) (fault : Option (Spanned Fault)) → IsAhead text.now self.old Stage.Onward lexemes fault → IsAhead text.now self.new Stage.Onward lexemes fault }
+        ensures same { (self.new.nesting ≡ self.old.nesting) × (self.new.pending ≡ self.old.pending) × (self.new.stage ≡ Stage.Onward) }
+    {
+        let len = gap_len(place, &text[self.at..]);
+        if len > 0 {
+            self.step_over(len, true);
+        }
+    }
+
+    /// Takes the token here, at a place of code, where its first two bytes tell which it is.
+    #[inline(always)]
+    fn take_common(&mut self, place: Place, text: &str) -> Result<Option<PlacedToken>, AllocError>
+        requires fits { length text.now < 2 ^ 32 }
+        requires code { is_code (mode_view place) ≡ true }
+        requires here { (before : List tokens.Token) → Represents before self.old.nesting → mode_view place ≡ mode_after before }
+        requires stage { self.old.stage ≡ Stage.Onward }
+        requires ready { IsReady text.now self.old Stage.Onward }
+        requires idle { IsIdle text.now self.old.pending }
+        ensures ahead { IfOk result (λ given. (lexemes : List (Spanned TokenView)) (fault : Option (Spanned Fault)) → IsAhead text.now self.old Stage.Onward lexemes fault → IsAheadBehind text.now given self.new lexemes fault) }
+    {
+        match common_step(self.alloc, place, &text[self.at..])? {
+            Some(step) => Ok(self.take(step, text)),
+            None => Ok(None),
+        }
+    }
+
+    /// The lexeme that comes next, where it is a name, a keyword, or a symbol that its first two bytes tell; the spaces
+    /// before it are passed. `None` where something else comes. After an error the reader isn't to be asked again.
+    #[inline(always)]
+    pub fn next_common(&mut self, text: &str) -> Result<Option<PlacedToken>, AllocError>
+        requires fits { length text.now < 2 ^ 32 }
+        requires ready { IsReady text.now self.old self.old.stage }
+        ensures ahead { IfOk result (λ given. (lexemes : List (Spanned TokenView)) (fault : Option (Spanned Fault)) → IsAhead text.now self.old self.old.stage lexemes fault → IsAheadBehind text.now given self.new lexemes fault) }
+        ensures memory { OnErr result ((lexemes : List (Spanned TokenView)) (fault : Option (Spanned Fault)) → IsAhead text.now self.old self.old.stage lexemes fault → IsSomething lexemes fault) }
+    {
+        let place = self.nesting.place();
+        if !self.reads_on() || !is_code(place) {
+            return Ok(None);
+        }
+        self.pass_spaces(place, text);
+        self.take_common(place, text)
     }
 
     /// What comes next of the text: a lexeme, its fault behind them, or nothing. After an error the reader isn't to be

@@ -15,6 +15,7 @@ ghost use Rattle.starlark_grammar.specs.declared.class.Class.TheVariants as clas
 ghost use Rattle.starlark_grammar.specs.declared.class.LiteralKind.TheVariants as kind;
 ghost use Rattle.starlark_grammar.specs.Words.{class_in, language};
 
+pub mod common;
 mod terminals;
 mod words;
 

@@ -1,6 +1,6 @@
 //! Lexemes that were read, and are made when they are asked for.
 
-ghost use Rattle.std.specs.Prelude.{◌≡◌, [], OnErr, IfOk};
+ghost use Rattle.std.specs.Prelude.{◌≡◌, [], true, OnErr, IfOk};
 ghost use Rattle.starlark_syntax.specs.Joints.Pending.{IsFirst, IsFirstBehind, IsPending, behind_lexemes, pending_lexemes};
 ghost use Rattle.starlark_grammar.specs.Words.{Text};
 
@@ -85,6 +85,17 @@ impl Pending {
             from: 0,
             to: 0,
             behind,
+        }
+    }
+
+    /// Whether nothing is to be handed out.
+    #[inline(always)]
+    pub fn is_nothing(&self) -> bool
+        ensures { result ≡ true → (text : Text) → pending_lexemes text self.now ≡ [] }
+    {
+        match self.behind {
+            Behind::Dedents { count, .. } if count == 0 => self.from >= self.to,
+            _ => false,
         }
     }
 

@@ -49,6 +49,7 @@ pub fn reserved(alloc: Global, word: &str) -> Result<Step, AllocError>
 }
 
 /// An identifier, with its name.
+#[inline(always)]
 pub fn identifier(alloc: Global, word: &str) -> Result<Step, AllocError>
     ensures { IfOk result (IsStep (grammar.token (length word.now) (tokens.Identifier word.now))) }
 {

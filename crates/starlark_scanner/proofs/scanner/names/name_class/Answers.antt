@@ -1,8 +1,15 @@
 -- Each arm's word is looked up by computing; the last arm's is no word of the list.
-use Rattle.std.proofs.Common.{sym, ap}
+use Rattle.std.proofs.Common.{sym, ap, refl, ◌∙◌}
 use Rattle.starlark_grammar.specs.Words.{names}
-use Rattle.starlark_scanner.proofs.Scan.Listed.{class_of_name, no_listed_name}
+use Rattle.starlark_scanner.specs.Joints.Words.{may_be_listed}
+use Rattle.starlark_scanner.proofs.Scan.Listed.{class_of_name, lookup_fails, no_listed_name}
 use Rattle.starlark_scanner.proofs.scanner.names.name_class.Goals as goal
+
+pub returns-then-not-may_be_listed : goal.returns-then-not-may_be_listed
+unfolding names
+returns-then-not-may_be_listed c =
+    let same = ap may_be_listed c.as_bytes.ensures.value in
+    rw (lookup_fails may_be_listed c.args.name.now names refl (sym same ∙ sym c.if-not-may_be_listed.ensures)) refl
 
 pub returns-in-and : goal.returns-in-and
 unfolding names

@@ -1,12 +1,16 @@
 -- The first byte decides which words may stand there.
-use Rattle.std.proofs.Common.{◌≡◌, ◌<◌, false, refl, sym, ap, ◌∙◌, arith, Some, None}
+use Rattle.std.proofs.Common.{ℕ, [], ◌∷◌, ◌≡◌, ◌<◌, false, refl, sym, ap, ◌∙◌, arith, Some, None}
 use Rattle.std.proofs.lemmas.Option.{get_or_from_slice_get}
 use Rattle.std.specs.List.{slice_get}
-use Rattle.starlark_grammar.specs.Words.{class_in}
+use Rattle.starlark_grammar.specs.Words.{Text, begins, class_in, is_name_start}
 use Rattle.starlark_grammar.specs.Front.{longest_front}
 use Rattle.starlark_scanner.specs.Joints.Words.{begins_number, marks}
 use Rattle.starlark_scanner.proofs.Scan.ByFirst.{front_empty, front_blank, front_tab, front_hash, front_single_quote, front_double_quote, front_mark}
-use Rattle.starlark_scanner.proofs.scanner.first_word.Goals as goal
+use Rattle.starlark_scanner.proofs.scanner.unnamed_word.Goals as goal
+
+no_name : (text : Text) (b : ℕ) → slice_get text 0 ≡ Some b → begins is_name_start text ≡ false → is_name_start b ≡ false
+no_name [] b e h = cc
+no_name (x ∷ rest) b e h = let same : x ≡ b = cc in rw (← same) h
 
 pub returns-in_err-first : goal.returns-in_err-first
 returns-in_err-first c =
@@ -58,4 +62,4 @@ returns-in_default c =
     let number : begins_number c.args.text.now ≡ false = sym (ap begins_number c.as_bytes-bytes.ensures.value) ∙ sym c.if-begins_number.ensures in
     c.mark_from.ensures
     ∙ ap (longest_front (class_in marks)) c.as_bytes-bytes.ensures.value
-    ∙ sym (front_mark c.args.text.now b first small (omega arith) (omega arith) (omega arith) (omega arith) (omega arith) (sym c.if-is_name_start.ensures) number)
+    ∙ sym (front_mark c.args.text.now b first small (omega arith) (omega arith) (omega arith) (omega arith) (omega arith) (no_name c.args.text.now b first c.requires) number)

@@ -1,0 +1,141 @@
+-- Marks of one byte that the byte behind them makes no longer.
+use Rattle.std.proofs.Common.{◌≡◌, ◌≢◌, ℕ, ◌<◌, Bool, true, false, not, ◌&&◌, ◌||◌, ◌==◌, [], ◌∷◌, get_or, refl, sym, subst, ap, ◌∙◌, Option, None, Some}
+use Rattle.std.proofs.lemmas.Bool.{agree_below, and_parts, both_ways, not-true, eq-eqb}
+use Rattle.std.specs.Char.{is_ascii_digit}
+use Rattle.std.specs.List.{slice_get}
+use Rattle.std.specs.Option.{option_map}
+use Rattle.std.specs.Prelude.{IfSome}
+use Rattle.starlark_grammar.specs.Front.{longest_front, language_front}
+use Rattle.starlark_grammar.specs.Pieces.{is_bang}
+use Rattle.starlark_grammar.specs.Words.{Text, class_in, is_name_start, line_ends, symbols}
+use Rattle.starlark_grammar.proofs.Words.Fronts.{front_none}
+use Rattle.starlark_scanner.specs.Joints.Words.{begins_number, goes_on, is_lone_mark, is_mark_alone, is_symbol, marks, word_view}
+use Rattle.starlark_scanner.specs.declared.scanner.word.Word.{Word}
+use Rattle.starlark_grammar.specs.declared.class.Class.{Class}
+use Rattle.starlark_scanner.proofs.Scan.ByFirst.{front_mark}
+use Rattle.starlark_scanner.proofs.Scan.Listed.{all_pass, lookup_fails, each_byte, implied}
+use Rattle.starlark_scanner.proofs.Scan.Marks.{front_one, mark_is, mark_of}
+
+-- a byte that such a mark may be
+abbrev is_one : ℕ → Bool
+is_one b = is_lone_mark b || is_symbol b
+
+one_passes : (test : ℕ → Bool) (b : ℕ) → agree_below (λ b. not (is_one b) || test b) (λ _. true) 256 ≡ true → b < 256 → is_one b ≡ true → test b ≡ true
+one_passes test b all small h = implied _ _ (each_byte (λ b. not (is_one b) || test b) b all small) h
+
+lone_passes : (test : ℕ → Bool) (b : ℕ) → agree_below (λ b. not (is_lone_mark b) || test b) (λ _. true) 256 ≡ true → b < 256 → is_lone_mark b ≡ true → test b ≡ true
+lone_passes test b all small h = implied _ _ (each_byte (λ b. not (is_lone_mark b) || test b) b all small) h
+
+one_is_not : (b k : ℕ) → is_one b ≡ true → is_one k ≡ false → b ≢ k
+one_is_not b k h other e = both_ways _ other (ap is_one (sym e) ∙ h)
+
+lone_is_one : (b : ℕ) → is_lone_mark b ≡ true → is_one b ≡ true
+lone_is_one b h = rw h refl
+
+or_true : (x : Bool) → (x || true) ≡ true
+or_true true = refl
+or_true false = refl
+
+symbol_is_one : (b : ℕ) → is_symbol b ≡ true → is_one b ≡ true
+symbol_is_one b h = rw h (or_true (is_lone_mark b))
+
+no_name : (b : ℕ) → b < 256 → is_one b ≡ true → is_name_start b ≡ false
+no_name b small h = not-true _ (one_passes (λ b. not (is_name_start b)) b refl small h)
+
+no_digit : (b : ℕ) → b < 256 → is_one b ≡ true → is_ascii_digit b ≡ false
+no_digit b small h = not-true _ (one_passes (λ b. not (is_ascii_digit b)) b refl small h)
+
+one_is_no_bang : (b : ℕ) (rest : Text) → b < 256 → is_one b ≡ true → is_bang (b ∷ rest) ≡ false
+one_is_no_bang b rest small h = go rest (not-true _ (one_passes (λ b. not (b == 33)) b refl small h))
+  where
+    go : (rest : Text) → (b == 33) ≡ false → is_bang (b ∷ rest) ≡ false
+    go [] other = other
+    go (c ∷ rest) other = rw other refl
+
+name_is_no_bang : (b : ℕ) (rest : Text) → b < 256 → is_name_start b ≡ true → is_bang (b ∷ rest) ≡ false
+name_is_no_bang b rest small h = go rest (not-true _ (implied _ _ (each_byte (λ b. not (is_name_start b) || not (b == 33)) b refl small) h))
+  where
+    go : (rest : Text) → (b == 33) ≡ false → is_bang (b ∷ rest) ≡ false
+    go [] other = other
+    go (c ∷ rest) other = rw other refl
+
+-- a mark with which no longer one begins
+
+-- a word of a byte alone, or one that begins with another byte
+abbrev is_alone : ℕ → Text → Bool
+is_alone b (x ∷ y ∷ word) = not (b == x)
+is_alone b word = true
+
+lone_ends : (b c : ℕ) (word : Text) → b < 256 → is_lone_mark b ≡ true → mark_of (b ∷ c ∷ word) ≡ None
+unfolding line_ends symbols
+lone_ends b c word small h =
+    mark_is (b ∷ c ∷ word)
+    ∙ rw (
+      lookup_fails (is_alone b) (b ∷ c ∷ word) line_ends (lone_passes (λ b. all_pass (is_alone b) line_ends) b refl small h) (ap not (eq-eqb b b refl)),
+      lookup_fails (is_alone b) (b ∷ c ∷ word) symbols (lone_passes (λ b. all_pass (is_alone b) symbols) b refl small h) (ap not (eq-eqb b b refl)),
+    ) refl
+
+-- a symbol behind which a byte stands with which none goes on
+
+abbrev goes_on_so : Text → Bool
+goes_on_so (x ∷ y ∷ word) = goes_on y
+goes_on_so word = true
+
+abbrev begins_otherwise : Text → Bool
+begins_otherwise (x ∷ word) = not (is_symbol x)
+begins_otherwise word = true
+
+short_ends : (b c : ℕ) (word : Text) → is_symbol b ≡ true → goes_on c ≡ false → mark_of (b ∷ c ∷ word) ≡ None
+unfolding line_ends symbols
+short_ends b c word symbol ends =
+    mark_is (b ∷ c ∷ word)
+    ∙ rw (
+      lookup_fails begins_otherwise (b ∷ c ∷ word) line_ends refl (ap not symbol),
+      lookup_fails goes_on_so (b ∷ c ∷ word) symbols refl ends,
+    ) refl
+
+no_digit_goes_on : (c : ℕ) → c < 256 → goes_on c ≡ false → is_ascii_digit c ≡ false
+no_digit_goes_on c small h = go (is_ascii_digit c) refl (each_byte (λ c. not (is_ascii_digit c) || goes_on c) c refl small)
+  where
+    go : (x : Bool) → is_ascii_digit c ≡ x → (not (is_ascii_digit c) || goes_on c) ≡ true → is_ascii_digit c ≡ false
+    go false e all = e
+    go true e all = absurd (both_ways _ h (implied _ _ all e))
+
+front_of_one : (b c : ℕ) (rest : Text) → ((word : Text) → mark_of (b ∷ c ∷ word) ≡ None) → longest_front mark_of (b ∷ c ∷ rest) ≡ longest_front mark_of (b ∷ [])
+unfolding longest_front
+front_of_one b c rest h = rw (front_none (λ word. mark_of (b ∷ word)) c rest h) refl
+
+front_marks : (text : Text) (b : ℕ) → slice_get text 0 ≡ Some b → b < 256 → is_one b ≡ true → begins_number text ≡ false → language_front text ≡ longest_front (class_in marks) text
+front_marks text b e small h number =
+    front_mark text b e small (one_is_not b 32 h refl) (one_is_not b 9 h refl) (one_is_not b 35 h refl) (one_is_not b 39 h refl) (one_is_not b 34 h refl) (no_name b small h) number
+
+and_false : (x : Bool) → (x && false) ≡ false
+and_false true = refl
+and_false false = refl
+
+-- a text that begins with such a mark
+pub front_alone : (text : Text) (b : ℕ) → ((i : ℕ) → get_or text i 0 < 256) → slice_get text 0 ≡ Some b → is_mark_alone text ≡ true → (language_front text ≡ longest_front (class_in marks) (b ∷ [])) × (is_bang text ≡ false)
+front_alone [] b small e h = cc
+front_alone (x ∷ []) b small e h =
+    let same : x ≡ b = cc in
+    let one = lone_is_one x h in
+    (rw (← same) (front_marks (x ∷ []) x refl (small 0) one (no_digit x (small 0) one)), one_is_no_bang x [] (small 0) one)
+front_alone (x ∷ c ∷ rest) b small e h =
+    let same : x ≡ b = cc in
+    rw (← same) (go (is_lone_mark x) refl h)
+  where
+    go : (lone : Bool) → is_lone_mark x ≡ lone → is_mark_alone (x ∷ c ∷ rest) ≡ true → (language_front (x ∷ c ∷ rest) ≡ longest_front (class_in marks) (x ∷ [])) × (is_bang (x ∷ c ∷ rest) ≡ false)
+    go true lone h =
+        let one = lone_is_one x lone in
+        let point : (x == 46) ≡ false = not-true _ (lone_passes (λ b. not (b == 46)) x refl (small 0) lone) in
+        (front_marks (x ∷ c ∷ rest) x refl (small 0) one (rw (no_digit x (small 0) one, point) refl) ∙ front_of_one x c rest (λ word. lone_ends x c word (small 0) lone), one_is_no_bang x (c ∷ rest) (small 0) one)
+    go false lone h =
+        let parts = and_parts _ _ (subst (λ (l : Bool). (l || (is_symbol x && not (goes_on c))) ≡ true) lone h) in
+        let ends = not-true _ parts.1 in
+        let one = symbol_is_one x parts.0 in
+        (front_marks (x ∷ c ∷ rest) x refl (small 0) one (rw (no_digit x (small 0) one, no_digit_goes_on c (small 1) ends) (and_false (x == 46))) ∙ front_of_one x c rest (λ word. short_ends x c word parts.0 ends), one_is_no_bang x (c ∷ rest) (small 0) one)
+
+-- a word that was found
+pub single_word : (found : Option Word) (front : Option (Class × ℕ)) → option_map word_view found ≡ front → IfSome found (λ word. Some (word_view word) ≡ front)
+single_word None front h = tt
+single_word (Some word) front h = h

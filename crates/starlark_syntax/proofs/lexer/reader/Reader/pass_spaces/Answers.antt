@@ -1,0 +1,20 @@
+use Rattle.std.proofs.Common.{ap, arith, subst, None, true}
+use Rattle.starlark_syntax.specs.Joints.Reader.{IsAhead}
+use Rattle.starlark_syntax.specs.declared.lexer.reader.Reader.{Reader}
+use Rattle.starlark_syntax.specs.declared.lexer.reader.Stage.{Stage}
+use Rattle.starlark_syntax.proofs.Reader.PieceTaken.{gap_read, nothing_here, nothing_taken, onward_ahead}
+use Rattle.starlark_syntax.proofs.lexer.reader.Reader.pass_spaces.Goals as goal
+
+pub step_over-requires : goal.step_over-requires
+step_over-requires c =
+    let left = c.requires.ready.2.is_left in
+    let stands = gap_read c.args.text.now left.0 c.args.self.now c.args.place c.range_from.result.now c.gap_len-len.result c.range_from.ensures.value left.1 c.requires.here (c.gap_len-len.ensures (omega (arith, c.if-len-gt0.true))) in
+    let here = nothing_here c.args.text.now left.0 c.args.self.now c.gap_len-len.result true left.1 stands in
+    omega (arith, here.1, c.requires.fits)
+
+pub returns-then-len-gt0-clause-ahead : goal.returns-then-len-gt0-clause-ahead
+returns-then-len-gt0-clause-ahead c = λ lexemes fault ahead.
+    subst (λ (s : Stage). IsAhead c.args.text.now c.step_over.new.self s lexemes fault) (ap (λ (reader : Reader). reader.stage) c.step_over.ensures)
+    (onward_ahead c.args.text.now c.args.self.now None c.step_over.new.self lexemes fault (λ history kept.
+    let stands = gap_read c.args.text.now history c.args.self.now c.args.place c.range_from.result.now c.gap_len-len.result c.range_from.ensures.value kept c.requires.here (c.gap_len-len.ensures (omega (arith, c.if-len-gt0.true))) in
+    nothing_taken c.args.text.now history c.args.self.now c.step_over.new.self c.gap_len-len.result true c.utf8.text kept stands c.requires.idle c.step_over.ensures) c.requires.idle ahead)
