@@ -98,12 +98,12 @@ impl Reader {
     /// Goes on behind so many bytes.
     #[inline(always)]
     fn step_over(&mut self, len: usize, is_gap: bool)
-        requires { self.old.at + len < 2 ^ 64 }
+        requires fits { self.old.at + len < 2 ^ 64 }
+        requires stage { self.old.stage ≡ Stage.Onward }
         ensures { self.new ≡ record self.old { at = self.old.at + len; follows_gap = is_gap; stage = Stage.Onward } }
     {
         self.at += len;
         self.follows_gap = is_gap;
-        self.stage = Stage::Onward;
     }
 
     /// Reads the margin at the text's begin.
@@ -118,6 +118,7 @@ impl Reader {
         match laid {
             Laid::Taken { pending, len } => {
                 self.pending = pending;
+                self.stage = Stage::Onward;
                 self.step_over(len, false);
             }
             Laid::Fault {
@@ -135,6 +136,7 @@ impl Reader {
     /// Reads a line end that counts, and the margin behind it.
     fn read_line_end(&mut self, text: &str, len: usize) -> Result<Option<PlacedToken>, AllocError>
         requires fits { length text.now < 2 ^ 32 }
+        requires stage { self.old.stage ≡ Stage.Onward }
         requires stands { (history : History) × IsStateAfter text.now history self.old × (step_here text.now history self.old ≡ grammar.line_end len (open_widths history.widths) (drop len (drop self.old.at text.now))) }
         requires cut { IsCharBoundary text.now (self.old.at + len) }
         ensures read { IfOk result (λ given. (history : History) → IsStateAfter text.now history self.old → step_here text.now history self.old ≡ grammar.line_end len (open_widths history.widths) (drop len (drop self.old.at text.now)) →
@@ -172,6 +174,7 @@ impl Reader {
         text: &str,
     ) -> Result<PlacedToken, AllocError>
         requires fits { length text.now < 2 ^ 32 }
+        requires stage { self.old.stage ≡ Stage.Onward }
         requires stands { (history : History) × IsStateAfter text.now history self.old × (step_here text.now history self.old ≡ grammar.token len (FStringStart (opening_view opening))) }
         requires idle { IsIdle text.now self.old.pending }
         ensures read { IfOk result (λ given. (history : History) → IsStateAfter text.now history self.old → step_here text.now history self.old ≡ grammar.token len (FStringStart (opening_view opening)) →
@@ -184,10 +187,25 @@ impl Reader {
         Ok((begin, Token::FStringStart(quotes_of(opening)), begin + len))
     }
 
-    /// Takes a token that was read here.
+    /// Goes on behind a token that was read here, of so many bytes.
     #[inline(always)]
+    fn pass_token(&mut self, token: &Token, len: usize, text: &str)
+        requires fits { length text.now < 2 ^ 32 }
+        requires stage { self.old.stage ≡ Stage.Onward }
+        requires stands { (history : History) × IsStateAfter text.now history self.old × IsStep (step_here text.now history self.old) (Step.Token token.now len) }
+        requires idle { IsIdle text.now self.old.pending }
+        ensures read { (history : History) → IsStateAfter text.now history self.old → IsStep (step_here text.now history self.old) (Step.Token token.now len) →
+            IsRead text.now (left_here text.now history self.old) (Some (self.old.at, token.now, self.old.at + len)) self.new }
+        ensures less { left_to_read text.now self.new self.new.stage < left_to_read text.now self.old Stage.Onward }
+    {
+        self.nesting.pass(token);
+        self.step_over(len, false);
+    }
+
+    /// Takes a token that was read here.
     fn take_token(&mut self, token: Token, len: usize, text: &str) -> PlacedToken
         requires fits { length text.now < 2 ^ 32 }
+        requires stage { self.old.stage ≡ Stage.Onward }
         requires stands { (history : History) × IsStateAfter text.now history self.old × IsStep (step_here text.now history self.old) (Step.Token token len) }
         requires idle { IsIdle text.now self.old.pending }
         ensures read { (history : History) → IsStateAfter text.now history self.old → IsStep (step_here text.now history self.old) (Step.Token token len) →
@@ -195,8 +213,7 @@ impl Reader {
         ensures less { left_to_read text.now self.new self.new.stage < left_to_read text.now self.old Stage.Onward }
     {
         let begin = self.at;
-        self.nesting.pass(&token);
-        self.step_over(len, false);
+        self.pass_token(&token, len, text);
         (begin, token, begin + len)
     }
 
@@ -210,6 +227,7 @@ impl Reader {
         text: &str,
     ) -> PlacedToken
         requires fits { length text.now < 2 ^ 32 }
+        requires stage { self.old.stage ≡ Stage.Onward }
         requires stands { (history : History) × IsStateAfter text.now history self.old × IsStep (step_here text.now history self.old) (Step.Text chunk chunk_len stop len) }
         requires idle { IsIdle text.now self.old.pending }
         ensures read { (history : History) → IsStateAfter text.now history self.old → IsStep (step_here text.now history self.old) (Step.Text chunk chunk_len stop len) →
@@ -236,6 +254,7 @@ impl Reader {
     #[inline(always)]
     fn take(&mut self, step: Step, text: &str) -> Option<PlacedToken>
         requires fits { length text.now < 2 ^ 32 }
+        requires stage { self.old.stage ≡ Stage.Onward }
         requires stands { (history : History) × IsStateAfter text.now history self.old × IsStep (step_here text.now history self.old) step }
         requires idle { IsIdle text.now self.old.pending }
         ensures read { (history : History) → IsStateAfter text.now history self.old → IsStep (step_here text.now history self.old) step →
@@ -273,6 +292,7 @@ impl Reader {
     /// Reads the piece here, where nothing else is to be handed out. Answers its first lexeme, if it has one.
     fn read_piece(&mut self, text: &str) -> Result<Option<PlacedToken>, AllocError>
         requires fits { length text.now < 2 ^ 32 }
+        requires stage { self.old.stage ≡ Stage.Onward }
         requires ready { IsReady text.now self.old Stage.Onward }
         requires idle { IsIdle text.now self.old.pending }
         ensures ahead { IfOk result (λ given. (lexemes : List (Spanned TokenView)) (fault : Option (Spanned Fault)) → IsAhead text.now self.old Stage.Onward lexemes fault → IsAheadBehind text.now given self.new lexemes fault) }

@@ -19,8 +19,8 @@ overflow_add-result c =
     let inside : c.args.self.now.at + c.args.len ≤ _ = (piece_inside c.args.text.now stands.0 c.args.self.now _ stands.1 stands.2).1 in
     search (rules, inside)
 
-pub step_over-requires : goal.step_over-requires
-step_over-requires c =
+pub step_over-requires-clause-fits : goal.step_over-requires-clause-fits
+step_over-requires-clause-fits c =
     let stands = c.requires.stands in
     let inside = piece_inside c.args.text.now stands.0 c.args.self.now _ stands.1 stands.2 in
     omega (arith, inside.1, c.requires.fits)

@@ -5,8 +5,8 @@ use Rattle.starlark_syntax.specs.declared.lexer.reader.Stage.{Stage}
 use Rattle.starlark_syntax.proofs.Reader.PieceTaken.{gap_read, nothing_here, nothing_taken, onward_ahead}
 use Rattle.starlark_syntax.proofs.lexer.reader.Reader.pass_spaces.Goals as goal
 
-pub step_over-requires : goal.step_over-requires
-step_over-requires c =
+pub step_over-requires-clause-fits : goal.step_over-requires-clause-fits
+step_over-requires-clause-fits c =
     let left = c.requires.ready.2.is_left in
     let stands = gap_read c.args.text.now left.0 c.args.self.now c.args.place c.range_from.result.now c.gap_len-len.result c.range_from.ensures.value left.1 c.requires.here (c.gap_len-len.ensures (omega (arith, c.if-len-gt0.true))) in
     let here = nothing_here c.args.text.now left.0 c.args.self.now c.gap_len-len.result true left.1 stands in

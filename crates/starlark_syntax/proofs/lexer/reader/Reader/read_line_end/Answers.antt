@@ -5,8 +5,8 @@ use Rattle.starlark_syntax.specs.declared.lexer.reader.Reader.{Reader}
 use Rattle.starlark_syntax.proofs.Reader.Taken.{line_fault_inside, line_inside, line_less, line_refused, line_taken}
 use Rattle.starlark_syntax.proofs.lexer.reader.Reader.read_line_end.Goals as goal
 
-pub step_over-requires : goal.step_over-requires
-step_over-requires c =
+pub step_over-requires-clause-fits : goal.step_over-requires-clause-fits
+step_over-requires-clause-fits c =
     let stands = c.requires.stands in
     let taken = rw c.in-Taken.is at (c.in_ok-laid.ensures stands.0.widths stands.1.levels) in
     let inside = line_inside c.args.text.now stands.0 c.args.self.now c.args.len stands.1 stands.2 taken in

@@ -10,8 +10,8 @@ use Rattle.starlark_syntax.proofs.Reader.Here.{less_onward}
 use Rattle.starlark_syntax.proofs.Reader.PieceTaken.{nothing_here, nothing_taken, onward_ahead, piece_read}
 use Rattle.starlark_syntax.proofs.lexer.reader.Reader.read_piece.Goals as goal
 
-pub step_over-requires : goal.step_over-requires
-step_over-requires c =
+pub step_over-requires-clause-fits : goal.step_over-requires-clause-fits
+step_over-requires-clause-fits c =
     let left = c.requires.ready.2.is_left in
     let stands : IsPiece (open_widths left.0.widths) (drop c.args.self.now.at c.args.text.now) (step_here c.args.text.now left.0 c.args.self.now) (piece.Nothing c.in-Nothing.len c.in-Nothing.is_gap) = subst (IsPiece (open_widths left.0.widths) (drop c.args.self.now.at c.args.text.now) (step_here c.args.text.now left.0 c.args.self.now)) c.in-Nothing.is (piece_read c.args.text.now left.0 c.args.self.now c.place-place.result c.is_balanced-is_balanced.result c.range_from-rest.result.now c.in_ok-piece.piece c.range_from-rest.ensures.value left.1 c.place-place.ensures c.is_balanced-is_balanced.ensures c.in_ok-piece.ensures) in
     let here = nothing_here c.args.text.now left.0 c.args.self.now c.in-Nothing.len c.in-Nothing.is_gap left.1 stands in

@@ -39,8 +39,8 @@ overflow_add-chunk_len c =
     let inside : c.args.chunk_len + c.args.len ≤ length c.args.text.now = omega (arith, here.1) in
     search (rules, inside)
 
-pub step_over-requires : goal.step_over-requires
-step_over-requires c =
+pub step_over-requires-clause-fits : goal.step_over-requires-clause-fits
+step_over-requires-clause-fits c =
     let stands = c.requires.stands in
     let here = piece_here c.args.text.now stands.0 c.args.self.now (two (string_bytes c.args.chunk) c.args.chunk_len c.args.len (text_end_node c.args.stop)) stands.1 stands.2 in
     omega (arith, here.1, c.requires.fits)
