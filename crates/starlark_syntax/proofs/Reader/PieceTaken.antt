@@ -1,9 +1,17 @@
 -- What a reader makes of the piece that stands where it is.
-use Rattle.std.proofs.Common.{◌≡◌, ℕ, ◌+◌, ◌≤◌, Bool, true, false, List, [], length, drop, refl, sym, ap, ◌∙◌, subst, arith, append-nil, None, Some}
-use Rattle.std.specs.Prelude.{IfSome, Option}
+use Rattle.std.proofs.Common.{◌≡◌, ℕ, ◌+◌, ◌≤◌, Bool, true, false, List, [], length, drop, refl, sym, ap, ◌∙◌, subst, arith, append-nil, take, None}
+use Rattle.std.specs.Prelude.{Option, String, string_bytes}
 use Rattle.std.specs.Str.{IsUtf8}
+use Rattle.std.specs.declared.alloc.Global.{Global}
 use Rattle.starlark_grammar.specs.Words.{Text, language}
+use Rattle.starlark_grammar.specs.Tokens as Tokens
 use Rattle.starlark_grammar.specs.Tokens.{Fault, Spanned}
+use Rattle.starlark_grammar.specs.declared.class.Class.TheVariants as class
+use Rattle.starlark_grammar.specs.declared.class.Terminal.{Terminal}
+use Rattle.starlark_syntax.specs.Joints.Steps.{IsStep, is_fstring_start}
+use Rattle.starlark_syntax.specs.declared.lexer.literal.pieces.Step.TheVariants as step
+use Rattle.starlark_syntax.specs.declared.lexer.reader.Stage.{Stage}
+use Rattle.starlark_token.specs.declared.tokens.Token.TheVariants as token
 use Rattle.starlark_grammar.specs.Depths.{is_balanced, mode_after}
 use Rattle.starlark_grammar.specs.Margins.{open_widths}
 use Rattle.starlark_grammar.specs.Pieces as pieces
@@ -12,15 +20,15 @@ use Rattle.starlark_grammar.specs.Reading.{History, next_step, situation}
 use Rattle.starlark_syntax.specs.Joints.Nesting.{Represents, mode_view}
 use Rattle.starlark_syntax.specs.Joints.Pending.{IsIdle}
 use Rattle.starlark_token.specs.declared.tokens.Token.{Token}
-use Rattle.starlark_syntax.specs.Joints.Steps.{IsStep}
-use Rattle.starlark_syntax.specs.declared.lexer.literal.pieces.Step.{Step}
+use Rattle.starlark_scanner.specs.declared.scanner.word.Word.{Word}
 use Rattle.starlark_syntax.specs.Joints.Pieces.{IsBehind, IsPiece, nothing_of}
-use Rattle.starlark_syntax.specs.Joints.Reader.{IsAhead, IsAheadBehind, IsStateAfter, IsRead, left_here, step_here}
-use Rattle.starlark_token.specs.TokenViews.{TokenView}
+use Rattle.starlark_syntax.specs.Joints.Reader.{IsAhead, IsAheadBehind, IsStateAfter, IsRead, IsWordHere, left_here, step_here}
+use Rattle.starlark_token.specs.TokenViews.{TokenView, Whole, token_view}
 use Rattle.starlark_syntax.specs.declared.lexer.nesting.Place.{Place}
 use Rattle.starlark_syntax.specs.declared.lexer.reading.Piece as code
 use Rattle.starlark_syntax.specs.declared.lexer.reader.Reader.{Reader}
 use Rattle.starlark_syntax.specs.declared.lexer.reader.Stage.TheVariants as stage
+use Rattle.starlark_syntax.proofs.Reader.CodePlaces.{word_at, word_len}
 use Rattle.starlark_syntax.proofs.Reader.Here.{piece_here}
 use Rattle.starlark_syntax.proofs.Reader.Taken.{none_before, read_ahead, took}
 use Rattle.starlark_syntax.proofs.Reader.Waiting.{hands_none}
@@ -35,7 +43,7 @@ unfolding next_step situation
 piece_read text history reader place balanced rest piece e kept here count is =
     subst (λ (t : Text). IsPiece (open_widths history.widths) t (step_at language (situation history) t) piece) e (is (situation history) (sym (here history.tokens kept.nesting)) (sym (count history.tokens kept.nesting)) kept.before)
 
--- the same of a gap, and of a token or a fault
+-- the same of a gap
 pub gap_read : (text : Text) (history : History) (reader : Reader) (place : Place) (rest : Text) (len : ℕ) → rest ≡ drop reader.at text → IsStateAfter text history reader
     → ((tokens : List Rattle.starlark_grammar.specs.Tokens.Token) → Represents tokens reader.nesting → mode_view place ≡ mode_after tokens)
     → ((s : Situation) (follows_gap : Bool) → s.place ≡ mode_view place → IsBehind follows_gap s.before → step_at language s rest ≡ pieces.gap len)
@@ -44,16 +52,40 @@ unfolding next_step situation
 gap_read text history reader place rest len e kept here is =
     subst (λ (t : Text). step_at language (situation history) t ≡ pieces.gap len) e (is (situation history) reader.follows_gap (sym (here history.tokens kept.nesting)) kept.before)
 
-pub step_read : (text : Text) (history : History) (reader : Reader) (place : Place) (rest : Text) (found : Option Step) (step : Step) → rest ≡ drop reader.at text → IsStateAfter text history reader
-    → ((tokens : List Rattle.starlark_grammar.specs.Tokens.Token) → Represents tokens reader.nesting → mode_view place ≡ mode_after tokens)
-    → IfSome found (λ step. (s : Situation) (follows_gap : Bool) → s.place ≡ mode_view place → IsBehind follows_gap s.before → IsStep (step_at language s rest) step)
-    → found ≡ Some step
-    → IsStep (step_here text history reader) step
+-- what a word here comes to
+pub word_read : (text : Text) (history : History) (reader : Reader) (word : Word) → IsStateAfter text history reader → IsWordHere text reader word
+    → step_here text history reader ≡ pieces.word_step (situation history) word.class (take word.len (drop reader.at text)) (drop word.len (drop reader.at text))
 unfolding next_step situation
-step_read text history reader place rest None step e kept here is some = cc
-step_read text history reader place rest (Some found) step e kept here is some =
-    let same : found ≡ step = cc in
-    subst (λ (t : Text). IsStep (step_at language (situation history) t) step) e (subst (λ (x : Step). IsStep (step_at language (situation history) rest) x) same (is (situation history) reader.follows_gap (sym (here history.tokens kept.nesting)) kept.before))
+word_read text history reader word kept here =
+    word_at reader.follows_gap (situation history) (drop reader.at text) (mode_after history.tokens) word.class word.len (here.code history.tokens kept.nesting) kept.before refl (sym here.front) here.bang
+
+pub name_step : (text : Text) (history : History) (reader : Reader) (len : ℕ) (name : String Global) → IsStateAfter text history reader → IsWordHere text reader (record { class = class.Identifier; len = len }) → string_bytes name ≡ take len (drop reader.at text)
+    → IsStep (step_here text history reader) (step.Token (token.Identifier name) len)
+unfolding token_view
+name_step text history reader len name kept here is = (
+  Tokens.Identifier (take len (drop reader.at text)),
+  ap (λ t. Whole (Tokens.Identifier t)) is,
+  refl,
+  word_read text history reader (record { class = class.Identifier; len = len }) kept here ∙ ap (λ n. pieces.token n (Tokens.Identifier (take len (drop reader.at text)))) (word_len (drop reader.at text) class.Identifier len (sym here.front)),
+)
+
+pub terminal_step : (text : Text) (history : History) (reader : Reader) (terminal : Terminal) (len : ℕ) (place : Place) (found : Token) → IsStateAfter text history reader → IsWordHere text reader (record { class = class.Fixed terminal; len = len })
+    → ((before : List Tokens.Token) → Represents before reader.nesting → mode_view place ≡ mode_after before)
+    → token_view found ≡ Whole (pieces.terminal_token (mode_view place) terminal) → is_fstring_start (pieces.terminal_token (mode_view place) terminal) ≡ false
+    → IsStep (step_here text history reader) (step.Token found len)
+unfolding situation
+terminal_step text history reader terminal len place found kept here at view own = (
+  pieces.terminal_token (mode_view place) terminal,
+  view,
+  own,
+  word_read text history reader (record { class = class.Fixed terminal; len = len }) kept here
+    ∙ ap (λ n. pieces.token n (pieces.terminal_token (mode_after history.tokens) terminal)) (word_len (drop reader.at text) (class.Fixed terminal) len (sym here.front))
+    ∙ ap (λ m. pieces.token len (pieces.terminal_token m terminal)) (sym (at history.tokens kept.nesting)),
+)
+
+-- what is left where a reader goes on
+pub left_onward : (text : Text) (reader : Reader) (lexemes : List (Spanned TokenView)) (fault : Option (Spanned Fault)) → reader.stage ≡ stage.Onward → IsAhead text reader reader.stage lexemes fault → IsAhead text reader stage.Onward lexemes fault
+left_onward text reader lexemes fault on ahead = subst (λ (s : Stage). IsAhead text reader s lexemes fault) on ahead
 
 -- what is ahead stays ahead where what stands here is read, behind whichever history it is
 pub onward_ahead : (text : Text) (old : Reader) (given : Option (ℕ × Token × ℕ)) (new : Reader) (lexemes : List (Spanned TokenView)) (fault : Option (Spanned Fault)) → ((history : History) → IsStateAfter text history old → IsRead text (left_here text history old) given new)

@@ -1,15 +1,19 @@
 -- What the reader of a text has in front of it, as the grammar sees it.
-use Rattle.std.specs.Prelude.{◌≡◌, ℕ, ◌+◌, ◌-◌, ◌≤◌, List, [], ◌∷◌, ◌++◌, map, length, drop, Option, Some, None, option_to_list, ⊤}
+use Rattle.std.specs.Prelude.{◌≡◌, true, false, ℕ, ◌+◌, ◌-◌, ◌≤◌, List, [], ◌∷◌, ◌++◌, map, length, drop, Option, Some, None, option_to_list, ⊤}
 use Rattle.std.specs.Str.{IsCharBoundary}
 use Rattle.starlark_grammar.specs.Words.{Text, language}
 use Rattle.starlark_grammar.specs.Tokens as grammar
 use Rattle.starlark_grammar.specs.Margins.{open_widths}
-use Rattle.starlark_grammar.specs.Pieces.{Step, Piece, Fails}
+use Rattle.starlark_grammar.specs.Depths.{mode_after}
+use Rattle.starlark_grammar.specs.Front.{language_front}
+use Rattle.starlark_grammar.specs.Pieces.{Step, Piece, Fails, is_bang}
+use Rattle.starlark_scanner.specs.Joints.Words.{word_view}
+use Rattle.starlark_scanner.specs.declared.scanner.word.Word.{Word}
 use Rattle.starlark_grammar.specs.Reading.{History, Reading, after_all, pieces_len, lexemes_along, closing, next_step, read_from, outcome}
 use Rattle.starlark_syntax.specs.Lexemes.{fault_view, lexeme_view, shown_lexeme}
-use Rattle.starlark_syntax.specs.Joints.Pending.{IsPending, pending_lexemes}
+use Rattle.starlark_syntax.specs.Joints.Pending.{IsIdle, IsPending, pending_lexemes}
 use Rattle.starlark_syntax.specs.Joints.Nesting.{Represents, bracket_count}
-use Rattle.starlark_syntax.specs.Joints.Pieces.{IsBehind}
+use Rattle.starlark_syntax.specs.Joints.Pieces.{IsBehind, is_code}
 use Rattle.starlark_token.specs.TokenViews.{TokenView}
 use Rattle.starlark_token.specs.declared.tokens.Token.{Token}
 use Rattle.starlark_syntax.specs.declared.lexer.reader.Reader.{Reader}
@@ -104,3 +108,11 @@ abbrev pub IsNext : Text → List (grammar.Spanned TokenView) → Option (gramma
 IsNext text lexemes fault (next.Lexeme lexeme) reader = IsAheadBehind text (Some lexeme) reader lexemes fault
 IsNext text lexemes fault (next.Fault begin error end) reader = (node : grammar.Fault) × (fault_view error ≡ Some node) × (lexemes ≡ []) × (fault ≡ Some (record { begin = begin; node = node; end = end }))
 IsNext text lexemes fault next.Nothing reader = (lexemes ≡ []) × (fault ≡ None) × IsAhead text reader reader.stage [] None
+
+-- A word stands where a reader is, at a place of code, and nothing else is to be handed out before it.
+pub record IsWordHere (text : Text) (reader : Reader) (word : Word) : Type 0 where
+  pub stage : reader.stage ≡ stage.Onward
+  pub idle : IsIdle text reader.pending
+  pub code : (before : List grammar.Token) → Represents before reader.nesting → is_code (mode_after before) ≡ true
+  pub front : Some (word_view word) ≡ language_front (drop reader.at text)
+  pub bang : is_bang (drop reader.at text) ≡ false

@@ -11,6 +11,7 @@ use starlark_base::dialect::Dialect;
 use starlark_error::error::{ErrorKind, ParserMessage, error_from_lexeme};
 use starlark_error::eval_exception::EvalException;
 use starlark_error::lexeme_error::LexemeError;
+use starlark_scanner::scanner::{Class, Word};
 use starlark_token::tokens::Token;
 use std::alloc::{AllocError, Global};
 use std::marker::Model;
@@ -129,16 +130,32 @@ impl<'a> Lexer<'a> {
         if self.has_ended {
             return None;
         }
-        match self.reader.next_common(self.text) {
-            Ok(Some(lexeme)) => {
+        match self.reader.common_word(self.text) {
+            Some(
+                Word {
+                    class: Class::Identifier,
+                    len,
+                },
+            ) => match self.reader.take_name(len, self.text) {
+                Ok(lexeme) => {
+                    self.handed_out += 1;
+                    Some(Ok(lexeme))
+                }
+                Err(_) => {
+                    self.has_ended = true;
+                    Some(Err(OrMemory::Memory))
+                }
+            },
+            Some(
+                Word {
+                    class: Class::Fixed(terminal),
+                    len,
+                },
+            ) => {
                 self.handed_out += 1;
-                Some(Ok(lexeme))
+                Some(Ok(self.reader.take_terminal(terminal, len, self.text)))
             }
-            Ok(None) => self.next_of_all(),
-            Err(_) => {
-                self.has_ended = true;
-                Some(Err(OrMemory::Memory))
-            }
+            _ => self.next_of_all(),
         }
     }
 }

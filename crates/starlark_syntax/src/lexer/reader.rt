@@ -1,14 +1,15 @@
 //! Reads a text piece by piece, and keeps what later pieces depend on.
 
-ghost use Rattle.std.specs.Prelude.{◌≡◌, true, ◌<◌, ◌≤◌, ◌+◌, ◌^◌, [], ℕ, None, Some, List, Option, drop, length, map, OnErr, OnOk, IfOk};
+ghost use Rattle.std.specs.Prelude.{◌≡◌, true, ◌<◌, ◌≤◌, ◌+◌, ◌^◌, [], ℕ, None, Some, List, Option, drop, length, map, OnErr, OnOk, IfOk, IfSome};
 ghost use Rattle.std.specs.Str.{IsCharBoundary};
 ghost use Rattle.starlark_syntax.specs.Joints.Steps.{IsStep};
 ghost use Rattle.starlark_syntax.specs.Lexemes.{shown_lexeme};
 ghost use Rattle.starlark_scanner.specs.Joints.Literals.{opening_view};
 ghost use Rattle.starlark_grammar.specs.Margins.{open_widths};
 ghost use Rattle.starlark_grammar.specs.Pieces as grammar;
+ghost use Rattle.starlark_grammar.specs.declared.class.Class.TheVariants as class;
 ghost use Rattle.starlark_syntax.specs.Joints.Pending.{IsIdle, IsPending};
-ghost use Rattle.starlark_syntax.specs.Joints.Reader.{IsAhead, IsAheadBehind, IsStateAfter, IsNext, IsOver, IsRead, IsReady, IsSomething, left_here, left_to_read, step_here};
+ghost use Rattle.starlark_syntax.specs.Joints.Reader.{IsAhead, IsAheadBehind, IsStateAfter, IsNext, IsOver, IsRead, IsReady, IsSomething, IsWordHere, left_here, left_to_read, step_here};
 ghost use Rattle.starlark_grammar.specs.Reading.{History, outcome};
 ghost use Rattle.starlark_token.specs.TokenViews.{TokenView};
 ghost use Rattle.starlark_grammar.specs.Depths.{mode_after};
@@ -21,9 +22,11 @@ ghost use Rattle.starlark_grammar.specs.Words.{Text};
 use crate::lexer::layout::{Behind, Laid, Levels, Pending, PlacedToken, first_margin, line_end};
 use crate::lexer::literal::{Opening, Step, TextEnd, quotes_of};
 use crate::lexer::nesting::{Nesting, Place};
-use crate::lexer::reading::common::{common_step, gap_len, is_code};
+use crate::lexer::reading::code::{gap_len, is_code};
+use crate::lexer::reading::terminals::terminal_token;
 use crate::lexer::reading::{Piece, piece_at};
 use starlark_error::lexeme_error::LexemeError;
+use starlark_scanner::scanner::{Terminal, Word, common_word};
 use starlark_token::tokens::Token;
 use std::alloc::{AllocError, Global};
 use std::mem;
@@ -351,38 +354,51 @@ impl Reader {
         }
     }
 
-    /// Takes the token here, at a place of code, where its first two bytes tell which it is.
+    /// The word that comes next, where its first two bytes tell which it is: a name, or a symbol of one byte. The
+    /// spaces before it are passed. `None` where something else comes.
     #[inline(always)]
-    fn take_common(&mut self, place: Place, text: &str) -> Result<Option<PlacedToken>, AllocError>
-        requires fits { length text.now < 2 ^ 32 }
-        requires code { is_code (mode_view place) ≡ true }
-        requires here { (before : List tokens.Token) → Represents before self.old.nesting → mode_view place ≡ mode_after before }
-        requires stage { self.old.stage ≡ Stage.Onward }
-        requires ready { IsReady text.now self.old Stage.Onward }
-        requires idle { IsIdle text.now self.old.pending }
-        ensures ahead { IfOk result (λ given. (lexemes : List (Spanned TokenView)) (fault : Option (Spanned Fault)) → IsAhead text.now self.old Stage.Onward lexemes fault → IsAheadBehind text.now given self.new lexemes fault) }
-    {
-        match common_step(self.alloc, place, &text[self.at..])? {
-            Some(step) => Ok(self.take(step, text)),
-            None => Ok(None),
-        }
-    }
-
-    /// The lexeme that comes next, where it is a name, a keyword, or a symbol that its first two bytes tell; the spaces
-    /// before it are passed. `None` where something else comes. After an error the reader isn't to be asked again.
-    #[inline(always)]
-    pub fn next_common(&mut self, text: &str) -> Result<Option<PlacedToken>, AllocError>
+    pub fn common_word(&mut self, text: &str) -> Option<Word>
         requires fits { length text.now < 2 ^ 32 }
         requires ready { IsReady text.now self.old self.old.stage }
-        ensures ahead { IfOk result (λ given. (lexemes : List (Spanned TokenView)) (fault : Option (Spanned Fault)) → IsAhead text.now self.old self.old.stage lexemes fault → IsAheadBehind text.now given self.new lexemes fault) }
-        ensures memory { OnErr result ((lexemes : List (Spanned TokenView)) (fault : Option (Spanned Fault)) → IsAhead text.now self.old self.old.stage lexemes fault → IsSomething lexemes fault) }
+        ensures ahead { (lexemes : List (Spanned TokenView)) (fault : Option (Spanned Fault)) → IsAhead text.now self.old self.old.stage lexemes fault → IsAhead text.now self.new self.new.stage lexemes fault }
+        ensures stands { IfSome result (λ word. IsWordHere text.now self.new word) }
     {
         let place = self.nesting.place();
         if !self.reads_on() || !is_code(place) {
-            return Ok(None);
+            return None;
         }
         self.pass_spaces(place, text);
-        self.take_common(place, text)
+        common_word(&text[self.at..])
+    }
+
+    /// Takes the name here, of so many bytes. After an error the reader isn't to be asked again.
+    #[inline(always)]
+    pub fn take_name(&mut self, len: usize, text: &str) -> Result<PlacedToken, AllocError>
+        requires fits { length text.now < 2 ^ 32 }
+        requires ready { IsReady text.now self.old self.old.stage }
+        requires stands { IsWordHere text.now self.old (record { class = class.Identifier; len = len }) }
+        ensures ahead { IfOk result (λ given. (lexemes : List (Spanned TokenView)) (fault : Option (Spanned Fault)) → IsAhead text.now self.old self.old.stage lexemes fault → IsAheadBehind text.now (Some given) self.new lexemes fault) }
+        ensures memory { OnErr result ((lexemes : List (Spanned TokenView)) (fault : Option (Spanned Fault)) → IsAhead text.now self.old self.old.stage lexemes fault → IsSomething lexemes fault) }
+    {
+        let begin = self.at;
+        let rest = &text[begin..];
+        let token = Token::Identifier(String::from_str(self.alloc, &rest[..len])?);
+        self.pass_token(&token, len, text);
+        Ok((begin, token, begin + len))
+    }
+
+    /// Takes the keyword or the symbol here, of so many bytes.
+    #[inline(always)]
+    pub fn take_terminal(&mut self, terminal: Terminal, len: usize, text: &str) -> PlacedToken
+        requires fits { length text.now < 2 ^ 32 }
+        requires ready { IsReady text.now self.old self.old.stage }
+        requires stands { IsWordHere text.now self.old (record { class = class.Fixed terminal; len = len }) }
+        ensures ahead { (lexemes : List (Spanned TokenView)) (fault : Option (Spanned Fault)) → IsAhead text.now self.old self.old.stage lexemes fault → IsAheadBehind text.now (Some result) self.new lexemes fault }
+    {
+        let begin = self.at;
+        let token = terminal_token(self.nesting.place(), terminal);
+        self.pass_token(&token, len, text);
+        (begin, token, begin + len)
     }
 
     /// What comes next of the text: a lexeme, its fault behind them, or nothing. After an error the reader isn't to be

@@ -15,8 +15,8 @@ ghost use Rattle.starlark_grammar.specs.declared.class.Class.TheVariants as clas
 ghost use Rattle.starlark_grammar.specs.declared.class.LiteralKind.TheVariants as kind;
 ghost use Rattle.starlark_grammar.specs.Words.{class_in, language};
 
-pub mod common;
-mod terminals;
+pub mod code;
+pub mod terminals;
 mod words;
 
 use crate::lexer::literal::{Opening, Step, chunk_from, literal_piece, opening_of};

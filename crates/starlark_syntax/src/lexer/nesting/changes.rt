@@ -24,6 +24,7 @@ pub enum Change {
 
 #[tactic(auto, unfolding(starlark_token::specs::TokenViews::token_view, crate::specs::Joints::Nesting::change_by))]
 /// What a token does to brackets and f-strings.
+#[inline(always)]
 pub fn change_of(token: &Token) -> Change
     ensures { result ≡ change_by (token_view token.now) }
 {

@@ -13,6 +13,7 @@ use starlark_token::tokens::Token;
 
 #[tactic(auto, unfolding(starlark_token::specs::TokenViews::token_view))]
 /// The token of a word that is one of its own.
+#[inline(always)]
 fn own_token(terminal: Terminal) -> Token
     ensures { token_view result ≡ Whole (Word terminal) }
 {
@@ -80,6 +81,7 @@ fn own_token(terminal: Terminal) -> Token
 
 #[tactic(auto, unfolding(starlark_token::specs::TokenViews::token_view))]
 /// The token of such a word at a place. At the top of an expression of an f-string a closing brace ends the expression.
+#[inline(always)]
 pub fn terminal_token(place: Place, terminal: Terminal) -> Token
     ensures token { token_view result ≡ Whole (grammar.terminal_token (mode_view place) terminal) }
     ensures own { is_fstring_start (grammar.terminal_token (mode_view place) terminal) ≡ false }

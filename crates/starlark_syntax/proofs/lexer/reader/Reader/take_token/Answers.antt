@@ -18,4 +18,3 @@ overflow_add-result c =
     let here = piece_here c.args.text.now stands.0 c.args.self.now (one c.args.len stands.2.0) stands.1 stands.2.3 in
     let inside : c.args.self.now.at + c.args.len ≤ length c.args.text.now = here.1 in
     search (rules, inside)
-

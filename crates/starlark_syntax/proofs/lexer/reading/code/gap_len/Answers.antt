@@ -3,7 +3,7 @@ use Rattle.starlark_grammar.specs.Pieces as grammar
 use Rattle.starlark_grammar.specs.declared.class.Class.TheVariants as class
 use Rattle.starlark_syntax.specs.Joints.Nesting.{mode_view}
 use Rattle.starlark_syntax.proofs.Reader.CodePlaces.{word_at, word_len}
-use Rattle.starlark_syntax.proofs.lexer.reading.common.gap_len.Goals as goal
+use Rattle.starlark_syntax.proofs.lexer.reading.code.gap_len.Goals as goal
 
 pub returns : goal.returns
 returns c = λ some s follows_gap here behind.
