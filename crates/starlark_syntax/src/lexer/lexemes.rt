@@ -47,7 +47,7 @@ impl<'a> Model for Lexer<'a> {
 }
 
 /// A fault of a text as an exception, at its place in a code map.
-fn exception(
+pub fn exception(
     alloc: Global,
     begin: usize,
     fault: LexemeError,

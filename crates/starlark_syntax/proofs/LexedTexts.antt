@@ -1,0 +1,3 @@
+-- Texts with all their lexemes.
+pub mod Collected
+pub mod CleanCuts
