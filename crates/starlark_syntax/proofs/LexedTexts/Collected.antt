@@ -29,8 +29,7 @@ one_more text old new found lexeme is next =
     let all : map shown_lexeme (outcome text).lexemes ≡ map lexeme_view found ++ lexeme_view lexeme ∷ next.0 = is.all ∙ ap (λ vs. map lexeme_view found ++ vs) next.1 in
     let parts : map lexeme_view (found ++ lexeme ∷ []) ++ next.0 ≡ map lexeme_view found ++ lexeme_view lexeme ∷ next.0 =
     ap (λ vs. vs ++ next.0) (map-append lexeme_view found (lexeme ∷ [])) ∙ append_assoc (map lexeme_view found) (lexeme_view lexeme ∷ []) next.0 in
-    let count : length (map shown_lexeme (outcome text).lexemes) ≡ length (map lexeme_view found) + length (lexeme_view lexeme ∷ next.0) = ap length all ∙ length-append (map lexeme_view found) (lexeme_view lexeme ∷ next.0) in
-    (
+    let count : length (map shown_lexeme (outcome text).lexemes) ≡ length (map lexeme_view found) + length (lexeme_view lexeme ∷ next.0) = ap length all ∙ length-append (map lexeme_view found) (lexeme_view lexeme ∷ next.0) in (
       record { rest = next.0; all = all ∙ sym parts; ahead = next.2 },
       omega (arith, count, length-map (outcome text).lexemes shown_lexeme, length-map found lexeme_view),
     )

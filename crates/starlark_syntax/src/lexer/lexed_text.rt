@@ -1,10 +1,13 @@
 //! Texts with all their lexemes.
 
-ghost use Rattle.std.specs.Prelude.{◌≡◌, ◌<◌, ◌≤◌, ◌+◌, ◌++◌, ◌^◌, ◌↔◌, ℕ, List, None, codes, length, nat_eq, map, true, IfOk, IfErr, option_copied};
+ghost use Rattle.std.specs.Prelude.{◌≡◌, ◌<◌, ◌≤◌, ◌+◌, ◌++◌, ◌^◌, ◌↔◌, ℕ, List, None, codes, length, nat_eq, map, true, IfOk, IfErr, option_copied, vec_capacity, vec_len};
 ghost use Rattle.std.specs.List.{ends_with};
 ghost use Rattle.starlark_base.specs.Refusals.{IsRefused};
+ghost use Rattle.starlark_base.specs.Sources.{SourceFile};
 ghost use Rattle.starlark_grammar.specs.Cuts.{is_clean_cut};
-ghost use Rattle.starlark_syntax.specs.LexedTexts.{IsLexed, joined};
+ghost use Rattle.starlark_syntax.specs.Joints.LexedTexts.{AllNear, later};
+ghost use Rattle.starlark_syntax.specs.LexedTexts.{IsLexed};
+ghost use Rattle.starlark_syntax.specs.LexedTexts as texts;
 ghost use Rattle.starlark_syntax.specs.Lexemes.{lexeme_view};
 
 use crate::lexer::layout::PlacedToken;
@@ -86,6 +89,18 @@ fn read_text<'a>(
     }
 }
 
+/// Appends lexemes to a list that has room for them, each so many bytes further on.
+fn append_later(lexemes: &mut Vec<PlacedToken>, more: Vec<PlacedToken>, len: usize)
+    requires room { vec_len lexemes.old + vec_len more ≤ vec_capacity lexemes.old }
+    requires near { AllNear more.items }
+    requires fits { len < 2 ^ 32 }
+    ensures { lexemes.new.items ≡ lexemes.old.items ++ map (later len) more.items }
+{
+    for (begin, token, end) in more {
+        lexemes.push_reserved((len + begin, token, len + end));
+    }
+}
+
 impl<'a> LexedText<'a> {
     /// Reads a text to its end or to its fault, which lies in a code map. A text of more than 4294967295 bytes is
     /// refused, before want of memory is; either refusal drops the code map. The dialect isn't looked at.
@@ -132,5 +147,36 @@ impl<'a> LexedText<'a> {
         ensures { result ≡ is_clean_cut self.now.text }
     {
         self.is_cut
+    }
+
+    /// This text and another behind it as one lexed text. The lexemes of the second one are moved: no byte of a text is
+    /// looked at, and what it costs is linear in them. Want of memory hands both texts back as they were.
+    pub fn join(
+        self,
+        second: LexedText<'a>,
+        joined: &'a str,
+    ) -> Result<LexedText<'a>, (LexedText<'a>, LexedText<'a>)>
+        requires clean { is_clean_cut self.text ≡ true }
+        requires faultless { second.fault ≡ None }
+        requires whole { joined.now ≡ self.text ++ second.text }
+        requires fits { length joined.now < 2 ^ 32 }
+        ensures joined { IfOk result (λ lexed. lexed ≡ texts.joined self.entry second.entry) }
+        ensures lexed { IfOk result (λ lexed. (file : SourceFile) → IsLexed file lexed) }
+        ensures refused { IfErr result (λ both. both ≡ (self.entry, second.entry)) }
+    {
+        let mut first = self;
+        if first.lexemes.reserve(second.lexemes.len()).is_err() {
+            return Err((first, second));
+        }
+        first.lexemes.pop();
+        let is_cut = second.is_cut || second.text.is_empty();
+        let begin = first.text.len();
+        append_later(&mut first.lexemes, second.lexemes, begin);
+        Ok(LexedText {
+            text: joined,
+            lexemes: first.lexemes,
+            fault: None,
+            is_cut,
+        })
     }
 }

@@ -1,0 +1,129 @@
+-- Lexed texts joined at a clean cut.
+use Rattle.std.proofs.Common.{◌≡◌, ℕ, ◌+◌, ◌-◌, ◌<◌, ◌≤◌, ◌^◌, Bool, true, false, List, [], ◌∷◌, ◌++◌, map, take, length, refl, ap, sym, subst, ◌∙◌, arith, append-nil, None, Some, inl, inr, ◌⊎◌}
+use Rattle.std.specs.Prelude.{Option, ◌||◌, ◌==◌, option_map, ⊤}
+use Rattle.std.proofs.lemmas.Bool.{eqb-true}
+use Rattle.std.proofs.lemmas.List.{length-map, map-append, take-map}
+use Rattle.starlark_base.specs.Diagnostics.{Diagnosed}
+use Rattle.starlark_base.specs.Sources.{SourceFile}
+use Rattle.starlark_error.specs.declared.error.kinds.ErrorKind.{ErrorKind}
+use Rattle.starlark_grammar.specs.Words.{Text, language}
+use Rattle.starlark_grammar.specs.Tokens.{Fault, Lexeme, Outcome, Spanned, moved}
+use Rattle.starlark_grammar.specs.Margins.{margin_of}
+use Rattle.starlark_grammar.specs.Reading.{outcome}
+use Rattle.starlark_grammar.specs.Cuts.{InOrder, is_clean_cut, joined}
+use Rattle.starlark_grammar.specs.Laws.{HasFirstMargin}
+use Rattle.starlark_grammar.proofs.Joining.CleanCuts.{cuts_join}
+use Rattle.starlark_grammar.proofs.Joining.Laws.{cuts_of_joined}
+use Rattle.starlark_grammar.proofs.Joining.Tabs.{HasTab, first_margin_is, margin_tab, tab}
+use Rattle.starlark_grammar.proofs.Order.Lexemes.{outcome_order}
+use Rattle.starlark_syntax.specs.LexedTexts as texts
+use Rattle.starlark_syntax.specs.LexedTexts.{IsFaultIn, IsLexed, LexedView}
+use Rattle.starlark_syntax.specs.Lexemes.{lexeme_view, shown_lexeme}
+use Rattle.starlark_syntax.specs.Joints.LexedTexts.{AllNear, later}
+use Rattle.starlark_syntax.proofs.Reader.Onward.{first_fails}
+use Rattle.starlark_token.specs.TokenViews.{TokenView}
+use Rattle.starlark_token.specs.declared.tokens.Token.{Token}
+
+-- Places
+
+order_reach : (text : Text) (from : ℕ) (lexemes : List Lexeme) (to : ℕ) → InOrder text from lexemes to → from ≤ to
+order_reach text from [] to h = h.0
+order_reach text from (l ∷ ls) to h = omega (arith, h.0, h.1, order_reach text l.end ls to h.3)
+
+near_by : (text : Text) (found : List (ℕ × Token × ℕ)) (lexemes : List Lexeme) (from to : ℕ) → map lexeme_view found ≡ map shown_lexeme lexemes → InOrder text from lexemes to → to < 2 ^ 32 → AllNear found
+near_by text [] lexemes from to e order short = tt
+near_by text (x ∷ xs) [] from to e order short = cc
+near_by text (x ∷ xs) (l ∷ ls) from to e order short =
+    let first : lexeme_view x ≡ shown_lexeme l = cc in
+    let more : map lexeme_view xs ≡ map shown_lexeme ls = cc in
+    let begin : x.0 ≡ l.begin = ap (λ (s : Spanned TokenView). s.begin) first in
+    let end : x.2 ≡ l.end = ap (λ (s : Spanned TokenView). s.end) first in
+    let reach = order_reach text l.end ls to order.3 in
+    ((omega (arith, begin, order.1, reach, short), omega (arith, end, reach, short)), near_by text xs ls l.end to more order.3 short)
+
+-- the lexemes of a text that isn't too long
+pub lexemes_near : (text : Text) (found : List (ℕ × Token × ℕ)) → map lexeme_view found ≡ map shown_lexeme (outcome text).lexemes → length text < 2 ^ 32 → AllNear found
+lexemes_near text found e short =
+    let order = (outcome_order text).0 in
+    let inside : order.0 < 2 ^ 32 = omega (arith, order.1, short) in
+    near_by text found (outcome text).lexemes 0 order.0 e order.2 inside
+
+-- Outcomes
+
+pub no_fault : (file : SourceFile) (fault : Option (Spanned Fault)) (exception : Option (Diagnosed ErrorKind)) → exception ≡ None → IsFaultIn file fault exception → fault ≡ None
+no_fault file None exception e h = refl
+no_fault file (Some fault) exception e h = absurd (subst (IsFaultIn file (Some fault)) e h)
+
+-- the first margin of a text without fault stands
+begun : (text : Text) → (outcome text).fault ≡ None → HasFirstMargin language text
+begun text none = go (first_margin_is text)
+  where
+    go : HasFirstMargin language text ⊎ HasTab (margin_of text) → HasFirstMargin language text
+    go (inl margin) = margin
+    go (inr has) =
+        let fails = ap (λ (o : Outcome). o.fault) (first_fails text tab (margin_tab 0 [] [] (margin_of text) has)) in
+        let some : Some (moved 0 tab) ≡ None = sym fails ∙ none in
+        cc
+
+pub outcome_joined : (first second : Text) → is_clean_cut first ≡ true → (outcome second).fault ≡ None
+    → outcome (first ++ second) ≡ record { lexemes = joined (length first) (outcome first).lexemes (outcome second).lexemes; fault = None }
+outcome_joined first second clean none =
+    cuts_join first second clean (begun second none)
+    ∙ ap (λ f. record { lexemes = joined (length first) (outcome first).lexemes (outcome second).lexemes; fault = option_map (moved (length first)) f }) none
+
+shown_later : (len : ℕ) (lexemes : List Lexeme) → map shown_lexeme (map (moved len) lexemes) ≡ map (moved len) (map shown_lexeme lexemes)
+shown_later len [] = refl
+shown_later len (l ∷ ls) = ap (λ vs. shown_lexeme (moved len l) ∷ vs) (shown_later len ls)
+
+-- the joined list as it is shown
+joined_shown : (len : ℕ) (first second : List Lexeme) → map shown_lexeme (joined len first second) ≡ take (length (map shown_lexeme first) - 1) (map shown_lexeme first) ++ map (moved len) (map shown_lexeme second)
+joined_shown len first second =
+    map-append shown_lexeme (take (length first - 1) first) (map (moved len) second)
+    ∙ ap (λ vs. map shown_lexeme (take (length first - 1) first) ++ vs) (shown_later len second)
+    ∙ ap (λ vs. vs ++ map (moved len) (map shown_lexeme second)) (sym (take-map shown_lexeme (length first - 1) first))
+    ∙ ap (λ n. take (n - 1) (map shown_lexeme first) ++ map (moved len) (map shown_lexeme second)) (sym (length-map first shown_lexeme))
+
+-- Two lexed texts that are joined are what the joined text comes to, in any code map.
+pub joined_lexed : (one other : SourceFile) (first second : LexedView) → is_clean_cut first.text ≡ true → second.fault ≡ None → IsLexed one first → IsLexed other second → (file : SourceFile) → IsLexed file (texts.joined first second)
+joined_lexed one other first second clean none first_is second_is file =
+    let faultless = no_fault other (outcome second.text).fault second.fault none second_is.fault in
+    let whole = outcome_joined first.text second.text clean faultless in
+    let len = length first.text in
+    record {
+      lexemes = ap (λ vs. take (length vs - 1) vs ++ map (moved len) second.lexemes) first_is.lexemes
+          ∙ ap (λ vs. take (length (map shown_lexeme (outcome first.text).lexemes) - 1) (map shown_lexeme (outcome first.text).lexemes) ++ map (moved len) vs) second_is.lexemes
+          ∙ sym (joined_shown len (outcome first.text).lexemes (outcome second.text).lexemes)
+          ∙ ap (λ (o : Outcome). map shown_lexeme o.lexemes) (sym whole);
+      fault = subst (λ f. IsFaultIn file f None) (sym (ap (λ (o : Outcome). o.fault) whole)) tt;
+    }
+
+-- The list
+
+viewed_later : (len : ℕ) (lexemes : List (ℕ × Token × ℕ)) → map lexeme_view (map (later len) lexemes) ≡ map (moved len) (map lexeme_view lexemes)
+viewed_later len [] = refl
+viewed_later len (x ∷ xs) = ap (λ vs. lexeme_view (later len x) ∷ vs) (viewed_later len xs)
+
+-- the list that was made, as it is seen
+pub list_joined : (len : ℕ) (first rest second made : List (ℕ × Token × ℕ)) → rest ≡ take (length first - 1) first → made ≡ rest ++ map (later len) second
+    → map lexeme_view made ≡ take (length (map lexeme_view first) - 1) (map lexeme_view first) ++ map (moved len) (map lexeme_view second)
+list_joined len first rest second made but_last is =
+    ap (map lexeme_view) (is ∙ ap (λ ls. ls ++ map (later len) second) but_last)
+    ∙ map-append lexeme_view (take (length first - 1) first) (map (later len) second)
+    ∙ ap (λ vs. map lexeme_view (take (length first - 1) first) ++ vs) (viewed_later len second)
+    ∙ ap (λ vs. vs ++ map (moved len) (map lexeme_view second)) (sym (take-map lexeme_view (length first - 1) first))
+    ∙ ap (λ n. take (n - 1) (map lexeme_view first) ++ map (moved len) (map lexeme_view second)) (sym (length-map first lexeme_view))
+
+-- The cut
+
+pub cut_joined : (first second : Text) (of_second found : Bool) → is_clean_cut first ≡ true → of_second ≡ is_clean_cut second → found ≡ (of_second || length second == 0) → found ≡ is_clean_cut (first ++ second)
+cut_joined first [] true found clean is by = by ∙ sym (ap is_clean_cut (append-nil first) ∙ clean)
+cut_joined first [] false found clean is by = by ∙ sym (ap is_clean_cut (append-nil first) ∙ clean)
+cut_joined first (b ∷ bs) of_second found clean is by = go (length (b ∷ bs) == 0) refl
+  where
+    no_more : (b : Bool) → (b || false) ≡ b
+    no_more true = refl
+    no_more false = refl
+
+    go : (none : Bool) → (length (b ∷ bs) == 0) ≡ none → found ≡ is_clean_cut (first ++ b ∷ bs)
+    go true e = absurd (omega (arith, eqb-true (length (b ∷ bs)) 0 e))
+    go false e = by ∙ ap (λ none. of_second || none) e ∙ no_more of_second ∙ is ∙ sym (cuts_of_joined first (b ∷ bs) clean (omega arith))
