@@ -1,5 +1,5 @@
 -- What a lexed text is to its user.
-use Rattle.std.specs.Prelude.{◌≡◌, ℕ, ◌-◌, List, ◌++◌, map, take, length, Option, Some, None, ⊤}
+use Rattle.std.specs.Prelude.{◌≡◌, ◌-◌, List, ◌++◌, map, take, length, Option, Some, None, ⊤}
 use Rattle.starlark_base.specs.Sources.{SourceFile}
 use Rattle.starlark_base.specs.Diagnostics.{Diagnosed}
 use Rattle.starlark_error.specs.declared.error.kinds.ErrorKind.{ErrorKind}

@@ -1,6 +1,5 @@
 -- The lexemes of a text that were handed out so far, in a list.
-use Rattle.std.proofs.Common.{◌≡◌, ℕ, ◌+◌, ◌-◌, ◌≤◌, ◌<◌, List, [], ◌∷◌, ◌++◌, map, length, refl, ap, sym, subst, ◌∙◌, arith, append-nil, append_assoc, length-append, None, Some}
-use Rattle.std.specs.Prelude.{Option}
+use Rattle.std.proofs.Common.{◌≡◌, ℕ, ◌+◌, ◌-◌, ◌<◌, List, [], ◌∷◌, ◌++◌, map, length, ap, sym, subst, ◌∙◌, arith, append-nil, append_assoc, length-append, None, Some}
 use Rattle.std.proofs.lemmas.List.{length-map, map-append}
 use Rattle.starlark_base.specs.Diagnostics.{Diagnosed}
 use Rattle.starlark_base.specs.Sources.{SourceFile}

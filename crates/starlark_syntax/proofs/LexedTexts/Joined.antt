@@ -1,6 +1,6 @@
 -- Lexed texts joined at a clean cut.
-use Rattle.std.proofs.Common.{◌≡◌, ℕ, ◌+◌, ◌-◌, ◌<◌, ◌≤◌, ◌^◌, Bool, true, false, List, [], ◌∷◌, ◌++◌, map, take, length, refl, ap, sym, subst, ◌∙◌, arith, append-nil, None, Some, inl, inr, ◌⊎◌}
-use Rattle.std.specs.Prelude.{Option, ◌||◌, ◌==◌, option_map, ⊤}
+use Rattle.std.proofs.Common.{◌≡◌, ℕ, ◌-◌, ◌<◌, ◌≤◌, ◌^◌, Bool, true, false, List, [], ◌∷◌, ◌++◌, map, take, length, refl, ap, sym, subst, ◌∙◌, arith, append-nil, None, Some, inl, inr, ◌⊎◌}
+use Rattle.std.specs.Prelude.{Option, ◌||◌, ◌==◌, option_map}
 use Rattle.std.proofs.lemmas.Bool.{eqb-true}
 use Rattle.std.proofs.lemmas.List.{length-map, map-append, take-map}
 use Rattle.starlark_base.specs.Diagnostics.{Diagnosed}

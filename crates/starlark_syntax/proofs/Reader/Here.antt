@@ -8,7 +8,7 @@ use Rattle.starlark_syntax.specs.Joints.Steps.{is_fstring_start}
 use Rattle.starlark_syntax.specs.Lexemes.{lexeme_view, shown, shown_lexeme}
 use Rattle.starlark_token.specs.TokenViews.{Whole, token_view}
 use Rattle.starlark_token.specs.declared.tokens.Token.{Token}
-use Rattle.starlark_grammar.specs.Pieces.{Before, Nothing, Layout, Gap, Other, Piece, Stands, Fails}
+use Rattle.starlark_grammar.specs.Pieces.{Before, Piece, Stands, Fails}
 use Rattle.starlark_grammar.specs.Reading.{History}
 use Rattle.starlark_syntax.specs.Joints.Reader.{IsStateAfter, before_view, history_from, left_to_read, step_here}
 use Rattle.starlark_syntax.specs.declared.lexer.reader.Before as code

@@ -1,13 +1,7 @@
-use Rattle.std.proofs.Common.{◌≡◌, ◌<◌, ◌^◌, List, Some, None, ap, arith, length, refl, rules, subst, sym, ◌∙◌, true, false}
-use Rattle.std.specs.Prelude.{Option}
-use Rattle.starlark_base.specs.Diagnostics.{Diagnosed}
-use Rattle.starlark_base.specs.Sources.{SourceFile}
-use Rattle.starlark_error.specs.declared.error.kinds.ErrorKind.{ErrorKind}
-use Rattle.starlark_grammar.specs.Tokens.{Fault, Spanned}
+use Rattle.std.proofs.Common.{◌≡◌, arith, length, subst, sym, ◌∙◌}
 use Rattle.starlark_grammar.specs.Cuts.{is_clean_cut}
 use Rattle.starlark_grammar.specs.Reading.{outcome}
 use Rattle.starlark_syntax.specs.Joints.Reader.{IsNext}
-use Rattle.starlark_syntax.specs.LexedTexts.{IsFaultIn}
 use Rattle.starlark_syntax.specs.declared.lexer.reader.Next.{Next}
 use Rattle.starlark_syntax.specs.declared.lexer.reader.Next.TheVariants as next
 use Rattle.starlark_syntax.proofs.LexedTexts.CleanCuts.{faultless_cut, faulty_cut, open_cut, settled_cut}

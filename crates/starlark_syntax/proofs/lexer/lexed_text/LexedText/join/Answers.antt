@@ -1,8 +1,7 @@
-use Rattle.std.proofs.Common.{◌≡◌, ◌+◌, ◌-◌, ◌++◌, ◌<◌, ◌^◌, List, None, Some, ap, arith, length, map, refl, rules, subst, sym, take, ◌∙◌, true, false, vec_len}
-use Rattle.std.specs.Prelude.{Option, ◌||◌, ◌==◌}
+use Rattle.std.proofs.Common.{◌≡◌, ◌-◌, ◌++◌, None, ap, length, map, subst, sym, take, ◌∙◌}
+use Rattle.std.specs.Prelude.{◌||◌, ◌==◌}
 use Rattle.starlark_base.specs.Sources.{SourceFile}
 use Rattle.starlark_grammar.specs.Cuts.{is_clean_cut}
-use Rattle.starlark_grammar.specs.Words.{Text}
 use Rattle.starlark_syntax.specs.LexedTexts as texts
 use Rattle.starlark_syntax.specs.LexedTexts.{IsLexed, LexedView}
 use Rattle.starlark_syntax.specs.Lexemes.{lexeme_view}
