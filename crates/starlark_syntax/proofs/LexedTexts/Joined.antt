@@ -104,10 +104,10 @@ viewed_later len [] = refl
 viewed_later len (x ∷ xs) = ap (λ vs. lexeme_view (later len x) ∷ vs) (viewed_later len xs)
 
 -- the list that was made, as it is seen
-pub list_joined : (len : ℕ) (first rest second made : List (ℕ × Token × ℕ)) → rest ≡ take (length first - 1) first → made ≡ rest ++ map (later len) second
+pub list_joined : (len : ℕ) (first second made : List (ℕ × Token × ℕ)) → made ≡ take (length first - 1) first ++ map (later len) second
     → map lexeme_view made ≡ take (length (map lexeme_view first) - 1) (map lexeme_view first) ++ map (moved len) (map lexeme_view second)
-list_joined len first rest second made but_last is =
-    ap (map lexeme_view) (is ∙ ap (λ ls. ls ++ map (later len) second) but_last)
+list_joined len first second made is =
+    ap (map lexeme_view) is
     ∙ map-append lexeme_view (take (length first - 1) first) (map (later len) second)
     ∙ ap (λ vs. map lexeme_view (take (length first - 1) first) ++ vs) (viewed_later len second)
     ∙ ap (λ vs. vs ++ map (moved len) (map lexeme_view second)) (sym (take-map lexeme_view (length first - 1) first))
@@ -115,10 +115,13 @@ list_joined len first rest second made but_last is =
 
 -- The cut
 
-pub cut_joined : (first second : Text) (of_second found : Bool) → is_clean_cut first ≡ true → of_second ≡ is_clean_cut second → found ≡ (of_second || length second == 0) → found ≡ is_clean_cut (first ++ second)
-cut_joined first [] true found clean is by = by ∙ sym (ap is_clean_cut (append-nil first) ∙ clean)
-cut_joined first [] false found clean is by = by ∙ sym (ap is_clean_cut (append-nil first) ∙ clean)
-cut_joined first (b ∷ bs) of_second found clean is by = go (length (b ∷ bs) == 0) refl
+pub cut_joined : (first second : Text) (found : Bool) → is_clean_cut first ≡ true → found ≡ (is_clean_cut second || length second == 0) → found ≡ is_clean_cut (first ++ second)
+cut_joined first [] found clean by = by ∙ all (is_clean_cut []) ∙ sym (ap is_clean_cut (append-nil first) ∙ clean)
+  where
+    all : (b : Bool) → (b || true) ≡ true
+    all true = refl
+    all false = refl
+cut_joined first (b ∷ bs) found clean by = go (length (b ∷ bs) == 0) refl
   where
     no_more : (b : Bool) → (b || false) ≡ b
     no_more true = refl
@@ -126,4 +129,4 @@ cut_joined first (b ∷ bs) of_second found clean is by = go (length (b ∷ bs) 
 
     go : (none : Bool) → (length (b ∷ bs) == 0) ≡ none → found ≡ is_clean_cut (first ++ b ∷ bs)
     go true e = absurd (omega (arith, eqb-true (length (b ∷ bs)) 0 e))
-    go false e = by ∙ ap (λ none. of_second || none) e ∙ no_more of_second ∙ is ∙ sym (cuts_of_joined first (b ∷ bs) clean (omega arith))
+    go false e = by ∙ ap (λ none. is_clean_cut (b ∷ bs) || none) e ∙ no_more (is_clean_cut (b ∷ bs)) ∙ sym (cuts_of_joined first (b ∷ bs) clean (omega arith))

@@ -1,6 +1,6 @@
 //! Texts with all their lexemes.
 
-ghost use Rattle.std.specs.Prelude.{◌≡◌, ◌<◌, ◌≤◌, ◌+◌, ◌++◌, ◌^◌, ◌↔◌, ℕ, List, None, codes, length, nat_eq, map, true, IfOk, IfErr, option_copied, vec_capacity, vec_len};
+ghost use Rattle.std.specs.Prelude.{◌≡◌, ◌<◌, ◌≤◌, ◌+◌, ◌-◌, ◌++◌, ◌==◌, ◌||◌, ◌^◌, ◌↔◌, ℕ, List, None, codes, length, nat_eq, map, true, IfOk, IfErr, option_copied, take, vec_capacity, vec_len};
 ghost use Rattle.std.specs.List.{ends_with};
 ghost use Rattle.starlark_base.specs.Refusals.{IsRefused};
 ghost use Rattle.starlark_base.specs.Sources.{SourceFile};
@@ -89,13 +89,14 @@ fn read_text<'a>(
     }
 }
 
-/// Appends lexemes to a list that has room for them, each so many bytes further on.
+/// Puts lexemes in the place of the last one of a list that has room for them, each so many bytes further on.
 fn append_later(lexemes: &mut Vec<PlacedToken>, more: Vec<PlacedToken>, len: usize)
     requires room { vec_len lexemes.old + vec_len more ≤ vec_capacity lexemes.old }
     requires near { AllNear more.items }
     requires fits { len < 2 ^ 32 }
-    ensures { lexemes.new.items ≡ lexemes.old.items ++ map (later len) more.items }
+    ensures { lexemes.new.items ≡ take (length lexemes.old.items - 1) lexemes.old.items ++ map (later len) more.items }
 {
+    lexemes.pop();
     for (begin, token, end) in more {
         lexemes.push_reserved((len + begin, token, len + end));
     }
@@ -149,6 +150,13 @@ impl<'a> LexedText<'a> {
         self.is_cut
     }
 
+    /// Whether this text behind a clean cut leaves one: where it is a clean cut itself, or empty.
+    fn leaves_cut(&self) -> bool
+        ensures { result ≡ (is_clean_cut self.now.text || length self.now.text == 0) }
+    {
+        self.is_cut || self.text.is_empty()
+    }
+
     /// This text and another behind it as one lexed text. The lexemes of the second one are moved: no byte of a text is
     /// looked at, and what it costs is linear in them. Want of memory hands both texts back as they were.
     pub fn join(
@@ -168,8 +176,7 @@ impl<'a> LexedText<'a> {
         if first.lexemes.reserve(second.lexemes.len()).is_err() {
             return Err((first, second));
         }
-        first.lexemes.pop();
-        let is_cut = second.is_cut || second.text.is_empty();
+        let is_cut = second.leaves_cut();
         let begin = first.text.len();
         append_later(&mut first.lexemes, second.lexemes, begin);
         Ok(LexedText {
