@@ -3,3 +3,4 @@ pub mod Indentation
 pub mod Nesting
 pub mod Reader
 pub mod LexedTexts
+pub mod Held

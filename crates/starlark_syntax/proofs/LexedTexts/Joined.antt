@@ -24,30 +24,6 @@ use Rattle.starlark_syntax.proofs.Reader.Onward.{first_fails}
 use Rattle.starlark_token.specs.TokenViews.{TokenView}
 use Rattle.starlark_token.specs.declared.tokens.Token.{Token}
 
--- Places
-
-order_reach : (text : Text) (from : ℕ) (lexemes : List Lexeme) (to : ℕ) → InOrder text from lexemes to → from ≤ to
-order_reach text from [] to h = h.0
-order_reach text from (l ∷ ls) to h = omega (arith, h.0, h.1, order_reach text l.end ls to h.3)
-
-near_by : (text : Text) (found : List (ℕ × Token × ℕ)) (lexemes : List Lexeme) (from to : ℕ) → map lexeme_view found ≡ map shown_lexeme lexemes → InOrder text from lexemes to → to < 2 ^ 32 → AllNear found
-near_by text [] lexemes from to e order short = tt
-near_by text (x ∷ xs) [] from to e order short = cc
-near_by text (x ∷ xs) (l ∷ ls) from to e order short =
-    let first : lexeme_view x ≡ shown_lexeme l = cc in
-    let more : map lexeme_view xs ≡ map shown_lexeme ls = cc in
-    let begin : x.0 ≡ l.begin = ap (λ (s : Spanned TokenView). s.begin) first in
-    let end : x.2 ≡ l.end = ap (λ (s : Spanned TokenView). s.end) first in
-    let reach = order_reach text l.end ls to order.3 in
-    ((omega (arith, begin, order.1, reach, short), omega (arith, end, reach, short)), near_by text xs ls l.end to more order.3 short)
-
--- the lexemes of a text that isn't too long
-pub lexemes_near : (text : Text) (found : List (ℕ × Token × ℕ)) → map lexeme_view found ≡ map shown_lexeme (outcome text).lexemes → length text < 2 ^ 32 → AllNear found
-lexemes_near text found e short =
-    let order = (outcome_order text).0 in
-    let inside : order.0 < 2 ^ 32 = omega (arith, order.1, short) in
-    near_by text found (outcome text).lexemes 0 order.0 e order.2 inside
-
 -- Outcomes
 
 pub no_fault : (file : SourceFile) (fault : Option (Spanned Fault)) (exception : Option (Diagnosed ErrorKind)) → exception ≡ None → IsFaultIn file fault exception → fault ≡ None

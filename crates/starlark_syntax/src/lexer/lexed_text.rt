@@ -1,7 +1,7 @@
 //! Texts with all their lexemes.
 
 ghost use Rattle.std.specs.Prelude.{◌≡◌, ◌<◌, ◌≤◌, ◌+◌, ◌-◌, ◌++◌, ◌==◌, ◌||◌, ◌^◌, ◌↔◌, ℕ, List, None, codes, length, nat_eq, map, true, IfOk, IfErr, option_copied, take, vec_capacity, vec_len};
-ghost use Rattle.std.specs.List.{ends_with};
+ghost use Rattle.std.specs.List.{All, ends_with};
 ghost use Rattle.starlark_base.specs.Refusals.{IsRefused};
 ghost use Rattle.starlark_base.specs.Sources.{SourceFile};
 ghost use Rattle.starlark_grammar.specs.Cuts.{is_clean_cut};
@@ -9,6 +9,7 @@ ghost use Rattle.starlark_syntax.specs.Joints.LexedTexts.{AllNear, later};
 ghost use Rattle.starlark_syntax.specs.LexedTexts.{IsLexed};
 ghost use Rattle.starlark_syntax.specs.LexedTexts as texts;
 ghost use Rattle.starlark_syntax.specs.Lexemes.{lexeme_view};
+ghost use Rattle.starlark_syntax.specs.Lexer.{IsWithin};
 
 use crate::lexer::layout::PlacedToken;
 use crate::lexer::lexemes::exception;
@@ -128,9 +129,11 @@ impl<'a> LexedText<'a> {
         self.text
     }
 
-    /// The lexemes: each token with the places, in bytes, where it begins and ends.
+    /// The lexemes: each token with the places, in bytes, where it begins and ends. Each begins at or before its end, and
+    /// lies inside of the text.
     pub fn lexemes(&self) -> &[(usize, Token, usize)]
-        ensures { map lexeme_view result.now ≡ self.now.lexemes }
+        ensures lexemes { map lexeme_view result.now ≡ self.now.lexemes }
+        ensures within { All (λ lexeme. IsWithin self.now.text lexeme.0 lexeme.2) result.now }
     {
         &self.lexemes
     }

@@ -5,7 +5,8 @@ use Rattle.starlark_syntax.specs.LexedTexts as texts
 use Rattle.starlark_syntax.specs.LexedTexts.{IsLexed, LexedView}
 use Rattle.starlark_syntax.specs.Lexemes.{lexeme_view}
 use Rattle.starlark_syntax.specs.Joints.LexedTexts.{later}
-use Rattle.starlark_syntax.proofs.LexedTexts.Joined.{cut_joined, joined_lexed, lexemes_near, list_joined}
+use Rattle.starlark_syntax.proofs.LexedTexts.Joined.{cut_joined, joined_lexed, list_joined}
+use Rattle.starlark_syntax.proofs.LexedTexts.Within.{lexemes_near}
 use Rattle.starlark_syntax.proofs.lexer.lexed_text.LexedText.join.Goals as goal
 use Rattle.starlark_syntax.proofs.lexer.lexed_text.LexedText.join.Goals.{After-append_later}
 
