@@ -1,8 +1,7 @@
 -- What a text comes to is held by a code map of it.
-use Rattle.std.proofs.Common.{◌≡◌, ℕ, ◌≤◌, List, [], ◌∷◌, length, refl, None, Some, IfSome}
+use Rattle.std.proofs.Common.{◌≤◌, List, [], ◌∷◌, length, refl, None, Some, IfSome}
 use Rattle.std.specs.Prelude.{Option}
 use Rattle.std.specs.List.{AllByRecursion}
-use Rattle.std.specs.Str.{IsUtf8}
 use Rattle.starlark_base.specs.Places.{place_after}
 use Rattle.starlark_grammar.specs.Words.{Text, language}
 use Rattle.starlark_grammar.specs.Tokens.{Fault, Lexeme, Spanned}

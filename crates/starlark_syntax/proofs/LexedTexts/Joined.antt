@@ -1,5 +1,5 @@
 -- Lexed texts joined at a clean cut.
-use Rattle.std.proofs.Common.{◌≡◌, ℕ, ◌-◌, ◌<◌, ◌≤◌, ◌^◌, Bool, true, false, List, [], ◌∷◌, ◌++◌, map, take, length, refl, ap, sym, subst, ◌∙◌, arith, append-nil, None, Some, inl, inr, ◌⊎◌}
+use Rattle.std.proofs.Common.{◌≡◌, ℕ, ◌-◌, Bool, true, false, List, [], ◌∷◌, ◌++◌, map, take, length, refl, ap, sym, subst, ◌∙◌, arith, append-nil, None, Some, inl, inr, ◌⊎◌}
 use Rattle.std.specs.Prelude.{Option, ◌||◌, ◌==◌, option_map}
 use Rattle.std.proofs.lemmas.Bool.{eqb-true}
 use Rattle.std.proofs.lemmas.List.{length-map, map-append, take-map}
@@ -10,18 +10,16 @@ use Rattle.starlark_grammar.specs.Words.{Text, language}
 use Rattle.starlark_grammar.specs.Tokens.{Fault, Lexeme, Outcome, Spanned, moved}
 use Rattle.starlark_grammar.specs.Margins.{margin_of}
 use Rattle.starlark_grammar.specs.Reading.{outcome}
-use Rattle.starlark_grammar.specs.Cuts.{InOrder, is_clean_cut, joined}
+use Rattle.starlark_grammar.specs.Cuts.{is_clean_cut, joined}
 use Rattle.starlark_grammar.specs.Laws.{HasFirstMargin}
 use Rattle.starlark_grammar.proofs.Joining.CleanCuts.{cuts_join}
 use Rattle.starlark_grammar.proofs.Joining.Laws.{cuts_of_joined}
 use Rattle.starlark_grammar.proofs.Joining.Tabs.{HasTab, first_margin_is, margin_tab, tab}
-use Rattle.starlark_grammar.proofs.Order.Lexemes.{outcome_order}
 use Rattle.starlark_syntax.specs.LexedTexts as texts
 use Rattle.starlark_syntax.specs.LexedTexts.{IsFaultIn, IsLexed, LexedView}
 use Rattle.starlark_syntax.specs.Lexemes.{lexeme_view, shown_lexeme}
-use Rattle.starlark_syntax.specs.Joints.LexedTexts.{AllNear, later}
+use Rattle.starlark_syntax.specs.Joints.LexedTexts.{later}
 use Rattle.starlark_syntax.proofs.Reader.Onward.{first_fails}
-use Rattle.starlark_token.specs.TokenViews.{TokenView}
 use Rattle.starlark_token.specs.declared.tokens.Token.{Token}
 
 -- Outcomes
