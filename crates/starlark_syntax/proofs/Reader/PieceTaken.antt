@@ -13,7 +13,7 @@ use Rattle.starlark_syntax.specs.Joints.Nesting.{Represents, mode_view}
 use Rattle.starlark_syntax.specs.Joints.Pending.{IsIdle}
 use Rattle.starlark_token.specs.declared.tokens.Token.{Token}
 use Rattle.starlark_syntax.specs.Joints.Pieces.{IsBehind, IsPiece, nothing_of}
-use Rattle.starlark_syntax.specs.Joints.Reader.{IsAhead, IsAheadBehind, IsStateAfter, IsRead, left_here, step_here}
+use Rattle.starlark_syntax.specs.Joints.Reader.{IsAhead, IsAheadBehind, IsStateAfter, IsRead, before_view, left_here, silent_sort, step_here}
 use Rattle.starlark_token.specs.TokenViews.{TokenView}
 use Rattle.starlark_syntax.specs.declared.lexer.nesting.Place.{Place}
 use Rattle.starlark_syntax.specs.declared.lexer.reading.Piece as code
@@ -24,14 +24,15 @@ use Rattle.starlark_syntax.proofs.Reader.Taken.{none_before, read_ahead, took}
 use Rattle.starlark_syntax.proofs.Reader.Waiting.{hands_none}
 
 -- what was read at a reader's place stands there
-pub piece_read : (text : Text) (history : History) (reader : Reader) (place : Place) (balanced : Bool) (rest : Text) (piece : code.Piece) → rest ≡ drop reader.at text → IsStateAfter text history reader
+pub piece_read : (text : Text) (history : History) (reader : Reader) (place : Place) (balanced follows_gap : Bool) (rest : Text) (piece : code.Piece) → rest ≡ drop reader.at text → IsStateAfter text history reader
     → ((tokens : List Rattle.starlark_grammar.specs.Tokens.Token) → Represents tokens reader.nesting → mode_view place ≡ mode_after tokens)
     → ((tokens : List Rattle.starlark_grammar.specs.Tokens.Token) → Represents tokens reader.nesting → balanced ≡ is_balanced tokens)
-    → ((s : Situation) → s.place ≡ mode_view place → s.is_balanced ≡ balanced → IsBehind reader.follows_gap s.before → IsPiece s.levels rest (step_at language s rest) piece)
+    → ((before : pieces.Before) → before_view reader.before ≡ before → IsBehind follows_gap before)
+    → ((s : Situation) → s.place ≡ mode_view place → s.is_balanced ≡ balanced → IsBehind follows_gap s.before → IsPiece s.levels rest (step_at language s rest) piece)
     → IsPiece (open_widths history.widths) (drop reader.at text) (step_here text history reader) piece
 unfolding next_step situation
-piece_read text history reader place balanced rest piece e kept here count is =
-    subst (λ (t : Text). IsPiece (open_widths history.widths) t (step_at language (situation history) t) piece) e (is (situation history) (sym (here history.tokens kept.nesting)) (sym (count history.tokens kept.nesting)) kept.before)
+piece_read text history reader place balanced follows_gap rest piece e kept here count gap is =
+    subst (λ (t : Text). IsPiece (open_widths history.widths) t (step_at language (situation history) t) piece) e (is (situation history) (sym (here history.tokens kept.nesting)) (sym (count history.tokens kept.nesting)) (gap history.before kept.before))
 
 -- what is ahead stays ahead where what stands here is read, behind whichever history it is
 pub onward_ahead : (text : Text) (old : Reader) (given : Option (ℕ × Token × ℕ)) (new : Reader) (lexemes : List (Spanned TokenView)) (fault : Option (Spanned Fault)) → ((history : History) → IsStateAfter text history old → IsRead text (left_here text history old) given new)
@@ -60,9 +61,9 @@ nothing_here text history reader len is_gap kept stands =
     let same = nothing_len len is_gap in
     (omega (arith, here.0, same), omega (arith, here.1, same))
 
--- they leave all as it is but for the place
+-- they leave all as it is but for the place and what stands before it
 pub nothing_taken : (text : Text) (history : History) (old new : Reader) (len : ℕ) (is_gap : Bool) → IsUtf8 text → IsStateAfter text history old → step_here text history old ≡ nothing_of len is_gap → IsIdle text old.pending
-    → new ≡ record old { at = old.at + len; follows_gap = is_gap; stage = stage.Onward } → IsRead text (left_here text history old) None new
+    → new ≡ record old { at = old.at + len; before = silent_sort is_gap; stage = stage.Onward } → IsRead text (left_here text history old) None new
 nothing_taken text history old new len true utf8 kept stands idle is =
     let here = piece_here text history old (nothing_piece len true) kept stands in
     rw is (took text history old None _ (nothing_piece len true) utf8 kept stands kept.nesting (kept.levels ∙ ap open_widths (sym (append-nil history.widths))) refl refl (omega (arith, kept.few, here.0)) refl (hands_none text old.pending idle))
