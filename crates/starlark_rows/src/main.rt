@@ -10,6 +10,7 @@ mod cursors;
 mod errors;
 mod files;
 mod formats;
+mod lexed_texts;
 mod places;
 mod rows;
 mod strings;
@@ -29,6 +30,7 @@ fn answer(alloc: Global, row: &Row) -> Answer {
         "errors" => errors::answer(alloc, row),
         "files" => files::answer(alloc, row),
         "format" => formats::answer(alloc, row),
+        "lexed_text" => lexed_texts::answer(alloc, row),
         "places" => places::answer(alloc, row),
         "strings" => strings::answer(alloc, row),
         "tokens" => tokens::answer(alloc, row),

@@ -58,6 +58,11 @@ impl Row {
         }
     }
 
+    /// The fields from one on.
+    pub fn texts_from(&self, index: usize) -> &[String] {
+        self.fields.get(index..).unwrap_or(&[])
+    }
+
     /// A field that is a number with a sign, if there is one.
     pub fn number(&self, index: usize) -> Option<i32> {
         self.text(index).parse().ok()

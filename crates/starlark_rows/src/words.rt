@@ -4,7 +4,7 @@ use crate::code_maps::code_map;
 use crate::rows::{Answer, Row, both, given, shown, unknown};
 use starlark_syntax::codemap::OrMemory;
 use starlark_syntax::dialect::Dialect;
-use starlark_syntax::lexer::{Lexeme, Lexer, TokenInt, lex_exactly_one_identifier};
+use starlark_syntax::lexer::{Lexeme, Lexer, Token, TokenInt, lex_exactly_one_identifier};
 use std::alloc::{AllocError, Global};
 use std::fmt::{Display, Write};
 
@@ -38,14 +38,23 @@ fn add_token<T: Display>(list: &mut String, kind: &str, token: &T) -> Result<(),
     write!(list, "{kind} {token}; ")
 }
 
-/// Adds a lexeme's places and a copy of its token, or a fault as it prints.
+/// Adds the places of a token and a copy of it as it prints.
+pub fn add_placed(
+    alloc: Global,
+    list: &mut String,
+    begin: usize,
+    token: &Token,
+    end: usize,
+) -> Result<(), AllocError> {
+    write!(list, "{begin}-{end} ")?;
+    let copy = token.clone(alloc)?;
+    add_token(list, copy.kind(), &copy)
+}
+
+/// Adds a lexeme, or a fault as it prints.
 fn add_lexeme(alloc: Global, list: &mut String, lexeme: &Lexeme) -> Result<(), AllocError> {
     match lexeme {
-        Ok((begin, token, end)) => {
-            write!(list, "{begin}-{end} ")?;
-            let copy = token.clone(alloc)?;
-            add_token(list, copy.kind(), &copy)
-        }
+        Ok((begin, token, end)) => add_placed(alloc, list, *begin, token, *end),
         Err(OrMemory::Error(exception)) => write!(list, "{exception}; "),
         Err(OrMemory::Memory) => Err(AllocError),
     }

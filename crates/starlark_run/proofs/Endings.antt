@@ -1,5 +1,5 @@
 -- How a run ends, from how reading and printing end.
-use Rattle.std.proofs.Common.{◌≡◌, ◌↔◌, [], true, refl, sym, subst, ◌∙◌, append-nil, inr, Result, Ok, Err, Option, IsErrOf, IfOk}
+use Rattle.std.proofs.Common.{◌≡◌, ◌↔◌, [], true, refl, sym, subst, ◌∙◌, append-nil, inl, inr, Result, Ok, Err, Option, IsErrOf, IfOk}
 use Rattle.std.specs.Io.KnownBytes.{Appends}
 use Rattle.std.specs.Str.{IsUtf8}
 use Rattle.starlark_base.specs.Places.{Text}
@@ -19,7 +19,7 @@ module _ {R W : Type 0} (contents : W → Option Text) (name came : Text) (reade
       let all = subst (Appends (contents old.device) (contents new.device)) (sym (append-nil writes.0.0) ∙ writes.0.2) writes.0.1 in
       (whole, utf8, record { bytes = all; sound = writes.1 }, same)
   run_printed (Err fault.Write) whole utf8 writes same = (whole, utf8, writes.0, writes.1)
-  run_printed (Err fault.Memory) whole utf8 writes same = (whole.sound, writes.1, inr (whole, utf8, writes.0))
+  run_printed (Err fault.Memory) whole utf8 writes same = inr (whole, utf8, writes.0, writes.1)
   run_printed (Err fault.NotUtf8) whole utf8 writes same = absurd writes
   run_printed (Err fault.TooLong) whole utf8 writes same = absurd writes
   run_printed (Err fault.Read) whole utf8 writes same = absurd writes
@@ -31,7 +31,8 @@ module _ {R W : Type 0} (contents : W → Option Text) (name came : Text) (reade
   read_told (Err fault.NotUtf8) run = (λ e. cc, λ e. let sound = run.0.sound in cc)
   read_told (Err fault.TooLong) run = (λ e. cc, λ e. let sound = run.0.sound in cc)
   read_told (Err fault.Write) run = (λ e. cc, λ e. let sound = run.0.sound in cc)
-  read_told (Err fault.Memory) run = (λ e. cc, λ e. let sound = run.0 in cc)
+  read_told (Err fault.Memory) (inl stopped) = (λ e. cc, λ e. let sound = stopped.0.sound in cc)
+  read_told (Err fault.Memory) (inr whole) = (λ e. cc, λ e. let sound = whole.0.sound in cc)
 
   pub write_told : (r : Result RunStatus RunFault) → IsRun contents name came reader old new r → IsErrOf r fault.Write ↔ (new.failed ≡ true)
   write_told (Ok status) run = (λ e. cc, λ e. let sound = run.2.sound in cc)
@@ -39,4 +40,5 @@ module _ {R W : Type 0} (contents : W → Option Text) (name came : Text) (reade
   write_told (Err fault.NotUtf8) run = (λ e. cc, λ e. let sound = run.2.sound in cc)
   write_told (Err fault.TooLong) run = (λ e. cc, λ e. let sound = run.1.sound in cc)
   write_told (Err fault.Read) run = (λ e. cc, λ e. let sound = run.1.sound in cc)
-  write_told (Err fault.Memory) run = (λ e. cc, λ e. let sound = run.1 in cc)
+  write_told (Err fault.Memory) (inl stopped) = (λ e. cc, λ e. let sound = stopped.1.sound in cc)
+  write_told (Err fault.Memory) (inr whole) = (λ e. cc, λ e. let sound = whole.3 in cc)

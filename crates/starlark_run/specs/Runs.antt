@@ -32,13 +32,19 @@ pub record IsBroken {R : Type 0} (reader : Watch R) (came : Text) : Type 0 where
   pub failed : reader.failed ≡ true
   pub fits : length came ≤ GREATEST_LEN
 
+-- memory was refused before the reader came to its end, and no read failed
+pub record IsStopped {R : Type 0} (reader : Watch R) (came : Text) : Type 0 where
+  pub not_ended : reader.ended ≡ false
+  pub sound : reader.failed ≡ false
+  pub fits : length came ≤ GREATEST_LEN
+
 -- What came from the reader, by how reading to its end ended; what was read is shown by `bytes_of`.
 abbrev pub IsRead : {R T : Type 0} → (T → Text) → (came : Text) → Watch R → Result T RunFault → Type 0
 IsRead bytes_of came reader (Ok text) = IsWhole reader came × (bytes_of text ≡ came)
 IsRead bytes_of came reader (Err NotUtf8) = IsWhole reader came × (¬ IsUtf8 came)
 IsRead bytes_of came reader (Err TooLong) = IsTooLong reader came
 IsRead bytes_of came reader (Err Read) = IsBroken reader came
-IsRead bytes_of came reader (Err Memory) = reader.failed ≡ false
+IsRead bytes_of came reader (Err Memory) = IsStopped reader came
 IsRead bytes_of came reader (Err Write) = ⊥
 
 -- the writer took all of the text and nothing else, and didn't fail
@@ -61,5 +67,5 @@ IsRun contents name came reader old new (Err Read) = IsBroken reader came × Too
 IsRun contents name came reader old new (Err Write) =
     IsWhole reader came × IsUtf8 came × TakesBeginning contents old new (output name came) × (new.failed ≡ true)
 IsRun contents name came reader old new (Err Memory) =
-    (reader.failed ≡ false) × (new.failed ≡ false)
-    × (TookAll contents old new [] ⊎ (IsWhole reader came × IsUtf8 came × TakesBeginning contents old new (output name came)))
+    (IsStopped reader came × TookAll contents old new [])
+    ⊎ (IsWhole reader came × IsUtf8 came × TakesBeginning contents old new (output name came) × (new.failed ≡ false))

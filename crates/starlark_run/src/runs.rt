@@ -122,8 +122,8 @@ fn read_text<R: Read>(alloc: Global, reader: &mut Watched<R>) -> Result<String, 
 /// names the text as `name`.
 ///
 /// Nothing is written before the whole input was read and found to be UTF-8. After
-/// `RunFault::Write` or `RunFault::Memory` a beginning of the output is written, and no failed
-/// read or write is tried again.
+/// `RunFault::Write`, or `RunFault::Memory` where the reader came to its end, a beginning of the
+/// output is written. No failed read or write is tried again.
 pub fn run<R: Read, W: Write>(
     alloc: Global,
     name: &str,

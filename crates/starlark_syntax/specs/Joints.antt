@@ -5,3 +5,4 @@ pub mod Pieces
 pub mod Pending
 pub mod Layout
 pub mod Reader
+pub mod LexedTexts

@@ -1,5 +1,5 @@
 -- What a lexer is to its user, and what it hands out.
-use Rattle.std.specs.Prelude.{◌≡◌, ℕ, ◌+◌, ◌-◌, ◌||◌, if◌then◌else◌, Bool, true, false, List, ◌++◌, map, length, Option, Some, None, option_to_list, Result, Ok, Err, ⊤}
+use Rattle.std.specs.Prelude.{◌≡◌, ◌<◌, ◌≤◌, ◌^◌, IfSome, ℕ, ◌+◌, ◌-◌, ◌||◌, if◌then◌else◌, Bool, true, false, List, ◌++◌, map, length, Option, Some, None, option_to_list, Result, Ok, Err, ⊤}
 use Rattle.std.specs.Iterator.{Count, at_most}
 use Rattle.std.specs.List.{slice_get}
 use Rattle.starlark_base.specs.Sources.{SourceFile}
@@ -51,6 +51,16 @@ AnswersNext file None None = ⊤
 AnswersNext file (Some item) (Some answer) = Answers file item answer
 AnswersNext file item answer = ⊥
 
+-- both ends of something lie in order in a text whose bytes positions can count
+abbrev pub IsWithin : Text → ℕ → ℕ → Type 0
+IsWithin text begin end = (begin ≤ end) × (end ≤ length text) × (length text < 2 ^ 32)
+
+-- what is handed out lies within the text
+abbrev pub AnswersWithin : Text → Option (Result (ℕ × Token × ℕ) (OrMemory (Diagnosed ErrorKind))) → Type 0
+AnswersWithin text (Some (Ok found)) = IsWithin text found.0 found.2
+AnswersWithin text (Some (Err (refusal.Error exception))) = IfSome exception.span (λ place. IsWithin text place.span.begin place.span.end)
+AnswersWithin text answer = ⊤
+
 -- how many items an answer hands out, and whether it ends the lexer
 abbrev pub handed_out_by : Option (Result (ℕ × Token × ℕ) (OrMemory (Diagnosed ErrorKind))) → ℕ
 handed_out_by None = 0
@@ -64,6 +74,7 @@ is_ended_by answer = false
 -- What one call of a lexer answers, and what the lexer is behind it. It answers nothing once it has ended.
 pub record IsNextOf (old : LexerView) (answer : Option (Result (ℕ × Token × ℕ) (OrMemory (Diagnosed ErrorKind)))) (new : LexerView) : Type 0 where
   pub item : AnswersNext old.code_map (if old.has_ended then None else slice_get (items old.text) old.handed_out) answer
+  pub within : AnswersWithin old.text answer
   pub after : new ≡ record old { handed_out = old.handed_out + handed_out_by answer; has_ended = old.has_ended || is_ended_by answer }
 
 -- how many items are left at most

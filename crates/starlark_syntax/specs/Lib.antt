@@ -1,5 +1,7 @@
 pub mod Lexemes
 pub mod Lexer
+pub mod LexedTexts
+pub mod Held
 pub mod Joints
 pub use Rattle.starlark_grammar.specs.Words
 pub use Rattle.starlark_grammar.specs.Front

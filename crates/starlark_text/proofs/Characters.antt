@@ -52,7 +52,7 @@ unfolding byte_place
 place_zero text = refl
 
 -- where a text begins with the bytes of so many characters
-place_after : (text front rest : List ℕ) → IsUtf8 text → text ≡ encodes front ++ rest → chars text ≡ front ++ chars rest → IsFrom text (length front) rest
+pub place_after : (text front rest : List ℕ) → IsUtf8 text → text ≡ encodes front ++ rest → chars text ≡ front ++ chars rest → IsFrom text (length front) rest
 unfolding byte_place
 place_after text front rest utf8 bytes characters =
     let front_is : take (length front) (chars text) ≡ front = ap (take (length front)) characters ∙ take_at front (chars rest) (length front) refl in

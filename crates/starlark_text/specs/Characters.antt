@@ -1,16 +1,28 @@
 -- Texts by their characters. A text is its bytes in UTF-8, and `chars` of std is the list of its characters.
-use Rattle.std.specs.Prelude.{◌≡◌, ◌≤◌, ℕ, zero, suc, ◌+◌, ◌-◌, Bool, false, if◌then◌else◌, nat_lt, nat_le, nat_eq, List, [], ◌∷◌, ◌++◌, length, take, drop, slice_range, ℤ, pos, negsuc, Option, None, Some, encode_utf8_all}
+use Rattle.std.specs.Prelude.{◌≡◌, ◌≤◌, ℕ, zero, suc, ◌+◌, ◌-◌, Bool, false, ◌||◌, if◌then◌else◌, nat_lt, nat_le, nat_eq, List, [], ◌∷◌, ◌++◌, length, take, drop, slice_range, ℤ, pos, negsuc, Option, None, Some, encode_utf8_all, count_by}
 use Rattle.std.specs.List.{starts_with}
-use Rattle.std.specs.Str.{chars}
+use Rattle.std.specs.Str.{chars, IsUtf8}
 use Rattle.starlark_text.specs.Indices.{start_place, end_place}
 
 -- how many characters a text has
 abbrev pub char_count : List ℕ → ℕ
 char_count text = length (chars text)
 
+-- a byte of a text that begins a character; each other byte goes on with one
+abbrev pub begins_character : ℕ → Bool
+begins_character byte = nat_lt byte 128 || nat_le 192 byte
+
+-- a text has as many characters as bytes that begin one
+abbrev pub CharactersBeginOnce : Type 0
+CharactersBeginOnce = (text : List ℕ) → IsUtf8 text → count_by begins_character text ≡ char_count text
+
 -- the byte at which the character of an index begins; the text's end, where it has no more characters
 unfoldable pub byte_place : List ℕ → ℕ → ℕ
 byte_place text index = length (encode_utf8_all (take index (chars text)))
+
+-- the same, if the text has so many characters
+abbrev pub character_place : List ℕ → ℕ → Option ℕ
+character_place text index = if nat_le index (char_count text) then Some (byte_place text index) else None
 
 -- rest is the text from the character of an index on
 pub record IsFrom (text : List ℕ) (index : ℕ) (rest : List ℕ) : Type 0 where

@@ -4,6 +4,7 @@ pub mod Dialects
 pub mod FormatLaws
 pub mod Formats
 pub mod Indices
+pub mod Joints
 pub mod Parsing
 pub mod Parts
 pub mod Scanning

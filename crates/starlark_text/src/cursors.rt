@@ -61,7 +61,7 @@ impl<'a> CursorBytes<'a> {
 }
 
 /// The character that begins at a place of a text; `None` at its end.
-fn char_from(text: &str, at: usize) -> Option<char>
+pub(crate) fn char_from(text: &str, at: usize) -> Option<char>
     requires { IsCharBoundary text.now at }
     ensures answer { result ≡ slice_get (chars (drop at text.now)) 0 }
     ensures behind { IfSome result (λ c. IsCharBoundary text.now (at + len_utf8 c)) }

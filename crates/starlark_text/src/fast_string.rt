@@ -1,14 +1,16 @@
 //! Texts by their characters. An index counts characters and not bytes, and what is handed out is a
 //! part of the caller's text. Each call takes time in proportion to the text at most.
 
-ghost use Rattle.std.specs.Prelude.{◌≡◌, ◌↔◌, ◌+◌, ◌-◌, ◌≤◌, ◌<◌, ◌^◌, ◌==◌, ℕ, List, IsTrue, MatchOption, length, slice_get, count_by};
+ghost use Rattle.std.specs.Prelude.{◌≡◌, ◌↔◌, ◌+◌, ◌-◌, ◌≤◌, ◌<◌, ◌^◌, ◌==◌, ℕ, List, IsTrue, IfSome, length, slice_get, count_by};
 ghost use Rattle.std.specs.Option.{option_map};
-ghost use Rattle.std.specs.Str.{chars, IsAscii};
+ghost use Rattle.std.specs.Str.{chars, IsAscii, IsCharBoundary};
 ghost use Rattle.starlark_text.specs.Characters as spec;
 ghost use Rattle.starlark_text.specs.Characters.{Contains, char_count, match_count};
 ghost use Rattle.starlark_text.specs.Parts.{cut_view, indices_view};
 
 use crate::convert_indices::{end_place, start_place};
+use crate::cursors::char_from;
+use crate::lanes::{begin_of, count_begun};
 use memchr::{memchr_iter, memmem};
 use std::ops::{Add, Sub};
 
@@ -53,7 +55,8 @@ pub struct StrIndices<'a> {
 pub fn at(x: &str, i: CharIndex) -> Option<char>
     ensures { result ≡ slice_get (chars x.now) i.0 }
 {
-    x.chars().nth(i.0)
+    let place = character_place(x, i.0)?;
+    char_from(x, place)
 }
 
 /// How many characters a text has. It is as many as bytes exactly where all of them are ASCII.
@@ -61,7 +64,7 @@ pub fn len(x: &str) -> CharIndex
     ensures count { result.0 ≡ char_count x.now }
     ensures ascii { (result.0 ≡ length x.now) ↔ IsAscii x.now }
 {
-    CharIndex(x.chars().count())
+    CharIndex(count_begun(x.as_bytes()))
 }
 
 /// How often a byte stands in a text.
@@ -83,16 +86,13 @@ pub fn count_matches(x: &str, needle: &str) -> usize
     }
 }
 
-/// The text from the character of an index on; `None` where the text has fewer characters than that.
-fn from_char(x: &str, i: usize) -> Option<&str>
-    ensures { MatchOption result (char_count x.now < i) (λ rest. spec.IsFrom x.now i rest.now) }
+/// The byte at which the character of an index begins, or the text's end behind its last character; `None` where the
+/// text has fewer characters than that.
+fn character_place(x: &str, i: usize) -> Option<usize>
+    ensures value { result ≡ spec.character_place x.now i }
+    ensures boundary { IfSome result (IsCharBoundary x.now) }
 {
-    if i == 0 {
-        return Some(x);
-    }
-    let mut rest = x.chars();
-    rest.nth(i - 1)?;
-    Some(rest.as_str())
+    begin_of(x.as_bytes(), i)
 }
 
 /// The text before the character of an index and the text from there on; `None` where the text has
@@ -100,8 +100,8 @@ fn from_char(x: &str, i: usize) -> Option<&str>
 pub fn split_at(x: &str, i: CharIndex) -> Option<(&str, &str)>
     ensures { option_map cut_view result ≡ spec.cut x.now i.0 }
 {
-    let rest = from_char(x, i.0)?;
-    Some(x.split_at(x.len() - rest.len()))
+    let place = character_place(x, i.0)?;
+    Some(x.split_at(place))
 }
 
 /// Whether both indices are given, count from the same side, and stand in the wrong order.

@@ -7,4 +7,5 @@ pub mod cursors;
 pub mod dialect;
 pub mod dot_format_parser;
 pub mod fast_string;
+mod lanes;
 pub mod laws;

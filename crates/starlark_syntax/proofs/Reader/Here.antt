@@ -1,5 +1,5 @@
 -- What stands where a reader is lies inside the text.
-use Rattle.std.proofs.Common.{◌≡◌, ℕ, ◌+◌, ◌<◌, ◌≤◌, false, length, drop, refl, ap, ◌∙◌, arith}
+use Rattle.std.proofs.Common.{◌≡◌, ℕ, ◌+◌, ◌<◌, ◌≤◌, false, length, drop, refl, ap, sym, ◌∙◌, arith}
 use Rattle.std.proofs.lemmas.List.{length-drop}
 use Rattle.starlark_grammar.specs.Words.{Text, language}
 use Rattle.starlark_grammar.specs.Tokens as grammar
@@ -8,10 +8,11 @@ use Rattle.starlark_syntax.specs.Joints.Steps.{is_fstring_start}
 use Rattle.starlark_syntax.specs.Lexemes.{lexeme_view, shown, shown_lexeme}
 use Rattle.starlark_token.specs.TokenViews.{Whole, token_view}
 use Rattle.starlark_token.specs.declared.tokens.Token.{Token}
-use Rattle.starlark_grammar.specs.Pieces.{Before, Nothing, Layout, Gap, Other, Piece, Stands, Fails}
+use Rattle.starlark_grammar.specs.Pieces.{Before, Piece, Stands, Fails}
 use Rattle.starlark_grammar.specs.Reading.{History}
-use Rattle.starlark_syntax.specs.Joints.Pieces.{IsBehind}
-use Rattle.starlark_syntax.specs.Joints.Reader.{IsStateAfter, left_to_read, step_here}
+use Rattle.starlark_syntax.specs.Joints.Reader.{IsStateAfter, before_view, history_from, left_to_read, step_here}
+use Rattle.starlark_syntax.specs.declared.lexer.reader.Before as code
+use Rattle.starlark_syntax.specs.declared.lexer.reader.Before.TheVariants as sort
 use Rattle.starlark_syntax.specs.declared.lexer.reader.Stage.TheVariants as stage
 use Rattle.starlark_error.specs.declared.lexeme_error.LexemeError.{LexemeError}
 use Rattle.starlark_syntax.specs.declared.lexer.reader.Reader.{Reader}
@@ -19,17 +20,42 @@ use Rattle.starlark_grammar.proofs.Reading.Steps.{is_nothing, least_len}
 use Rattle.starlark_grammar.proofs.Reading.Readings.{piece_fits, fault_fits}
 
 -- something was read before
-pub behind_some : (follows_gap : Rattle.std.specs.Prelude.Bool) (before : Before) → IsBehind follows_gap before → (is_nothing before ≡ false) × (least_len before ≡ 1)
-behind_some follows_gap Nothing h = absurd h
-behind_some follows_gap Layout h = (refl, refl)
-behind_some follows_gap Gap h = (refl, refl)
-behind_some follows_gap Other h = (refl, refl)
+pub behind_some : (last : code.Before) (before : Before) → before_view last ≡ before → (is_nothing before ≡ false) × (least_len before ≡ 1)
+behind_some last before h = (ap is_nothing (sym h) ∙ begun last, ap least_len (sym h) ∙ one last)
+  where
+    begun : (last : code.Before) → is_nothing (before_view last) ≡ false
+    begun sort.Layout = refl
+    begun sort.Gap = refl
+    begun sort.Other = refl
+
+    one : (last : code.Before) → least_len (before_view last) ≡ 1
+    one sort.Layout = refl
+    one sort.Gap = refl
+    one sort.Other = refl
+
+-- between two readers at most the stage, and what was read and is still to be handed out, differ
+pub record IsHere (old new : Reader) : Type 0 where
+  pub at : new.at ≡ old.at
+  pub nesting : new.nesting ≡ old.nesting
+  pub levels : new.levels ≡ old.levels
+  pub before : new.before ≡ old.before
+
+pub kept_here : (text : Text) (history : History) (old new : Reader) → IsHere old new → IsStateAfter text history old → IsStateAfter text history new
+kept_here text history old new here kept = record {
+  nesting = rw here.nesting kept.nesting;
+  levels = rw here.levels kept.levels;
+  before = rw here.before kept.before;
+  inside = rw here.at kept.inside;
+  boundary = rw here.at kept.boundary;
+  few = rw (here.nesting, here.at) kept.few;
+  onward = ap (λ at. history_from history (drop at text)) here.at ∙ kept.onward;
+}
 
 -- a piece here has some bytes, and all of them lie inside
 pub piece_here : (text : Text) (history : History) (reader : Reader) (piece : Piece) → IsStateAfter text history reader → step_here text history reader ≡ Stands piece → (1 ≤ piece.len) × (reader.at + piece.len ≤ length text)
 piece_here text history reader piece kept stands =
     let fits = piece_fits language history (drop reader.at text) piece stands in
-    let least = (behind_some reader.follows_gap history.before kept.before).1 in
+    let least = (behind_some reader.before history.before kept.before).1 in
     let some : least_len history.before ≤ piece.len = fits.some in
     let inside : piece.len ≤ length (drop reader.at text) = fits.inside in
     (omega (arith, least, some), omega (arith, inside, length-drop reader.at text, kept.inside))

@@ -3,11 +3,14 @@ use Rattle.std.proofs.Common.{◌≡◌, ℕ, zero, suc, ◌+◌, ◌<◌, ◌�
 use Rattle.std.specs.Prelude.{Option}
 use Rattle.starlark_grammar.specs.Words.{Text, language}
 use Rattle.starlark_grammar.specs.Tokens.{Fault, Lexeme, Spanned}
+use Rattle.std.specs.List.{AllByRecursion}
+use Rattle.starlark_grammar.specs.Cuts.{InOrder}
 use Rattle.starlark_grammar.specs.Reading.{outcome}
 use Rattle.starlark_syntax.specs.Lexemes.{shown_lexeme}
-use Rattle.starlark_syntax.specs.Lexer.{LexerItem, Given, Refused, items}
+use Rattle.starlark_syntax.specs.Lexer.{IsWithin, LexerItem, Given, Refused, items}
 use Rattle.starlark_syntax.specs.Joints.Reader.{IsSomething}
 use Rattle.starlark_token.specs.TokenViews.{TokenView}
+use Rattle.starlark_grammar.proofs.Order.Lexemes.{outcome_order}
 use Rattle.starlark_grammar.proofs.Reading.Faults.{outcome_fault}
 use Rattle.starlark_grammar.proofs.Indentation.Totals.{outcome_balances}
 
@@ -54,6 +57,31 @@ some_item text h inside some = by_rest (drop h (map shown_lexeme (outcome text).
     by_rest (x ∷ more) e fault has = (Given x, lexeme_item text h x more e)
     by_rest [] e (Some fault) has = (Refused fault, fault_item text h fault inside e has)
     by_rest [] e None has = absurd (some e has)
+
+-- lexemes lie inside, up to a place
+order_reach : (text : Text) (from : ℕ) (lexemes : List Lexeme) (to : ℕ) → InOrder text from lexemes to → from ≤ to
+order_reach text from [] to h = h.0
+order_reach text from (l ∷ ls) to h = omega (arith, h.0, h.1, order_reach text l.end ls to h.3)
+
+order_within : (text : Text) (from : ℕ) (lexemes : List Lexeme) (to : ℕ) → InOrder text from lexemes to → to ≤ length text → AllByRecursion (λ (l : Lexeme). (l.begin ≤ l.end) × (l.end ≤ length text)) lexemes
+order_within text from [] to h inside = tt
+order_within text from (l ∷ ls) to h inside =
+    let reach = order_reach text l.end ls to h.3 in
+    ((h.1, omega (arith, reach, inside)), order_within text l.end ls to h.3 inside)
+
+pub all_within : (text : Text) → AllByRecursion (λ (l : Lexeme). (l.begin ≤ l.end) × (l.end ≤ length text)) (outcome text).lexemes
+all_within text = let order = (outcome_order text).0 in order_within text 0 (outcome text).lexemes order.0 order.2 order.1
+
+one_within : (P : ℕ → ℕ → Type 0) (ls : List Lexeme) (h : ℕ) (x : Spanned TokenView) (more : List (Spanned TokenView)) → AllByRecursion (λ (l : Lexeme). P l.begin l.end) ls → drop h (map shown_lexeme ls) ≡ x ∷ more → P x.begin x.end
+one_within P [] zero x more all e = cc
+one_within P [] (suc h) x more all e = cc
+one_within P (l ∷ ls) zero x more all e = let same : shown_lexeme l ≡ x = cc in subst (λ (s : Spanned TokenView). P s.begin s.end) same all.0
+one_within P (l ∷ ls) (suc h) x more all e = one_within P ls h x more all.1 e
+
+pub lexeme_within : (text : Text) (h : ℕ) (x : Spanned TokenView) (more : List (Spanned TokenView)) → length text < 2 ^ 32 → drop h (map shown_lexeme (outcome text).lexemes) ≡ x ∷ more → IsWithin text x.begin x.end
+lexeme_within text h x more short e =
+    let both = one_within (λ begin end. (begin ≤ end) × (end ≤ length text)) (outcome text).lexemes h x more (all_within text) e in
+    (both.0, both.1, short)
 
 -- the fault lies inside
 pub fault_within : (text : Text) (fault : Spanned Fault) → (outcome text).fault ≡ Some fault → (fault.begin ≤ fault.end) × (fault.end ≤ length text)

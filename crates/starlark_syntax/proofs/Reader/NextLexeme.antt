@@ -8,7 +8,7 @@ use Rattle.starlark_grammar.specs.Reading.{History, lexemes_along, outcome, outc
 use Rattle.starlark_syntax.specs.Lexemes.{fault_view, shown_lexeme}
 use Rattle.starlark_syntax.specs.Joints.Nesting.{bracket_count}
 use Rattle.starlark_syntax.specs.Joints.Pending.{IsFirst, IsIdle, pending_lexemes}
-use Rattle.starlark_syntax.specs.Joints.Reader.{IsAhead, IsAheadBehind, IsStateAfter, IsLeft, IsOver, IsReady, IsSomething, outcome_along, remaining_outcome}
+use Rattle.starlark_syntax.specs.Joints.Reader.{IsAhead, IsAheadBehind, IsStateAfter, IsLeft, IsOver, IsReady, IsSomething, history_of, outcome_along, remaining_outcome}
 use Rattle.starlark_token.specs.TokenViews.{TokenView}
 use Rattle.starlark_error.specs.declared.lexeme_error.LexemeError.{LexemeError}
 use Rattle.starlark_token.specs.declared.tokens.Token.{Token}
@@ -16,30 +16,14 @@ use Rattle.starlark_syntax.specs.declared.lexer.reader.Reader.{Reader}
 use Rattle.starlark_syntax.specs.declared.lexer.reader.Stage.{Stage}
 use Rattle.starlark_syntax.specs.declared.lexer.reader.Stage.TheVariants as stage
 use Rattle.starlark_syntax.specs.declared.lexer.layout.pending.Pending.{Pending}
+use Rattle.starlark_syntax.proofs.Reader.Here.{IsHere, kept_here}
 use Rattle.starlark_syntax.proofs.Reader.Taken.{none_before}
-
--- between two readers at most the stage, and what was read and is still to be handed out, differ
-pub record IsHere (old new : Reader) : Type 0 where
-  pub at : new.at ≡ old.at
-  pub nesting : new.nesting ≡ old.nesting
-  pub levels : new.levels ≡ old.levels
-  pub follows_gap : new.follows_gap ≡ old.follows_gap
-
-kept_here : (text : Text) (history : History) (old new : Reader) → IsHere old new → IsStateAfter text history old → IsStateAfter text history new
-kept_here text history old new here kept = record {
-  nesting = rw here.nesting kept.nesting;
-  levels = rw here.levels kept.levels;
-  before = rw here.follows_gap kept.before;
-  inside = rw here.at kept.inside;
-  boundary = rw here.at kept.boundary;
-  few = rw (here.nesting, here.at) kept.few;
-}
 
 pub same_left : (text : Text) (old new : Reader) (stage : Stage) (left : Outcome) → IsHere old new → IsLeft text old stage left → IsLeft text new stage left
 same_left text old new stage.Begin left here h = (h.0, here.at ∙ h.1, rw here.nesting h.2, here.levels ∙ h.3, ap bracket_count here.nesting ∙ h.4)
 same_left text old new stage.Onward left here h = (h.0, kept_here text h.0 old new here h.1, h.2 ∙ ap (λ at. remaining_outcome h.0 at (drop at text)) (sym here.at))
 same_left text old new (stage.Fault begin fault end) left here h = h
-same_left text old new stage.Closed left here h = h
+same_left text old new stage.Closed left here h = (h.0, kept_here text (history_of text) old new here h.1)
 
 -- what is ahead of a reader is ahead of one that stands where it does
 pub ahead_here : (text : Text) (old new : Reader) (lexemes : List (Spanned TokenView)) (fault : Option (Spanned Fault)) → IsHere old new → new.stage ≡ old.stage → new.pending ≡ old.pending → IsAhead text old old.stage lexemes fault → IsAhead text new new.stage lexemes fault
@@ -74,20 +58,22 @@ fault_next text reader lexemes fault begin error end idle e ahead =
     let both = none_before text reader reader.stage lexemes fault _ idle ahead is.2 in
     (is.0, is.1, both.0, both.1)
 
-pub nothing_next : (text : Text) (old new : Reader) (lexemes : List (Spanned TokenView)) (fault : Option (Spanned Fault)) → IsIdle text old.pending → new.pending ≡ old.pending → old.stage ≡ stage.Closed → new.stage ≡ stage.Closed
-    → IsAhead text old old.stage lexemes fault → (lexemes ≡ []) × (fault ≡ None) × IsAhead text new new.stage [] None
-nothing_next text old new lexemes fault idle same e e_now ahead =
+pub nothing_next : (text : Text) (old new : Reader) (lexemes : List (Spanned TokenView)) (fault : Option (Spanned Fault)) → IsHere old new → IsIdle text old.pending → new.pending ≡ old.pending → old.stage ≡ stage.Closed → new.stage ≡ stage.Closed
+    → IsAhead text old old.stage lexemes fault → (lexemes ≡ []) × (fault ≡ None) × IsAhead text new new.stage [] None × IsStateAfter text (history_of text) new
+nothing_next text old new lexemes fault here idle same e e_now ahead =
     let is = subst (λ (s : Stage). IsLeft text old s ahead.left) e ahead.is_left in
-    let both = none_before text old old.stage lexemes fault _ idle ahead is in (
+    let kept = kept_here text (history_of text) old new here is.1 in
+    let both = none_before text old old.stage lexemes fault _ idle ahead is.0 in (
       both.0,
       both.1,
       record {
         left = record { lexemes = []; fault = None };
-        is_left = subst (λ (s : Stage). IsLeft text new s (record { lexemes = []; fault = None })) (sym e_now) refl;
+        is_left = subst (λ (s : Stage). IsLeft text new s (record { lexemes = []; fault = None })) (sym e_now) (refl, kept);
         is_pending = rw same idle.0;
         ahead = ap (λ ls. map shown_lexeme ls ++ []) (sym (ap (pending_lexemes text) same ∙ idle.1));
         behind_them = refl;
       },
+      kept,
     )
 
 -- Something is ahead of a text that isn't read to its end.
@@ -142,19 +128,19 @@ none_left text old new (Some x) none first ready = absurd (none x refl)
 -- what is ahead stays so
 pub ahead_now : (text : Text) (old : Reader) (new : Pending) (now : Stage) (lexemes : List (Spanned TokenView)) (fault : Option (Spanned Fault)) → new ≡ old.pending → old.stage ≡ now → IsAhead text old old.stage lexemes fault → IsAhead text (record old { pending = new }) now lexemes fault
 ahead_now text old new now lexemes fault same e ahead =
-    subst (λ (s : Stage). IsAhead text (record old { pending = new }) s lexemes fault) e (ahead_here text old (record old { pending = new }) lexemes fault (record { at = refl; nesting = refl; levels = refl; follows_gap = refl }) refl same ahead)
+    subst (λ (s : Stage). IsAhead text (record old { pending = new }) s lexemes fault) e (ahead_here text old (record old { pending = new }) lexemes fault (record { at = refl; nesting = refl; levels = refl; before = refl }) refl same ahead)
 
 -- behind the last lexeme
 pub over : (now : Stage) → ((begin : ℕ) × (error : LexemeError) × (end : ℕ) × (now ≡ stage.Fault begin error end)) ⊎ (now ≡ stage.Closed) → IsOver now
 over now (inl at_fault) = subst IsOver (sym at_fault.3) tt
 over now (inr closed) = subst IsOver (sym closed) tt
 
-pub last_next : (text : Text) (old new : Reader) (lexemes : List (Spanned TokenView)) (fault : Option (Spanned Fault)) → IsIdle text old.pending → new.pending ≡ old.pending → IsOver old.stage → ((begin : ℕ) (error : LexemeError) (end : ℕ) → old.stage ≡ stage.Fault begin error end → ⊥)
-    → new.stage ≡ stage.Closed → IsAhead text old old.stage lexemes fault → (lexemes ≡ []) × (fault ≡ None) × IsAhead text new new.stage [] None
-last_next text old new lexemes fault idle same all none e_now ahead = by old.stage refl all
+pub last_next : (text : Text) (old new : Reader) (lexemes : List (Spanned TokenView)) (fault : Option (Spanned Fault)) → IsHere old new → IsIdle text old.pending → new.pending ≡ old.pending → IsOver old.stage → ((begin : ℕ) (error : LexemeError) (end : ℕ) → old.stage ≡ stage.Fault begin error end → ⊥)
+    → new.stage ≡ stage.Closed → IsAhead text old old.stage lexemes fault → (lexemes ≡ []) × (fault ≡ None) × IsAhead text new new.stage [] None × IsStateAfter text (history_of text) new
+last_next text old new lexemes fault here idle same all none e_now ahead = by old.stage refl all
   where
-    by : (now : Stage) → old.stage ≡ now → IsOver now → (lexemes ≡ []) × (fault ≡ None) × IsAhead text new new.stage [] None
+    by : (now : Stage) → old.stage ≡ now → IsOver now → (lexemes ≡ []) × (fault ≡ None) × IsAhead text new new.stage [] None × IsStateAfter text (history_of text) new
     by stage.Begin e h = absurd h
     by stage.Onward e h = absurd h
     by (stage.Fault begin error end) e h = absurd (none begin error end e)
-    by stage.Closed e h = nothing_next text old new lexemes fault idle same e e_now ahead
+    by stage.Closed e h = nothing_next text old new lexemes fault here idle same e e_now ahead

@@ -6,7 +6,7 @@ use Rattle.starlark_grammar.specs.Tokens.{Fault, Outcome, Spanned, moved}
 use Rattle.starlark_grammar.specs.Margins.{margin_of}
 use Rattle.starlark_grammar.specs.Pieces.{Ends, Fails, Piece, Stands, Step, first_margin, step_at}
 use Rattle.starlark_grammar.specs.Reading.{History, IsLongestReading, after, after_all, closing, lexemes_along, next_step, nothing, outcome, outcome_in, outcome_of, pieces_len, read, read_from, situation}
-use Rattle.starlark_syntax.specs.Joints.Reader.{outcome_along, remaining_outcome}
+use Rattle.starlark_syntax.specs.Joints.Reader.{history_from, history_of, outcome_along, remaining_outcome}
 use Rattle.starlark_grammar.proofs.Reading.Readings.{longest_onward, one_longest, piece_fits, read_from_is, read_is, started, stops_here}
 use Rattle.starlark_grammar.proofs.Reading.Steps.{is_nothing}
 
@@ -66,6 +66,20 @@ onward_ends history at text h ends =
     left_by history at text [] Ends h (stops_here language history text Ends ends (λ piece e. cc))
     ∙ ap (λ n. record { lexemes = closing n history; fault = None }) here
 
+-- The history at the text's end, one piece further
+
+pub history_onward : (history : History) (text : Text) (piece : Piece) → is_nothing history.before ≡ false → next_step language history text ≡ Stands piece → history_from history text ≡ history_from (after history piece) (drop piece.len text)
+unfolding history_from
+history_onward history text piece h stands =
+    let both = one_longest language history text _ _ _ _ (read_from_is language history 0 text h) (longest_onward language history text piece _ _ stands (longest_behind history text piece stands)) in
+    ap (after_all history) both.0
+
+pub history_ends : (history : History) (text : Text) → is_nothing history.before ≡ false → next_step language history text ≡ Ends → history_from history text ≡ history
+unfolding history_from
+history_ends history text h ends =
+    let both = one_longest language history text _ [] _ Ends (read_from_is language history 0 text h) (stops_here language history text Ends ends (λ piece e. cc)) in
+    ap (after_all history) both.0
+
 -- The text's begin
 
 pub margin_first : (text : Text) → next_step language nothing text ≡ first_margin text
@@ -93,6 +107,13 @@ first_stands text piece e =
     ∙ begun_along text piece (read_from language (after nothing piece) 0 (drop piece.len text)).pieces (read_from language (after nothing piece) 0 (drop piece.len text)).last in
     let more = along_onward nothing 0 piece (read_from language (after nothing piece) 0 (drop piece.len text)).pieces (read_from language (after nothing piece) 0 (drop piece.len text)).last in
     record { lexemes = ap (λ (o : Outcome). o.lexemes) whole ∙ more.lexemes; fault = ap (λ (o : Outcome). o.fault) whole ∙ more.fault }
+
+pub history_first : (text : Text) (piece : Piece) → first_margin text ≡ Stands piece → history_of text ≡ history_from (after nothing piece) (drop piece.len text)
+unfolding history_from history_of
+history_first text piece e =
+    let stands : next_step language nothing text ≡ Stands piece = margin_first text ∙ e in
+    let both = one_longest language nothing text _ _ _ _ (read_is language text) (longest_onward language nothing text piece _ _ stands (longest_behind nothing text piece stands)) in
+    ap (after_all nothing) both.0
 
 pub first_fails : (text : Text) (fault : Spanned Fault) → first_margin text ≡ Fails fault → outcome text ≡ record { lexemes = (margin_of text).comments; fault = Some (moved 0 fault) }
 first_fails text fault e = whole_by text [] (Fails fault) (stops_here language nothing text (Fails fault) (margin_first text ∙ e) (λ piece k. cc))

@@ -22,10 +22,12 @@ use Rattle.starlark_syntax.specs.Joints.Pending.{IsIdle}
 use Rattle.starlark_token.specs.declared.tokens.Token.{Token}
 use Rattle.starlark_scanner.specs.declared.scanner.word.Word.{Word}
 use Rattle.starlark_syntax.specs.Joints.Pieces.{IsBehind, IsPiece, nothing_of}
-use Rattle.starlark_syntax.specs.Joints.Reader.{IsAhead, IsAheadBehind, IsStateAfter, IsRead, IsWordHere, left_here, step_here}
+use Rattle.starlark_syntax.specs.Joints.Reader.{IsAhead, IsAheadBehind, IsStateAfter, IsRead, IsWordHere, before_view, left_here, silent_sort, step_here}
 use Rattle.starlark_token.specs.TokenViews.{TokenView, Whole, token_view}
 use Rattle.starlark_syntax.specs.declared.lexer.nesting.Place.{Place}
 use Rattle.starlark_syntax.specs.declared.lexer.reading.Piece as code
+use Rattle.starlark_syntax.specs.declared.lexer.reader.Before as sort
+use Rattle.starlark_syntax.specs.declared.lexer.reader.Before.TheVariants as before
 use Rattle.starlark_syntax.specs.declared.lexer.reader.Reader.{Reader}
 use Rattle.starlark_syntax.specs.declared.lexer.reader.Stage.TheVariants as stage
 use Rattle.starlark_syntax.proofs.Reader.CodePlaces.{word_at, word_len}
@@ -34,14 +36,25 @@ use Rattle.starlark_syntax.proofs.Reader.Taken.{none_before, read_ahead, took}
 use Rattle.starlark_syntax.proofs.Reader.Waiting.{hands_none}
 
 -- what was read at a reader's place stands there
-pub piece_read : (text : Text) (history : History) (reader : Reader) (place : Place) (balanced : Bool) (rest : Text) (piece : code.Piece) → rest ≡ drop reader.at text → IsStateAfter text history reader
+pub piece_read : (text : Text) (history : History) (reader : Reader) (place : Place) (balanced follows_gap : Bool) (rest : Text) (piece : code.Piece) → rest ≡ drop reader.at text → IsStateAfter text history reader
     → ((tokens : List Rattle.starlark_grammar.specs.Tokens.Token) → Represents tokens reader.nesting → mode_view place ≡ mode_after tokens)
     → ((tokens : List Rattle.starlark_grammar.specs.Tokens.Token) → Represents tokens reader.nesting → balanced ≡ is_balanced tokens)
-    → ((s : Situation) → s.place ≡ mode_view place → s.is_balanced ≡ balanced → IsBehind reader.follows_gap s.before → IsPiece s.levels rest (step_at language s rest) piece)
+    → ((before : pieces.Before) → before_view reader.before ≡ before → IsBehind follows_gap before)
+    → ((s : Situation) → s.place ≡ mode_view place → s.is_balanced ≡ balanced → IsBehind follows_gap s.before → IsPiece s.levels rest (step_at language s rest) piece)
     → IsPiece (open_widths history.widths) (drop reader.at text) (step_here text history reader) piece
 unfolding next_step situation
-piece_read text history reader place balanced rest piece e kept here count is =
-    subst (λ (t : Text). IsPiece (open_widths history.widths) t (step_at language (situation history) t) piece) e (is (situation history) (sym (here history.tokens kept.nesting)) (sym (count history.tokens kept.nesting)) kept.before)
+piece_read text history reader place balanced follows_gap rest piece e kept here count gap is =
+    subst (λ (t : Text). IsPiece (open_widths history.widths) t (step_at language (situation history) t) piece) e (is (situation history) (sym (here history.tokens kept.nesting)) (sym (count history.tokens kept.nesting)) (gap history.before kept.before))
+
+-- whether the piece right before is a skipped one
+abbrev is_gap_sort : sort.Before → Bool
+is_gap_sort before.Gap = true
+is_gap_sort sort = false
+
+behind_sort : (sort : sort.Before) (before : pieces.Before) → before_view sort ≡ before → IsBehind (is_gap_sort sort) before
+behind_sort before.Layout before is = subst (IsBehind false) is refl
+behind_sort before.Gap before is = subst (IsBehind true) is refl
+behind_sort before.Other before is = subst (IsBehind false) is refl
 
 -- the same of a gap
 pub gap_read : (text : Text) (history : History) (reader : Reader) (place : Place) (rest : Text) (len : ℕ) → rest ≡ drop reader.at text → IsStateAfter text history reader
@@ -50,14 +63,14 @@ pub gap_read : (text : Text) (history : History) (reader : Reader) (place : Plac
     → step_here text history reader ≡ pieces.gap len
 unfolding next_step situation
 gap_read text history reader place rest len e kept here is =
-    subst (λ (t : Text). step_at language (situation history) t ≡ pieces.gap len) e (is (situation history) reader.follows_gap (sym (here history.tokens kept.nesting)) kept.before)
+    subst (λ (t : Text). step_at language (situation history) t ≡ pieces.gap len) e (is (situation history) (is_gap_sort reader.before) (sym (here history.tokens kept.nesting)) (behind_sort reader.before history.before kept.before))
 
 -- what a word here comes to
 pub word_read : (text : Text) (history : History) (reader : Reader) (word : Word) → IsStateAfter text history reader → IsWordHere text reader word
     → step_here text history reader ≡ pieces.word_step (situation history) word.class (take word.len (drop reader.at text)) (drop word.len (drop reader.at text))
 unfolding next_step situation
 word_read text history reader word kept here =
-    word_at reader.follows_gap (situation history) (drop reader.at text) (mode_after history.tokens) word.class word.len (here.code history.tokens kept.nesting) kept.before refl (sym here.front) here.bang
+    word_at (is_gap_sort reader.before) (situation history) (drop reader.at text) (mode_after history.tokens) word.class word.len (here.code history.tokens kept.nesting) (behind_sort reader.before history.before kept.before) refl (sym here.front) here.bang
 
 pub name_step : (text : Text) (history : History) (reader : Reader) (len : ℕ) (name : String Global) → IsStateAfter text history reader → IsWordHere text reader (record { class = class.Identifier; len = len }) → string_bytes name ≡ take len (drop reader.at text)
     → IsStep (step_here text history reader) (step.Token (token.Identifier name) len)
@@ -79,8 +92,8 @@ terminal_step text history reader terminal len place found kept here at view own
   view,
   own,
   word_read text history reader (record { class = class.Fixed terminal; len = len }) kept here
-    ∙ ap (λ n. pieces.token n (pieces.terminal_token (mode_after history.tokens) terminal)) (word_len (drop reader.at text) (class.Fixed terminal) len (sym here.front))
-    ∙ ap (λ m. pieces.token len (pieces.terminal_token m terminal)) (sym (at history.tokens kept.nesting)),
+      ∙ ap (λ n. pieces.token n (pieces.terminal_token (mode_after history.tokens) terminal)) (word_len (drop reader.at text) (class.Fixed terminal) len (sym here.front))
+      ∙ ap (λ m. pieces.token len (pieces.terminal_token m terminal)) (sym (at history.tokens kept.nesting)),
 )
 
 -- what is left where a reader goes on
@@ -114,9 +127,9 @@ nothing_here text history reader len is_gap kept stands =
     let same = nothing_len len is_gap in
     (omega (arith, here.0, same), omega (arith, here.1, same))
 
--- they leave all as it is but for the place
+-- they leave all as it is but for the place and what stands before it
 pub nothing_taken : (text : Text) (history : History) (old new : Reader) (len : ℕ) (is_gap : Bool) → IsUtf8 text → IsStateAfter text history old → step_here text history old ≡ nothing_of len is_gap → IsIdle text old.pending
-    → new ≡ record old { at = old.at + len; follows_gap = is_gap; stage = stage.Onward } → IsRead text (left_here text history old) None new
+    → new ≡ record old { at = old.at + len; before = silent_sort is_gap; stage = stage.Onward } → IsRead text (left_here text history old) None new
 nothing_taken text history old new len true utf8 kept stands idle is =
     let here = piece_here text history old (nothing_piece len true) kept stands in
     rw is (took text history old None _ (nothing_piece len true) utf8 kept stands kept.nesting (kept.levels ∙ ap open_widths (sym (append-nil history.widths))) refl refl (omega (arith, kept.few, here.0)) refl (hands_none text old.pending idle))

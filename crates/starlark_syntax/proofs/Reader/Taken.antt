@@ -10,18 +10,18 @@ use Rattle.starlark_grammar.specs.Tokens.{Lexeme, Outcome, Spanned, moved}
 use Rattle.starlark_grammar.specs.Tokens as grammar
 use Rattle.starlark_grammar.specs.Depths.{is_any_closing, is_any_opening, open_fstring}
 use Rattle.starlark_grammar.specs.Margins.{Margin, comment_lines, comments_from, fits, has_tab, indentation, is_content, is_widest, margin_len, margin_of, open_widths, width_of}
-use Rattle.starlark_grammar.specs.Pieces.{Before, Ends, Fails, Gap, Layout, Nothing, Other, Piece, Stands, first_margin, line_end, margin_step}
+use Rattle.starlark_grammar.specs.Pieces.{Ends, Fails, Layout, Piece, Stands, first_margin, line_end, margin_step}
 use Rattle.starlark_grammar.specs.Reading.{History, after, closing, next_step, nothing, outcome, tokens_onto}
 use Rattle.starlark_syntax.specs.Lexemes.{fault_view, lexeme_view, shown_lexeme}
 use Rattle.starlark_syntax.specs.Joints.Layout.{IsRefused, IsTaken}
 use Rattle.starlark_syntax.specs.Joints.Pending.{IsIdle, IsPending, pending_lexemes}
 use Rattle.starlark_syntax.specs.Joints.Nesting.{Represents, bracket_count, change_by, closes, fstring_of, opens}
-use Rattle.starlark_syntax.specs.Joints.Pieces.{IsBehind}
-use Rattle.starlark_syntax.specs.Joints.Reader.{IsAhead, IsAheadBehind, IsStateAfter, IsLeft, IsRead, left_here, left_to_read, remaining_outcome, step_here}
+use Rattle.starlark_syntax.specs.Joints.Reader.{IsAhead, IsAheadBehind, IsStateAfter, IsLeft, IsRead, before_view, history_from, history_of, left_here, left_to_read, remaining_outcome, step_here}
 use Rattle.starlark_token.specs.TokenViews.{TokenView, Whole, token_view}
 use Rattle.starlark_error.specs.declared.lexeme_error.LexemeError.{LexemeError}
 use Rattle.starlark_syntax.specs.declared.lexer.nesting.Nesting.{Nesting}
 use Rattle.starlark_syntax.specs.declared.lexer.nesting.changes.Change.TheVariants as change
+use Rattle.starlark_syntax.specs.declared.lexer.reader.Before.TheVariants as sort
 use Rattle.starlark_syntax.specs.declared.lexer.reader.Reader.{Reader}
 use Rattle.starlark_syntax.specs.declared.lexer.reader.Stage.{Stage}
 use Rattle.starlark_syntax.specs.declared.lexer.reader.Stage.TheVariants as stage
@@ -32,7 +32,8 @@ use Rattle.starlark_syntax.proofs.Indentation.CommentLines.{margin_comments}
 use Rattle.starlark_grammar.proofs.Order.Edges.{boundary_shift}
 use Rattle.starlark_grammar.proofs.Lists.{drop-sum}
 use Rattle.starlark_syntax.proofs.Nesting.Counts.{closed_onward, fstring_onward, opened_onward}
-use Rattle.starlark_syntax.proofs.Reader.Onward.{GoesOn, first_fails, first_stands, margin_first, onward_ends, onward_fails, onward_stands}
+use Rattle.starlark_syntax.proofs.Reader.Here.{IsHere, behind_some, kept_here}
+use Rattle.starlark_syntax.proofs.Reader.Onward.{GoesOn, first_fails, first_stands, history_ends, history_first, history_onward, margin_first, onward_ends, onward_fails, onward_stands}
 use Rattle.starlark_grammar.proofs.Reading.Readings.{fault_fits, one_least, piece_fits}
 use Rattle.starlark_syntax.proofs.Nesting.FStrings.{innermost_onward, keeps, outer_onward}
 use Rattle.starlark_grammar.proofs.Reading.Steps.{Each, is_nothing}
@@ -40,11 +41,8 @@ use Rattle.starlark_grammar.proofs.Choices.{either}
 use Rattle.starlark_syntax.proofs.Reader.Waiting.{Hands, hands_first, hands_later}
 
 -- What is kept is kept behind the text's first margin.
-pub begun : (follows_gap : Bool) (before : Before) → IsBehind follows_gap before → is_nothing before ≡ false
-begun follows_gap Nothing h = absurd h
-begun follows_gap Layout h = refl
-begun follows_gap Gap h = refl
-begun follows_gap Other h = refl
+begun : (text : Text) (history : History) (reader : Reader) → IsStateAfter text history reader → is_nothing history.before ≡ false
+begun text history reader kept = (behind_some reader.before history.before kept.before).0
 
 -- Layout
 
@@ -155,10 +153,10 @@ first_is_quiet text piece e = subst (Each IsLayout (λ fault. ⊤)) e (margin_is
 
 -- what is kept behind one piece more
 kept_behind : (text : Text) (history : History) (at : ℕ) (new : Reader) (piece : Piece) → IsUtf8 text → IsCharBoundary text at → next_step language history (drop at text) ≡ Stands piece
-    → Represents (tokens_onto history.tokens piece.lexemes) new.nesting → new.levels ≡ open_widths (history.widths ++ option_to_list piece.width) → IsBehind new.follows_gap piece.sort → new.at ≡ at + piece.len → bracket_count new.nesting ≤ new.at
-    → IsStateAfter text (after history piece) new
+    → Represents (tokens_onto history.tokens piece.lexemes) new.nesting → new.levels ≡ open_widths (history.widths ++ option_to_list piece.width) → before_view new.before ≡ piece.sort → new.at ≡ at + piece.len → bracket_count new.nesting ≤ new.at
+    → history_from (after history piece) (drop piece.len (drop at text)) ≡ history_of text → IsStateAfter text (after history piece) new
 unfolding after
-kept_behind text history at new piece utf8 here stands nesting levels before is_at few =
+kept_behind text history at new piece utf8 here stands nesting levels before is_at few onward =
     let found = piece_bounded history (drop at text) piece (IsUtf8-drop text at utf8 here) stands in
     let end : IsCharBoundary text (at + piece.len) = boundary_shift text at piece.len here found.1 in
     let last : at + piece.len ≤ length text = end.0 in
@@ -169,6 +167,7 @@ kept_behind text history at new piece utf8 here stands nesting levels before is_
       inside = omega (arith, last, is_at);
       boundary = subst (IsCharBoundary text) (sym is_at) end;
       few = few;
+      onward = ap (history_from (after history piece)) (ap (λ n. drop n text) is_at ∙ drop-sum at piece.len text) ∙ onward;
     }
 
 -- a piece was read, by what is left behind it
@@ -189,23 +188,23 @@ read_piece text whole history at given new piece goes kept is_at is_onward hands
     }
 
 pub took : (text : Text) (history : History) (old : Reader) (given : Option (ℕ × Token × ℕ)) (new : Reader) (piece : Piece) → IsUtf8 text → IsStateAfter text history old → step_here text history old ≡ Stands piece
-    → Represents (tokens_onto history.tokens piece.lexemes) new.nesting → new.levels ≡ open_widths (history.widths ++ option_to_list piece.width) → IsBehind new.follows_gap piece.sort → new.at ≡ old.at + piece.len → bracket_count new.nesting ≤ new.at
+    → Represents (tokens_onto history.tokens piece.lexemes) new.nesting → new.levels ≡ open_widths (history.widths ++ option_to_list piece.width) → before_view new.before ≡ piece.sort → new.at ≡ old.at + piece.len → bracket_count new.nesting ≤ new.at
     → new.stage ≡ stage.Onward → Hands text given new.pending (map (moved old.at) piece.lexemes) → IsRead text (left_here text history old) given new
 took text history old given new piece utf8 kept stands nesting levels before is_at few is_onward hands =
-    read_piece text (left_here text history old) history old.at given new piece (onward_stands history old.at (drop old.at text) piece (begun old.follows_gap history.before kept.before) stands)
-    (kept_behind text history old.at new piece utf8 kept.boundary stands nesting levels before is_at few) is_at is_onward hands
+    read_piece text (left_here text history old) history old.at given new piece (onward_stands history old.at (drop old.at text) piece (begun text history old kept) stands)
+    (kept_behind text history old.at new piece utf8 kept.boundary stands nesting levels before is_at few (sym (history_onward history (drop old.at text) piece (begun text history old kept) stands) ∙ kept.onward)) is_at is_onward hands
 
 pub took_first : (text : Text) (new : Reader) (piece : Piece) → IsUtf8 text → first_margin text ≡ Stands piece
-    → Represents (tokens_onto [] piece.lexemes) new.nesting → new.levels ≡ open_widths ([] ++ option_to_list piece.width) → IsBehind new.follows_gap piece.sort → new.at ≡ 0 + piece.len → bracket_count new.nesting ≤ new.at
+    → Represents (tokens_onto [] piece.lexemes) new.nesting → new.levels ≡ open_widths ([] ++ option_to_list piece.width) → before_view new.before ≡ piece.sort → new.at ≡ 0 + piece.len → bracket_count new.nesting ≤ new.at
     → new.stage ≡ stage.Onward → Hands text None new.pending (map (moved 0) piece.lexemes) → IsRead text (outcome text) None new
 took_first text new piece utf8 stands nesting levels before is_at few is_onward hands =
     read_piece text (outcome text) nothing 0 None new piece (first_stands text piece stands)
-    (kept_behind text nothing 0 new piece utf8 (IsCharBoundary-start text utf8) (margin_first text ∙ stands) nesting levels before is_at few) is_at is_onward hands
+    (kept_behind text nothing 0 new piece utf8 (IsCharBoundary-start text utf8) (margin_first text ∙ stands) nesting levels before is_at few (sym (history_first text piece stands))) is_at is_onward hands
 
 pub piece_inside : (text : Text) (history : History) (old : Reader) (piece : Piece) → IsStateAfter text history old → step_here text history old ≡ Stands piece → (old.at < old.at + piece.len) × (old.at + piece.len ≤ length text)
 piece_inside text history old piece kept stands =
     let fits = piece_fits language history (drop old.at text) piece stands in
-    let least = one_least history.before (begun old.follows_gap history.before kept.before) in
+    let least = one_least history.before (begun text history old kept) in
     let some = fits.some in
     let inside = fits.inside in
     let here = kept.inside in
@@ -229,7 +228,7 @@ read_fault text whole at lexemes new fault error left view is hands = record {
 pub failed : (text : Text) (history : History) (old new : Reader) (fault : Spanned grammar.Fault) (error : LexemeError) → IsStateAfter text history old → step_here text history old ≡ Fails fault → fault_view error ≡ Some fault.node
     → new.stage ≡ stage.Fault (old.at + fault.begin) error (old.at + fault.end) → Hands text None new.pending [] → IsRead text (left_here text history old) None new
 failed text history old new fault error kept fails view is hands =
-    read_fault text (left_here text history old) old.at [] new fault error (onward_fails history old.at (drop old.at text) fault (begun old.follows_gap history.before kept.before) fails) view is hands
+    read_fault text (left_here text history old) old.at [] new fault error (onward_fails history old.at (drop old.at text) fault (begun text history old kept) fails) view is hands
 
 pub failed_first : (text : Text) (new : Reader) (fault : Spanned grammar.Fault) (error : LexemeError) → first_margin text ≡ Fails fault → fault_view error ≡ Some fault.node
     → new.stage ≡ stage.Fault (0 + fault.begin) error (0 + fault.end) → Hands text None new.pending (margin_of text).comments → IsRead text (outcome text) None new
@@ -245,13 +244,14 @@ fault_inside text history old fault kept fails =
 
 -- The text's end
 
-pub closed : (text : Text) (history : History) (old : Reader) (given : Option (ℕ × Token × ℕ)) (new : Reader) → IsStateAfter text history old → step_here text history old ≡ Ends → Hands text given new.pending (closing old.at history) → new.stage ≡ stage.Closed → IsRead text (left_here text history old) given new
-closed text history old given new kept ends hands is =
-    let left = onward_ends history old.at (drop old.at text) (begun old.follows_gap history.before kept.before) ends in
+pub closed : (text : Text) (history : History) (old : Reader) (given : Option (ℕ × Token × ℕ)) (new : Reader) → IsHere old new → IsStateAfter text history old → step_here text history old ≡ Ends → Hands text given new.pending (closing old.at history) → new.stage ≡ stage.Closed → IsRead text (left_here text history old) given new
+closed text history old given new here kept ends hands is =
+    let whole = sym (history_ends history (drop old.at text) (begun text history old kept) ends) ∙ kept.onward in
+    let left = onward_ends history old.at (drop old.at text) (begun text history old kept) ends in
     record {
       lexemes = closing old.at history;
       left = record { lexemes = []; fault = None };
-      is_left = rw is refl;
+      is_left = subst (λ now. IsLeft text new now (record { lexemes = []; fault = None })) (sym is) (refl, subst (λ (h : History). IsStateAfter text h new) whole (kept_here text history old new here kept));
       parts = ap (λ (o : Outcome). o.lexemes) left ∙ sym (append-nil (closing old.at history));
       fault = ap (λ (o : Outcome). o.fault) left;
       is_pending = hands.0;
@@ -339,7 +339,7 @@ module _ (text : Text) (history : History) (old : Reader) (len : ℕ) (kept : Is
   line_less new taken is is_at = less_taken text history old new taken.piece kept (line_here ∙ taken.stands) is (is_at ∙ ap (λ n. old.at + n) (sym taken.whole))
 
   pub line_taken : (new : Reader) (whole : ℕ) (found : Token) → token_view found ≡ Whole grammar.Newline → IsUtf8 text → IsTaken text old.at (line_end len (open_widths history.widths) (drop (old.at + len) text)) given_line history.widths new.levels new.pending whole
-      → new.nesting ≡ old.nesting → new.follows_gap ≡ false → new.at ≡ old.at + whole → new.stage ≡ stage.Onward → IsRead text (left_here text history old) (Some (old.at, found, old.at + len)) new
+      → new.nesting ≡ old.nesting → new.before ≡ sort.Layout → new.at ≡ old.at + whole → new.stage ≡ stage.Onward → IsRead text (left_here text history old) (Some (old.at, found, old.at + len)) new
   line_taken new whole found is utf8 taken nesting before is_at is_onward =
       let stands : step_here text history old ≡ Stands taken.piece = line_here ∙ taken.stands in
       let layout = line_is_quiet len (open_widths history.widths) (drop (old.at + len) text) taken.piece taken.stands in
@@ -348,7 +348,7 @@ module _ (text : Text) (history : History) (old : Reader) (len : ℕ) (kept : Is
       rw taken.lexemes (hands_first text new.pending (old.at, found, old.at + len) (record { begin = old.at; node = grammar.Newline; end = old.at + len }) (pending_lexemes text new.pending) taken.is_pending
       (ap (λ view. record { begin = old.at; node = view; end = old.at + len }) is) refl) in
       took text history old (Some (old.at, found, old.at + len)) new taken.piece utf8 kept stands
-      (rw nesting (quiet_kept taken.piece.lexemes history.tokens old.nesting layout.tokens kept.nesting)) taken.open_now (rw layout.sort before) (is_at ∙ ap (λ n. old.at + n) (sym taken.whole)) (rw nesting few) is_onward hands
+      (rw nesting (quiet_kept taken.piece.lexemes history.tokens old.nesting layout.tokens kept.nesting)) taken.open_now (ap before_view before ∙ sym layout.sort) (is_at ∙ ap (λ n. old.at + n) (sym taken.whole)) (rw nesting few) is_onward hands
 
   pub line_refused : (new : Reader) (error : LexemeError) (end : ℕ) → IsRefused text (line_end len (open_widths history.widths) (drop (old.at + len) text)) [] history.widths new.levels new.pending error end
       → new.stage ≡ stage.Fault (old.at + 0) error (old.at + end) → IsRead text (left_here text history old) None new
@@ -364,13 +364,13 @@ pub record IsNew (reader : Reader) : Type 0 where
 
 module _ (text : Text) (old new : Reader) (is_new : IsNew old) where
   pub margin_taken : (whole : ℕ) → IsUtf8 text → IsTaken text 0 (first_margin text) [] [] new.levels new.pending whole
-      → new.nesting ≡ old.nesting → new.follows_gap ≡ false → new.at ≡ old.at + whole → new.stage ≡ stage.Onward → IsRead text (outcome text) None new
+      → new.nesting ≡ old.nesting → new.before ≡ sort.Layout → new.at ≡ old.at + whole → new.stage ≡ stage.Onward → IsRead text (outcome text) None new
   margin_taken whole utf8 taken nesting before is_at is_onward =
       let layout = first_is_quiet text taken.piece taken.stands in
       let few : bracket_count old.nesting ≤ new.at = omega (arith, is_new.few) in
       let end : new.at ≡ 0 + taken.piece.len = omega (arith, is_at, is_new.at, taken.whole) in
       took_first text new taken.piece utf8 taken.stands
-      (rw nesting (quiet_kept taken.piece.lexemes [] old.nesting layout.tokens is_new.nesting)) taken.open_now (rw layout.sort before) end (rw nesting few) is_onward (hands_later text new.pending _ taken.is_pending taken.lexemes)
+      (rw nesting (quiet_kept taken.piece.lexemes [] old.nesting layout.tokens is_new.nesting)) taken.open_now (ap before_view before ∙ sym layout.sort) end (rw nesting few) is_onward (hands_later text new.pending _ taken.is_pending taken.lexemes)
 
   pub margin_refused : (error : LexemeError) (end : ℕ) → IsRefused text (first_margin text) (margin_of text).comments [] new.levels new.pending error end
       → new.stage ≡ stage.Fault (old.at + 0) error (old.at + end) → IsRead text (outcome text) None new

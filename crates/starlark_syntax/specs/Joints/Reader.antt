@@ -1,22 +1,24 @@
 -- What the reader of a text has in front of it, as the grammar sees it.
-use Rattle.std.specs.Prelude.{◌≡◌, true, false, ℕ, ◌+◌, ◌-◌, ◌≤◌, List, [], ◌∷◌, ◌++◌, map, length, drop, Option, Some, None, option_to_list, ⊤}
+use Rattle.std.specs.Prelude.{◌≡◌, Bool, true, false, ℕ, ◌+◌, ◌-◌, ◌≤◌, List, [], ◌∷◌, ◌++◌, map, length, drop, Option, Some, None, option_to_list, ⊤}
 use Rattle.std.specs.Str.{IsCharBoundary}
 use Rattle.starlark_grammar.specs.Words.{Text, language}
 use Rattle.starlark_grammar.specs.Tokens as grammar
 use Rattle.starlark_grammar.specs.Margins.{open_widths}
 use Rattle.starlark_grammar.specs.Depths.{mode_after}
 use Rattle.starlark_grammar.specs.Front.{language_front}
-use Rattle.starlark_grammar.specs.Pieces.{Step, Piece, Fails, is_bang}
+use Rattle.starlark_grammar.specs.Pieces.{Before, Gap, Layout, Other, Step, Piece, Fails, is_bang}
 use Rattle.starlark_scanner.specs.Joints.Words.{word_view}
 use Rattle.starlark_scanner.specs.declared.scanner.word.Word.{Word}
-use Rattle.starlark_grammar.specs.Reading.{History, Reading, after_all, pieces_len, lexemes_along, closing, next_step, read_from, outcome}
+use Rattle.starlark_grammar.specs.Reading.{History, Reading, after_all, nothing, pieces_len, lexemes_along, closing, next_step, read, read_from, outcome}
 use Rattle.starlark_syntax.specs.Lexemes.{fault_view, lexeme_view, shown_lexeme}
 use Rattle.starlark_syntax.specs.Joints.Pending.{IsIdle, IsPending, pending_lexemes}
 use Rattle.starlark_syntax.specs.Joints.Nesting.{Represents, bracket_count}
-use Rattle.starlark_syntax.specs.Joints.Pieces.{IsBehind, is_code}
+use Rattle.starlark_syntax.specs.Joints.Pieces.{is_code}
 use Rattle.starlark_token.specs.TokenViews.{TokenView}
 use Rattle.starlark_token.specs.declared.tokens.Token.{Token}
 use Rattle.starlark_syntax.specs.declared.lexer.reader.Reader.{Reader}
+use Rattle.starlark_syntax.specs.declared.lexer.reader.Before as code
+use Rattle.starlark_syntax.specs.declared.lexer.reader.Before.TheVariants as before
 use Rattle.starlark_syntax.specs.declared.lexer.reader.Next.{Next}
 use Rattle.starlark_syntax.specs.declared.lexer.reader.Next.TheVariants as next
 use Rattle.starlark_syntax.specs.declared.lexer.reader.Stage.{Stage}
@@ -34,21 +36,42 @@ remaining_outcome history at text = go (read_from language history 0 text)
     go : Reading → grammar.Outcome
     go reading = outcome_along history at reading.pieces reading.last
 
--- What is kept of a history before a place is what its tokens, widths and last piece say.
+-- the history at a text's end, behind all that is read of it
+unfoldable pub history_of : Text → History
+history_of text = after_all nothing (read language text).pieces
+
+-- the history behind all that is read of the rest of a text, from one before it
+unfoldable pub history_from : History → Text → History
+history_from history text = after_all history (read_from language history 0 text).pieces
+
+-- what the last piece was
+abbrev pub before_view : code.Before → Before
+before_view before.Layout = Layout
+before_view before.Gap = Gap
+before_view before.Other = Other
+
+-- what a piece is that gives nothing
+abbrev pub silent_sort : Bool → code.Before
+silent_sort true = before.Gap
+silent_sort false = before.Other
+
+-- What is kept of a history before a place is what its tokens, widths and last piece say, and what is read from there on
+-- leads to the history at the text's end.
 pub record IsStateAfter (text : Text) (history : History) (reader : Reader) : Type 0 where
   pub nesting : Represents history.tokens reader.nesting
   pub levels : reader.levels ≡ open_widths history.widths
-  pub before : IsBehind reader.follows_gap history.before
+  pub before : before_view reader.before ≡ history.before
   pub inside : reader.at ≤ length text
   pub boundary : IsCharBoundary text reader.at
   pub few : bracket_count reader.nesting ≤ reader.at
+  pub onward : history_from history (drop reader.at text) ≡ history_of text
 
 -- What is still to be read at a stage: the whole text, the rest from a place on, a fault, or nothing.
 abbrev pub IsLeft : Text → Reader → Stage → grammar.Outcome → Type 0
 IsLeft text reader stage.Begin left = (left ≡ outcome text) × (reader.at ≡ 0) × (Represents [] reader.nesting) × (reader.levels ≡ []) × (bracket_count reader.nesting ≡ 0)
 IsLeft text reader stage.Onward left = (history : History) × IsStateAfter text history reader × (left ≡ remaining_outcome history reader.at (drop reader.at text))
 IsLeft text reader (stage.Fault begin fault end) left = (node : grammar.Fault) × (fault_view fault ≡ Some node) × (left ≡ record { lexemes = []; fault = Some (record { begin = begin; node = node; end = end }) })
-IsLeft text reader stage.Closed left = left ≡ record { lexemes = []; fault = None }
+IsLeft text reader stage.Closed left = (left ≡ record { lexemes = []; fault = None }) × IsStateAfter text (history_of text) reader
 
 -- What is still to be handed out of a text: the lexemes that were read, those still to be read, and the fault behind
 -- them.
@@ -107,7 +130,7 @@ IsSomething lexemes fault = lexemes ≡ [] → fault ≡ None → ⊥
 abbrev pub IsNext : Text → List (grammar.Spanned TokenView) → Option (grammar.Spanned grammar.Fault) → Next → Reader → Type 0
 IsNext text lexemes fault (next.Lexeme lexeme) reader = IsAheadBehind text (Some lexeme) reader lexemes fault
 IsNext text lexemes fault (next.Fault begin error end) reader = (node : grammar.Fault) × (fault_view error ≡ Some node) × (lexemes ≡ []) × (fault ≡ Some (record { begin = begin; node = node; end = end }))
-IsNext text lexemes fault next.Nothing reader = (lexemes ≡ []) × (fault ≡ None) × IsAhead text reader reader.stage [] None
+IsNext text lexemes fault next.Nothing reader = (lexemes ≡ []) × (fault ≡ None) × IsAhead text reader reader.stage [] None × IsStateAfter text (history_of text) reader
 
 -- A word stands where a reader is, at a place of code, and nothing else is to be handed out before it.
 pub record IsWordHere (text : Text) (reader : Reader) (word : Word) : Type 0 where

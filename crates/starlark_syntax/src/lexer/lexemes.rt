@@ -3,7 +3,7 @@
 ghost use Rattle.std.specs.Prelude.{◌≡◌, ◌<◌, ◌≤◌, ◌+◌, ◌^◌, ◌↔◌, ◌||◌, None, length, true, false, IfOk, IsErr};
 ghost use Rattle.std.specs.List.{slice_get};
 ghost use Rattle.starlark_base.specs.Diagnostics.{place_in, unplaced, with_span};
-ghost use Rattle.starlark_syntax.specs.Lexer.{AnswersNext, handed_out_by, is_ended_by, items};
+ghost use Rattle.starlark_syntax.specs.Lexer.{AnswersNext, AnswersWithin, handed_out_by, is_ended_by, items};
 
 use crate::lexer::reader::{Next, Reader};
 use starlark_base::codemap::{CodeMap, OrMemory, Pos, SourceTooLong, Span};
@@ -48,7 +48,7 @@ impl<'a> Model for Lexer<'a> {
 }
 
 /// A fault of a text as an exception, at its place in a code map.
-fn exception(
+pub fn exception(
     alloc: Global,
     begin: usize,
     fault: LexemeError,
@@ -96,6 +96,7 @@ impl<'a> Lexer<'a> {
     fn next_of_all(&mut self) -> Option<Lexeme>
         requires { self.old.has_ended ≡ false }
         ensures item { AnswersNext self.old.code_map (slice_get (items self.old.text) self.old.handed_out) result }
+        ensures within { AnswersWithin self.old.text result }
         ensures after { self.new ≡ record self.old { handed_out = self.old.handed_out + handed_out_by result; has_ended = is_ended_by result } }
     {
         match self.reader.next(self.text) {
@@ -122,9 +123,11 @@ impl<'a> Lexer<'a> {
     }
 
     /// The next lexeme; `None` behind the last, and behind any error. The first error, want of memory too, ends the lexer.
+    /// What is handed out begins at or before its end, and lies inside of the text.
     pub fn next(&mut self) -> Option<Lexeme>
         ensures ended { self.old.has_ended ≡ true → AnswersNext self.old.code_map None result }
         ensures item { self.old.has_ended ≡ false → AnswersNext self.old.code_map (slice_get (items self.old.text) self.old.handed_out) result }
+        ensures within { AnswersWithin self.old.text result }
         ensures after { self.new ≡ record self.old { handed_out = self.old.handed_out + handed_out_by result; has_ended = self.old.has_ended || is_ended_by result } }
     {
         if self.has_ended {

@@ -9,7 +9,9 @@ ghost use Rattle.starlark_grammar.specs.Margins.{open_widths};
 ghost use Rattle.starlark_grammar.specs.Pieces as grammar;
 ghost use Rattle.starlark_grammar.specs.declared.class.Class.TheVariants as class;
 ghost use Rattle.starlark_syntax.specs.Joints.Pending.{IsIdle, IsPending};
-ghost use Rattle.starlark_syntax.specs.Joints.Reader.{IsAhead, IsAheadBehind, IsStateAfter, IsNext, IsOver, IsRead, IsReady, IsSomething, IsWordHere, left_here, left_to_read, step_here};
+ghost use Rattle.starlark_syntax.specs.Joints.Reader.{IsAhead, IsAheadBehind, IsStateAfter, IsNext, IsOver, IsRead, IsReady, IsSomething, IsWordHere, before_view, left_here, left_to_read, silent_sort, step_here};
+ghost use Rattle.starlark_syntax.specs.Joints.Pieces.{IsBehind};
+ghost use Rattle.starlark_grammar.specs.Cuts.{is_layout, is_settled};
 ghost use Rattle.starlark_grammar.specs.Reading.{History, outcome};
 ghost use Rattle.starlark_token.specs.TokenViews.{TokenView};
 ghost use Rattle.starlark_grammar.specs.Depths.{mode_after};
@@ -24,7 +26,7 @@ use crate::lexer::literal::{Opening, Step, TextEnd, quotes_of};
 use crate::lexer::nesting::{Nesting, Place};
 use crate::lexer::reading::code::{gap_len, is_code};
 use crate::lexer::reading::terminals::terminal_token;
-use crate::lexer::reading::{Piece, piece_at};
+use crate::lexer::reading::{Piece, is_outside, piece_at};
 use starlark_error::lexeme_error::LexemeError;
 use starlark_scanner::scanner::{Terminal, Word, common_word};
 use starlark_token::tokens::Token;
@@ -44,15 +46,32 @@ enum Stage {
     Closed,
 }
 
-/// What was read of a text up to a place: the brackets, f-strings and widths that are open there, whether a skipped piece
-/// stands right before it, and what is still to be handed out.
+/// What the piece right before a place is: a margin, a skipped piece, or another.
+#[derive(Clone, Copy, Debug, PartialEq, Eq)]
+enum Before {
+    Layout,
+    Gap,
+    Other,
+}
+
+impl Before {
+    /// What a piece is that gives nothing: a skipped piece, or a line end that doesn't count.
+    fn silent(is_gap: bool) -> Self
+        ensures { result ≡ silent_sort is_gap }
+    {
+        if is_gap { Before::Gap } else { Before::Other }
+    }
+}
+
+/// What was read of a text up to a place: the brackets, f-strings and widths that are open there, what the piece right
+/// before it is, and what is still to be handed out.
 #[derive(Debug, Drop)]
 pub struct Reader {
     alloc: Global,
     at: usize,
     nesting: Nesting,
     levels: Levels,
-    follows_gap: bool,
+    before: Before,
     pending: Pending,
     stage: Stage,
 }
@@ -79,7 +98,7 @@ impl Reader {
             at: 0,
             nesting: Nesting::new(alloc),
             levels: Levels::new(alloc),
-            follows_gap: false,
+            before: Before::Other,
             pending: Pending::nothing(),
             stage: Stage::Begin,
         }
@@ -98,15 +117,15 @@ impl Reader {
         };
     }
 
-    /// Goes on behind so many bytes.
+    /// Goes on behind a piece of so many bytes, of this sort.
     #[inline(always)]
-    fn step_over(&mut self, len: usize, is_gap: bool)
+    fn step_over(&mut self, len: usize, before: Before)
         requires fits { self.old.at + len < 2 ^ 64 }
         requires stage { self.old.stage ≡ Stage.Onward }
-        ensures { self.new ≡ record self.old { at = self.old.at + len; follows_gap = is_gap; stage = Stage.Onward } }
+        ensures { self.new ≡ record self.old { at = self.old.at + len; before = before; stage = Stage.Onward } }
     {
         self.at += len;
-        self.follows_gap = is_gap;
+        self.before = before;
     }
 
     /// Reads the margin at the text's begin.
@@ -122,7 +141,7 @@ impl Reader {
             Laid::Taken { pending, len } => {
                 self.pending = pending;
                 self.stage = Stage::Onward;
-                self.step_over(len, false);
+                self.step_over(len, Before::Layout);
             }
             Laid::Fault {
                 pending,
@@ -154,7 +173,7 @@ impl Reader {
                 len: whole,
             } => {
                 self.pending = pending;
-                self.step_over(whole, false);
+                self.step_over(whole, Before::Layout);
                 Ok(Some((begin, Token::Newline, begin + len)))
             }
             Laid::Fault {
@@ -186,7 +205,7 @@ impl Reader {
     {
         let begin = self.at;
         self.nesting.begin_fstring(opening)?;
-        self.step_over(len, false);
+        self.step_over(len, Before::Other);
         Ok((begin, Token::FStringStart(quotes_of(opening)), begin + len))
     }
 
@@ -202,7 +221,7 @@ impl Reader {
         ensures less { left_to_read text.now self.new self.new.stage < left_to_read text.now self.old Stage.Onward }
     {
         self.nesting.pass(token);
-        self.step_over(len, false);
+        self.step_over(len, Before::Other);
     }
 
     /// Takes a token that was read here.
@@ -241,7 +260,7 @@ impl Reader {
         let between = begin + chunk_len;
         let end = between + len;
         self.nesting.pass(&stop.token());
-        self.step_over(chunk_len + len, false);
+        self.step_over(chunk_len + len, Before::Other);
         if chunk.is_empty() {
             return (between, stop.token(), end);
         }
@@ -279,6 +298,31 @@ impl Reader {
         }
     }
 
+    /// Whether a skipped piece stands right before the place.
+    fn follows_gap(&self) -> bool
+        ensures { (before : grammar.Before) → before_view self.now.before ≡ before → IsBehind result before }
+    {
+        matches!(self.before, Before::Gap)
+    }
+
+    /// Whether a margin stands right before the place.
+    fn follows_margin(&self) -> bool
+        ensures { result ≡ is_layout (before_view self.now.before) }
+    {
+        matches!(self.before, Before::Layout)
+    }
+
+    /// Whether the place is behind a margin, with no bracket, f-string or width open.
+    #[tactic(auto, unfolding(starlark_grammar::specs::Cuts::is_settled))]
+    pub fn is_settled(&self) -> bool
+        ensures { (text : Text) (history : History) → IsStateAfter text history self.now → result ≡ is_settled history }
+    {
+        self.follows_margin()
+            && is_outside(self.nesting.place())
+            && self.nesting.is_balanced()
+            && self.levels.len() == 0
+    }
+
     /// Closes a text without fault at its end: with a `Newline` of no bytes, and a `Dedent` for each open width.
     fn close(&mut self, text: &str) -> PlacedToken
         ensures read { (history : History) → IsStateAfter text.now history self.old → step_here text.now history self.old ≡ grammar.Ends → IsRead text.now (left_here text.now history self.old) (Some result) self.new }
@@ -304,10 +348,10 @@ impl Reader {
         let place = self.nesting.place();
         let is_balanced = self.nesting.is_balanced();
         let rest = &text[self.at..];
-        let piece = piece_at(self.alloc, place, is_balanced, self.follows_gap, rest)?;
+        let piece = piece_at(self.alloc, place, is_balanced, self.follows_gap(), rest)?;
         match piece {
             Piece::Nothing { len, is_gap } => {
-                self.step_over(len, is_gap);
+                self.step_over(len, Before::silent(is_gap));
                 Ok(None)
             }
             Piece::LineEnd { len } => self.read_line_end(text, len),
@@ -350,7 +394,7 @@ impl Reader {
     {
         let len = gap_len(place, &text[self.at..]);
         if len > 0 {
-            self.step_over(len, true);
+            self.step_over(len, Before::Gap);
         }
     }
 

@@ -43,7 +43,7 @@ pub enum Piece {
 }
 
 /// Whether a place is outside of f-strings.
-fn is_outside(place: Place) -> bool
+pub fn is_outside(place: Place) -> bool
     ensures { result ≡ is_outside (mode_view place) }
 {
     matches!(place, Place::Outside)

@@ -2,7 +2,7 @@ use Rattle.std.proofs.Common.{◌+◌, ◌≤◌, ◌^◌, arith, map, refl, rul
 use Rattle.std.proofs.lemmas.List.{length-map}
 use Rattle.starlark_syntax.specs.Lexemes.{shown_lexeme}
 use Rattle.starlark_grammar.specs.Reading.{outcome}
-use Rattle.starlark_syntax.proofs.Reader.LexerItems.{lexeme_item, lexemes_few, one_more, some_item}
+use Rattle.starlark_syntax.proofs.Reader.LexerItems.{lexeme_item, lexeme_within, lexemes_few, one_more, some_item}
 use Rattle.starlark_syntax.proofs.lexer.lexemes.Lexer.next.Goals as goal
 
 pub overflow_add-self : goal.overflow_add-self
@@ -50,3 +50,15 @@ returns-in-Some-Fixed-clause-item c = λ on.
     let inv = c.self.invariant.1 c.if-self.false in
     let is = c.take_terminal.ensures.ahead _ _ (c.common_word.ensures.ahead _ _ inv.1) in
     rw (← c.self.view_is) (rw (lexeme_item c.self.inside.text.now c.self.inside.handed_out _ is.0 is.1) refl)
+
+pub returns-in-Ok-clause-within : goal.returns-in-Ok-clause-within
+returns-in-Ok-clause-within c =
+    let inv = c.self.invariant.1 c.if-self.false in
+    let is = c.in-Ok.ensures.ahead _ _ (c.common_word.ensures.ahead _ _ inv.1) in
+    rw (← c.self.view_is) (lexeme_within c.self.inside.text.now c.self.inside.handed_out _ is.0 c.self.invariant.0 is.1)
+
+pub returns-in-Some-Fixed-clause-within : goal.returns-in-Some-Fixed-clause-within
+returns-in-Some-Fixed-clause-within c =
+    let inv = c.self.invariant.1 c.if-self.false in
+    let is = c.take_terminal.ensures.ahead _ _ (c.common_word.ensures.ahead _ _ inv.1) in
+    rw (← c.self.view_is) (lexeme_within c.self.inside.text.now c.self.inside.handed_out _ is.0 c.self.invariant.0 is.1)

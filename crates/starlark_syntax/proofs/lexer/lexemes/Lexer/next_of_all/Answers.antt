@@ -1,12 +1,14 @@
-use Rattle.std.proofs.Common.{ap, ◌∙◌, ◌+◌, ◌≤◌, ◌^◌, arith, drop, map, refl, rules, subst}
+use Rattle.std.proofs.Common.{ap, ◌∙◌, sym, IfSome, ◌+◌, ◌≤◌, ◌^◌, arith, drop, map, refl, rules, subst}
 use Rattle.std.proofs.lemmas.List.{length-map}
 use Rattle.starlark_syntax.specs.Lexemes.{shown_lexeme}
 use Rattle.starlark_grammar.specs.Reading.{outcome}
 use Rattle.starlark_syntax.specs.Joints.Reader.{IsNext}
-use Rattle.starlark_syntax.specs.Lexer.{LexerView}
+use Rattle.starlark_syntax.specs.Lexer.{IsWithin, LexerView}
+use Rattle.starlark_base.specs.Diagnostics.{Diagnosed}
+use Rattle.starlark_error.specs.declared.error.kinds.ErrorKind.{ErrorKind}
 use Rattle.starlark_syntax.specs.declared.lexer.reader.Next.{Next}
 use Rattle.starlark_syntax.specs.declared.lexer.reader.Next.TheVariants as next
-use Rattle.starlark_syntax.proofs.Reader.LexerItems.{fault_item, fault_within, lexeme_item, lexemes_few, nothing_item, one_more, some_item}
+use Rattle.starlark_syntax.proofs.Reader.LexerItems.{fault_item, fault_within, lexeme_item, lexeme_within, lexemes_few, nothing_item, one_more, some_item}
 use Rattle.starlark_syntax.proofs.lexer.lexemes.Lexer.next_of_all.Goals as goal
 
 pub overflow_add-self : goal.overflow_add-self
@@ -72,3 +74,16 @@ returns-in-Err-clause-item c =
     let inv = c.self.invariant.1 (ap (λ (lexer : LexerView). lexer.has_ended) c.self.view_is ∙ c.requires) in
     let item = some_item c.self.inside.text.now c.self.inside.handed_out inv.0 (c.in-Err.ensures.memory _ _ inv.1) in
     rw (← c.self.view_is) (rw item.1 tt)
+
+pub returns-in-Ok-Lexeme-clause-within : goal.returns-in-Ok-Lexeme-clause-within
+returns-in-Ok-Lexeme-clause-within c =
+    let inv = c.self.invariant.1 (ap (λ (lexer : LexerView). lexer.has_ended) c.self.view_is ∙ c.requires) in
+    let is : IsNext c.self.inside.text.now (drop c.self.inside.handed_out (map shown_lexeme (outcome c.self.inside.text.now).lexemes)) (outcome c.self.inside.text.now).fault (next.Lexeme c.in-Ok-Lexeme.lexeme) c.next.new.self = subst (λ (n : Next). IsNext c.self.inside.text.now (drop c.self.inside.handed_out (map shown_lexeme (outcome c.self.inside.text.now).lexemes)) (outcome c.self.inside.text.now).fault n c.next.new.self) c.in-Ok-Lexeme.field-0-is (c.in-Ok-Lexeme.ensures.next _ _ inv.1) in
+    rw (← c.self.view_is) (lexeme_within c.self.inside.text.now c.self.inside.handed_out _ is.0 c.self.invariant.0 is.1)
+
+pub returns-in-Ok-clause-within : goal.returns-in-Ok-clause-within
+returns-in-Ok-clause-within c =
+    let inv = c.self.invariant.1 (ap (λ (lexer : LexerView). lexer.has_ended) c.self.view_is ∙ c.requires) in
+    let is : IsNext c.self.inside.text.now (drop c.self.inside.handed_out (map shown_lexeme (outcome c.self.inside.text.now).lexemes)) (outcome c.self.inside.text.now).fault (next.Fault c.in-Ok-Fault.begin c.in-Ok-Fault.fault c.in-Ok-Fault.end) c.next.new.self = subst (λ (n : Next). IsNext c.self.inside.text.now (drop c.self.inside.handed_out (map shown_lexeme (outcome c.self.inside.text.now).lexemes)) (outcome c.self.inside.text.now).fault n c.next.new.self) c.in-Ok-Fault.field-0-is (c.in-Ok-Fault.ensures.next _ _ inv.1) in
+    let inside = fault_within c.self.inside.text.now _ is.3 in
+    rw (← c.self.view_is) (subst (λ (d : Diagnosed ErrorKind). IfSome d.span (λ place. IsWithin c.self.inside.text.now place.span.begin place.span.end)) (sym c.in-Ok.ensures) (inside.0, inside.1, c.self.invariant.0))

@@ -8,4 +8,4 @@ returns-in-Fault c = λ text lexemes fault idle over ahead.
 
 pub returns-in_default : goal.returns-in_default
 returns-in_default c = λ text lexemes fault idle over ahead.
-    last_next text c.args.self.now _ lexemes fault idle refl over (λ begin error end e. c.in_default.not-Fault begin error end (c.replace.ensures.value ∙ e)) c.replace.ensures.after ahead
+    last_next text c.args.self.now _ lexemes fault (record { at = refl; nesting = refl; levels = refl; before = refl }) idle refl over (λ begin error end e. c.in_default.not-Fault begin error end (c.replace.ensures.value ∙ e)) c.replace.ensures.after ahead

@@ -11,7 +11,7 @@ returns-in_err-lexeme-clause-memory c = after_error c.from_residual.result _ (λ
 
 pub returns-in-Some-clause-next : goal.returns-in-Some-clause-next
 returns-in-Some-clause-next c = λ lexemes fault ahead.
-    lexeme_next c.args.text.now c.loop-lexeme.self _ c.in-Some.lexeme lexemes fault (record { at = refl; nesting = refl; levels = refl; follows_gap = refl }) refl
+    lexeme_next c.args.text.now c.loop-lexeme.self _ c.in-Some.lexeme lexemes fault (record { at = refl; nesting = refl; levels = refl; before = refl }) refl
     (subst (IsFirst c.args.text.now c.loop-lexeme.self.pending c.next.new.self) c.in-Some.is c.in_ok-lexeme.ensures.next) (c.loop-lexeme.invariant.ahead lexemes fault ahead)
 
 pub returns-in_err-read_first_margin-in-Begin-clause-memory : goal.returns-in_err-read_first_margin-in-Begin-clause-memory

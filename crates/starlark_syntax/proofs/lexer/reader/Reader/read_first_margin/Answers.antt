@@ -10,7 +10,7 @@ returns-in-Taken-clause-ahead c = λ lexemes fault ahead.
     let taken = rw c.in-Taken.is at c.in_ok-laid.ensures in
     let is_new = new_ahead text c.args.self.now lexemes fault ahead in
     let read = margin_taken text c.args.self.now c.step_over.new.self is_new c.in-Taken.len c.utf8.text (rw new taken)
-    (ap (λ (reader : Reader). reader.nesting) new) (ap (λ (reader : Reader). reader.follows_gap) new) (ap (λ (reader : Reader). reader.at) new) (ap (λ (reader : Reader). reader.stage) new) in
+    (ap (λ (reader : Reader). reader.nesting) new) (ap (λ (reader : Reader). reader.before) new) (ap (λ (reader : Reader). reader.at) new) (ap (λ (reader : Reader). reader.stage) new) in
     first_ahead text c.args.self.now c.step_over.new.self lexemes fault read c.requires.idle ahead
 
 pub returns-in-Fault-clause-ahead : goal.returns-in-Fault-clause-ahead

@@ -30,7 +30,7 @@ returns-in-Taken-clause-read c = λ history kept stands.
     let new = c.step_over.ensures in
     let taken = rw c.in-Taken.is at (c.in_ok-laid.ensures history.widths kept.levels) in
     line_taken c.args.text.now history c.args.self.now c.args.len kept stands c.step_over.new.self c.in-Taken.whole token.Newline refl c.utf8.text (rw new taken)
-    (ap (λ (reader : Reader). reader.nesting) new) (ap (λ (reader : Reader). reader.follows_gap) new) (ap (λ (reader : Reader). reader.at) new) (ap (λ (reader : Reader). reader.stage) new)
+    (ap (λ (reader : Reader). reader.nesting) new) (ap (λ (reader : Reader). reader.before) new) (ap (λ (reader : Reader). reader.at) new) (ap (λ (reader : Reader). reader.stage) new)
 
 pub returns-in-Taken-clause-less : goal.returns-in-Taken-clause-less
 returns-in-Taken-clause-less c =

@@ -13,44 +13,44 @@ use Rattle.starlark_syntax.proofs.lexer.reader.Reader.read_piece.Goals as goal
 pub step_over-requires-clause-fits : goal.step_over-requires-clause-fits
 step_over-requires-clause-fits c =
     let left = c.requires.ready.2.is_left in
-    let stands : IsPiece (open_widths left.0.widths) (drop c.args.self.now.at c.args.text.now) (step_here c.args.text.now left.0 c.args.self.now) (piece.Nothing c.in-Nothing.len c.in-Nothing.is_gap) = subst (IsPiece (open_widths left.0.widths) (drop c.args.self.now.at c.args.text.now) (step_here c.args.text.now left.0 c.args.self.now)) c.in-Nothing.is (piece_read c.args.text.now left.0 c.args.self.now c.place-place.result c.is_balanced-is_balanced.result c.range_from-rest.result.now c.in_ok-piece.piece c.range_from-rest.ensures.value left.1 c.place-place.ensures c.is_balanced-is_balanced.ensures c.in_ok-piece.ensures) in
+    let stands : IsPiece (open_widths left.0.widths) (drop c.args.self.now.at c.args.text.now) (step_here c.args.text.now left.0 c.args.self.now) (piece.Nothing c.in-Nothing.len c.in-Nothing.is_gap) = subst (IsPiece (open_widths left.0.widths) (drop c.args.self.now.at c.args.text.now) (step_here c.args.text.now left.0 c.args.self.now)) c.in-Nothing.is (piece_read c.args.text.now left.0 c.args.self.now c.place-place.result c.is_balanced-is_balanced.result c.follows_gap.result c.range_from-rest.result.now c.in_ok-piece.piece c.range_from-rest.ensures.value left.1 c.place-place.ensures c.is_balanced-is_balanced.ensures c.follows_gap.ensures c.in_ok-piece.ensures) in
     let here = nothing_here c.args.text.now left.0 c.args.self.now c.in-Nothing.len c.in-Nothing.is_gap left.1 stands in
     omega (arith, here.1, c.requires.fits)
 
 pub read_line_end-requires-clause-stands : goal.read_line_end-requires-clause-stands
 read_line_end-requires-clause-stands c =
     let left = c.requires.ready.2.is_left in
-    let stands : IsPiece (open_widths left.0.widths) (drop c.args.self.now.at c.args.text.now) (step_here c.args.text.now left.0 c.args.self.now) (piece.LineEnd c.in-LineEnd.len) = subst (IsPiece (open_widths left.0.widths) (drop c.args.self.now.at c.args.text.now) (step_here c.args.text.now left.0 c.args.self.now)) c.in-LineEnd.is (piece_read c.args.text.now left.0 c.args.self.now c.place-place.result c.is_balanced-is_balanced.result c.range_from-rest.result.now c.in_ok-piece.piece c.range_from-rest.ensures.value left.1 c.place-place.ensures c.is_balanced-is_balanced.ensures c.in_ok-piece.ensures) in
+    let stands : IsPiece (open_widths left.0.widths) (drop c.args.self.now.at c.args.text.now) (step_here c.args.text.now left.0 c.args.self.now) (piece.LineEnd c.in-LineEnd.len) = subst (IsPiece (open_widths left.0.widths) (drop c.args.self.now.at c.args.text.now) (step_here c.args.text.now left.0 c.args.self.now)) c.in-LineEnd.is (piece_read c.args.text.now left.0 c.args.self.now c.place-place.result c.is_balanced-is_balanced.result c.follows_gap.result c.range_from-rest.result.now c.in_ok-piece.piece c.range_from-rest.ensures.value left.1 c.place-place.ensures c.is_balanced-is_balanced.ensures c.follows_gap.ensures c.in_ok-piece.ensures) in
     (left.0, left.1, stands.0)
 
 pub read_line_end-requires-clause-cut : goal.read_line_end-requires-clause-cut
 read_line_end-requires-clause-cut c =
     let left = c.requires.ready.2.is_left in
-    let stands : IsPiece (open_widths left.0.widths) (drop c.args.self.now.at c.args.text.now) (step_here c.args.text.now left.0 c.args.self.now) (piece.LineEnd c.in-LineEnd.len) = subst (IsPiece (open_widths left.0.widths) (drop c.args.self.now.at c.args.text.now) (step_here c.args.text.now left.0 c.args.self.now)) c.in-LineEnd.is (piece_read c.args.text.now left.0 c.args.self.now c.place-place.result c.is_balanced-is_balanced.result c.range_from-rest.result.now c.in_ok-piece.piece c.range_from-rest.ensures.value left.1 c.place-place.ensures c.is_balanced-is_balanced.ensures c.in_ok-piece.ensures) in
+    let stands : IsPiece (open_widths left.0.widths) (drop c.args.self.now.at c.args.text.now) (step_here c.args.text.now left.0 c.args.self.now) (piece.LineEnd c.in-LineEnd.len) = subst (IsPiece (open_widths left.0.widths) (drop c.args.self.now.at c.args.text.now) (step_here c.args.text.now left.0 c.args.self.now)) c.in-LineEnd.is (piece_read c.args.text.now left.0 c.args.self.now c.place-place.result c.is_balanced-is_balanced.result c.follows_gap.result c.range_from-rest.result.now c.in_ok-piece.piece c.range_from-rest.ensures.value left.1 c.place-place.ensures c.is_balanced-is_balanced.ensures c.follows_gap.ensures c.in_ok-piece.ensures) in
     boundary_shift c.args.text.now c.args.self.now.at c.in-LineEnd.len left.1.boundary stands.1
 
 pub begin_fstring-requires-clause-stands : goal.begin_fstring-requires-clause-stands
 begin_fstring-requires-clause-stands c =
     let left = c.requires.ready.2.is_left in
-    let stands : IsPiece (open_widths left.0.widths) (drop c.args.self.now.at c.args.text.now) (step_here c.args.text.now left.0 c.args.self.now) (piece.FString c.in-FString.opening c.in-FString.len) = subst (IsPiece (open_widths left.0.widths) (drop c.args.self.now.at c.args.text.now) (step_here c.args.text.now left.0 c.args.self.now)) c.in-FString.is (piece_read c.args.text.now left.0 c.args.self.now c.place-place.result c.is_balanced-is_balanced.result c.range_from-rest.result.now c.in_ok-piece.piece c.range_from-rest.ensures.value left.1 c.place-place.ensures c.is_balanced-is_balanced.ensures c.in_ok-piece.ensures) in
+    let stands : IsPiece (open_widths left.0.widths) (drop c.args.self.now.at c.args.text.now) (step_here c.args.text.now left.0 c.args.self.now) (piece.FString c.in-FString.opening c.in-FString.len) = subst (IsPiece (open_widths left.0.widths) (drop c.args.self.now.at c.args.text.now) (step_here c.args.text.now left.0 c.args.self.now)) c.in-FString.is (piece_read c.args.text.now left.0 c.args.self.now c.place-place.result c.is_balanced-is_balanced.result c.follows_gap.result c.range_from-rest.result.now c.in_ok-piece.piece c.range_from-rest.ensures.value left.1 c.place-place.ensures c.is_balanced-is_balanced.ensures c.follows_gap.ensures c.in_ok-piece.ensures) in
     (left.0, left.1, stands)
 
 pub take-requires-clause-stands : goal.take-requires-clause-stands
 take-requires-clause-stands c =
     let left = c.requires.ready.2.is_left in
-    let stands : IsPiece (open_widths left.0.widths) (drop c.args.self.now.at c.args.text.now) (step_here c.args.text.now left.0 c.args.self.now) (piece.Lexed c.in-Lexed.step) = subst (IsPiece (open_widths left.0.widths) (drop c.args.self.now.at c.args.text.now) (step_here c.args.text.now left.0 c.args.self.now)) c.in-Lexed.is (piece_read c.args.text.now left.0 c.args.self.now c.place-place.result c.is_balanced-is_balanced.result c.range_from-rest.result.now c.in_ok-piece.piece c.range_from-rest.ensures.value left.1 c.place-place.ensures c.is_balanced-is_balanced.ensures c.in_ok-piece.ensures) in
+    let stands : IsPiece (open_widths left.0.widths) (drop c.args.self.now.at c.args.text.now) (step_here c.args.text.now left.0 c.args.self.now) (piece.Lexed c.in-Lexed.step) = subst (IsPiece (open_widths left.0.widths) (drop c.args.self.now.at c.args.text.now) (step_here c.args.text.now left.0 c.args.self.now)) c.in-Lexed.is (piece_read c.args.text.now left.0 c.args.self.now c.place-place.result c.is_balanced-is_balanced.result c.follows_gap.result c.range_from-rest.result.now c.in_ok-piece.piece c.range_from-rest.ensures.value left.1 c.place-place.ensures c.is_balanced-is_balanced.ensures c.follows_gap.ensures c.in_ok-piece.ensures) in
     (left.0, left.1, stands)
 
 pub returns-in-Nothing-clause-ahead : goal.returns-in-Nothing-clause-ahead
 returns-in-Nothing-clause-ahead c = λ lexemes fault ahead.
     onward_ahead c.args.text.now c.args.self.now None c.step_over.new.self lexemes fault (λ history kept.
-    let stands : IsPiece (open_widths history.widths) (drop c.args.self.now.at c.args.text.now) (step_here c.args.text.now history c.args.self.now) (piece.Nothing c.in-Nothing.len c.in-Nothing.is_gap) = subst (IsPiece (open_widths history.widths) (drop c.args.self.now.at c.args.text.now) (step_here c.args.text.now history c.args.self.now)) c.in-Nothing.is (piece_read c.args.text.now history c.args.self.now c.place-place.result c.is_balanced-is_balanced.result c.range_from-rest.result.now c.in_ok-piece.piece c.range_from-rest.ensures.value kept c.place-place.ensures c.is_balanced-is_balanced.ensures c.in_ok-piece.ensures) in
-    nothing_taken c.args.text.now history c.args.self.now c.step_over.new.self c.in-Nothing.len c.in-Nothing.is_gap c.utf8.text kept stands c.requires.idle c.step_over.ensures) c.requires.idle ahead
+    let stands : IsPiece (open_widths history.widths) (drop c.args.self.now.at c.args.text.now) (step_here c.args.text.now history c.args.self.now) (piece.Nothing c.in-Nothing.len c.in-Nothing.is_gap) = subst (IsPiece (open_widths history.widths) (drop c.args.self.now.at c.args.text.now) (step_here c.args.text.now history c.args.self.now)) c.in-Nothing.is (piece_read c.args.text.now history c.args.self.now c.place-place.result c.is_balanced-is_balanced.result c.follows_gap.result c.range_from-rest.result.now c.in_ok-piece.piece c.range_from-rest.ensures.value kept c.place-place.ensures c.is_balanced-is_balanced.ensures c.follows_gap.ensures c.in_ok-piece.ensures) in
+    nothing_taken c.args.text.now history c.args.self.now c.step_over.new.self c.in-Nothing.len c.in-Nothing.is_gap c.utf8.text kept stands c.requires.idle (rw c.silent.ensures at c.step_over.ensures)) c.requires.idle ahead
 
 pub returns-in-Nothing-clause-less : goal.returns-in-Nothing-clause-less
 returns-in-Nothing-clause-less c =
     let left = c.requires.ready.2.is_left in
-    let stands : IsPiece (open_widths left.0.widths) (drop c.args.self.now.at c.args.text.now) (step_here c.args.text.now left.0 c.args.self.now) (piece.Nothing c.in-Nothing.len c.in-Nothing.is_gap) = subst (IsPiece (open_widths left.0.widths) (drop c.args.self.now.at c.args.text.now) (step_here c.args.text.now left.0 c.args.self.now)) c.in-Nothing.is (piece_read c.args.text.now left.0 c.args.self.now c.place-place.result c.is_balanced-is_balanced.result c.range_from-rest.result.now c.in_ok-piece.piece c.range_from-rest.ensures.value left.1 c.place-place.ensures c.is_balanced-is_balanced.ensures c.in_ok-piece.ensures) in
+    let stands : IsPiece (open_widths left.0.widths) (drop c.args.self.now.at c.args.text.now) (step_here c.args.text.now left.0 c.args.self.now) (piece.Nothing c.in-Nothing.len c.in-Nothing.is_gap) = subst (IsPiece (open_widths left.0.widths) (drop c.args.self.now.at c.args.text.now) (step_here c.args.text.now left.0 c.args.self.now)) c.in-Nothing.is (piece_read c.args.text.now left.0 c.args.self.now c.place-place.result c.is_balanced-is_balanced.result c.follows_gap.result c.range_from-rest.result.now c.in_ok-piece.piece c.range_from-rest.ensures.value left.1 c.place-place.ensures c.is_balanced-is_balanced.ensures c.follows_gap.ensures c.in_ok-piece.ensures) in
     let here = nothing_here c.args.text.now left.0 c.args.self.now c.in-Nothing.len c.in-Nothing.is_gap left.1 stands in
     let is = c.step_over.ensures in
     less_onward c.args.text.now c.args.self.now c.step_over.new.self c.in-Nothing.len (ap (λ (reader : Reader). reader.stage) is) (ap (λ (reader : Reader). reader.at) is) here.0 here.1
@@ -58,23 +58,23 @@ returns-in-Nothing-clause-less c =
 pub returns-in-LineEnd-clause-ahead : goal.returns-in-LineEnd-clause-ahead
 returns-in-LineEnd-clause-ahead c = IfOk-weaker c.read_line_end.result _ _ (λ given read lexemes fault ahead.
     onward_ahead c.args.text.now c.args.self.now given c.read_line_end.new.self lexemes fault (λ history kept.
-    let stands : IsPiece (open_widths history.widths) (drop c.args.self.now.at c.args.text.now) (step_here c.args.text.now history c.args.self.now) (piece.LineEnd c.in-LineEnd.len) = subst (IsPiece (open_widths history.widths) (drop c.args.self.now.at c.args.text.now) (step_here c.args.text.now history c.args.self.now)) c.in-LineEnd.is (piece_read c.args.text.now history c.args.self.now c.place-place.result c.is_balanced-is_balanced.result c.range_from-rest.result.now c.in_ok-piece.piece c.range_from-rest.ensures.value kept c.place-place.ensures c.is_balanced-is_balanced.ensures c.in_ok-piece.ensures) in
+    let stands : IsPiece (open_widths history.widths) (drop c.args.self.now.at c.args.text.now) (step_here c.args.text.now history c.args.self.now) (piece.LineEnd c.in-LineEnd.len) = subst (IsPiece (open_widths history.widths) (drop c.args.self.now.at c.args.text.now) (step_here c.args.text.now history c.args.self.now)) c.in-LineEnd.is (piece_read c.args.text.now history c.args.self.now c.place-place.result c.is_balanced-is_balanced.result c.follows_gap.result c.range_from-rest.result.now c.in_ok-piece.piece c.range_from-rest.ensures.value kept c.place-place.ensures c.is_balanced-is_balanced.ensures c.follows_gap.ensures c.in_ok-piece.ensures) in
     read history kept stands.0) c.requires.idle ahead) c.read_line_end.ensures.read
 
 pub returns-in_ok-begin_fstring-in-FString-clause-ahead : goal.returns-in_ok-begin_fstring-in-FString-clause-ahead
 returns-in_ok-begin_fstring-in-FString-clause-ahead c = λ lexemes fault ahead.
     onward_ahead c.args.text.now c.args.self.now (Some c.in_ok-begin_fstring-in-FString.field-0) c.begin_fstring.new.self lexemes fault (λ history kept.
-    let stands : IsPiece (open_widths history.widths) (drop c.args.self.now.at c.args.text.now) (step_here c.args.text.now history c.args.self.now) (piece.FString c.in-FString.opening c.in-FString.len) = subst (IsPiece (open_widths history.widths) (drop c.args.self.now.at c.args.text.now) (step_here c.args.text.now history c.args.self.now)) c.in-FString.is (piece_read c.args.text.now history c.args.self.now c.place-place.result c.is_balanced-is_balanced.result c.range_from-rest.result.now c.in_ok-piece.piece c.range_from-rest.ensures.value kept c.place-place.ensures c.is_balanced-is_balanced.ensures c.in_ok-piece.ensures) in
+    let stands : IsPiece (open_widths history.widths) (drop c.args.self.now.at c.args.text.now) (step_here c.args.text.now history c.args.self.now) (piece.FString c.in-FString.opening c.in-FString.len) = subst (IsPiece (open_widths history.widths) (drop c.args.self.now.at c.args.text.now) (step_here c.args.text.now history c.args.self.now)) c.in-FString.is (piece_read c.args.text.now history c.args.self.now c.place-place.result c.is_balanced-is_balanced.result c.follows_gap.result c.range_from-rest.result.now c.in_ok-piece.piece c.range_from-rest.ensures.value kept c.place-place.ensures c.is_balanced-is_balanced.ensures c.follows_gap.ensures c.in_ok-piece.ensures) in
     c.in_ok-begin_fstring-in-FString.ensures.read history kept stands) c.requires.idle ahead
 
 pub returns-in-Lexed-clause-ahead : goal.returns-in-Lexed-clause-ahead
 returns-in-Lexed-clause-ahead c = λ lexemes fault ahead.
     onward_ahead c.args.text.now c.args.self.now c.take.result c.take.new.self lexemes fault (λ history kept.
-    let stands : IsPiece (open_widths history.widths) (drop c.args.self.now.at c.args.text.now) (step_here c.args.text.now history c.args.self.now) (piece.Lexed c.in-Lexed.step) = subst (IsPiece (open_widths history.widths) (drop c.args.self.now.at c.args.text.now) (step_here c.args.text.now history c.args.self.now)) c.in-Lexed.is (piece_read c.args.text.now history c.args.self.now c.place-place.result c.is_balanced-is_balanced.result c.range_from-rest.result.now c.in_ok-piece.piece c.range_from-rest.ensures.value kept c.place-place.ensures c.is_balanced-is_balanced.ensures c.in_ok-piece.ensures) in
+    let stands : IsPiece (open_widths history.widths) (drop c.args.self.now.at c.args.text.now) (step_here c.args.text.now history c.args.self.now) (piece.Lexed c.in-Lexed.step) = subst (IsPiece (open_widths history.widths) (drop c.args.self.now.at c.args.text.now) (step_here c.args.text.now history c.args.self.now)) c.in-Lexed.is (piece_read c.args.text.now history c.args.self.now c.place-place.result c.is_balanced-is_balanced.result c.follows_gap.result c.range_from-rest.result.now c.in_ok-piece.piece c.range_from-rest.ensures.value kept c.place-place.ensures c.is_balanced-is_balanced.ensures c.follows_gap.ensures c.in_ok-piece.ensures) in
     c.take.ensures.read history kept stands) c.requires.idle ahead
 
 pub returns-in-End-clause-ahead : goal.returns-in-End-clause-ahead
 returns-in-End-clause-ahead c = λ lexemes fault ahead.
     onward_ahead c.args.text.now c.args.self.now (Some c.close.result) c.close.new.self lexemes fault (λ history kept.
-    let stands : IsPiece (open_widths history.widths) (drop c.args.self.now.at c.args.text.now) (step_here c.args.text.now history c.args.self.now) (piece.End) = subst (IsPiece (open_widths history.widths) (drop c.args.self.now.at c.args.text.now) (step_here c.args.text.now history c.args.self.now)) c.in-End.is (piece_read c.args.text.now history c.args.self.now c.place-place.result c.is_balanced-is_balanced.result c.range_from-rest.result.now c.in_ok-piece.piece c.range_from-rest.ensures.value kept c.place-place.ensures c.is_balanced-is_balanced.ensures c.in_ok-piece.ensures) in
+    let stands : IsPiece (open_widths history.widths) (drop c.args.self.now.at c.args.text.now) (step_here c.args.text.now history c.args.self.now) (piece.End) = subst (IsPiece (open_widths history.widths) (drop c.args.self.now.at c.args.text.now) (step_here c.args.text.now history c.args.self.now)) c.in-End.is (piece_read c.args.text.now history c.args.self.now c.place-place.result c.is_balanced-is_balanced.result c.follows_gap.result c.range_from-rest.result.now c.in_ok-piece.piece c.range_from-rest.ensures.value kept c.place-place.ensures c.is_balanced-is_balanced.ensures c.follows_gap.ensures c.in_ok-piece.ensures) in
     c.close.ensures.read history kept stands) c.requires.idle ahead

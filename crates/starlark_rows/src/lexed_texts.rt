@@ -1,0 +1,117 @@
+//! Lexed texts: their lexemes, whether they are clean cuts, and what they come to joined.
+
+ghost use Rattle.std.specs.Prelude.{◌≡◌, ◌++◌, IfOk, string_bytes};
+
+use crate::code_maps::code_map;
+use crate::rows::{Answer, Row, shown, unknown};
+use crate::words::add_placed;
+use starlark_syntax::dialect::Dialect;
+use starlark_syntax::lexer::LexedText;
+use std::alloc::{AllocError, Global};
+use std::fmt::Write;
+
+/// A text with its lexemes.
+fn lexed<'a>(alloc: Global, text: &'a str) -> Result<LexedText<'a>, AllocError>
+    ensures { IfOk result (λ lexed. lexed.text ≡ text.now) }
+{
+    let map = code_map(alloc, "f", text)?;
+    match LexedText::lex(alloc, text, &Dialect::Standard, map) {
+        Ok(lexed) => Ok(lexed),
+        Err(_) => Err(AllocError),
+    }
+}
+
+/// One text behind another.
+fn both_texts(alloc: Global, first: &str, second: &str) -> Result<String, AllocError>
+    ensures { IfOk result (λ text. string_bytes text ≡ first.now ++ second.now) }
+{
+    let mut text = String::from_str(alloc, first)?;
+    text.push_str(second)?;
+    Ok(text)
+}
+
+/// Two lexed texts joined, where the first is a clean cut and the second has no fault. The third text is both.
+fn joined<'a>(
+    alloc: Global,
+    first: &'a str,
+    second: &'a str,
+    both: &'a str,
+) -> Result<Option<LexedText<'a>>, AllocError>
+    requires { both.now ≡ first.now ++ second.now }
+{
+    let first = lexed(alloc, first)?;
+    let second = lexed(alloc, second)?;
+    if !first.is_clean_cut() || second.fault().is_some() || both.len() > u32::MAX as usize {
+        return Ok(None);
+    }
+    match first.join(second, both) {
+        Ok(joined) => Ok(Some(joined)),
+        Err(_) => Err(AllocError),
+    }
+}
+
+/// The lexemes of a lexed text, its fault, and whether it is a clean cut.
+fn printed(alloc: Global, lexed: &LexedText<'_>) -> Answer {
+    let mut list = String::new(alloc);
+    for (begin, token, end) in lexed.lexemes() {
+        add_placed(alloc, &mut list, *begin, token, *end)?;
+    }
+    if let Some(fault) = lexed.fault() {
+        write!(list, "{fault}; ")?;
+    }
+    list.push_str(if lexed.is_clean_cut() {
+        "clean"
+    } else {
+        "open"
+    })?;
+    Ok(list)
+}
+
+/// Two texts joined, as they print.
+fn join(alloc: Global, first: &str, second: &str) -> Answer {
+    let both = both_texts(alloc, first, second)?;
+    match joined(alloc, first, second, both.as_str())? {
+        Some(joined) => printed(alloc, &joined),
+        None => String::from_str(alloc, "not joined"),
+    }
+}
+
+/// Whether two lexed texts are the same.
+fn are_same(first: &LexedText<'_>, second: &LexedText<'_>) -> bool {
+    first.text() == second.text()
+        && first.lexemes() == second.lexemes()
+        && first.fault().is_none()
+        && second.fault().is_none()
+        && first.is_clean_cut() == second.is_clean_cut()
+}
+
+/// `=` where two texts joined are what both together are lexed to, `!` where not, and `-` where they aren't joined.
+fn mark(alloc: Global, first: &str, second: &str) -> Result<char, AllocError> {
+    let both = both_texts(alloc, first, second)?;
+    let Some(joined) = joined(alloc, first, second, both.as_str())? else {
+        return Ok('-');
+    };
+    let whole = lexed(alloc, both.as_str())?;
+    Ok(if are_same(&joined, &whole) { '=' } else { '!' })
+}
+
+/// The marks of a text with each of many behind it.
+fn marks(alloc: Global, row: &Row) -> Answer {
+    let mut marks = String::new(alloc);
+    for second in row.texts_from(3) {
+        marks.push(mark(alloc, row.text(2), second.as_str())?)?;
+    }
+    Ok(marks)
+}
+
+/// The answer to a call with lexed texts.
+pub fn answer(alloc: Global, row: &Row) -> Answer {
+    let text = row.text(2);
+    match row.text(1) {
+        "lex" => printed(alloc, &lexed(alloc, text)?),
+        "is_clean_cut" => shown(alloc, &lexed(alloc, text)?.is_clean_cut()),
+        "join" => join(alloc, text, row.text(3)),
+        "join_each" => marks(alloc, row),
+        _ => unknown(alloc, row),
+    }
+}

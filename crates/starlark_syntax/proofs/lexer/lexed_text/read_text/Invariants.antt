@@ -1,0 +1,10 @@
+use Rattle.std.proofs.Common.{◌-◌, length}
+use Rattle.starlark_grammar.specs.Reading.{outcome}
+use Rattle.starlark_syntax.proofs.LexedTexts.Collected.{IsCollected}
+use Rattle.starlark_syntax.proofs.lexer.lexed_text.read_text.Given as goal
+
+abbrev pub invariant-loop-lexemes : goal.invariant-loop-lexemes
+invariant-loop-lexemes l = IsCollected l.text l.reader l.lexemes.items
+
+abbrev pub decreases-loop-lexemes : goal.decreases-loop-lexemes
+decreases-loop-lexemes l = length (outcome l.text).lexemes - length l.lexemes.items

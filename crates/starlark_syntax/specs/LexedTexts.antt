@@ -1,0 +1,36 @@
+-- What a lexed text is to its user.
+use Rattle.std.specs.Prelude.{◌≡◌, ◌-◌, List, ◌++◌, map, take, length, Option, Some, None, ⊤}
+use Rattle.starlark_base.specs.Sources.{SourceFile}
+use Rattle.starlark_base.specs.Diagnostics.{Diagnosed}
+use Rattle.starlark_error.specs.declared.error.kinds.ErrorKind.{ErrorKind}
+use Rattle.starlark_grammar.specs.Words.{Text}
+use Rattle.starlark_grammar.specs.Tokens as grammar
+use Rattle.starlark_grammar.specs.Reading.{outcome}
+use Rattle.starlark_syntax.specs.Lexemes.{shown_lexeme}
+use Rattle.starlark_syntax.specs.Lexer.{IsException}
+use Rattle.starlark_token.specs.TokenViews.{TokenView}
+
+-- A lexed text: its text, its lexemes, and the exception of its fault.
+pub record LexedView : Type 0 where
+  pub text : Text
+  pub lexemes : List (grammar.Spanned TokenView)
+  pub fault : Option (Diagnosed ErrorKind)
+
+-- The exception of a fault in a code map. There is one exactly where there is a fault.
+abbrev pub IsFaultIn : SourceFile → Option (grammar.Spanned grammar.Fault) → Option (Diagnosed ErrorKind) → Type 0
+IsFaultIn file None None = ⊤
+IsFaultIn file (Some fault) (Some exception) = IsException file fault exception
+IsFaultIn file fault exception = ⊥
+
+-- A lexed text has the lexemes of its text, and the text's fault in a code map.
+pub record IsLexed (file : SourceFile) (lexed : LexedView) : Type 0 where
+  pub lexemes : lexed.lexemes ≡ map shown_lexeme (outcome lexed.text).lexemes
+  pub fault : IsFaultIn file (outcome lexed.text).fault lexed.fault
+
+-- the first of two lexed texts without its last lexeme, and the second one's lexemes behind the first text
+abbrev pub joined : LexedView → LexedView → LexedView
+joined first second = record {
+  text = first.text ++ second.text;
+  lexemes = take (length first.lexemes - 1) first.lexemes ++ map (grammar.moved (length first.text)) second.lexemes;
+  fault = None;
+}
