@@ -11,6 +11,7 @@ mod errors;
 mod files;
 mod formats;
 mod places;
+mod refusals;
 mod rows;
 mod strings;
 mod tokens;
@@ -30,6 +31,7 @@ fn answer(alloc: Global, row: &Row) -> Answer {
         "files" => files::answer(alloc, row),
         "format" => formats::answer(alloc, row),
         "places" => places::answer(alloc, row),
+        "refusals" => refusals::answer(alloc, row),
         "strings" => strings::answer(alloc, row),
         "tokens" => tokens::answer(alloc, row),
         "words" => words::answer(alloc, row),
