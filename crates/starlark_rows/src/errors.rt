@@ -14,12 +14,12 @@ use std::alloc::{AllocError, Global};
 use std::fmt::{Debug, Display};
 
 /// A value in each of the forms that it prints in.
-fn forms<T: Display + Debug>(alloc: Global, value: &T) -> Answer {
+pub fn forms<T: Display + Debug>(alloc: Global, value: &T) -> Answer {
     format!(in alloc; "{value}|{value:?}|{value:#}")
 }
 
 /// An error in each of the forms that it prints in, behind its kind.
-fn shown_error(alloc: Global, error: &Error) -> Answer {
+pub fn shown_error(alloc: Global, error: &Error) -> Answer {
     let kind = match error.kind() {
         ErrorKind::Parser(_) => "parser",
         ErrorKind::Other(_) => "other",
@@ -29,7 +29,8 @@ fn shown_error(alloc: Global, error: &Error) -> Answer {
     format!(in alloc; "{kind} {calls}|{error}|{error:?}|{error:#}")
 }
 
-fn first() -> Span {
+/// The place of the first byte.
+pub fn first() -> Span {
     Span::new(Pos::new(0), Pos::new(1))
 }
 
@@ -38,7 +39,7 @@ fn second() -> Span {
 }
 
 /// A kind of error by its name, which says a text.
-fn kind(alloc: Global, name: &str, text: &str) -> Result<ErrorKind, AllocError> {
+pub fn kind(alloc: Global, name: &str, text: &str) -> Result<ErrorKind, AllocError> {
     let text = text.to_string(alloc)?;
     Ok(match name {
         "lexeme" => ErrorKind::Parser(ParserMessage::Lexeme(LexemeError::IntParse(text))),
@@ -60,12 +61,12 @@ fn into_internal_error(alloc: Global, row: &Row) -> Answer {
 }
 
 /// A fault of the lexer, without a place.
-fn tab(alloc: Global) -> Result<Error, AllocError> {
+pub fn tab(alloc: Global) -> Result<Error, AllocError> {
     given(error_from_lexeme(alloc, LexemeError::InvalidTab))
 }
 
 /// A fault of the lexer, which is told two places.
-fn placed(alloc: Global, map: &CodeMap) -> Result<Error, AllocError> {
+pub fn placed(alloc: Global, map: &CodeMap) -> Result<Error, AllocError> {
     let mut error = tab(alloc)?;
     error.set_span(first(), map)?;
     error.set_span(second(), map)?;
@@ -76,7 +77,8 @@ fn set_span(alloc: Global, map: &CodeMap) -> Answer {
     shown_error(alloc, &placed(alloc, map)?)
 }
 
-fn one_call(alloc: Global) -> Result<CallStack, AllocError> {
+/// A stack of one call.
+pub fn one_call(alloc: Global) -> Result<CallStack, AllocError> {
     let frame = String::from_str(alloc, "call")?;
     Ok(CallStack::from_frames(vec![in alloc; frame]?))
 }

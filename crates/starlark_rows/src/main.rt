@@ -12,6 +12,7 @@ mod files;
 mod formats;
 mod lexed_texts;
 mod places;
+mod refusals;
 mod rows;
 mod strings;
 mod tokens;
@@ -32,6 +33,7 @@ fn answer(alloc: Global, row: &Row) -> Answer {
         "format" => formats::answer(alloc, row),
         "lexed_text" => lexed_texts::answer(alloc, row),
         "places" => places::answer(alloc, row),
+        "refusals" => refusals::answer(alloc, row),
         "strings" => strings::answer(alloc, row),
         "tokens" => tokens::answer(alloc, row),
         "words" => words::answer(alloc, row),

@@ -52,7 +52,7 @@ pub fn add_placed(
 }
 
 /// Adds a lexeme, or a fault as it prints.
-fn add_lexeme(alloc: Global, list: &mut String, lexeme: &Lexeme) -> Result<(), AllocError> {
+pub fn add_lexeme(alloc: Global, list: &mut String, lexeme: &Lexeme) -> Result<(), AllocError> {
     match lexeme {
         Ok((begin, token, end)) => add_placed(alloc, list, *begin, token, *end),
         Err(OrMemory::Error(exception)) => write!(list, "{exception}; "),
@@ -61,7 +61,7 @@ fn add_lexeme(alloc: Global, list: &mut String, lexeme: &Lexeme) -> Result<(), A
 }
 
 /// A lexer of a text, over a code map that has this source.
-fn lexer<'a>(alloc: Global, text: &'a str, source: &str) -> Result<Lexer<'a>, AllocError> {
+pub fn lexer<'a>(alloc: Global, text: &'a str, source: &str) -> Result<Lexer<'a>, AllocError> {
     let map = code_map(alloc, "f", source)?;
     given(Lexer::new(alloc, text, &Dialect::Standard, map))
 }
