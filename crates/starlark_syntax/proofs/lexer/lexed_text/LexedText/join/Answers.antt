@@ -33,8 +33,7 @@ lexed c file =
 
 pub invariant_of-result : goal.invariant_of-result
 invariant_of-result c =
-    let after = (goal.at.invariant_of-result c).After-append_later in
-    (
+    let after = (goal.at.invariant_of-result c).After-append_later in (
       c.requires.fits,
       cut_joined c.args.self.text c.args.second.text c.leaves_cut-is_cut.result c.requires.clean c.leaves_cut-is_cut.ensures ∙ ap is_clean_cut (sym c.requires.whole),
       (c.first.invariant.2.0, lexed after _),
