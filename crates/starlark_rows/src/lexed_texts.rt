@@ -3,6 +3,7 @@
 ghost use Rattle.std.specs.Prelude.{◌≡◌, ◌++◌, IfOk, string_bytes};
 
 use crate::code_maps::code_map;
+use crate::refusals::unchanged;
 use crate::rows::{Answer, Row, shown, unknown};
 use crate::words::add_placed;
 use starlark_syntax::dialect::Dialect;
@@ -67,13 +68,38 @@ fn printed(alloc: Global, lexed: &LexedText<'_>) -> Answer {
     Ok(list)
 }
 
-/// Two texts joined, as they print.
-fn join(alloc: Global, first: &str, second: &str) -> Answer {
+/// Two lexed texts, as they print.
+fn both_printed(alloc: Global, first: &LexedText<'_>, second: &LexedText<'_>) -> Answer {
+    let mut list = printed(alloc, first)?;
+    list.push_str(", ")?;
+    list.push_str(printed(alloc, second)?.as_str())?;
+    Ok(list)
+}
+
+/// Two texts joined, as they print. Where that is refused, both are handed back.
+pub fn join(alloc: Global, first: &str, second: &str) -> Answer {
     let both = both_texts(alloc, first, second)?;
-    match joined(alloc, first, second, both.as_str())? {
-        Some(joined) => printed(alloc, &joined),
-        None => String::from_str(alloc, "not joined"),
+    let first = lexed(alloc, first)?;
+    let second = lexed(alloc, second)?;
+    if !first.is_clean_cut() || second.fault().is_some() || both.len() > u32::MAX as usize {
+        return String::from_str(alloc, "not joined");
     }
+    let before = both_printed(alloc, &first, &second)?;
+    match first.join(second, both.as_str()) {
+        Ok(joined) => printed(alloc, &joined),
+        Err((first, second)) => {
+            unchanged(
+                alloc,
+                before.as_str(),
+                &both_printed(alloc, &first, &second)?,
+            )
+        }
+    }
+}
+
+/// A text with its lexemes, as it prints.
+pub fn lex(alloc: Global, text: &str) -> Answer {
+    printed(alloc, &lexed(alloc, text)?)
 }
 
 /// Whether two lexed texts are the same.
@@ -108,7 +134,7 @@ fn marks(alloc: Global, row: &Row) -> Answer {
 pub fn answer(alloc: Global, row: &Row) -> Answer {
     let text = row.text(2);
     match row.text(1) {
-        "lex" => printed(alloc, &lexed(alloc, text)?),
+        "lex" => lex(alloc, text),
         "is_clean_cut" => shown(alloc, &lexed(alloc, text)?.is_clean_cut()),
         "join" => join(alloc, text, row.text(3)),
         "join_each" => marks(alloc, row),

@@ -3,6 +3,7 @@
 
 use crate::code_maps::code_map;
 use crate::errors::{first, forms, kind, one_call, placed, shown_error, tab};
+use crate::lexed_texts;
 use crate::rows::{Answer, Row, given, unknown};
 use crate::words::{add_lexeme, lexer};
 use starlark_syntax::call_stack::CallStack;
@@ -15,7 +16,7 @@ use std::alloc::{AllocError, Global};
 use std::fmt::{Display, Write};
 
 /// Want of memory where a refused call left something as it was; else how it was and how it is.
-fn unchanged<T: Display>(alloc: Global, before: &str, after: &T) -> Answer {
+pub fn unchanged<T: Display>(alloc: Global, before: &str, after: &T) -> Answer {
     let after = after.to_string(alloc)?;
     if before == after.as_str() {
         return Err(AllocError);
@@ -248,6 +249,8 @@ pub fn answer(alloc: Global, row: &Row) -> Answer {
         "new_kind" => new_kind(alloc),
         "error_from_lexeme" => of_lexeme(alloc),
         "lexemes" => lexemes(alloc, row.text(2)),
+        "lex" => lexed_texts::lex(alloc, row.text(2)),
+        "join" => lexed_texts::join(alloc, row.text(2), row.text(3)),
         _ => of_file(alloc, row),
     }
 }
