@@ -10,3 +10,4 @@ pub mod Tabs
 pub mod Laws
 pub mod ShortenedBodies
 pub mod ShortenedPieces
+pub mod LaidCuts

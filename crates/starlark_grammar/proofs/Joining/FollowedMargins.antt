@@ -44,7 +44,7 @@ lines_followed (b ∷ c ∷ bs) more h = go (is_feed b) (lines (c ∷ bs)) (no_l
     go false (l ∷ m) some e = ap (onto_first b) e
 
 -- a test that all pass, and one that some fails
-while_all : {A : Type 0} (test : A → Bool) (xs ys : List A) → list_all test xs ≡ true → take_while test (xs ++ ys) ≡ xs ++ take_while test ys
+pub while_all : {A : Type 0} (test : A → Bool) (xs ys : List A) → list_all test xs ≡ true → take_while test (xs ++ ys) ≡ xs ++ take_while test ys
 while_all test [] ys h = refl
 while_all test (x ∷ xs) ys h = let parts = and_parts (test x) (list_all test xs) h in rw (parts.0, one-add) (ap (λ zs. x ∷ zs) (while_all test xs ys parts.1))
 

@@ -1,0 +1,137 @@
+-- Where a text may be cut inside of its layout: behind a line end that counts and whole comment-only lines behind it.
+use Rattle.std.proofs.Common.{◌≡◌, ℕ, zero, suc, ◌+◌, ◌-◌, ◌≤◌, ◌<◌, Bool, true, false, List, [], ◌∷◌, ◌++◌, length, take, drop, map, refl, ap, ◌∙◌, sym, subst, Option, Some, None, arith, append-nil}
+use Rattle.std.proofs.Common.{drop_of_length-le, eq-eqb}
+use Rattle.std.proofs.Math.Seq.{drop-length}
+use Rattle.std.proofs.lemmas.Bool.{eqb-true}
+use Rattle.std.specs.Prelude.{option_map, ◌&&◌, ◌==◌, nat_eq, codes, count_by, take_while, option_to_list}
+use Rattle.std.specs.List.{ends_with, list_all}
+use Rattle.std.proofs.lemmas.List.{length-drop, length-take-le, drop-append-le, map-append}
+use Rattle.std.proofs.lemmas.List.Sums.{sum_by-cons}
+use Rattle.starlark_grammar.specs.Words as word
+use Rattle.starlark_grammar.specs.Words.{Text, class_in, language}
+use Rattle.starlark_grammar.specs.Front.{longest_front}
+use Rattle.starlark_grammar.specs.Tokens.{Token, Comment, Lexeme, Newline, moved}
+use Rattle.starlark_grammar.specs.Depths.{Outside, is_any_closing, is_any_opening, is_balanced, mode_after, mode_by, open_fstring}
+use Rattle.starlark_grammar.specs.Margins.{Margin, comment_lines, comments_from, is_comment_only, lines, margin_of, open_widths}
+use Rattle.starlark_grammar.specs.Pieces.{Ends, Layout, Piece, Situation, Stands, counts, first_margin, line_end, margin_step, step_at}
+use Rattle.starlark_grammar.specs.Reading.{History, IsLongestReading, IsReading, after, after_all, next_step, nothing, pieces_len, situation, tokens_onto}
+use Rattle.starlark_grammar.specs.Cuts.{is_clean_cut, is_settled}
+use Rattle.starlark_grammar.proofs.Lists.{drop-sum}
+use Rattle.starlark_grammar.proofs.Words.Fronts.{front_sound}
+use Rattle.starlark_grammar.proofs.Reading.Steps.{is_nothing, lines_len}
+use Rattle.starlark_grammar.proofs.Reading.Readings.{longest_onward, stops_here}
+use Rattle.starlark_grammar.proofs.Joining.CleanCuts.{longest_both, past_both}
+use Rattle.starlark_grammar.proofs.Joining.Laws.{clean_by}
+use Rattle.starlark_grammar.proofs.Joining.Tabs.{first_step}
+use Rattle.starlark_grammar.proofs.Joining.Followed.{ends_line, ends_line_drop, ends_line_of}
+use Rattle.starlark_grammar.proofs.Joining.FollowedMargins.{lines_sum, while_all}
+use Rattle.starlark_grammar.proofs.Joining.Joined.{blank_step, counted_step}
+use Rattle.starlark_grammar.proofs.Joining.ShortenedPieces.{next_shortened}
+
+-- the pieces of a text up to a place are those of each front that ends with an LF behind them
+pub reading_shortened : (history : History) (text more : Text) (pieces : List Piece) → ends_line text ≡ true → IsReading language history (text ++ more) pieces → pieces_len pieces < length text → IsReading language history text pieces
+reading_shortened history text more [] h reads inside = tt
+reading_shortened history text more (piece ∷ pieces) h reads inside =
+    let total : pieces_len (piece ∷ pieces) ≡ piece.len + pieces_len pieces = sum_by-cons (λ (piece : Piece). piece.len) piece pieces in
+    let left : drop piece.len (text ++ more) ≡ drop piece.len text ++ more = drop-append-le piece.len text more (omega (arith, inside, total)) in (
+      next_shortened history text more piece h reads.0 (omega (arith, inside, total)),
+      reading_shortened (after history piece) (drop piece.len text) more pieces (ends_line_drop piece.len text (omega (arith, inside, total)) h)
+          (subst (λ (t : Text). IsReading language (after history piece) t pieces) left reads.1) (omega (arith, inside, total, length-drop piece.len text)),
+    )
+
+-- the margin of a text that is comment-only lines
+pub comments_margin : (text : Text) → list_all is_comment_only (lines text) ≡ true → margin_of text ≡ record { comments = comments_from 0 (lines text); at = length text; blanks = []; behind = [] }
+unfolding margin_of
+comments_margin text h =
+    let here : comment_lines text ≡ lines text = ap (take_while is_comment_only) (sym (append-nil (lines text))) ∙ while_all is_comment_only (lines text) [] h ∙ append-nil (lines text) in
+    let len : lines_sum (comment_lines text) ≡ length text = ap lines_sum here ∙ lines_len text in
+    let none : drop (lines_sum (comment_lines text)) text ≡ [] = ap (λ n. drop n text) len ∙ drop-length text in
+    rw (none, len, here) refl
+
+-- No bracket, f-string or width is open.
+pub record IsFlat (history : History) : Type 0 where
+  pub none_open : open_fstring 0 history.tokens ≡ None
+  pub balanced : is_balanced history.tokens ≡ true
+  pub no_width : open_widths history.widths ≡ []
+
+abbrev IsFlatOf : List Token → Type 0
+IsFlatOf tokens = (open_fstring 0 tokens ≡ None) × (count_by is_any_opening tokens ≡ count_by is_any_closing tokens)
+
+comments_flat : (n at : ℕ) (ls : List Text) (tokens : List Token) → IsFlatOf tokens → IsFlatOf (tokens_onto tokens (map (moved n) (comments_from at ls)))
+unfolding open_fstring
+comments_flat n at [] tokens h = h
+comments_flat n at (line ∷ ls) tokens h = comments_flat n (at + length line) ls _ (ap (option_map _) h.0, h.1)
+
+-- A margin stands at a place, behind so many bytes: a line end that counts, or nothing at the text's begin.
+pub record LaysOut (history : History) (rest : Text) (n : ℕ) (line : List Lexeme) : Type 0 where
+  pub inside : n ≤ length rest
+  pub step : next_step language history rest ≡ margin_step n line (open_widths history.widths) (margin_of (drop n rest))
+  pub quiet : (tokens : List Token) → IsFlatOf tokens → IsFlatOf (tokens_onto tokens line)
+
+abbrev pub line_of : ℕ → List Lexeme
+line_of n = record { begin = 0; node = Newline; end = n } ∷ []
+
+pub first_laid : (text : Text) → LaysOut nothing text 0 []
+unfolding open_widths
+first_laid text = record { inside = omega arith; step = first_step text; quiet = λ tokens h. h }
+
+pub line_laid : (history : History) (rest : Text) (n : ℕ) → is_nothing history.before ≡ false → counts (mode_after history.tokens) (is_balanced history.tokens) ≡ true → longest_front (class_in language) rest ≡ Some (word.LineEnd, n) → LaysOut history rest n (line_of n)
+unfolding next_step situation open_fstring
+line_laid history [] n started counted front = let sound = front_sound (class_in language) [] word.LineEnd n front in absurd (omega (arith, sound.0, sound.1))
+line_laid history (b ∷ bs) n started counted front =
+    let sound = front_sound (class_in language) (b ∷ bs) word.LineEnd n front in
+    let len : length (take n (b ∷ bs)) ≡ n = length-take-le n (b ∷ bs) sound.1 in
+    record {
+      inside = sound.1;
+      step = counted_step (situation history) b bs n started counted front ∙ ap (λ k. line_end k (open_widths history.widths) (drop n (b ∷ bs))) len;
+      quiet = λ tokens h. (ap (option_map _) h.0, h.1);
+    }
+
+-- the piece of a margin that is comment-only lines
+abbrev pub comments_piece : ℕ → List Lexeme → Text → Piece
+comments_piece n line behind = record { len = n + (length behind + 0); lexemes = line ++ map (moved n) (comments_from 0 (lines behind) ++ []); width = None; sort = Layout }
+
+comments_stand : (history : History) (rest : Text) (n : ℕ) (line : List Lexeme) → LaysOut history rest n line → list_all is_comment_only (lines (drop n rest)) ≡ true → next_step language history rest ≡ Stands (comments_piece n line (drop n rest))
+comments_stand history rest n line laid h =
+    laid.step ∙ ap (margin_step n line (open_widths history.widths)) (comments_margin (drop n rest) h) ∙ blank_step n line (open_widths history.widths) (comments_from 0 (lines (drop n rest))) (length (drop n rest))
+
+onto_both : (tokens : List Token) (xs ys : List Lexeme) → tokens_onto tokens (xs ++ ys) ≡ tokens_onto (tokens_onto tokens xs) ys
+onto_both tokens [] ys = refl
+onto_both tokens (x ∷ xs) ys = onto_both (x.node ∷ tokens) xs ys
+
+flat_behind : (history : History) (rest behind : Text) (n : ℕ) (line : List Lexeme) → LaysOut history rest n line → IsFlat history → IsFlat (after history (comments_piece n line behind))
+unfolding after is_balanced
+flat_behind history rest behind n line laid flat =
+    let whole : map (moved n) (comments_from 0 (lines behind) ++ []) ≡ map (moved n) (comments_from 0 (lines behind)) = ap (map (moved n)) (append-nil (comments_from 0 (lines behind))) in
+    let both : tokens_onto history.tokens (line ++ map (moved n) (comments_from 0 (lines behind) ++ [])) ≡ tokens_onto (tokens_onto history.tokens line) (map (moved n) (comments_from 0 (lines behind))) =
+    ap (λ ls. tokens_onto history.tokens (line ++ ls)) whole ∙ onto_both history.tokens line (map (moved n) (comments_from 0 (lines behind))) in
+    let now = comments_flat n 0 (lines behind) (tokens_onto history.tokens line) (laid.quiet history.tokens (flat.none_open, eqb-true _ _ flat.balanced)) in
+    record {
+      none_open = ap (open_fstring 0) both ∙ now.0;
+      balanced = ap (λ (ts : List Token). count_by is_any_opening ts == count_by is_any_closing ts) both ∙ eq-eqb _ _ now.1;
+      no_width = ap open_widths (append-nil history.widths) ∙ flat.no_width;
+    }
+
+flat_ends : (history : History) → IsFlat history → history.before ≡ Layout → next_step language history [] ≡ Ends
+unfolding next_step situation step_at mode_after
+flat_ends history flat laid = rw (laid, flat.none_open) refl
+
+flat_settled : (history : History) → IsFlat history → history.before ≡ Layout → is_settled history ≡ true
+unfolding is_settled mode_after
+flat_settled history flat laid = rw (laid, flat.none_open, flat.balanced, flat.no_width) refl
+
+-- Where nothing is open and only comment-only lines stand behind the last line end, a text is a clean cut.
+pub laid_cut : (text : Text) (pieces : List Piece) (n : ℕ) (line : List Lexeme) → ends_with nat_eq text (codes "\n") ≡ true → IsReading language nothing text pieces → IsFlat (after_all nothing pieces)
+    → LaysOut (after_all nothing pieces) (drop (pieces_len pieces) text) n line → list_all is_comment_only (lines (drop n (drop (pieces_len pieces) text))) ≡ true → is_clean_cut text ≡ true
+unfolding after
+laid_cut text pieces n line ends reads flat laid h =
+    let history = after_all nothing pieces in
+    let rest = drop (pieces_len pieces) text in
+    let last = comments_piece n line (drop n rest) in
+    let stands = comments_stand history rest n line laid h in
+    let now = flat_behind history rest (drop n rest) n line laid flat in
+    let reach : length rest ≤ last.len = omega (arith, laid.inside, length-drop n rest) in
+    let none : drop last.len rest ≡ [] = drop_of_length-le rest reach in
+    let over = stops_here language (after history last) (drop last.len rest) Ends (ap (next_step language (after history last)) none ∙ flat_ends (after history last) now refl) (λ piece e. cc) in
+    let whole = longest_both language nothing text pieces (last ∷ []) Ends reads (longest_onward language history rest last [] Ends stands over) in
+    clean_by text (pieces ++ last ∷ []) Ends whole ∙ rw (past_both nothing pieces (last ∷ []), flat_settled (after history last) now refl, ends) refl
