@@ -11,11 +11,11 @@ use Rattle.starlark_grammar.specs.Words as word
 use Rattle.starlark_grammar.specs.Words.{Text, class_in, language}
 use Rattle.starlark_grammar.specs.Front.{longest_front}
 use Rattle.starlark_grammar.specs.Tokens.{Token, Comment, Lexeme, Newline, moved}
-use Rattle.starlark_grammar.specs.Depths.{Outside, is_any_closing, is_any_opening, is_balanced, mode_after, mode_by, open_fstring}
-use Rattle.starlark_grammar.specs.Margins.{Margin, comment_lines, comments_from, is_comment_only, lines, margin_of, open_widths}
-use Rattle.starlark_grammar.specs.Pieces.{Ends, Layout, Piece, Situation, Stands, counts, first_margin, line_end, margin_step, step_at}
+use Rattle.starlark_grammar.specs.Depths.{Mode, Outside, is_any_closing, is_any_opening, is_balanced, mode_after, mode_by, open_fstring}
+use Rattle.starlark_grammar.specs.Margins.{margin_len, Margin, comment_lines, comments_from, is_comment_only, lines, margin_of, open_widths}
+use Rattle.starlark_grammar.specs.Pieces.{Ends, Layout, Piece, Situation, Stands, Step, counts, first_margin, line_end, margin_step, step_at}
 use Rattle.starlark_grammar.specs.Reading.{History, IsLongestReading, IsReading, after, after_all, next_step, nothing, pieces_len, situation, tokens_onto}
-use Rattle.starlark_grammar.specs.Cuts.{is_clean_cut, is_settled}
+use Rattle.starlark_grammar.specs.Cuts.{is_clean_cut, is_layout, is_outside, is_settled}
 use Rattle.starlark_grammar.proofs.Lists.{drop-sum}
 use Rattle.starlark_grammar.proofs.Words.Fronts.{front_sound}
 use Rattle.starlark_grammar.proofs.Reading.Steps.{is_nothing, lines_len}
@@ -24,8 +24,9 @@ use Rattle.starlark_grammar.proofs.Joining.CleanCuts.{longest_both, past_both}
 use Rattle.starlark_grammar.proofs.Joining.Laws.{clean_by}
 use Rattle.starlark_grammar.proofs.Joining.Tabs.{first_step}
 use Rattle.starlark_grammar.proofs.Joining.Followed.{ends_line, ends_line_drop, ends_line_of}
-use Rattle.starlark_grammar.proofs.Joining.FollowedMargins.{lines_sum, while_all}
-use Rattle.starlark_grammar.proofs.Joining.Joined.{blank_step, counted_step}
+use Rattle.starlark_grammar.proofs.Joining.FollowedMargins.{Followed, Whole, Within, has_whole_lines, lines_sum, some_line, some_lines, while_all, while_less, whole_behind}
+use Rattle.starlark_grammar.proofs.Joining.Joined.{blank_step, counted_end, counted_step, margin_step_len, outside, whole_from_ends}
+use Rattle.starlark_grammar.proofs.Joining.Settled.{outside_none}
 use Rattle.starlark_grammar.proofs.Joining.ShortenedPieces.{next_shortened}
 
 -- the pieces of a text up to a place are those of each front that ends with an LF behind them
@@ -135,3 +136,53 @@ laid_cut text pieces n line ends reads flat laid h =
     let over = stops_here language (after history last) (drop last.len rest) Ends (ap (next_step language (after history last)) none ∙ flat_ends (after history last) now refl) (λ piece e. cc) in
     let whole = longest_both language nothing text pieces (last ∷ []) Ends reads (longest_onward language history rest last [] Ends stands over) in
     clean_by text (pieces ++ last ∷ []) Ends whole ∙ rw (past_both nothing pieces (last ∷ []), flat_settled (after history last) now refl, ends) refl
+
+-- The other way round: how a clean cut ends.
+pub record EndsLaid (text : Text) : Type 0 where
+  pub pieces : List Piece
+  pub n : ℕ
+  pub line : List Lexeme
+  pub reads : IsReading language nothing text pieces
+  pub before : pieces_len pieces < length text
+  pub flat : IsFlat (after_all nothing pieces)
+  pub laid : LaysOut (after_all nothing pieces) (drop (pieces_len pieces) text) n line
+  pub comments : list_all is_comment_only (lines (drop n (drop (pieces_len pieces) text))) ≡ true
+
+margin_at : (text : Text) → (margin_of text).at ≡ lines_sum (comment_lines text)
+unfolding margin_of
+margin_at text = refl
+
+-- a margin that reaches to the end of whole lines passes comment-only lines alone, and has no width
+margin_whole : (n : ℕ) (line : List Lexeme) (levels : List ℕ) (text : Text) (piece : Piece) → has_whole_lines text ≡ true → margin_step n line levels (margin_of text) ≡ Stands piece → n + length text ≤ piece.len → (list_all is_comment_only (lines text) ≡ true) × (piece.width ≡ None)
+margin_whole n line levels text piece whole stands reach = go (list_all is_comment_only (lines text)) refl
+  where
+    total : piece.len ≡ n + margin_len (margin_of text)
+    total = margin_step_len n line levels (margin_of text) piece stands
+
+    inside : Followed text [] → list_all is_comment_only (lines text) ≡ false → ⊥
+    inside (Whole e f) h = omega (arith, ap (λ (m : Margin). m.at) e, margin_at text, while_less is_comment_only (lines text) h (some_lines text), lines_len text)
+    inside (Within some less f) h = omega (arith, less, reach, total)
+
+    go : (all : Bool) → list_all is_comment_only (lines text) ≡ all → (list_all is_comment_only (lines text) ≡ true) × (piece.width ≡ None)
+    go true h =
+        let last = ap (margin_step n line levels) (comments_margin text h) ∙ blank_step n line levels (comments_from 0 (lines text)) (length text) in
+        let same : Stands piece ≡ Stands (comments_piece n line text) = sym stands ∙ last in
+        (h, ap width_of_step same)
+      where
+        width_of_step : Step → Option ℕ
+        width_of_step (Stands piece) = piece.width
+        width_of_step step = None
+    go false h = absurd (inside (some_line text [] whole h) h)
+
+-- what is open before the last piece of a clean cut, and what that is
+ends_line_end : (history : History) (rest : Text) (last : Piece) → ends_line rest ≡ true → is_nothing history.before ≡ false → is_layout last.sort ≡ true → last.len ≡ length rest → next_step language history rest ≡ Stands last
+    → (n : ℕ) × LaysOut history rest n (line_of n) × (list_all is_comment_only (lines (drop n rest)) ≡ true) × (last.width ≡ None) × (open_fstring 0 history.tokens ≡ None) × (is_balanced history.tokens ≡ true)
+unfolding next_step situation mode_after
+ends_line_end history rest last ends started laid reach stands =
+    let end = counted_end (situation history) rest last laid started stands in
+    let sound = front_sound (class_in language) rest word.LineEnd end.len end.front in
+    let place = outside (mode_after history.tokens) (is_balanced history.tokens) end.counted in
+    let balanced : is_balanced history.tokens ≡ true = subst (λ (m : Mode). counts m (is_balanced history.tokens) ≡ true) place end.counted in
+    let len : length (take end.len rest) ≡ end.len = length-take-le end.len rest sound.1 in
+    let found = margin_whole (length (take end.len rest)) (line_of (length (take end.len rest))) (open_widths history.widths) (drop end.len rest) last (whole_behind end.len rest (whole_from_ends rest ends)) end.stands (omega (arith, len, reach, length-drop end.len rest)) in
+    (end.len, line_laid history rest end.len started end.counted end.front, found.0, found.1, outside_none _ (ap is_outside place), balanced)
