@@ -1,20 +1,20 @@
 -- Where a text may be cut inside of its layout: behind a line end that counts and whole comment-only lines behind it.
-use Rattle.std.proofs.Common.{◌≡◌, ℕ, zero, suc, ◌+◌, ◌-◌, ◌≤◌, ◌<◌, Bool, true, false, List, [], ◌∷◌, ◌++◌, length, take, drop, map, refl, ap, ◌∙◌, sym, subst, Option, Some, None, arith, append-nil}
+use Rattle.std.proofs.Common.{◌≡◌, ℕ, ◌+◌, ◌≤◌, ◌<◌, Bool, true, false, List, [], ◌∷◌, ◌++◌, length, take, drop, map, refl, ap, ◌∙◌, sym, subst, Option, Some, None, arith, append-nil}
 use Rattle.std.proofs.Common.{drop_of_length-le, eq-eqb}
 use Rattle.std.proofs.Math.Seq.{drop-length}
 use Rattle.std.proofs.lemmas.Bool.{and_parts, eqb-true}
-use Rattle.std.specs.Prelude.{option_map, ◌&&◌, ◌==◌, nat_eq, codes, count_by, take_while, option_to_list}
+use Rattle.std.specs.Prelude.{option_map, ◌==◌, nat_eq, codes, count_by, take_while, option_to_list}
 use Rattle.std.specs.List.{ends_with, list_all}
-use Rattle.std.proofs.lemmas.List.{take-append-drop, length-drop, length-take-le, drop-append-le, map-append}
+use Rattle.std.proofs.lemmas.List.{take-append-drop, length-drop, length-take-le, drop-append-le}
 use Rattle.std.proofs.lemmas.List.Sums.{sum_by-cons}
 use Rattle.starlark_grammar.specs.Words as word
 use Rattle.starlark_grammar.specs.Words.{Text, class_in, language}
 use Rattle.starlark_grammar.specs.Front.{longest_front}
-use Rattle.starlark_grammar.specs.Tokens.{Token, Comment, Lexeme, Newline, moved}
-use Rattle.starlark_grammar.specs.Depths.{Mode, Outside, is_any_closing, is_any_opening, is_balanced, mode_after, mode_by, open_fstring}
+use Rattle.starlark_grammar.specs.Tokens.{Token, Lexeme, Newline, moved}
+use Rattle.starlark_grammar.specs.Depths.{Mode, is_any_closing, is_any_opening, is_balanced, mode_after, open_fstring}
 use Rattle.starlark_grammar.specs.Margins.{margin_len, Margin, comment_lines, comments_from, is_comment_only, lines, margin_of, open_widths}
-use Rattle.starlark_grammar.specs.Pieces.{Ends, Layout, Piece, Situation, Stands, Step, counts, first_margin, line_end, margin_step, step_at}
-use Rattle.starlark_grammar.specs.Reading.{History, IsLongestReading, IsReading, after, after_all, next_step, nothing, pieces_len, read, situation, tokens_onto}
+use Rattle.starlark_grammar.specs.Pieces.{Ends, Layout, Piece, Stands, Step, counts, line_end, margin_step, step_at}
+use Rattle.starlark_grammar.specs.Reading.{History, IsReading, after, after_all, next_step, nothing, pieces_len, read, situation, tokens_onto}
 use Rattle.starlark_grammar.specs.Cuts.{is_clean_cut_in, is_clean_cut, is_layout, is_outside, is_settled}
 use Rattle.starlark_grammar.proofs.Lists.{drop-sum}
 use Rattle.starlark_grammar.proofs.Words.Fronts.{front_sound}
@@ -199,7 +199,7 @@ ends_line_end history rest last ends begun laid reach stands =
 pub data MarginAt (text : Text) (pieces : List Piece) (n : ℕ) : Type 0 where
   First : pieces ≡ [] → n ≡ 0 → MarginAt text pieces n
   Behind : is_nothing (after_all nothing pieces).before ≡ false → counts (mode_after (after_all nothing pieces).tokens) (is_balanced (after_all nothing pieces).tokens) ≡ true
-    → longest_front (class_in language) (drop (pieces_len pieces) text) ≡ Some (word.LineEnd, n) → MarginAt text pieces n
+      → longest_front (class_in language) (drop (pieces_len pieces) text) ≡ Some (word.LineEnd, n) → MarginAt text pieces n
 
 -- A place behind whole comment-only lines of a margin, before which no width is open.
 pub record IsLaid (text : Text) (at : ℕ) : Type 0 where

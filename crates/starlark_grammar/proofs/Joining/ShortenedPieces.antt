@@ -1,7 +1,6 @@
 -- A piece that stands in a text stands in it too where the text ends sooner, with an LF behind the piece.
-use Rattle.std.proofs.Common.{◌≡◌, ℕ, zero, suc, ◌+◌, ◌≤◌, ◌<◌, Bool, true, false, List, [], ◌∷◌, ◌++◌, length, take, drop, refl, ap, ◌∙◌, sym, subst, Option, Some, None, arith}
-use Rattle.std.specs.Prelude.{◌&&◌, if◌then◌else◌, nat_eq}
-use Rattle.std.specs.List.{starts_with}
+use Rattle.std.proofs.Common.{◌≡◌, ℕ, ◌+◌, ◌≤◌, ◌<◌, Bool, true, false, List, [], ◌∷◌, ◌++◌, length, take, drop, refl, ap, ◌∙◌, sym, subst, Option, Some, None, arith}
+use Rattle.std.specs.Prelude.{◌&&◌, if◌then◌else◌}
 use Rattle.std.proofs.lemmas.List.{length-take-le, length-drop, take-append-le, drop-append-le}
 use Rattle.starlark_grammar.specs.Words as word
 use Rattle.starlark_grammar.specs.Words.{Text, Quote, Kind, OfText, OfBytes, OfFString, Class, class_in, language}
@@ -16,7 +15,7 @@ use Rattle.starlark_grammar.proofs.Words.Fronts.{front_sound}
 use Rattle.starlark_grammar.proofs.Words.Lines.{in_line, line_fits, language_lines}
 use Rattle.starlark_grammar.proofs.Joining.Followed.{ends_line, ends_line_drop, longest_followed}
 use Rattle.starlark_grammar.proofs.Joining.FollowedBodies.{is_closed}
-use Rattle.starlark_grammar.proofs.Joining.FollowedMargins.{Followed, Whole, Within, followed, has_whole_lines, margin_behind, whole_behind}
+use Rattle.starlark_grammar.proofs.Joining.FollowedMargins.{Followed, Whole, Within, followed, has_whole_lines, whole_behind}
 use Rattle.starlark_grammar.proofs.Joining.FollowedPieces.{bang_followed, opening_followed, opening_inside, word_inside}
 use Rattle.starlark_grammar.proofs.Joining.Joined.{margin_step_len, step_within, whole_from_ends}
 use Rattle.starlark_grammar.proofs.Joining.ShortenedBodies.{body_shortened}
