@@ -8,3 +8,6 @@ pub mod Joined
 pub mod CleanCuts
 pub mod Tabs
 pub mod Laws
+pub mod ShortenedBodies
+pub mod ShortenedPieces
+pub mod LaidCuts

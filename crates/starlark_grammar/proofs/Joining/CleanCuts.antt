@@ -39,12 +39,12 @@ along_later n at (piece ∷ pieces) =
     ∙ ap (λ ls. ls ++ map (moved n) (lexemes_along (at + piece.len) pieces)) (sym (all_moved n at (n + at) piece.lexemes refl))
     ∙ sym (map_both (moved n) (map (moved at) piece.lexemes) (lexemes_along (at + piece.len) pieces))
 
-past_both : (history : History) (one other : List Piece) → after_all history (one ++ other) ≡ after_all (after_all history one) other
+pub past_both : (history : History) (one other : List Piece) → after_all history (one ++ other) ≡ after_all (after_all history one) other
 past_both history [] other = refl
 past_both history (piece ∷ one) other = past_both (after history piece) one other
 
 -- a reading, and a longest one behind it
-longest_both : (table : Table) (history : History) (text : Text) (one other : List Piece) (last : Step) → IsReading table history text one → IsLongestReading table (after_all history one) (drop (pieces_len one) text) other last → IsLongestReading table history text (one ++ other) last
+pub longest_both : (table : Table) (history : History) (text : Text) (one other : List Piece) (last : Step) → IsReading table history text one → IsLongestReading table (after_all history one) (drop (pieces_len one) text) other last → IsLongestReading table history text (one ++ other) last
 longest_both table history text [] other last reads longest = longest
 longest_both table history text (piece ∷ one) other last reads longest =
     let total : pieces_len (piece ∷ one) ≡ piece.len + pieces_len one = sum_by-cons (λ (piece : Piece). piece.len) piece one in

@@ -44,7 +44,7 @@ lines_followed (b ∷ c ∷ bs) more h = go (is_feed b) (lines (c ∷ bs)) (no_l
     go false (l ∷ m) some e = ap (onto_first b) e
 
 -- a test that all pass, and one that some fails
-while_all : {A : Type 0} (test : A → Bool) (xs ys : List A) → list_all test xs ≡ true → take_while test (xs ++ ys) ≡ xs ++ take_while test ys
+pub while_all : {A : Type 0} (test : A → Bool) (xs ys : List A) → list_all test xs ≡ true → take_while test (xs ++ ys) ≡ xs ++ take_while test ys
 while_all test [] ys h = refl
 while_all test (x ∷ xs) ys h = let parts = and_parts (test x) (list_all test xs) h in rw (parts.0, one-add) (ap (λ zs. x ∷ zs) (while_all test xs ys parts.1))
 
@@ -61,7 +61,7 @@ abbrev pub lines_sum : List Text → ℕ
 lines_sum ls = sum_by (λ (line : Text). length line) ls
 
 -- no line is empty
-some_lines : (text : Text) → list_all (λ (line : Text). is_some_line line) (lines text) ≡ true
+pub some_lines : (text : Text) → list_all (λ (line : Text). is_some_line line) (lines text) ≡ true
 unfolding lines
 some_lines [] = refl
 some_lines (b ∷ bs) = go (is_feed b) (lines bs) (some_lines bs)
@@ -72,7 +72,7 @@ some_lines (b ∷ bs) = go (is_feed b) (lines bs) (some_lines bs)
     go false (l ∷ m) h = (and_parts (is_some_line l) _ h).1
 
 -- where some line isn't a comment alone, those before it don't reach the text's end
-while_less : (test : Text → Bool) (ls : List Text) → list_all test ls ≡ false → list_all (λ (line : Text). is_some_line line) ls ≡ true → lines_sum (take_while test ls) < lines_sum ls
+pub while_less : (test : Text → Bool) (ls : List Text) → list_all test ls ≡ false → list_all (λ (line : Text). is_some_line line) ls ≡ true → lines_sum (take_while test ls) < lines_sum ls
 while_less test [] h some = cc
 while_less test (l ∷ ls) h some = go (test l) refl (while_less test ls)
   where
@@ -170,7 +170,7 @@ module _ (text more : Text) (whole : has_whole_lines text ≡ true) where
       ∙ ap (λ (ls : List Text). comments_from 0 ls ++ map (moved (length text)) (comments_from 0 (comment_lines more))) (sym here) in
       Whole (rw (none, len) refl) (rw (left, total, comments) refl)
 
-  some_line : list_all is_comment_only (lines text) ≡ false → Followed text more
+  pub some_line : list_all is_comment_only (lines text) ≡ false → Followed text more
   unfolding margin_of
   some_line h =
       let there : comment_lines (text ++ more) ≡ comment_lines text = private_lines ∙ while_some is_comment_only (lines text) (lines more) h in

@@ -74,21 +74,21 @@ some_inside : (text : Text) → ends_line text ≡ true → 0 < length text
 some_inside [] h = cc
 some_inside (b ∷ bs) h = omega arith
 
-opening_inside : (is_raw : Bool) (quote : Quote) (behind : Text) → ends_line behind ≡ true → more_quotes (opening_of is_raw quote behind) < length behind
+pub opening_inside : (is_raw : Bool) (quote : Quote) (behind : Text) → ends_line behind ≡ true → more_quotes (opening_of is_raw quote behind) < length behind
 opening_inside is_raw quote behind h = go (starts_with nat_eq behind (quote_byte quote ∷ quote_byte quote ∷ [])) (starts_inside behind (quote_byte quote ∷ quote_byte quote ∷ []) h (quotes_in_line quote))
   where
     go : (starts : Bool) → (starts ≡ true → 2 < length behind) → (if starts then 2 else 0) < length behind
     go true inside = inside refl
     go false inside = some_inside behind h
 
-opening_followed : (is_raw : Bool) (quote : Quote) (behind more : Text) → ends_line behind ≡ true → opening_of is_raw quote (behind ++ more) ≡ opening_of is_raw quote behind
+pub opening_followed : (is_raw : Bool) (quote : Quote) (behind more : Text) → ends_line behind ≡ true → opening_of is_raw quote (behind ++ more) ≡ opening_of is_raw quote behind
 opening_followed is_raw quote behind more h =
     ap (λ (triple : Bool). let opening : Opening = record { is_raw = is_raw; quote = quote; is_triple = triple } in opening) (starts_followed behind (quote_byte quote ∷ quote_byte quote ∷ []) more h (quotes_in_line quote))
 
 -- Words
 
 -- a word in a line ends before a text that ends with an LF
-word_inside : (n : ℕ) (text : Text) → ends_line text ≡ true → in_line (take n text) ≡ true → n < length text
+pub word_inside : (n : ℕ) (text : Text) → ends_line text ≡ true → in_line (take n text) ≡ true → n < length text
 word_inside n [] h k = cc
 word_inside zero (b ∷ bs) h k = omega arith
 word_inside (suc n) (b ∷ []) h k = absurd (feed_out b h (and_parts (is_in_line b) (in_line (take n [])) k).0)
@@ -176,7 +176,7 @@ front_followed s text more (Some front) piece h found e = go (word_followed s fr
       followed = again ∙ counted.3 ∙ ap (λ n. line_end n s.levels (drop front.1 text ++ more)) len;
     })
 
-bang_followed : (b : ℕ) (bs more : Text) → ends_line (b ∷ bs) ≡ true → is_bang (b ∷ (bs ++ more)) ≡ is_bang (b ∷ bs)
+pub bang_followed : (b : ℕ) (bs more : Text) → ends_line (b ∷ bs) ≡ true → is_bang (b ∷ (bs ++ more)) ≡ is_bang (b ∷ bs)
 bang_followed b [] more h = subst (λ n. is_bang (n ∷ more) ≡ is_bang (n ∷ [])) (sym (eqb-true b 10 h)) (go more)
   where
     go : (more : Text) → is_bang (10 ∷ more) ≡ is_bang (10 ∷ [])

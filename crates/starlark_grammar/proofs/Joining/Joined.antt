@@ -30,12 +30,12 @@ whole_from_ends [] h = refl
 whole_from_ends (b ∷ []) h = h
 whole_from_ends (b ∷ c ∷ bs) h = whole_from_ends (c ∷ bs) h
 
-content_followed : (text more : Text) → 0 < length text → is_content (text ++ more) ≡ is_content text
+pub content_followed : (text more : Text) → 0 < length text → is_content (text ++ more) ≡ is_content text
 content_followed [] more some = absurd (omega (arith, some))
 content_followed (b ∷ bs) more some = refl
 
 -- where the margin ends inside of the text
-step_within : (len : ℕ) (lexemes : List Lexeme) (levels : List ℕ) (text more : Text) → 0 < length (margin_of text).behind
+pub step_within : (len : ℕ) (lexemes : List Lexeme) (levels : List ℕ) (text more : Text) → 0 < length (margin_of text).behind
     → margin_of (text ++ more) ≡ record { comments = (margin_of text).comments; at = (margin_of text).at; blanks = (margin_of text).blanks; behind = (margin_of text).behind ++ more }
     → margin_step len lexemes levels (margin_of (text ++ more)) ≡ margin_step len lexemes levels (margin_of text)
 unfolding margin_step indentation

@@ -45,7 +45,7 @@ faults_join first second h = go (first_margin_is second)
 -- Clean cuts
 
 -- whether a text is a clean cut, by its reading
-clean_by : (text : Text) (pieces : List Piece) (last : Step) → IsLongestReading language nothing text pieces last
+pub clean_by : (text : Text) (pieces : List Piece) (last : Step) → IsLongestReading language nothing text pieces last
     → is_clean_cut text ≡ (is_faultless last && is_settled (after_all nothing pieces) && ends_with nat_eq text (codes "\n"))
 unfolding is_clean_cut is_clean_cut_in
 clean_by text pieces last longest =
