@@ -3,5 +3,5 @@ pub mod Margins
 pub mod CommentLines
 pub mod Blanks
 pub mod Pending
-pub mod Levels
+pub mod IndentStack
 pub mod Laid

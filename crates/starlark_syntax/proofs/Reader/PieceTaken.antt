@@ -24,7 +24,7 @@ use Rattle.starlark_scanner.specs.declared.scanner.word.Word.{Word}
 use Rattle.starlark_syntax.specs.Joints.Pieces.{IsBehind, IsPiece, nothing_of}
 use Rattle.starlark_syntax.specs.Joints.Reader.{IsAhead, IsAheadBehind, IsStateAfter, IsRead, IsWordHere, before_view, left_here, silent_sort, step_here}
 use Rattle.starlark_token.specs.TokenViews.{TokenView, Whole, token_view}
-use Rattle.starlark_syntax.specs.declared.lexer.nesting.Place.{Place}
+use Rattle.starlark_syntax.specs.declared.lexer.nesting.LexerMode.{LexerMode}
 use Rattle.starlark_syntax.specs.declared.lexer.reading.Piece as code
 use Rattle.starlark_syntax.specs.declared.lexer.reader.Before as sort
 use Rattle.starlark_syntax.specs.declared.lexer.reader.Before.TheVariants as before
@@ -36,7 +36,7 @@ use Rattle.starlark_syntax.proofs.Reader.Taken.{none_before, read_ahead, took}
 use Rattle.starlark_syntax.proofs.Reader.Waiting.{hands_none}
 
 -- what was read at a reader's place stands there
-pub piece_read : (text : Text) (history : History) (reader : Reader) (place : Place) (balanced follows_gap : Bool) (rest : Text) (piece : code.Piece) → rest ≡ drop reader.at text → IsStateAfter text history reader
+pub piece_read : (text : Text) (history : History) (reader : Reader) (place : LexerMode) (balanced follows_gap : Bool) (rest : Text) (piece : code.Piece) → rest ≡ drop reader.at text → IsStateAfter text history reader
     → ((tokens : List Rattle.starlark_grammar.specs.Tokens.Token) → Represents tokens reader.nesting → mode_view place ≡ mode_after tokens)
     → ((tokens : List Rattle.starlark_grammar.specs.Tokens.Token) → Represents tokens reader.nesting → balanced ≡ is_balanced tokens)
     → ((before : pieces.Before) → before_view reader.before ≡ before → IsBehind follows_gap before)
@@ -57,7 +57,7 @@ behind_sort before.Gap before is = subst (IsBehind true) is refl
 behind_sort before.Other before is = subst (IsBehind false) is refl
 
 -- the same of a gap
-pub gap_read : (text : Text) (history : History) (reader : Reader) (place : Place) (rest : Text) (len : ℕ) → rest ≡ drop reader.at text → IsStateAfter text history reader
+pub gap_read : (text : Text) (history : History) (reader : Reader) (place : LexerMode) (rest : Text) (len : ℕ) → rest ≡ drop reader.at text → IsStateAfter text history reader
     → ((tokens : List Rattle.starlark_grammar.specs.Tokens.Token) → Represents tokens reader.nesting → mode_view place ≡ mode_after tokens)
     → ((s : Situation) (follows_gap : Bool) → s.place ≡ mode_view place → IsBehind follows_gap s.before → step_at language s rest ≡ pieces.gap len)
     → step_here text history reader ≡ pieces.gap len
@@ -82,7 +82,7 @@ name_step text history reader len name kept here is = (
   word_read text history reader (record { class = class.Identifier; len = len }) kept here ∙ ap (λ n. pieces.token n (Tokens.Identifier (take len (drop reader.at text)))) (word_len (drop reader.at text) class.Identifier len (sym here.front)),
 )
 
-pub terminal_step : (text : Text) (history : History) (reader : Reader) (terminal : Terminal) (len : ℕ) (place : Place) (found : Token) → IsStateAfter text history reader → IsWordHere text reader (record { class = class.Fixed terminal; len = len })
+pub terminal_step : (text : Text) (history : History) (reader : Reader) (terminal : Terminal) (len : ℕ) (place : LexerMode) (found : Token) → IsStateAfter text history reader → IsWordHere text reader (record { class = class.Fixed terminal; len = len })
     → ((before : List Tokens.Token) → Represents before reader.nesting → mode_view place ≡ mode_after before)
     → token_view found ≡ Whole (pieces.terminal_token (mode_view place) terminal) → is_fstring_start (pieces.terminal_token (mode_view place) terminal) ≡ false
     → IsStep (step_here text history reader) (step.Token found len)

@@ -6,15 +6,15 @@ use Rattle.starlark_grammar.specs.Tokens as grammar
 use Rattle.starlark_grammar.specs.Depths.{Mode, Outside, InText, AtTop, Deeper, Round, Square, Curly, is_opening, is_closing, is_any_opening, is_any_closing, open_fstring, expression_tokens, depth}
 use Rattle.starlark_scanner.specs.Joints.Literals.{opening_view}
 use Rattle.starlark_token.specs.TokenViews.{TokenView, Whole}
-use Rattle.starlark_syntax.specs.declared.lexer.nesting.Place.{Place}
-use Rattle.starlark_syntax.specs.declared.lexer.nesting.Place.TheVariants as place
+use Rattle.starlark_syntax.specs.declared.lexer.nesting.LexerMode.{LexerMode}
+use Rattle.starlark_syntax.specs.declared.lexer.nesting.LexerMode.TheVariants as place
 use Rattle.starlark_syntax.specs.declared.lexer.nesting.Nesting.{Nesting}
 use Rattle.starlark_syntax.specs.declared.lexer.nesting.changes.Change.{Change}
 use Rattle.starlark_syntax.specs.declared.lexer.nesting.changes.Change.TheVariants as change
 use Rattle.starlark_syntax.specs.declared.lexer.nesting.counts.Brackets.{Brackets}
 use Rattle.starlark_syntax.specs.declared.lexer.nesting.counts.OpenFString.{OpenFString}
 
-abbrev pub mode_view : Place → Mode
+abbrev pub mode_view : LexerMode → Mode
 mode_view place.Outside = Outside
 mode_view (place.InText opening) = InText (opening_view opening)
 mode_view place.AtTop = AtTop

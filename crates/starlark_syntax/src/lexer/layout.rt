@@ -11,13 +11,13 @@ ghost use Rattle.starlark_grammar.specs.Tokens as tokens;
 
 mod comments;
 mod feeds;
+mod indent_stack;
 mod indents;
-mod levels;
 mod margins;
 mod pending;
 
+pub use indent_stack::IndentStack;
 use indents::indentation;
-pub use levels::Levels;
 use margins::{Margin, margin_of};
 pub use pending::{Behind, Pending};
 use starlark_error::lexeme_error::LexemeError;
@@ -44,7 +44,7 @@ pub enum Laid {
 
 /// The fault of a margin behind a line end of `len` bytes, and where it ends, in bytes from the line end's begin on. A
 /// tab goes before a width that doesn't fit.
-fn fault_of(levels: &Levels, len: usize, margin: Margin) -> Option<(LexemeError, usize)>
+fn fault_of(levels: &IndentStack, len: usize, margin: Margin) -> Option<(LexemeError, usize)>
     requires { len + margin.at + margin.blanks.len < 2 ^ 64 }
     ensures { (line_end : List tokens.Lexeme) (seen : grammar.Margin) → IsMargin seen margin → IsDecided (pieces.margin_step len line_end levels.now seen) (margin_piece len line_end levels.now seen) result }
 {
@@ -63,7 +63,11 @@ fn fault_of(levels: &Levels, len: usize, margin: Margin) -> Option<(LexemeError,
 
 /// Takes a margin without fault, which begins at `begin`: its lexemes are still to be handed out, and its width, where
 /// it leads to content, is one of the open ones.
-fn take_margin(levels: &mut Levels, begin: usize, margin: Margin) -> Result<Pending, AllocError>
+fn take_margin(
+    levels: &mut IndentStack,
+    begin: usize,
+    margin: Margin,
+) -> Result<Pending, AllocError>
     requires { begin + margin.at + margin.blanks.len < 2 ^ 64 }
     ensures lexemes { IfOk result (λ pending. (text : Text) → IsUtf8 text → IsCharBoundary text begin → IsMargin (grammar.margin_of (drop begin text)) margin →
         IsPending text pending × (map (tokens.moved begin) (margin_lexemes levels.old (grammar.margin_of (drop begin text))) ≡ pending_lexemes text pending)) }
@@ -83,7 +87,7 @@ fn take_margin(levels: &mut Levels, begin: usize, margin: Margin) -> Result<Pend
 
 /// Reads the margin at a text's begin, where no width is open. Before a fault its comments are handed out. After an
 /// error the open widths are not known.
-pub fn first_margin(levels: &mut Levels, text: &str) -> Result<Laid, AllocError>
+pub fn first_margin(levels: &mut IndentStack, text: &str) -> Result<Laid, AllocError>
     requires { levels.old ≡ [] }
     ensures { IfOk result (IsLaid text.now 0 (pieces.first_margin text.now) [] (grammar.margin_of text.now).comments [] levels.new) }
 {
@@ -107,7 +111,12 @@ pub fn first_margin(levels: &mut Levels, text: &str) -> Result<Laid, AllocError>
 
 /// Reads a line end of `len` bytes, which begins at `at`, and the margin behind it. The lexemes of the margin are still
 /// to be handed out behind the `Newline`; before a fault there are none. After an error the open widths are not known.
-pub fn line_end(levels: &mut Levels, at: usize, len: usize, text: &str) -> Result<Laid, AllocError>
+pub fn line_end(
+    levels: &mut IndentStack,
+    at: usize,
+    len: usize,
+    text: &str,
+) -> Result<Laid, AllocError>
     requires { IsCharBoundary text.now (at + len) }
     ensures { IfOk result (λ laid. (widths : List ℕ) → levels.old ≡ grammar.open_widths widths →
         IsLaid text.now at (pieces.line_end len (grammar.open_widths widths) (drop (at + len) text.now)) (record { begin = at; node = tokens.Newline; end = at + len } ∷ []) [] widths levels.new laid) }

@@ -20,7 +20,7 @@ use std::alloc::{AllocError, Global};
 /// Where a place is: outside of f-strings, in the text of one, at the top of an expression of one, or deeper in
 /// that.
 #[derive(Clone, Copy, Debug, PartialEq, Eq)]
-pub enum Place {
+pub enum LexerMode {
     Outside,
     InText(Opening),
     AtTop,
@@ -48,11 +48,11 @@ impl Nesting {
 
     /// Where the place is.
     #[inline(always)]
-    pub fn place(&self) -> Place
+    pub fn place(&self) -> LexerMode
         ensures { (tokens : List grammar.Token) → Represents tokens self.now → mode_view result ≡ mode_after tokens }
     {
         match self.fstrings.last() {
-            None => Place::Outside,
+            None => LexerMode::Outside,
             Some(innermost) => innermost.place(),
         }
     }

@@ -21,9 +21,11 @@ ghost use Rattle.starlark_syntax.specs.Joints.Nesting.{Represents, mode_view};
 ghost use Rattle.starlark_syntax.specs.Joints.Pieces.{is_code};
 ghost use Rattle.starlark_grammar.specs.Words.{Text};
 
-use crate::lexer::layout::{Behind, Laid, Levels, Pending, PlacedToken, first_margin, line_end};
+use crate::lexer::layout::{
+    Behind, IndentStack, Laid, Pending, PlacedToken, first_margin, line_end,
+};
 use crate::lexer::literal::{Opening, Step, TextEnd, quotes_of};
-use crate::lexer::nesting::{Nesting, Place};
+use crate::lexer::nesting::{LexerMode, Nesting};
 use crate::lexer::reading::code::{gap_len, is_code};
 use crate::lexer::reading::terminals::terminal_token;
 use crate::lexer::reading::{Piece, is_outside, piece_at};
@@ -70,7 +72,7 @@ pub struct Reader {
     alloc: Global,
     at: usize,
     nesting: Nesting,
-    levels: Levels,
+    levels: IndentStack,
     before: Before,
     pending: Pending,
     stage: Stage,
@@ -97,7 +99,7 @@ impl Reader {
             alloc,
             at: 0,
             nesting: Nesting::new(alloc),
-            levels: Levels::new(alloc),
+            levels: IndentStack::new(alloc),
             before: Before::Other,
             pending: Pending::nothing(),
             stage: Stage::Begin,
@@ -382,7 +384,7 @@ impl Reader {
 
     /// Passes the spaces here, at a place of code.
     #[inline(always)]
-    fn pass_spaces(&mut self, place: Place, text: &str)
+    fn pass_spaces(&mut self, place: LexerMode, text: &str)
         requires fits { length text.now < 2 ^ 32 }
         requires code { is_code (mode_view place) ≡ true }
         requires here { (before : List tokens.Token) → Represents before self.old.nesting → mode_view place ≡ mode_after before }

@@ -20,7 +20,7 @@ pub mod terminals;
 mod words;
 
 use crate::lexer::literal::{Opening, Step, chunk_from, literal_piece, opening_of};
-use crate::lexer::nesting::Place;
+use crate::lexer::nesting::LexerMode;
 use starlark_error::lexeme_error::LexemeError;
 use starlark_scanner::scanner::{Class, LiteralKind, Quote, first_character_len, first_word};
 use starlark_token::tokens::Token;
@@ -43,28 +43,28 @@ pub enum Piece {
 }
 
 /// Whether a place is outside of f-strings.
-pub fn is_outside(place: Place) -> bool
+pub fn is_outside(place: LexerMode) -> bool
     ensures { result ≡ is_outside (mode_view place) }
 {
-    matches!(place, Place::Outside)
+    matches!(place, LexerMode::Outside)
 }
 
 /// Whether line ends count: where all brackets are closed and no f-string is open.
-fn counts(place: Place, is_balanced: bool) -> bool
+fn counts(place: LexerMode, is_balanced: bool) -> bool
     ensures { result ≡ grammar.counts (mode_view place) is_balanced }
 {
     is_outside(place) && is_balanced
 }
 
 /// Whether a bang may stand at a place: at the top of an expression, and not right behind a skipped piece.
-fn takes_bang(place: Place, follows_gap: bool) -> bool
+fn takes_bang(place: LexerMode, follows_gap: bool) -> bool
     ensures { (before : grammar.Before) → IsBehind follows_gap before → result ≡ grammar.takes_bang (mode_view place) before }
 {
-    matches!(place, Place::AtTop) && !follows_gap
+    matches!(place, LexerMode::AtTop) && !follows_gap
 }
 
 /// A line end of so many bytes.
-fn line_end(place: Place, is_balanced: bool, len: usize) -> Piece
+fn line_end(place: LexerMode, is_balanced: bool, len: usize) -> Piece
     ensures { (s : grammar.Situation) (front behind text : word.Text) → s.place ≡ mode_view place → s.is_balanced ≡ is_balanced → length front ≡ len → drop len text ≡ behind → IsCharBoundary text len →
         IsPiece s.levels text (grammar.word_step s class.LineEnd front behind) result }
 {
@@ -89,7 +89,7 @@ fn fstring(is_raw: bool, quote: Quote, len: usize, behind: &str) -> Piece
 /// A literal, or the start of an f-string, by its opener's length and the text behind that.
 fn opener(
     alloc: Global,
-    place: Place,
+    place: LexerMode,
     kind: LiteralKind,
     is_raw: bool,
     quote: Quote,
@@ -113,7 +113,7 @@ fn opener(
 /// The piece of a word at the front of a text, cut there.
 fn word_piece(
     alloc: Global,
-    place: Place,
+    place: LexerMode,
     is_balanced: bool,
     class: Class,
     front: &str,
@@ -173,7 +173,7 @@ fn is_bang(text: &[u8]) -> bool
 }
 
 /// Whether a bang stands at the front of a text, by where that is and what stands before.
-fn bang_stands(place: Place, follows_gap: bool, text: &str) -> bool
+fn bang_stands(place: LexerMode, follows_gap: bool, text: &str) -> bool
     ensures { (before : grammar.Before) → IsBehind follows_gap before → result ≡ (grammar.takes_bang (mode_view place) before && grammar.is_bang text.now) }
 {
     takes_bang(place, follows_gap) && is_bang(text.as_bytes())
@@ -182,7 +182,7 @@ fn bang_stands(place: Place, follows_gap: bool, text: &str) -> bool
 /// The piece at the front of a text that is no text of an f-string.
 fn code_piece(
     alloc: Global,
-    place: Place,
+    place: LexerMode,
     is_balanced: bool,
     text: &str,
 ) -> Result<Piece, AllocError>
@@ -202,7 +202,7 @@ fn code_piece(
 /// stands right before it.
 pub fn piece_at(
     alloc: Global,
-    place: Place,
+    place: LexerMode,
     is_balanced: bool,
     follows_gap: bool,
     text: &str,
@@ -210,7 +210,7 @@ pub fn piece_at(
     ensures { IfOk result (λ piece. (s : grammar.Situation) → s.place ≡ mode_view place → s.is_balanced ≡ is_balanced → IsBehind follows_gap s.before →
         IsPiece s.levels text.now (grammar.step_at language s text.now) piece) }
 {
-    if let Place::InText(opening) = place {
+    if let LexerMode::InText(opening) = place {
         return Ok(Piece::Lexed(chunk_from(alloc, opening, text)?));
     }
     if text.is_empty() {

@@ -6,10 +6,10 @@ ghost use Rattle.starlark_syntax.specs.Joints.Pending.{behind_lexemes};
 ghost use Rattle.starlark_grammar.specs.Margins as grammar;
 ghost use Rattle.starlark_grammar.specs.Tokens.{moved};
 
-use super::{Behind, Levels, Margin};
+use super::{Behind, IndentStack, Margin};
 
 /// The `Indent` or the `Dedent`s of a margin, of a text that begins at `begin`.
-pub fn indentation(levels: &Levels, begin: usize, margin: Margin) -> Behind
+pub fn indentation(levels: &IndentStack, begin: usize, margin: Margin) -> Behind
     requires { begin + margin.at + margin.blanks.len < 2 ^ 64 }
     ensures { (seen : grammar.Margin) → IsMargin seen margin → behind_lexemes result ≡ map (moved begin) (margin_indentation levels.now seen) }
 {

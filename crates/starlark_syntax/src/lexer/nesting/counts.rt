@@ -7,7 +7,7 @@ ghost use Rattle.starlark_syntax.specs.Joints.Nesting.{brackets_of, change_by, c
 ghost use Rattle.starlark_token.specs.TokenViews.{Whole};
 ghost use Rattle.starlark_grammar.specs.Tokens as grammar;
 
-use super::Place;
+use super::LexerMode;
 use super::changes::Change;
 use crate::lexer::literal::Opening;
 
@@ -85,18 +85,18 @@ impl OpenFString {
     }
 
     /// Where the end of its tokens is.
-    pub fn place(&self) -> Place
+    pub fn place(&self) -> LexerMode
         ensures { (found : grammar.Opening × List grammar.Token) → fstring_view self.now ≡ fstring_of found → mode_view result ≡ depths.inside found }
     {
         let Some(curly) = self.expression else {
-            return Place::InText(self.opening);
+            return LexerMode::InText(self.opening);
         };
         if curly.opened < curly.closed {
-            Place::InText(self.opening)
+            LexerMode::InText(self.opening)
         } else if curly.opened == curly.closed && self.rounds == 0 && self.squares == 0 {
-            Place::AtTop
+            LexerMode::AtTop
         } else {
-            Place::Deeper
+            LexerMode::Deeper
         }
     }
 

@@ -6,20 +6,20 @@ ghost use Rattle.starlark_grammar.specs.Words.{language};
 ghost use Rattle.starlark_syntax.specs.Joints.Nesting.{mode_view};
 ghost use Rattle.starlark_syntax.specs.Joints.Pieces.{IsBehind, is_code};
 
-use crate::lexer::nesting::Place;
+use crate::lexer::nesting::LexerMode;
 use starlark_scanner::scanner::spaces_len;
 
 /// Whether a place is one of code, and not in the text of an f-string.
 #[inline(always)]
-pub fn is_code(place: Place) -> bool
+pub fn is_code(place: LexerMode) -> bool
     ensures { result ≡ is_code (mode_view place) }
 {
-    !matches!(place, Place::InText(_))
+    !matches!(place, LexerMode::InText(_))
 }
 
 /// The length of the run of spaces at a place of code, by the text from there on.
 #[inline(always)]
-pub fn gap_len(place: Place, text: &str) -> usize
+pub fn gap_len(place: LexerMode, text: &str) -> usize
     requires { is_code (mode_view place) ≡ true }
     ensures { 0 < result → (s : grammar.Situation) (follows_gap : Bool) → s.place ≡ mode_view place → IsBehind follows_gap s.before → grammar.step_at language s text.now ≡ grammar.gap result }
 {

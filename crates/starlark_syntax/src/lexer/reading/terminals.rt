@@ -7,7 +7,7 @@ ghost use Rattle.starlark_grammar.specs.Pieces as grammar;
 ghost use Rattle.starlark_token.specs.TokenViews.{Whole, token_view};
 ghost use Rattle.starlark_grammar.specs.Tokens.{Word};
 
-use crate::lexer::nesting::Place;
+use crate::lexer::nesting::LexerMode;
 use starlark_scanner::scanner::Terminal;
 use starlark_token::tokens::Token;
 
@@ -82,12 +82,12 @@ fn own_token(terminal: Terminal) -> Token
 #[tactic(auto, unfolding(starlark_token::specs::TokenViews::token_view))]
 /// The token of such a word at a place. At the top of an expression of an f-string a closing brace ends the expression.
 #[inline(always)]
-pub fn terminal_token(place: Place, terminal: Terminal) -> Token
+pub fn terminal_token(place: LexerMode, terminal: Terminal) -> Token
     ensures token { token_view result ≡ Whole (grammar.terminal_token (mode_view place) terminal) }
     ensures own { is_fstring_start (grammar.terminal_token (mode_view place) terminal) ≡ false }
 {
     match place {
-        Place::AtTop => match terminal {
+        LexerMode::AtTop => match terminal {
             Terminal::ClosingCurly => Token::FStringExprEnd,
             other => own_token(other),
         },

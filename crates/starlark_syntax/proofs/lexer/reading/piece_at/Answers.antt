@@ -10,8 +10,8 @@ use Rattle.starlark_token.specs.TokenViews.{token_view}
 use Rattle.starlark_grammar.specs.Tokens.{Opening, FStringBang}
 use Rattle.starlark_grammar.specs.Words.{Text, language}
 use Rattle.starlark_scanner.specs.declared.literal.items.Opening as code
-use Rattle.starlark_syntax.specs.declared.lexer.nesting.Place.{Place}
-use Rattle.starlark_syntax.specs.declared.lexer.nesting.Place.TheVariants as place
+use Rattle.starlark_syntax.specs.declared.lexer.nesting.LexerMode.{LexerMode}
+use Rattle.starlark_syntax.specs.declared.lexer.nesting.LexerMode.TheVariants as place
 use Rattle.starlark_syntax.proofs.Literals.Pieces.{if_ok}
 use Rattle.starlark_syntax.proofs.lexer.reading.piece_at.Goals as goal
 
@@ -31,10 +31,10 @@ in_text : (follows_gap : Bool) (s : Situation) (text : Text) (opening : Opening)
 in_text follows_gap s text opening behind here = by_read follows_gap s text behind ∙ ap (λ p. by_place language s p text) here
 
 -- and elsewhere
-elsewhere : (follows_gap : Bool) (s : Situation) (text : Text) (at : Place) → ((opening : code.Opening) → at ≡ place.InText opening → ⊥) → IsBehind follows_gap s.before → s.place ≡ mode_view at → step_at language s text ≡ in_code language s text
+elsewhere : (follows_gap : Bool) (s : Situation) (text : Text) (at : LexerMode) → ((opening : code.Opening) → at ≡ place.InText opening → ⊥) → IsBehind follows_gap s.before → s.place ≡ mode_view at → step_at language s text ≡ in_code language s text
 elsewhere follows_gap s text at other behind here = by_read follows_gap s text behind ∙ ap (λ p. by_place language s p text) here ∙ go at other
   where
-    go : (at : Place) → ((opening : code.Opening) → at ≡ place.InText opening → ⊥) → by_place language s (mode_view at) text ≡ in_code language s text
+    go : (at : LexerMode) → ((opening : code.Opening) → at ≡ place.InText opening → ⊥) → by_place language s (mode_view at) text ≡ in_code language s text
     go place.Outside other = refl
     go (place.InText opening) other = absurd (other opening refl)
     go place.AtTop other = refl

@@ -1,6 +1,6 @@
 use Rattle.std.proofs.Common.{◌∙◌, sym}
 use Rattle.std.proofs.lemmas.Bool.{not-false}
-use Rattle.starlark_syntax.proofs.Indentation.Levels.{one_indented, some_dedented}
+use Rattle.starlark_syntax.proofs.Indentation.IndentStack.{one_indented, some_dedented}
 use Rattle.starlark_syntax.proofs.lexer.layout.indents.indentation.Goals as goal
 
 pub returns-then-opens : goal.returns-then-opens

@@ -1,7 +1,7 @@
 use Rattle.std.proofs.Common.{◌∙◌, ap, arith, nat_lt}
 use Rattle.std.specs.Prelude.{filter}
-use Rattle.starlark_syntax.proofs.Indentation.Levels.{kept_more, kept_none}
-use Rattle.starlark_syntax.proofs.lexer.layout.levels.Levels.push_line.Goals as goal
+use Rattle.starlark_syntax.proofs.Indentation.IndentStack.{kept_more, kept_none}
+use Rattle.starlark_syntax.proofs.lexer.layout.indent_stack.IndentStack.push_line.Goals as goal
 
 pub returns-in_ok-push : goal.returns-in_ok-push
 returns-in_ok-push c = λ widths open_now.

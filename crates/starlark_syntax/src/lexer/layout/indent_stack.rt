@@ -11,22 +11,22 @@ use std::marker::Model;
 /// few times: it has a space for each that it leaves open, and closes the others, so that the cost of all lines
 /// together is linear in the text.
 #[derive(Debug, Drop)]
-pub struct Levels {
+pub struct IndentStack {
     widths: Vec<usize>,
 }
 
-impl Model for Levels {
+impl Model for IndentStack {
     ghost Value = { List ℕ };
 
     ghost view = { λ levels. levels.widths.items };
 }
 
-impl Levels {
+impl IndentStack {
     /// No width is open.
     pub fn new(alloc: Global) -> Self
         ensures { result ≡ [] }
     {
-        Levels {
+        IndentStack {
             widths: Vec::new(alloc),
         }
     }
