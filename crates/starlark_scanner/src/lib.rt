@@ -4,4 +4,5 @@
 pub mod lanes;
 pub mod literal;
 pub mod one_identifier;
+pub mod reads;
 pub mod scanner;

@@ -1,0 +1,185 @@
+//! Reads bytes of a text, and counts them.
+
+ghost use Rattle.std.specs.Prelude.{◌≡◌, ◌≤◌, ◌+◌, ℕ, length, take, nat_eq};
+ghost use Rattle.std.specs.Char.{is_ascii_digit, is_ascii_hexdigit};
+ghost use Rattle.std.specs.List.{prefix_len};
+ghost use Rattle.starlark_grammar.specs.Words as grammar;
+ghost use Rattle.starlark_scanner.specs.Joints.Reads.{more_reads};
+
+use std::marker::Model;
+
+// An `x` stands at each byte that a name may have.
+static IN_NAME: [u8; 256] = *b"\
+    --------------------------------\
+    ----------------xxxxxxxxxx------\
+    -xxxxxxxxxxxxxxxxxxxxxxxxxx----x\
+    -xxxxxxxxxxxxxxxxxxxxxxxxxx-----\
+    --------------------------------\
+    --------------------------------\
+    --------------------------------\
+    --------------------------------";
+
+/// Whether a byte is a letter, `_` or a digit.
+#[inline(always)]
+fn is_in_name(byte: u8) -> bool
+    ensures { result ≡ grammar.is_in_name byte }
+{
+    IN_NAME[byte as usize] == b'x'
+}
+
+/// Reads bytes of a text, and counts each time that a byte is looked at. All code that decides by bytes of a text reads
+/// them through this type. In a contract it is the count, which stops at the greatest number that it can have.
+///
+/// The length of a run is that of the longest one at the front of a text. The byte that ends it is read, too.
+#[derive(Debug, Drop)]
+pub struct Reads {
+    count: u64,
+}
+
+impl Model for Reads {
+    ghost Value = { ℕ };
+
+    ghost view = { λ reads. reads.count };
+}
+
+impl Reads {
+    /// Nothing is read.
+    pub fn new() -> Self
+        ensures { result ≡ 0 }
+    {
+        Reads { count: 0 }
+    }
+
+    /// How often bytes were read.
+    pub fn count(&self) -> u64
+        ensures { result ≡ self.now }
+    {
+        self.count
+    }
+
+    /// Counts more reads.
+    #[inline(always)]
+    fn add(&mut self, more: usize)
+        ensures { self.new ≡ more_reads self.old more }
+    {
+        self.count = self.count.saturating_add(more as u64);
+    }
+
+    /// The first bytes of a text, at most so many.
+    #[inline(always)]
+    pub fn front<'a>(&mut self, text: &'a [u8], most: usize) -> &'a [u8]
+        ensures bytes { result.now ≡ take most text.now }
+        ensures reads { self.new ≡ more_reads self.old most }
+    {
+        self.add(most);
+        &text[..most.min(text.len())]
+    }
+
+    /// The length of the run of digits.
+    #[inline(always)]
+    pub fn digits_len(&mut self, text: &[u8]) -> usize
+        ensures value { result ≡ prefix_len is_ascii_digit text.now }
+        ensures within { result ≤ length text.now }
+        ensures reads { self.new ≡ more_reads self.old (result + 1) }
+    {
+        let len = text.iter().take_while(|byte| byte.is_ascii_digit()).count();
+        self.add(len + 1);
+        len
+    }
+
+    /// The length of the run of hexadecimal digits.
+    #[inline(always)]
+    pub fn hexadecimal_len(&mut self, text: &[u8]) -> usize
+        ensures value { result ≡ prefix_len is_ascii_hexdigit text.now }
+        ensures within { result ≤ length text.now }
+        ensures reads { self.new ≡ more_reads self.old (result + 1) }
+    {
+        let len = text
+            .iter()
+            .take_while(|byte| byte.is_ascii_hexdigit())
+            .count();
+        self.add(len + 1);
+        len
+    }
+
+    /// The length of the run of octal digits.
+    #[inline(always)]
+    pub fn octal_len(&mut self, text: &[u8]) -> usize
+        ensures value { result ≡ prefix_len grammar.is_octal_digit text.now }
+        ensures within { result ≤ length text.now }
+        ensures reads { self.new ≡ more_reads self.old (result + 1) }
+    {
+        let len = text
+            .iter()
+            .take_while(|byte| matches!(byte, b'0'..=b'7'))
+            .count();
+        self.add(len + 1);
+        len
+    }
+
+    /// The length of the run of binary digits.
+    #[inline(always)]
+    pub fn binary_len(&mut self, text: &[u8]) -> usize
+        ensures value { result ≡ prefix_len grammar.is_binary_digit text.now }
+        ensures within { result ≤ length text.now }
+        ensures reads { self.new ≡ more_reads self.old (result + 1) }
+    {
+        let len = text
+            .iter()
+            .take_while(|byte| matches!(byte, b'0' | b'1'))
+            .count();
+        self.add(len + 1);
+        len
+    }
+
+    /// The length of the run of letters, digits and `_`.
+    #[inline(always)]
+    pub fn name_len(&mut self, text: &[u8]) -> usize
+        ensures value { result ≡ prefix_len grammar.is_in_name text.now }
+        ensures within { result ≤ length text.now }
+        ensures reads { self.new ≡ more_reads self.old (result + 1) }
+    {
+        let len = text.iter().take_while(|byte| is_in_name(**byte)).count();
+        self.add(len + 1);
+        len
+    }
+
+    /// The length of the run of bytes before a CR or an LF.
+    #[inline(always)]
+    pub fn line_len(&mut self, text: &[u8]) -> usize
+        ensures value { result ≡ prefix_len grammar.is_in_line text.now }
+        ensures within { result ≤ length text.now }
+        ensures reads { self.new ≡ more_reads self.old (result + 1) }
+    {
+        let len = text
+            .iter()
+            .take_while(|byte| **byte != b'\r' && **byte != b'\n')
+            .count();
+        self.add(len + 1);
+        len
+    }
+
+    /// The length of the run of spaces.
+    #[inline(always)]
+    pub fn spaces_len(&mut self, text: &[u8]) -> usize
+        ensures value { result ≡ prefix_len (nat_eq 32) text.now }
+        ensures within { result ≤ length text.now }
+        ensures reads { self.new ≡ more_reads self.old (result + 1) }
+    {
+        let len = text.iter().take_while(|byte| **byte == b' ').count();
+        self.add(len + 1);
+        len
+    }
+
+    /// The length of the run of tabs.
+    #[inline(always)]
+    pub fn tabs_len(&mut self, text: &[u8]) -> usize
+        ensures value { result ≡ prefix_len (nat_eq 9) text.now }
+        ensures within { result ≤ length text.now }
+        ensures reads { self.new ≡ more_reads self.old (result + 1) }
+    {
+        let len = text.iter().take_while(|byte| **byte == b'\t').count();
+        self.add(len + 1);
+        len
+    }
+}
