@@ -3,6 +3,7 @@ pub mod Fronts
 pub mod Residuals
 pub mod Listed
 pub mod Marks
+pub mod ReadFronts
 pub mod Numbers
 pub mod ByFirst
 pub mod ShortMarks

@@ -1,11 +1,14 @@
 //! Reads bytes of a text, and counts them.
 
-ghost use Rattle.std.specs.Prelude.{◌≡◌, ◌≤◌, ◌+◌, ℕ, length, take, nat_eq};
+ghost use Rattle.std.specs.Prelude.{◌≡◌, ◌≤◌, ◌<◌, ◌+◌, ◌-◌, ◌^◌, ℕ, length, take, nat_eq};
 ghost use Rattle.std.specs.Char.{is_ascii_digit, is_ascii_hexdigit};
-ghost use Rattle.std.specs.List.{prefix_len};
+ghost use Rattle.std.specs.List.{prefix_len, slice_get};
+ghost use Rattle.std.specs.Str.{IsCharBoundary};
+ghost use Rattle.starlark_grammar.specs.Characters.{first_character};
 ghost use Rattle.starlark_grammar.specs.Words as grammar;
 ghost use Rattle.starlark_scanner.specs.Joints.Reads.{more_reads};
 
+use crate::lanes::LANES;
 use std::marker::Model;
 
 // An `x` stands at each byte that a name may have.
@@ -25,6 +28,18 @@ fn is_in_name(byte: u8) -> bool
     ensures { result ≡ grammar.is_in_name byte }
 {
     IN_NAME[byte as usize] == b'x'
+}
+
+/// The length in bytes of the first character of a text; 0 where the text is empty.
+fn first_character_len(text: &str) -> usize
+    ensures character { take result text.now ≡ first_character text.now }
+    ensures whole { result ≡ length (first_character text.now) }
+    ensures boundary { IsCharBoundary text.now result }
+{
+    match text.chars().next() {
+        Some(character) => character.len_utf8(),
+        None => 0,
+    }
 }
 
 /// Reads bytes of a text, and counts each time that a byte is looked at. All code that decides by bytes of a text reads
@@ -63,6 +78,45 @@ impl Reads {
         ensures { self.new ≡ more_reads self.old more }
     {
         self.count = self.count.saturating_add(more as u64);
+    }
+
+    /// Counts a run of so many bytes, which was read one by one, and the byte that ended it.
+    #[inline(always)]
+    pub fn count_run(&mut self, len: usize)
+        requires { len < 2 ^ 64 - 1 }
+        ensures { self.new ≡ more_reads self.old (len + 1) }
+    {
+        self.add(len + 1);
+    }
+
+    /// Counts sixteen bytes that are looked at together.
+    #[inline(always)]
+    pub fn count_lanes(&mut self)
+        ensures { self.new ≡ more_reads self.old 16 }
+    {
+        self.add(LANES);
+    }
+
+    /// The byte at a place of a text.
+    #[inline(always)]
+    pub fn at(&mut self, text: &[u8], place: usize) -> Option<u8>
+        ensures byte { result ≡ slice_get text.now place }
+        ensures reads { self.new ≡ more_reads self.old 1 }
+    {
+        self.add(1);
+        text.get(place).copied()
+    }
+
+    /// The length in bytes of the first character of a text; 0 where the text is empty.
+    pub fn character_len(&mut self, text: &str) -> usize
+        ensures character { take result text.now ≡ first_character text.now }
+        ensures whole { result ≡ length (first_character text.now) }
+        ensures boundary { IsCharBoundary text.now result }
+        ensures reads { self.new ≡ more_reads self.old result }
+    {
+        let len = first_character_len(text);
+        self.add(len);
+        len
     }
 
     /// The first bytes of a text, at most so many.

@@ -1,12 +1,11 @@
 //! Finds the longest word at the front of a text.
 
-ghost use Rattle.std.specs.Prelude.{◌≡◌, false, ◌<◌, ◌≤◌, ◌==◌, ◌∷◌, IfSome, None, Some, length, nat_eq, take, true};
+ghost use Rattle.std.specs.Prelude.{◌≡◌, false, ◌<◌, ◌≤◌, ◌==◌, ◌+◌, ◌*◌, ◌∷◌, IfSome, None, Some, length, nat_eq, take, true};
 ghost use Rattle.std.specs.List.{prefix_len, slice_get};
 ghost use Rattle.std.specs.Option.{option_map};
-ghost use Rattle.std.specs.Str.{IsCharBoundary};
 ghost use Rattle.starlark_grammar.specs.Front.{language_front};
-ghost use Rattle.starlark_grammar.specs.Characters.{first_character};
-ghost use Rattle.starlark_scanner.specs.Joints.Words.{begins_number, word_view};
+ghost use Rattle.starlark_scanner.specs.Joints.Reads.{AreReads, more_reads};
+ghost use Rattle.starlark_scanner.specs.Joints.Words.{begins_number, word_len, word_view};
 ghost use Rattle.starlark_grammar.specs.Pieces.{is_bang};
 ghost use Rattle.starlark_grammar.specs.Words as grammar;
 ghost use Rattle.starlark_grammar.specs.declared.class.Class.TheVariants as class;
@@ -19,6 +18,7 @@ mod openers;
 mod word;
 
 pub use starlark_grammar::class::{Class, LiteralKind, Quote, Terminal};
+use crate::reads::Reads;
 pub use word::Word;
 
 /// Whether a number begins at the front of a text: with a digit, or with a point and a digit.
@@ -30,31 +30,6 @@ fn begins_number(text: &[u8]) -> bool
         [first, ..] => first.is_ascii_digit(),
         [] => false,
     }
-}
-
-/// The length of the run of blanks at the front of a text.
-fn blanks_len(text: &[u8]) -> usize
-    ensures { result ≡ prefix_len (nat_eq 32) text.now }
-{
-    text.iter().take_while(|byte| **byte == b' ').count()
-}
-
-/// The length of the run of tabs at the front of a text.
-#[inline(never)]
-fn tabs_len(text: &[u8]) -> usize
-    ensures { result ≡ prefix_len (nat_eq 9) text.now }
-{
-    text.iter().take_while(|byte| **byte == b'\t').count()
-}
-
-/// The length of the front of a text that its first CR or LF ends.
-#[inline(never)]
-fn line_len(text: &[u8]) -> usize
-    ensures { result ≡ prefix_len grammar.is_in_line text.now }
-{
-    text.iter()
-        .take_while(|byte| **byte != b'\r' && **byte != b'\n')
-        .count()
 }
 
 /// Blanks.
@@ -100,69 +75,63 @@ fn quote_word(quote: Quote) -> Word
 }
 
 /// The length of the run of spaces at the front of a text.
-pub fn spaces_len(text: &str) -> usize
+pub fn spaces_len(reads: &mut Reads, text: &str) -> usize
     ensures word { 0 < result → language_front text.now ≡ Some (class.Skipped, result) }
     ensures bang { 0 < result → is_bang text.now ≡ false }
+    ensures reads { reads.new ≡ more_reads reads.old (result + 1) }
 {
-    blanks_len(text.as_bytes())
+    reads.spaces_len(text.as_bytes())
 }
 
 /// The longest word at the front of a text, where its first byte or its first two tell which it is: a name, or a
 /// symbol of one byte. `None` where they don't.
 #[inline(always)]
-pub fn common_word(text: &str) -> Option<Word>
+pub fn common_word(reads: &mut Reads, text: &str) -> Option<Word>
     ensures word { IfSome result (λ word. Some (word_view word) ≡ language_front text.now) }
     ensures bang { IfSome result (λ word. is_bang text.now ≡ false) }
     ensures none { result ≡ None → grammar.begins grammar.is_name_start text.now ≡ false }
+    ensures reads { AreReads (word_len result) (3 * word_len result + 2) reads.old reads.new }
 {
-    let first = *text.as_bytes().first()?;
+    let front = reads.front(text.as_bytes(), 2);
+    let first = *front.first()?;
     if names::is_name_start(first) {
-        return Some(names::name_from(text));
+        return Some(names::name_from(reads, text));
     }
-    if marks::is_mark_alone(text.as_bytes()) {
+    if marks::is_mark_alone(front) {
         return marks::longest_of_one(first);
     }
     None
 }
 
 /// The longest word at the front of a text that doesn't begin with a letter or `_`, or `None` where no word stands there.
-fn unnamed_word(text: &str) -> Option<Word>
+pub fn unnamed_word(reads: &mut Reads, text: &str) -> Option<Word>
     requires { grammar.begins grammar.is_name_start text.now ≡ false }
-    ensures { option_map word_view result ≡ language_front text.now }
+    ensures word { option_map word_view result ≡ language_front text.now }
+    ensures reads { AreReads (word_len result) (4 * word_len result + 9) reads.old reads.new }
 {
     let bytes = text.as_bytes();
-    let first = *bytes.first()?;
-    if begins_number(bytes) {
-        return Some(numbers::number_from(bytes));
+    let front = reads.front(bytes, 3);
+    let first = *front.first()?;
+    if begins_number(front) {
+        return Some(numbers::number_from(reads, front, bytes));
     }
     match first {
-        b' ' => Some(skipped(blanks_len(bytes))),
-        b'\t' => Some(tabs(tabs_len(bytes))),
-        b'#' => Some(comment(line_len(bytes))),
+        b' ' => Some(skipped(reads.spaces_len(bytes))),
+        b'\t' => Some(tabs(reads.tabs_len(bytes))),
+        b'#' => Some(comment(reads.line_len(bytes))),
         b'\'' => Some(quote_word(Quote::Single)),
         b'"' => Some(quote_word(Quote::Double)),
-        _ => marks::mark_from(bytes),
+        _ => marks::mark_from(front),
     }
 }
 
 /// The longest word at the front of a text, or `None` where no word stands there.
-pub fn first_word(text: &str) -> Option<Word>
-    ensures { option_map word_view result ≡ language_front text.now }
+pub fn first_word(reads: &mut Reads, text: &str) -> Option<Word>
+    ensures word { option_map word_view result ≡ language_front text.now }
+    ensures reads { AreReads (word_len result) (4 * word_len result + 11) reads.old reads.new }
 {
-    match common_word(text) {
+    match common_word(reads, text) {
         Some(word) => Some(word),
-        None => unnamed_word(text),
-    }
-}
-
-/// The length in bytes of the first character of a text; 0 where the text is empty.
-pub fn first_character_len(text: &str) -> usize
-    ensures character { take result text.now ≡ first_character text.now }
-    ensures whole { result ≡ length (first_character text.now) }
-    ensures boundary { IsCharBoundary text.now result }
-{
-    match text.chars().next() {
-        Some(character) => character.len_utf8(),
-        None => 0,
+        None => unnamed_word(reads, text),
     }
 }

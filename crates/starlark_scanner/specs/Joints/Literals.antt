@@ -1,5 +1,5 @@
 -- What the code's literals, items and stops say, as the grammar sees them.
-use Rattle.std.specs.Prelude.{◌≡◌, Bool, true, false, [], ◌∷◌, ⊤, encode_utf8, string_bytes}
+use Rattle.std.specs.Prelude.{◌≡◌, ℕ, Bool, true, false, [], ◌∷◌, ⊤, encode_utf8, string_bytes}
 use Rattle.starlark_grammar.specs.Words.{Text}
 use Rattle.starlark_grammar.specs.Tokens as grammar
 use Rattle.starlark_grammar.specs.Items as items
@@ -38,6 +38,21 @@ stop_view (stop.BadEscape len last) = items.BadEscape len last
 abbrev pub found_view : Found → items.Found
 found_view (found.Goes item) = items.goes item.len (value_view item.value)
 found_view (found.Stops stop) = items.Stops (stop_view stop)
+
+-- how many bytes a bad escape has, at which a body stops
+abbrev pub stopped_len : Stop → ℕ
+stopped_len (stop.BadEscape len last) = len
+stopped_len stop = 0
+
+-- how many bytes of what is found were read to tell what it is
+abbrev pub found_len : Found → ℕ
+found_len (found.Goes item) = item.len
+found_len (found.Stops stop) = stopped_len stop
+
+-- how many bytes were read at least: those of an item, and those that may close a literal
+abbrev pub least_reads : Found → ℕ
+least_reads (found.Goes item) = item.len
+least_reads (found.Stops stop) = 3
 
 -- what is found denotes no lone byte
 abbrev pub IsCharacters : Value → Type 0

@@ -1,5 +1,5 @@
 -- What the scanner finds, and what it looks for.
-use Rattle.std.specs.Prelude.{ℕ, Bool, false, not, ◌&&◌, ◌||◌, ◌==◌, nat_eq, List, [], ◌∷◌, ◌++◌, codes}
+use Rattle.std.specs.Prelude.{ℕ, Bool, false, not, ◌&&◌, ◌||◌, ◌==◌, nat_eq, List, [], ◌∷◌, ◌++◌, codes, Option, None, Some}
 use Rattle.std.specs.List.{list_any}
 use Rattle.std.specs.Str.{bytes_eq}
 use Rattle.std.specs.Char.{is_ascii_digit}
@@ -10,6 +10,11 @@ use Rattle.starlark_scanner.specs.declared.scanner.word.Word.{Word}
 -- a word at the front of a text, by its class and its length
 abbrev pub word_view : Word → Class × ℕ
 word_view word = (word.class, word.len)
+
+-- the length of a word, and 0 where none stands
+abbrev pub word_len : Option Word → ℕ
+word_len None = 0
+word_len (Some word) = word.len
 
 -- line ends, escaped or not, and symbols
 abbrev pub marks : grammar.Table

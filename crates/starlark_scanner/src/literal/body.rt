@@ -1,12 +1,14 @@
 //! Reads a body up to its first stop.
 
-ghost use Rattle.std.specs.Prelude.{◌≡◌, ◌++◌, [], not, string_bytes, IfOk, OnOk};
+ghost use Rattle.std.specs.Prelude.{◌≡◌, ◌+◌, ◌*◌, ◌++◌, [], not, string_bytes, IfOk, OnOk};
 ghost use Rattle.std.specs.Str.{IsCharBoundary};
 ghost use Rattle.starlark_grammar.specs.Items as grammar;
-ghost use Rattle.starlark_scanner.specs.Joints.Literals.{IsBody, IsCharacters, Takes, bytes_of, holds_text, literal_view, value_view};
+ghost use Rattle.starlark_scanner.specs.Joints.Literals.{IsBody, IsCharacters, Takes, bytes_of, holds_text, literal_view, stopped_len, value_view};
+ghost use Rattle.starlark_scanner.specs.Joints.Reads.{AreReads};
 
 use super::items::{Found, Literal, Stop, Value, found_at};
 use super::runs::first_run;
+use crate::reads::Reads;
 use crate::scanner::LiteralKind;
 use std::alloc::{AllocError, Global};
 
@@ -73,18 +75,24 @@ pub struct Body {
 }
 
 /// The body at the front of a text.
-pub fn read_body(alloc: Global, literal: Literal, text: &str) -> Result<Body, AllocError>
+pub fn read_body(
+    reads: &mut Reads,
+    alloc: Global,
+    literal: Literal,
+    text: &str,
+) -> Result<Body, AllocError>
     ensures body { IfOk result (IsBody (grammar.body_at (literal_view literal) text.now)) }
     ensures kind { IfOk result (λ body. holds_text body.value ≡ not (grammar.is_of_bytes literal.kind)) }
     ensures boundary { IfOk result (λ body. IsCharBoundary text.now body.len) }
+    ensures reads { IfOk result (λ body. AreReads (body.len + 3) (8 * body.len + stopped_len body.stop + 6) reads.old reads.new) }
 {
     let mut value = LiteralValue::new(alloc, literal.kind);
     let mut len = 0;
     loop {
-        let run = first_run(literal, &text[len..]);
+        let run = first_run(reads, literal, &text[len..]);
         value.append(Value::Part(run))?;
         len += run.len();
-        match found_at(literal, &text[len..]) {
+        match found_at(reads, literal, &text[len..]) {
             Found::Goes(item) => {
                 value.append(item.value)?;
                 len += item.len;

@@ -1,14 +1,16 @@
 //! What stands at a place of a literal's body: an item, or why the body stops.
 
-ghost use Rattle.std.specs.Prelude.{◌≡◌, ◌<◌, ◌==◌, ◌&&◌, ◌∷◌, not, drop, false, get_or, length, nat_eq, true};
+ghost use Rattle.std.specs.Prelude.{◌≡◌, ◌<◌, ◌≤◌, ◌+◌, ◌==◌, ◌&&◌, ◌∷◌, not, drop, false, get_or, length, nat_eq, true};
 ghost use Rattle.std.specs.List.{starts_with};
 ghost use Rattle.starlark_grammar.specs.Characters as characters;
 ghost use Rattle.starlark_grammar.specs.Items as grammar;
-ghost use Rattle.starlark_scanner.specs.Joints.Literals.{IsText, found_view, literal_view, opening_view};
+ghost use Rattle.starlark_scanner.specs.Joints.Literals.{IsText, found_len, found_view, least_reads, literal_view, opening_view};
+ghost use Rattle.starlark_scanner.specs.Joints.Reads.{AreReads, more_reads};
 ghost use Rattle.starlark_grammar.specs.declared.class.LiteralKind.TheVariants.{FString as OfFString};
 
 use super::escapes::escape;
-use crate::scanner::{LiteralKind, Quote, first_character_len};
+use crate::reads::Reads;
+use crate::scanner::{LiteralKind, Quote};
 
 /// How a literal begins: whether it is raw, its quote, and whether three of them close it.
 #[derive(Clone, Copy, Debug, PartialEq, Eq)]
@@ -62,6 +64,8 @@ pub enum Found<'a> {
 pub fn part(len: usize, value: &str) -> Found<'_>
     ensures value { found_view result ≡ grammar.goes len value.now }
     ensures text { IsText result }
+    ensures len { found_len result ≡ len }
+    ensures least { least_reads result ≡ len }
 {
     Found::Goes(Item {
         len,
@@ -120,39 +124,44 @@ pub fn behind_first(text: &str) -> &str
 }
 
 /// The first character of a text; nothing where the text is empty.
-pub fn first_character(text: &str) -> &str
-    ensures { result.now ≡ characters.first_character text.now }
+pub fn first_character<'a>(reads: &mut Reads, text: &'a str) -> &'a str
+    ensures value { result.now ≡ characters.first_character text.now }
+    ensures reads { reads.new ≡ more_reads reads.old (length result.now) }
 {
-    &text[..first_character_len(text)]
+    &text[..reads.character_len(text)]
 }
 
 /// A backslash that stands for itself or is dropped, and the character that it takes, by the text behind it.
-fn raw_pair(literal: Literal, text: &str) -> Found<'_>
+fn raw_pair<'a>(reads: &mut Reads, literal: Literal, text: &'a str) -> Found<'a>
     requires { text.now ≡ 92 ∷ drop 1 text.now }
     ensures value { found_view result ≡ grammar.raw_pair literal.kind literal.opening.quote (drop 1 text.now) }
     ensures text { IsText result }
+    ensures reads { AreReads (found_len result) (found_len result + 1) reads.old reads.new }
 {
     let behind = behind_first(text);
-    let Some(first) = behind.as_bytes().first() else {
+    let Some(first) = reads.at(behind.as_bytes(), 0) else {
         return Found::Stops(Stop::Ended);
     };
-    let len = 1 + first_character_len(behind);
-    if drops_backslash(literal.kind, literal.opening.quote, *first) {
-        part(len, first_character(behind))
+    let character = first_character(reads, behind);
+    let len = 1 + character.len();
+    if drops_backslash(literal.kind, literal.opening.quote, first) {
+        part(len, character)
     } else {
         part(len, &text[..len])
     }
 }
 
 /// Two braces, which denote one, or a single one.
-fn brace(first: u8, text: &str) -> Found<'_>
+fn brace<'a>(reads: &mut Reads, first: u8, text: &'a str) -> Found<'a>
     requires brace { grammar.is_brace OfFString first ≡ true }
     requires begins { text.now ≡ first ∷ drop 1 text.now }
     ensures value { found_view result ≡ grammar.brace first (drop 1 text.now) }
     ensures text { IsText result }
+    ensures reads { reads.new ≡ more_reads reads.old 1 }
+    ensures len { found_len result ≤ 2 }
 {
-    match behind_first(text).as_bytes().first() {
-        Some(second) if *second == first => part(2, &text[..1]),
+    match reads.at(behind_first(text).as_bytes(), 0) {
+        Some(second) if second == first => part(2, &text[..1]),
         _ => Found::Stops(if first == b'{' {
             Stop::OpeningBrace
         } else {
@@ -179,16 +188,17 @@ pub fn ends_line(opening: Opening, byte: u8) -> bool
 }
 
 /// What stands at the front of the rest of a body.
-pub fn found_at(literal: Literal, text: &str) -> Found<'_>
+pub fn found_at<'a>(reads: &mut Reads, literal: Literal, text: &'a str) -> Found<'a>
     ensures value { found_view result ≡ grammar.found_at (literal_view literal) text.now }
     ensures text { grammar.is_of_bytes literal.kind ≡ false → IsText result }
+    ensures reads { AreReads (least_reads result) (found_len result + 5) reads.old reads.new }
 {
-    let bytes = text.as_bytes();
-    let Some(first) = bytes.first() else {
+    let front = reads.front(text.as_bytes(), 3);
+    let Some(first) = front.first() else {
         return Found::Stops(Stop::Ended);
     };
     let byte = *first;
-    if closes(literal.opening, bytes) {
+    if closes(literal.opening, front) {
         return Found::Stops(Stop::Closing);
     }
     if ends_line(literal.opening, byte) {
@@ -199,14 +209,14 @@ pub fn found_at(literal: Literal, text: &str) -> Found<'_>
     }
     if byte == b'\\' {
         return if literal.opening.is_raw {
-            raw_pair(literal, text)
+            raw_pair(reads, literal, text)
         } else {
-            escape(literal.kind, text)
+            escape(reads, literal.kind, text)
         };
     }
     if is_brace(literal.kind, byte) {
-        return brace(byte, text);
+        return brace(reads, byte, text);
     }
-    let character = first_character(text);
+    let character = first_character(reads, text);
     part(character.len(), character)
 }

@@ -4,10 +4,12 @@ ghost use Rattle.std.specs.Prelude.{◌≡◌, ℕ, ◌+◌, ◌≤◌, drop, le
 ghost use Rattle.std.specs.List.{prefix_len};
 ghost use Rattle.starlark_grammar.specs.Items.{quote_byte};
 ghost use Rattle.starlark_scanner.specs.Joints.Literals.{literal_view};
+ghost use Rattle.starlark_scanner.specs.Joints.Reads.{more_reads};
 ghost use Rattle.starlark_scanner.specs.Joints.Runs.{is_end, is_special};
 
 use super::items::Literal;
 use crate::lanes::lowest_bit;
+use crate::reads::Reads;
 use crate::scanner::{LiteralKind, Quote};
 use std::simd::prelude::*;
 
@@ -55,10 +57,12 @@ impl Ends {
 
 /// The length of the run at the front of the sixteen bytes from `at` on.
 #[inline(always)]
-pub fn lanes_run_len(ends: Ends, bytes: &[u8], at: usize) -> usize
+pub fn lanes_run_len(reads: &mut Reads, ends: Ends, bytes: &[u8], at: usize) -> usize
     requires { at + 16 ≤ length bytes.now }
-    ensures { result ≡ prefix_len (λ b. not (is_end ends b)) (take 16 (drop at bytes.now)) }
+    ensures value { result ≡ prefix_len (λ b. not (is_end ends b)) (take 16 (drop at bytes.now)) }
+    ensures reads { reads.new ≡ more_reads reads.old 16 }
 {
+    reads.count_lanes();
     let lanes = u8x16::from_slice(&bytes[at..]);
     let ends = lanes.simd_eq(u8x16::splat(ends.quote))
         | lanes.simd_eq(u8x16::splat(ends.feed))

@@ -1,15 +1,17 @@
 //! Runs of a literal's body in which each character denotes itself.
 
-ghost use Rattle.std.specs.Prelude.{◌≡◌, ℕ, length, take, true, false};
+ghost use Rattle.std.specs.Prelude.{◌≡◌, ◌≤◌, ◌+◌, ◌*◌, ℕ, length, take, true, false};
 ghost use Rattle.std.specs.List.{prefix_len};
 ghost use Rattle.std.specs.Str.{IsCharBoundary};
 ghost use Rattle.starlark_grammar.specs.Items as grammar;
 ghost use Rattle.starlark_scanner.specs.Joints.Literals.{literal_view};
+ghost use Rattle.starlark_scanner.specs.Joints.Reads.{AreReads, more_reads};
 ghost use Rattle.starlark_scanner.specs.Joints.Runs.{is_in_run, is_special};
 
 use super::items::{Literal, ends_line, is_brace, is_quote};
 use super::lanes::{Ends, lanes_run_len};
 use crate::lanes::LANES;
+use crate::reads::Reads;
 
 // A point stands at each byte of which no rule of any literal speaks.
 static ORDINARY: [u8; 256] = *b"\
@@ -50,52 +52,59 @@ fn is_in_run(literal: Literal, byte: u8) -> bool
 
 /// The length of the run at the front of some bytes, looked at one by one.
 #[inline(always)]
-fn short_run_len(literal: Literal, bytes: &[u8]) -> usize
-    ensures { result ≡ prefix_len (is_in_run (literal_view literal)) bytes.now }
+fn short_run_len(reads: &mut Reads, literal: Literal, bytes: &[u8]) -> usize
+    ensures value { result ≡ prefix_len (is_in_run (literal_view literal)) bytes.now }
+    ensures within { result ≤ length bytes.now }
+    ensures reads { reads.new ≡ more_reads reads.old (result + 1) }
 {
     let mut len = 0;
     while len < bytes.len() && is_in_run(literal, bytes[len]) {
         len += 1;
     }
+    reads.count_run(len);
     len
 }
 
 /// The length of the run at the front of some bytes, sixteen of which are looked at together.
 #[inline(never)]
-fn long_run_len(literal: Literal, bytes: &[u8]) -> usize
-    ensures { result ≡ prefix_len (is_in_run (literal_view literal)) bytes.now }
+fn long_run_len(reads: &mut Reads, literal: Literal, bytes: &[u8]) -> usize
+    ensures value { result ≡ prefix_len (is_in_run (literal_view literal)) bytes.now }
+    ensures within { result ≤ length bytes.now }
+    ensures reads { AreReads result (result + 16) reads.old reads.new }
 {
     let ends = Ends::of(literal);
     let mut at = 0;
     while at + LANES <= bytes.len() {
-        let len = lanes_run_len(ends, bytes, at);
+        let len = lanes_run_len(reads, ends, bytes, at);
         at += len;
         if len < LANES {
             return at;
         }
     }
-    at + short_run_len(literal, &bytes[at..])
+    at + short_run_len(reads, literal, &bytes[at..])
 }
 
 /// The length of the run at the front of some bytes. Sixteen are looked at together once as many were passed one by
 /// one.
-fn run_len(literal: Literal, bytes: &[u8]) -> usize
-    ensures { result ≡ prefix_len (is_in_run (literal_view literal)) bytes.now }
+fn run_len(reads: &mut Reads, literal: Literal, bytes: &[u8]) -> usize
+    ensures value { result ≡ prefix_len (is_in_run (literal_view literal)) bytes.now }
+    ensures reads { AreReads result (2 * result + 1) reads.old reads.new }
 {
     if bytes.len() < LANES {
-        return short_run_len(literal, bytes);
+        return short_run_len(reads, literal, bytes);
     }
-    let len = short_run_len(literal, &bytes[..LANES]);
+    let len = short_run_len(reads, literal, &bytes[..LANES]);
     if len < LANES {
         return len;
     }
-    LANES + long_run_len(literal, &bytes[LANES..])
+    LANES + long_run_len(reads, literal, &bytes[LANES..])
 }
 
 /// The run at the front of the rest of a body.
-pub fn first_run(literal: Literal, text: &str) -> &str
+pub fn first_run<'a>(reads: &mut Reads, literal: Literal, text: &'a str) -> &'a str
     ensures value { result.now ≡ take (prefix_len (is_in_run (literal_view literal)) text.now) text.now }
     ensures boundary { IsCharBoundary text.now (length result.now) }
+    ensures reads { AreReads (length result.now) (2 * length result.now + 1) reads.old reads.new }
 {
-    &text[..run_len(literal, text.as_bytes())]
+    &text[..run_len(reads, literal, text.as_bytes())]
 }

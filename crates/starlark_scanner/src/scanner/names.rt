@@ -1,17 +1,19 @@
 //! Words that begin with a letter or `_`: keywords, reserved words, identifiers, and openers that have a prefix.
 
-ghost use Rattle.std.specs.Prelude.{◌≡◌, ◌∷◌, [], ◌≤◌, ◌<◌, ◌+◌, IfSome, get_or, Some, length, take, true, unwrap_or};
+ghost use Rattle.std.specs.Prelude.{◌≡◌, ◌∷◌, [], ◌≤◌, ◌<◌, ◌+◌, IfSome, get_or, Some, is_some, if◌then◌else◌, length, take, true, unwrap_or};
 ghost use Rattle.std.specs.List.{prefix_len};
 ghost use Rattle.std.specs.Map.{lookup};
 ghost use Rattle.std.specs.Option.{option_map};
 ghost use Rattle.std.specs.Str.{bytes_eq};
 ghost use Rattle.starlark_grammar.specs.Front.{language_front};
+ghost use Rattle.starlark_scanner.specs.Joints.Reads.{AreReads, more_reads};
 ghost use Rattle.starlark_scanner.specs.Joints.Words.{is_quote, may_be_listed, word_view};
 ghost use Rattle.starlark_grammar.specs.Words as grammar;
 ghost use Rattle.starlark_grammar.specs.declared.class.Class.TheVariants as class;
 
 use super::openers::opener_class;
 use super::{Class, Terminal, Word};
+use crate::reads::Reads;
 
 /// The greatest length of a literal's prefix.
 const PREFIX_LEN: usize = 2;
@@ -21,33 +23,6 @@ pub fn is_name_start(byte: u8) -> bool
     ensures { result ≡ grammar.is_name_start byte }
 {
     byte.is_ascii_alphabetic() || byte == b'_'
-}
-
-// An `x` stands at each byte that a name may have.
-static IN_NAME: [u8; 256] = *b"\
-    --------------------------------\
-    ----------------xxxxxxxxxx------\
-    -xxxxxxxxxxxxxxxxxxxxxxxxxx----x\
-    -xxxxxxxxxxxxxxxxxxxxxxxxxx-----\
-    --------------------------------\
-    --------------------------------\
-    --------------------------------\
-    --------------------------------";
-
-/// Whether a byte is a letter, `_` or a digit.
-#[inline(always)]
-fn is_in_name(byte: u8) -> bool
-    ensures { result ≡ grammar.is_in_name byte }
-{
-    IN_NAME[byte as usize] == b'x'
-}
-
-/// The length of the run of letters, digits and `_` at the front of a text.
-fn name_len(text: &[u8]) -> usize
-    ensures value { result ≡ prefix_len grammar.is_in_name text.now }
-    ensures within { result ≤ length text.now }
-{
-    text.iter().take_while(|byte| is_in_name(**byte)).count()
 }
 
 /// Whether a keyword or a reserved word begins with two bytes.
@@ -133,26 +108,28 @@ fn name_class(name: &str) -> Class
 }
 
 /// Whether a quote stands at a place of a text.
-fn is_quote_at(text: &[u8], at: usize) -> bool
-    ensures { result ≡ is_quote (get_or text.now at 0) }
+fn is_quote_at(reads: &mut Reads, text: &[u8], at: usize) -> bool
+    ensures value { result ≡ is_quote (get_or text.now at 0) }
+    ensures reads { reads.new ≡ more_reads reads.old 1 }
 {
-    match text.get(at) {
-        Some(byte) => *byte == b'\'' || *byte == b'"',
+    match reads.at(text, at) {
+        Some(byte) => byte == b'\'' || byte == b'"',
         None => false,
     }
 }
 
 /// What opens a literal at the front of a text that begins with a name of the given length: that
 /// name as a prefix, and a quote.
-fn prefixed_opener(text: &str, len: usize) -> Option<Class>
+fn prefixed_opener(reads: &mut Reads, text: &str, len: usize) -> Option<Class>
     requires { len ≡ prefix_len grammar.is_in_name text.now }
     ensures opener { result ≡ lookup (bytes_eq (take (len + 1) text.now)) grammar.openers }
     ensures within { IfSome result (λ class. len < length text.now) }
+    ensures reads { AreReads (if is_some result then 1 else 0) 1 reads.old reads.new }
 {
     if len > PREFIX_LEN {
         return None;
     }
-    if !is_quote_at(text.as_bytes(), len) {
+    if !is_quote_at(reads, text.as_bytes(), len) {
         return None;
     }
     opener_class(&text[..len + 1])
@@ -160,13 +137,13 @@ fn prefixed_opener(text: &str, len: usize) -> Option<Class>
 
 /// The longest word at the front of a text that begins with a letter or `_`.
 #[inline(always)]
-#[inline(always)]
-pub fn name_from(text: &str) -> Word
+pub fn name_from(reads: &mut Reads, text: &str) -> Word
     requires { grammar.begins grammar.is_name_start text.now ≡ true }
-    ensures { Some (word_view result) ≡ language_front text.now }
+    ensures word { Some (word_view result) ≡ language_front text.now }
+    ensures reads { AreReads result.len (result.len + 2) reads.old reads.new }
 {
-    let len = name_len(text.as_bytes());
-    match prefixed_opener(text, len) {
+    let len = reads.name_len(text.as_bytes());
+    match prefixed_opener(reads, text, len) {
         Some(class) => Word {
             class,
             len: len + 1,

@@ -1,68 +1,56 @@
 //! Numbers: which one stands at the front of a text, and how long it is.
 
-ghost use Rattle.std.specs.Prelude.{◌≡◌, ◌≤◌, ◌<◌, ◌+◌, ◌^◌, ◌==◌, if◌then◌else◌, Some, None, length, true};
-ghost use Rattle.std.specs.Char.{is_ascii_digit, is_ascii_hexdigit};
-ghost use Rattle.std.specs.List.{prefix_len};
+ghost use Rattle.std.specs.Prelude.{◌≡◌, ◌≤◌, ◌<◌, ◌+◌, ◌-◌, ◌*◌, ◌^◌, ◌==◌, if◌then◌else◌, Some, None, length, take, true};
 ghost use Rattle.std.specs.Option.{option_map};
 ghost use Rattle.starlark_grammar.specs.Front.{language_front, longest_front};
 ghost use Rattle.starlark_grammar.specs.Lengths.{longest_len};
-ghost use Rattle.starlark_scanner.specs.Joints.Words.{begins_number, word_view};
+ghost use Rattle.starlark_scanner.specs.Joints.Reads.{AreReads, more_reads};
+ghost use Rattle.starlark_scanner.specs.Joints.Words.{begins_number, word_len, word_view};
 ghost use Rattle.starlark_grammar.specs.Words as grammar;
 
 use super::{Class, Word};
+use crate::reads::Reads;
 
-fn digits_len(text: &[u8]) -> usize
-    ensures value { result ≡ prefix_len is_ascii_digit text.now }
-    ensures within { result ≤ length text.now }
+/// Whether a sign stands at the front of a text.
+fn is_sign(text: &[u8]) -> bool
+    ensures { result ≡ grammar.begins grammar.is_sign text.now }
 {
-    text.iter().take_while(|byte| byte.is_ascii_digit()).count()
-}
-
-fn hexadecimal_len(text: &[u8]) -> usize
-    ensures value { result ≡ prefix_len is_ascii_hexdigit text.now }
-    ensures within { result ≤ length text.now }
-{
-    text.iter()
-        .take_while(|byte| byte.is_ascii_hexdigit())
-        .count()
-}
-
-fn octal_len(text: &[u8]) -> usize
-    ensures value { result ≡ prefix_len grammar.is_octal_digit text.now }
-    ensures within { result ≤ length text.now }
-{
-    text.iter()
-        .take_while(|byte| matches!(byte, b'0'..=b'7'))
-        .count()
-}
-
-fn binary_len(text: &[u8]) -> usize
-    ensures value { result ≡ prefix_len grammar.is_binary_digit text.now }
-    ensures within { result ≤ length text.now }
-{
-    text.iter()
-        .take_while(|byte| matches!(byte, b'0' | b'1'))
-        .count()
+    matches!(text, [b'+' | b'-', ..])
 }
 
 /// The length of the sign at the front of a text, and 0 where none stands there.
-fn sign_len(text: &[u8]) -> usize
+fn sign_len(reads: &mut Reads, text: &[u8]) -> usize
     ensures value { result ≡ grammar.sign_len text.now }
     ensures within { result ≤ length text.now }
+    ensures reads { reads.new ≡ more_reads reads.old 1 }
 {
-    usize::from(matches!(text, [b'+' | b'-', ..]))
+    usize::from(is_sign(reads.front(text, 1)))
 }
 
-fn begins_exponent(text: &[u8]) -> bool
+fn is_exponent_letter(text: &[u8]) -> bool
     ensures { result ≡ grammar.begins grammar.is_exponent_letter text.now }
 {
     matches!(text, [b'e' | b'E', ..])
 }
 
-fn begins_fraction(text: &[u8]) -> bool
+fn begins_exponent(reads: &mut Reads, text: &[u8]) -> bool
+    ensures value { result ≡ grammar.begins grammar.is_exponent_letter text.now }
+    ensures reads { reads.new ≡ more_reads reads.old 1 }
+{
+    is_exponent_letter(reads.front(text, 1))
+}
+
+fn is_point(text: &[u8]) -> bool
     ensures { result ≡ grammar.begins grammar.is_point text.now }
 {
     matches!(text, [b'.', ..])
+}
+
+fn begins_fraction(reads: &mut Reads, text: &[u8]) -> bool
+    ensures value { result ≡ grammar.begins grammar.is_point text.now }
+    ensures reads { reads.new ≡ more_reads reads.old 1 }
+{
+    is_point(reads.front(text, 1))
 }
 
 /// Whether `0` and one of two letters stand at the front of a text.
@@ -73,41 +61,44 @@ fn has_base(text: &[u8], lower: u8, upper: u8) -> bool
 }
 
 /// The length of the exponent at the front of a text, and 0 where none stands there.
-fn exponent_len(text: &[u8]) -> usize
+fn exponent_len(reads: &mut Reads, text: &[u8]) -> usize
     ensures value { result ≡ longest_len grammar.is_exponent text.now }
     ensures within { result ≤ length text.now }
+    ensures reads { AreReads result (result + 3) reads.old reads.new }
 {
-    if !begins_exponent(text) {
+    if !begins_exponent(reads, text) {
         return 0;
     }
     let power = &text[1..];
-    let sign = sign_len(power);
-    let digits = digits_len(&power[sign..]);
+    let sign = sign_len(reads, power);
+    let digits = reads.digits_len(&power[sign..]);
     if digits == 0 { 0 } else { 1 + sign + digits }
 }
 
 /// The length of the fraction at the front of a text, with its point and its exponent, and 0
 /// where none stands there.
-fn fraction_len(text: &[u8]) -> usize
+fn fraction_len(reads: &mut Reads, text: &[u8]) -> usize
     ensures value { result ≡ longest_len grammar.is_fraction text.now }
     ensures within { result ≤ length text.now }
+    ensures reads { AreReads result (4 * result + 1) reads.old reads.new }
 {
-    if !begins_fraction(text) {
+    if !begins_fraction(reads, text) {
         return 0;
     }
     let fraction = &text[1..];
-    let digits = digits_len(fraction);
-    1 + digits + exponent_len(&fraction[digits..])
+    let digits = reads.digits_len(fraction);
+    1 + digits + exponent_len(reads, &fraction[digits..])
 }
 
 /// The length of what makes digits before it a float, and 0 where nothing does.
-fn float_end_len(text: &[u8]) -> usize
+fn float_end_len(reads: &mut Reads, text: &[u8]) -> usize
     ensures value { result ≡ longest_len grammar.makes_float text.now }
     ensures within { result ≤ length text.now }
+    ensures reads { AreReads result (4 * result + 4) reads.old reads.new }
 {
-    let fraction = fraction_len(text);
+    let fraction = fraction_len(reads, text);
     if fraction == 0 {
-        exponent_len(text)
+        exponent_len(reads, text)
     } else {
         fraction
     }
@@ -127,33 +118,36 @@ fn based_word(class: Class, digits: usize) -> Option<Word>
     })
 }
 
-/// The longest integer of another base than 10 at the front of a text.
-fn based_front(text: &[u8]) -> Option<Word>
-    ensures { option_map word_view result ≡ longest_front (grammar.class_in grammar.based) text.now }
+/// The longest integer of another base than 10 at the front of a text, the first three bytes of which were read.
+fn based_front(reads: &mut Reads, front: &[u8], text: &[u8]) -> Option<Word>
+    requires { front.now ≡ take 3 text.now }
+    ensures value { option_map word_view result ≡ longest_front (grammar.class_in grammar.based) text.now }
+    ensures reads { AreReads (word_len result - 2) (word_len result + 1) reads.old reads.new }
 {
-    if has_base(text, b'x', b'X') {
-        return based_word(Class::Hexadecimal, hexadecimal_len(&text[2..]));
+    if has_base(front, b'x', b'X') {
+        return based_word(Class::Hexadecimal, reads.hexadecimal_len(&text[2..]));
     }
-    if has_base(text, b'o', b'O') {
-        return based_word(Class::Octal, octal_len(&text[2..]));
+    if has_base(front, b'o', b'O') {
+        return based_word(Class::Octal, reads.octal_len(&text[2..]));
     }
-    if has_base(text, b'b', b'B') {
-        return based_word(Class::Binary, binary_len(&text[2..]));
+    if has_base(front, b'b', b'B') {
+        return based_word(Class::Binary, reads.binary_len(&text[2..]));
     }
     None
 }
 
-/// The longest number at the front of a text that begins with one. Each of its bytes is looked at
-/// once, but for two where a base or an exponent turns out to have no digits.
-pub fn number_from(text: &[u8]) -> Word
-    requires { begins_number text.now ≡ true }
-    ensures { Some (word_view result) ≡ language_front text.now }
+/// The longest number at the front of a text that begins with one, the first three bytes of which were read.
+pub fn number_from(reads: &mut Reads, front: &[u8], text: &[u8]) -> Word
+    requires number { begins_number text.now ≡ true }
+    requires front { front.now ≡ take 3 text.now }
+    ensures word { Some (word_view result) ≡ language_front text.now }
+    ensures reads { AreReads (result.len - 2) (4 * result.len + 6) reads.old reads.new }
 {
-    if let Some(word) = based_front(text) {
+    if let Some(word) = based_front(reads, front, text) {
         return word;
     }
-    let digits = digits_len(text);
-    let more = float_end_len(&text[digits..]);
+    let digits = reads.digits_len(text);
+    let more = float_end_len(reads, &text[digits..]);
     let class = if more == 0 {
         Class::Decimal
     } else {

@@ -5,16 +5,16 @@ use Rattle.starlark_scanner.proofs.Scan.Numbers.{number_language, digits_only, d
 use Rattle.starlark_scanner.proofs.scanner.numbers.number_from.Goals as goal
 use Rattle.starlark_scanner.proofs.scanner.numbers.number_from.Goals.{then-more-eq0, else-more-eq0}
 
-pub returns-in-Some : goal.returns-in-Some
-returns-in-Some c =
-    let whole = number_language c.args.text.now (λ b rest e. omega (arith, rw e at c.type_inv.text 0)) c.requires in
-    let based = rw c.in-Some.is at c.based_front.ensures in
+pub returns-in-Some-clause-word : goal.returns-in-Some-clause-word
+returns-in-Some-clause-word c =
+    let whole = number_language c.args.text.now (λ b rest e. omega (arith, rw e at c.type_inv.text 0)) c.requires.number in
+    let based = rw c.in-Some.is at c.based_front.ensures.value in
     sym (whole ∙ rw (← based) refl)
 
-pub returns : goal.returns
-returns c =
-    let whole = number_language c.args.text.now (λ b rest e. omega (arith, rw e at c.type_inv.text 0)) c.requires in
-    let based = rw c.in_default.is at c.based_front.ensures in
+pub returns-clause-word : goal.returns-clause-word
+returns-clause-word c =
+    let whole = number_language c.args.text.now (λ b rest e. omega (arith, rw e at c.type_inv.text 0)) c.requires.number in
+    let based = rw c.in_default.is at c.based_front.ensures.value in
     let more = rw (take_rest, c.digits_len-digits.ensures.value) at c.float_end_len-more.ensures.value in
     elim c.if-more-eq0.branch [
       | then-more-eq0 w ↦ sym (whole ∙ rw (← based, ← more, ← c.digits_len-digits.ensures.value, w.class-is) (digits_only _ _ w.if-more-eq0.true))

@@ -1,7 +1,7 @@
 use Rattle.std.proofs.Common.{◌≡◌, ◌++◌, length, sym, ap, ◌∙◌}
 use Rattle.std.proofs.Math.Utf8.{encode}
 use Rattle.starlark_scanner.proofs.Scan.FirstCharacter.{first_of_text, taken, boundary_behind}
-use Rattle.starlark_scanner.proofs.scanner.first_character_len.Goals as goal
+use Rattle.starlark_scanner.proofs.reads.first_character_len.Goals as goal
 
 pub returns-in-Some-clause-character : goal.returns-in-Some-clause-character
 returns-in-Some-clause-character c =

@@ -1,0 +1,45 @@
+-- What the first bytes of a text tell, which are read of it.
+use Rattle.std.proofs.Common.{◌≡◌, ℕ, Bool, [], ◌∷◌, ◌≤◌, take, refl, sym, ◌∙◌}
+use Rattle.std.specs.List.{slice_get}
+use Rattle.starlark_grammar.specs.Front.{longest_front}
+use Rattle.starlark_grammar.specs.Words.{Text, begins, has_base, sign_len}
+use Rattle.starlark_scanner.specs.Joints.Words.{begins_number, is_mark_alone}
+use Rattle.starlark_scanner.proofs.Scan.Marks.{front_three, mark_of}
+
+pub begins_by_one : (test : ℕ → Bool) (text : Text) → begins test (take 1 text) ≡ begins test text
+begins_by_one test [] = refl
+begins_by_one test (b ∷ rest) = refl
+
+pub sign_by_one : (text : Text) → sign_len (take 1 text) ≡ sign_len text
+sign_by_one [] = refl
+sign_by_one (b ∷ rest) = refl
+
+pub base_by_three : (lower upper : ℕ) (text : Text) → has_base lower upper (take 3 text) ≡ has_base lower upper text
+base_by_three lower upper [] = refl
+base_by_three lower upper (a ∷ []) = refl
+base_by_three lower upper (a ∷ b ∷ rest) = refl
+
+pub number_by_three : (text : Text) → begins_number (take 3 text) ≡ begins_number text
+number_by_three [] = refl
+number_by_three (a ∷ []) = refl
+number_by_three (a ∷ b ∷ rest) = refl
+
+pub alone_by_two : (text : Text) → is_mark_alone (take 2 text) ≡ is_mark_alone text
+alone_by_two [] = refl
+alone_by_two (a ∷ []) = refl
+alone_by_two (a ∷ b ∷ rest) = refl
+
+pub first_by_two : (text : Text) → slice_get (take 2 text) 0 ≡ slice_get text 0
+first_by_two [] = refl
+first_by_two (a ∷ rest) = refl
+
+pub first_by_three : (text : Text) → slice_get (take 3 text) 0 ≡ slice_get text 0
+first_by_three [] = refl
+first_by_three (a ∷ rest) = refl
+
+-- a mark has at most three bytes
+pub mark_by_three : (text : Text) → longest_front mark_of (take 3 text) ≡ longest_front mark_of text
+mark_by_three [] = refl
+mark_by_three (a ∷ []) = refl
+mark_by_three (a ∷ b ∷ []) = refl
+mark_by_three (a ∷ b ∷ c ∷ rest) = front_three a b c [] ∙ sym (front_three a b c rest)
