@@ -90,7 +90,8 @@ pub fn common_word(reads: &mut Reads, text: &str) -> Option<Word>
     ensures word { IfSome result (λ word. Some (word_view word) ≡ language_front text.now) }
     ensures bang { IfSome result (λ word. is_bang text.now ≡ false) }
     ensures none { result ≡ None → grammar.begins grammar.is_name_start text.now ≡ false }
-    ensures reads { AreReads (word_len result) (3 * word_len result + 2) reads.old reads.new }
+    ensures reads { AreReads (word_len result) (word_len result + 4) reads.old reads.new }
+    ensures few { result ≡ None → reads.new ≤ reads.old + 2 }
 {
     let front = reads.front(text.as_bytes(), 2);
     let first = *front.first()?;

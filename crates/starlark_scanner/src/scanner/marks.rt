@@ -1,9 +1,9 @@
 //! Marks: symbols, line ends and escaped line ends, which are words of one to three bytes.
 
-ghost use Rattle.std.specs.Prelude.{◌≡◌, ◌∷◌, []};
+ghost use Rattle.std.specs.Prelude.{◌≡◌, ◌≤◌, ◌∷◌, []};
 ghost use Rattle.std.specs.Option.{option_map};
 ghost use Rattle.starlark_grammar.specs.Front.{longest_front};
-ghost use Rattle.starlark_scanner.specs.Joints.Words.{goes_on, is_lone_mark, is_mark_alone, is_symbol, marks, word_view};
+ghost use Rattle.starlark_scanner.specs.Joints.Words.{goes_on, is_lone_mark, is_mark_alone, is_symbol, marks, word_len, word_view};
 ghost use Rattle.starlark_grammar.specs.Words.{class_in};
 
 use super::{Class, Terminal, Word};
@@ -131,7 +131,8 @@ fn triple(first: u8, second: u8, third: u8) -> Option<Class>
 /// The mark of one byte, as a word.
 #[inline(always)]
 pub fn longest_of_one(first: u8) -> Option<Word>
-    ensures { option_map word_view result ≡ longest_front (class_in marks) (first ∷ []) }
+    ensures word { option_map word_view result ≡ longest_front (class_in marks) (first ∷ []) }
+    ensures len { word_len result ≤ 1 }
 {
     match single(first) {
         Some(class) => Some(Word { class, len: 1 }),
@@ -141,7 +142,8 @@ pub fn longest_of_one(first: u8) -> Option<Word>
 
 /// The longest mark at the front of two bytes.
 fn longest_of_two(first: u8, second: u8) -> Option<Word>
-    ensures { option_map word_view result ≡ longest_front (class_in marks) (first ∷ second ∷ []) }
+    ensures word { option_map word_view result ≡ longest_front (class_in marks) (first ∷ second ∷ []) }
+    ensures len { word_len result ≤ 2 }
 {
     match double(first, second) {
         Some(class) => Some(Word { class, len: 2 }),
@@ -151,7 +153,8 @@ fn longest_of_two(first: u8, second: u8) -> Option<Word>
 
 /// The longest mark at the front of three bytes.
 fn longest_of_three(first: u8, second: u8, third: u8) -> Option<Word>
-    ensures { option_map word_view result ≡ longest_front (class_in marks) (first ∷ second ∷ third ∷ []) }
+    ensures word { option_map word_view result ≡ longest_front (class_in marks) (first ∷ second ∷ third ∷ []) }
+    ensures len { word_len result ≤ 3 }
 {
     match triple(first, second, third) {
         Some(class) => Some(Word { class, len: 3 }),
@@ -162,7 +165,8 @@ fn longest_of_three(first: u8, second: u8, third: u8) -> Option<Word>
 /// The longest mark at the front of a text, or `None` where no mark stands there.
 #[inline(never)]
 pub fn mark_from(text: &[u8]) -> Option<Word>
-    ensures { option_map word_view result ≡ longest_front (class_in marks) text.now }
+    ensures word { option_map word_view result ≡ longest_front (class_in marks) text.now }
+    ensures len { word_len result ≤ 3 }
 {
     match text {
         [] => None,
