@@ -1,10 +1,14 @@
 -- What the first bytes of a text tell, which are read of it.
-use Rattle.std.proofs.Common.{◌≡◌, ℕ, Bool, [], ◌∷◌, ◌≤◌, take, refl, sym, ◌∙◌}
+use Rattle.std.proofs.Common.{◌≡◌, ℕ, Bool, [], ◌∷◌, ◌≤◌, Option, take, refl, sym, ap, ◌∙◌}
 use Rattle.std.specs.List.{slice_get}
 use Rattle.starlark_grammar.specs.Front.{longest_front}
 use Rattle.starlark_grammar.specs.Words.{Text, begins, has_base, sign_len}
 use Rattle.starlark_scanner.specs.Joints.Words.{begins_number, is_mark_alone}
 use Rattle.starlark_scanner.proofs.Scan.Marks.{front_three, mark_of}
+
+-- the first byte of a text that is read
+pub first_of : (bytes text : Text) (b : Option ℕ) → bytes ≡ text → b ≡ slice_get bytes 0 → slice_get text 0 ≡ b
+first_of bytes text b same is = sym (ap (λ (t : Text). slice_get t 0) same) ∙ sym is
 
 pub begins_by_one : (test : ℕ → Bool) (text : Text) → begins test (take 1 text) ≡ begins test text
 begins_by_one test [] = refl

@@ -7,11 +7,11 @@ use Rattle.starlark_scanner.proofs.Literals.DigitRuns.{octal_edge, octal_run, oc
 use Rattle.starlark_scanner.proofs.literal.escapes.octal.Goals as goal
 
 pub range-requires-clause-end_boundary : goal.range-requires-clause-end_boundary
-range-requires-clause-end_boundary c = rw (c.octal_len-len.ensures, c.as_bytes.ensures.value) (octal_edge 3 c.args.text.now c.utf8.text)
+range-requires-clause-end_boundary c = rw (c.octal_len-len.ensures.value, c.as_bytes.ensures.value) (octal_edge 3 c.args.text.now c.utf8.text)
 
 pub unreachable-requires : goal.unreachable-requires
 unreachable-requires c =
-    let len : c.octal_len-len.result ≡ prefix_len is_octal_digit (take 3 c.args.text.now) = rw (c.octal_len-len.ensures, c.as_bytes.ensures.value) refl in
+    let len : c.octal_len-len.result ≡ prefix_len is_octal_digit (take 3 c.args.text.now) = rw (c.octal_len-len.ensures.value, c.as_bytes.ensures.value) refl in
     let cut : c.range.result.now ≡ take (prefix_len is_octal_digit (take 3 c.args.text.now)) c.args.text.now = rw (c.range.ensures.value, sub-zero, len) refl in
     let all : AllDigits 8 c.range.result.now = rw cut (octal_run 3 c.args.text.now) in
     let whole : length c.range.result.now ≡ prefix_len is_octal_digit (take 3 c.args.text.now) = omega (arith, c.range.ensures.len, len) in
