@@ -2,6 +2,7 @@
 pub mod DigitRuns
 pub mod Escapes
 pub mod Found
+pub mod ReadFronts
 pub mod ItemEdges
 pub mod BodySteps
 pub mod LaneRuns

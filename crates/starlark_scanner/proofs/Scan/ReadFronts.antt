@@ -1,5 +1,5 @@
 -- What the first bytes of a text tell, which are read of it.
-use Rattle.std.proofs.Common.{◌≡◌, ℕ, Bool, [], ◌∷◌, ◌≤◌, Option, take, refl, sym, ap, ◌∙◌}
+use Rattle.std.proofs.Common.{◌≡◌, ℕ, Bool, List, [], ◌∷◌, ◌≤◌, Option, take, refl, sym, ap, ◌∙◌}
 use Rattle.std.specs.List.{slice_get}
 use Rattle.starlark_grammar.specs.Front.{longest_front}
 use Rattle.starlark_grammar.specs.Words.{Text, begins, has_base, sign_len}
@@ -47,3 +47,8 @@ mark_by_three [] = refl
 mark_by_three (a ∷ []) = refl
 mark_by_three (a ∷ b ∷ []) = refl
 mark_by_three (a ∷ b ∷ c ∷ rest) = front_three a b c [] ∙ sym (front_three a b c rest)
+
+-- the first byte of a text is that of its front
+pub at_front : (text bytes front : Text) (b : Option ℕ) → front ≡ take 3 bytes → bytes ≡ text → b ≡ slice_get front 0 → slice_get text 0 ≡ b
+at_front text bytes front b read same is =
+    sym (first_by_three text) ∙ sym (ap (λ (t : List ℕ). slice_get (take 3 t) 0) same) ∙ sym (ap (λ (t : List ℕ). slice_get t 0) read) ∙ sym is

@@ -142,10 +142,10 @@ fn raw_pair<'a>(reads: &mut Reads, literal: Literal, text: &'a str) -> Found<'a>
     let Some(first) = reads.at(behind.as_bytes(), 0) else {
         return Found::Stops(Stop::Ended);
     };
-    let character = first_character(reads, behind);
-    let len = 1 + character.len();
+    let character = reads.character_len(behind);
+    let len = 1 + character;
     if drops_backslash(literal.kind, literal.opening.quote, first) {
-        part(len, character)
+        part(len, &behind[..character])
     } else {
         part(len, &text[..len])
     }

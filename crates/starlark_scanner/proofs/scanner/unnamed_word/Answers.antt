@@ -5,18 +5,13 @@ use Rattle.std.specs.List.{slice_get}
 use Rattle.starlark_grammar.specs.Words.{Text, begins, class_in, is_name_start}
 use Rattle.starlark_grammar.specs.Front.{longest_front}
 use Rattle.starlark_scanner.specs.Joints.Words.{begins_number, marks}
-use Rattle.starlark_scanner.proofs.Scan.ReadFronts.{first_by_three, mark_by_three, number_by_three}
+use Rattle.starlark_scanner.proofs.Scan.ReadFronts.{at_front, mark_by_three, number_by_three}
 use Rattle.starlark_scanner.proofs.Scan.ByFirst.{front_empty, front_blank, front_tab, front_hash, front_single_quote, front_double_quote, front_mark}
 use Rattle.starlark_scanner.proofs.scanner.unnamed_word.Goals as goal
 
 no_name : (text : Text) (b : ℕ) → slice_get text 0 ≡ Some b → begins is_name_start text ≡ false → is_name_start b ≡ false
 no_name [] b e h = cc
 no_name (x ∷ rest) b e h = let same : x ≡ b = cc in rw (← same) h
-
--- the first byte of a text is that of its front
-at_front : (text bytes front : Text) (b : Option ℕ) → front ≡ take 3 bytes → bytes ≡ text → b ≡ slice_get front 0 → slice_get text 0 ≡ b
-at_front text bytes front b read same is =
-    sym (first_by_three text) ∙ sym (ap (λ (t : List ℕ). slice_get (take 3 t) 0) same) ∙ sym (ap (λ (t : List ℕ). slice_get t 0) read) ∙ sym is
 
 pub returns-in_err-first-clause-word : goal.returns-in_err-first-clause-word
 returns-in_err-first-clause-word c =
