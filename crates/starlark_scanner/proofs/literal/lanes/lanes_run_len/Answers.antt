@@ -6,8 +6,8 @@ use Rattle.starlark_scanner.proofs.Literals.LaneRuns.{lanes_counted}
 use Rattle.starlark_scanner.proofs.Literals.EndLanes.{end_lanes}
 use Rattle.starlark_scanner.proofs.literal.lanes.lanes_run_len.Goals as goal
 
-pub returns : goal.returns
-returns c =
+pub returns-clause-value : goal.returns-clause-value
+returns-clause-value c =
     let v = chunk c.args.at 16 c.args.bytes.now in
     let long : length v ≡ 16 = length-chunk c.args.at 16 c.args.bytes.now c.requires in
     lanes_counted (is_end c.args.ends) v _ _ long c.lowest_bit.ensures (end_lanes c.args.ends v long)

@@ -9,12 +9,12 @@ use Rattle.starlark_scanner.proofs.literal.runs.first_run.Goals as goal
 
 pub range-requires-clause-end_boundary : goal.range-requires-clause-end_boundary
 range-requires-clause-end_boundary c =
-    let len : c.run_len.result ≡ prefix_len (is_in_run (literal_view c.args.literal)) c.args.text.now = c.run_len.ensures ∙ ap (prefix_len (is_in_run (literal_view c.args.literal))) c.as_bytes.ensures.value in
+    let len : c.run_len.result ≡ prefix_len (is_in_run (literal_view c.args.literal)) c.args.text.now = c.run_len.ensures.value ∙ ap (prefix_len (is_in_run (literal_view c.args.literal))) c.as_bytes.ensures.value in
     subst (IsCharBoundary c.args.text.now) (sym len) (run_edge (literal_view c.args.literal) c.args.text.now)
 
 pub returns-clause-boundary : goal.returns-clause-boundary
 returns-clause-boundary c =
-    let len : c.run_len.result ≡ prefix_len (is_in_run (literal_view c.args.literal)) c.args.text.now = c.run_len.ensures ∙ ap (prefix_len (is_in_run (literal_view c.args.literal))) c.as_bytes.ensures.value in
+    let len : c.run_len.result ≡ prefix_len (is_in_run (literal_view c.args.literal)) c.args.text.now = c.run_len.ensures.value ∙ ap (prefix_len (is_in_run (literal_view c.args.literal))) c.as_bytes.ensures.value in
     let same : c.run_len.result - 0 ≡ c.run_len.result = omega arith in
     let taken : c.range.result.now ≡ take c.run_len.result c.args.text.now = c.range.ensures.value ∙ ap (λ n. take n c.args.text.now) same in
     let whole : length c.range.result.now ≡ prefix_len (is_in_run (literal_view c.args.literal)) c.args.text.now = ap (λ (t : List ℕ). length t) (taken ∙ ap (λ n. take n c.args.text.now) len) ∙ length-prefix_len (is_in_run (literal_view c.args.literal)) c.args.text.now in

@@ -7,9 +7,9 @@ use Rattle.starlark_scanner.specs.Joints.Literals.{literal_view}
 use Rattle.starlark_scanner.proofs.Literals.LaneRuns.{run_ends, run_goes_on, run_within}
 use Rattle.starlark_scanner.proofs.literal.runs.run_len.Goals as goal
 
-pub returns-then-len-lt-LANES : goal.returns-then-len-lt-LANES
-returns-then-len-lt-LANES c =
-    let counted = c.short_run_len-len.ensures in
+pub returns-then-len-lt-LANES-clause-value : goal.returns-then-len-lt-LANES-clause-value
+returns-then-len-lt-LANES-clause-value c =
+    let counted = c.short_run_len-len.ensures.value in
     let less = c.if-len-lt-LANES.true in
     counted ∙ run_ends (is_in_run (literal_view c.args.literal)) 16 c.args.bytes.now c.if-bytes-lt-LANES.false (omega (arith, counted, less))
 
@@ -18,15 +18,15 @@ overflow_add-result c =
     let room = c.if-bytes-lt-LANES.false in
     let within = prefix_len-le-length (is_in_run (literal_view c.args.literal)) (take (length c.args.bytes.now - 16) (drop 16 c.args.bytes.now)) in
     let fits = length-take-le (length c.args.bytes.now - 16) (drop 16 c.args.bytes.now) (omega (arith, length-drop 16 c.args.bytes.now)) in
-    let inside : 16 + c.long_run_len.result ≤ length c.args.bytes.now = omega (arith, within, fits, c.long_run_len.ensures, room) in
+    let inside : 16 + c.long_run_len.result ≤ length c.args.bytes.now = omega (arith, within, fits, c.long_run_len.ensures.value, room) in
     search (rules, inside)
 
-pub returns : goal.returns
-returns c =
+pub returns-clause-value : goal.returns-clause-value
+returns-clause-value c =
     let room = c.if-bytes-lt-LANES.false in
-    let counted = c.short_run_len-len.ensures in
+    let counted = c.short_run_len-len.ensures.value in
     let within = run_within (is_in_run (literal_view c.args.literal)) 16 c.args.bytes.now room in
     let whole : c.short_run_len-len.result ≡ 16 = omega (arith, counted, within, c.if-len-lt-LANES.false) in
     let rest = take_all (length c.args.bytes.now - 16) (drop 16 c.args.bytes.now) (omega (arith, length-drop 16 c.args.bytes.now)) in
     let on = run_goes_on (is_in_run (literal_view c.args.literal)) 16 c.args.bytes.now room (sym counted ∙ whole) in
-    omega (arith, on, c.long_run_len.ensures, ap (prefix_len (is_in_run (literal_view c.args.literal))) rest)
+    omega (arith, on, c.long_run_len.ensures.value, ap (prefix_len (is_in_run (literal_view c.args.literal))) rest)
