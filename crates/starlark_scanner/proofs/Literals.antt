@@ -5,6 +5,7 @@ pub mod Found
 pub mod ReadFronts
 pub mod ItemEdges
 pub mod BodySteps
+pub mod BodyReads
 pub mod LaneRuns
 pub mod EndLanes
 pub mod RunBytes

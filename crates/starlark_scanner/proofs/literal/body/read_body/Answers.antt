@@ -6,6 +6,7 @@ use Rattle.starlark_grammar.specs.Items as grammar
 use Rattle.starlark_grammar.specs.Words.{Text}
 use Rattle.starlark_scanner.specs.Joints.Literals.{bytes_of, literal_view, stop_view, value_view}
 use Rattle.starlark_scanner.proofs.Literals.BodyRuns.{front_run}
+use Rattle.starlark_scanner.proofs.Literals.BodyReads.{item_reads}
 use Rattle.starlark_scanner.proofs.Literals.BodySteps.{IsFront, front_none, front_more, front_stops, item_fits}
 use Rattle.starlark_grammar.proofs.Order.Edges.{boundary_shift}
 use Rattle.starlark_scanner.proofs.Literals.ItemEdges.{item_edge}
@@ -16,6 +17,7 @@ loop-value-init c = record {
   front = rw c.new-value.ensures.bytes (front_none (literal_view c.args.literal) c.args.text.now);
   kind = c.new-value.ensures.kind;
   boundary = IsCharBoundary-start c.args.text.now c.utf8.text;
+  reads = (omega arith, omega arith);
 }
 
 pub overflow_add-len-in-Goes : goal.overflow_add-len-in-Goes
@@ -44,12 +46,14 @@ loop-value-preserved c =
     let here : IsCharBoundary c.args.text.now at = boundary_shift c.args.text.now c.loop-value.len (length c.first_run-run.result.now) c.loop-value.invariant.boundary (subst (λ (t : Text). IsCharBoundary t (length c.first_run-run.result.now)) c.range_from.ensures.value c.first_run-run.ensures.boundary) in
     let e : grammar.found_at (literal_view c.args.literal) (drop at c.args.text.now) ≡ grammar.goes c.in-Goes.item.len (value_view c.in-Goes.item.value)
     = subst (λ (t : Text). grammar.found_at (literal_view c.args.literal) t ≡ grammar.goes c.in-Goes.item.len (value_view c.in-Goes.item.value)) c.range_from-in-loop-value.ensures.value (sym c.in-Goes.ensures.value) in
+    let fits = item_fits (literal_view c.args.literal) (drop at c.args.text.now) (record { len = c.in-Goes.item.len; value = value_view c.in-Goes.item.value }) e in
     let edge : IsCharBoundary (drop at c.args.text.now) c.in-Goes.item.len = item_edge (literal_view c.args.literal) (drop at c.args.text.now) (record { len = c.in-Goes.item.len; value = value_view c.in-Goes.item.value }) (IsUtf8-drop c.args.text.now at c.utf8.text here) e in
     let more = front_more (literal_view c.args.literal) c.args.text.now at (bytes_of c.loop-value.value ++ c.first_run-run.result.now) (record { len = c.in-Goes.item.len; value = value_view c.in-Goes.item.value }) front e in
     record {
       front = subst (λ (t : Text). IsFront (literal_view c.args.literal) c.args.text.now (at + c.in-Goes.item.len) t) (sym (c.in_ok-append-in-Goes.ensures.bytes ∙ ap (λ (t : Text). t ++ value_view c.in-Goes.item.value) c.in_ok-append.ensures.bytes)) more;
       kind = c.in_ok-append-in-Goes.ensures.kind ∙ c.in_ok-append.ensures.kind ∙ c.loop-value.invariant.kind;
       boundary = boundary_shift c.args.text.now at c.in-Goes.item.len here edge;
+      reads = item_reads c.loop-value.len (length c.first_run-run.result.now) c.in-Goes.item.len _ _ _ _ fits.0 c.loop-value.invariant.reads c.first_run-run.ensures.reads c.in-Goes.ensures.reads;
     }
 
 pub returns-in-Stops-clause-body : goal.returns-in-Stops-clause-body
