@@ -1,6 +1,6 @@
 //! Finds the longest word at the front of a text.
 
-ghost use Rattle.std.specs.Prelude.{◌≡◌, false, ◌<◌, ◌≤◌, ◌==◌, ◌+◌, ◌*◌, ◌∷◌, IfSome, None, Some, length, nat_eq, take, true};
+ghost use Rattle.std.specs.Prelude.{◌≡◌, false, ◌<◌, ◌≤◌, ◌==◌, ◌+◌, ◌∷◌, IfSome, None, Some, length, nat_eq, take, true};
 ghost use Rattle.std.specs.List.{prefix_len, slice_get};
 ghost use Rattle.std.specs.Option.{option_map};
 ghost use Rattle.starlark_grammar.specs.Front.{language_front};
@@ -17,8 +17,8 @@ mod numbers;
 mod openers;
 mod word;
 
-pub use starlark_grammar::class::{Class, LiteralKind, Quote, Terminal};
 use crate::reads::Reads;
+pub use starlark_grammar::class::{Class, LiteralKind, Quote, Terminal};
 pub use word::Word;
 
 /// Whether a number begins at the front of a text: with a digit, or with a point and a digit.
@@ -108,7 +108,7 @@ pub fn common_word(reads: &mut Reads, text: &str) -> Option<Word>
 pub fn unnamed_word(reads: &mut Reads, text: &str) -> Option<Word>
     requires { grammar.begins grammar.is_name_start text.now ≡ false }
     ensures word { option_map word_view result ≡ language_front text.now }
-    ensures reads { AreReads (word_len result) (4 * word_len result + 9) reads.old reads.new }
+    ensures reads { AreReads (word_len result) (word_len result + 9) reads.old reads.new }
 {
     let bytes = text.as_bytes();
     let front = reads.front(bytes, 3);
@@ -129,7 +129,7 @@ pub fn unnamed_word(reads: &mut Reads, text: &str) -> Option<Word>
 /// The longest word at the front of a text, or `None` where no word stands there.
 pub fn first_word(reads: &mut Reads, text: &str) -> Option<Word>
     ensures word { option_map word_view result ≡ language_front text.now }
-    ensures reads { AreReads (word_len result) (4 * word_len result + 11) reads.old reads.new }
+    ensures reads { AreReads (word_len result) (word_len result + 11) reads.old reads.new }
 {
     match common_word(reads, text) {
         Some(word) => Some(word),

@@ -1,6 +1,6 @@
 //! Numbers: which one stands at the front of a text, and how long it is.
 
-ghost use Rattle.std.specs.Prelude.{◌≡◌, ◌≤◌, ◌<◌, ◌+◌, ◌-◌, ◌*◌, ◌^◌, ◌==◌, if◌then◌else◌, Some, None, length, take, true};
+ghost use Rattle.std.specs.Prelude.{◌≡◌, ◌≤◌, ◌<◌, ◌+◌, ◌-◌, ◌^◌, ◌==◌, if◌then◌else◌, Some, None, length, take, true};
 ghost use Rattle.std.specs.Option.{option_map};
 ghost use Rattle.starlark_grammar.specs.Front.{language_front, longest_front};
 ghost use Rattle.starlark_grammar.specs.Lengths.{longest_len};
@@ -75,16 +75,14 @@ fn exponent_len(reads: &mut Reads, text: &[u8]) -> usize
     if digits == 0 { 0 } else { 1 + sign + digits }
 }
 
-/// The length of the fraction at the front of a text, with its point and its exponent, and 0
-/// where none stands there.
+/// The length of the fraction at the front of a text that begins with a point, with that and its exponent.
 fn fraction_len(reads: &mut Reads, text: &[u8]) -> usize
+    requires { grammar.begins grammar.is_point text.now ≡ true }
     ensures value { result ≡ longest_len grammar.is_fraction text.now }
+    ensures some { 0 < result }
     ensures within { result ≤ length text.now }
-    ensures reads { AreReads result (4 * result + 1) reads.old reads.new }
+    ensures reads { AreReads (result - 1) (result + 3) reads.old reads.new }
 {
-    if !begins_fraction(reads, text) {
-        return 0;
-    }
     let fraction = &text[1..];
     let digits = reads.digits_len(fraction);
     1 + digits + exponent_len(reads, &fraction[digits..])
@@ -94,13 +92,12 @@ fn fraction_len(reads: &mut Reads, text: &[u8]) -> usize
 fn float_end_len(reads: &mut Reads, text: &[u8]) -> usize
     ensures value { result ≡ longest_len grammar.makes_float text.now }
     ensures within { result ≤ length text.now }
-    ensures reads { AreReads result (4 * result + 4) reads.old reads.new }
+    ensures reads { AreReads result (result + 4) reads.old reads.new }
 {
-    let fraction = fraction_len(reads, text);
-    if fraction == 0 {
-        exponent_len(reads, text)
+    if begins_fraction(reads, text) {
+        fraction_len(reads, text)
     } else {
-        fraction
+        exponent_len(reads, text)
     }
 }
 
@@ -141,7 +138,7 @@ pub fn number_from(reads: &mut Reads, front: &[u8], text: &[u8]) -> Word
     requires number { begins_number text.now ≡ true }
     requires front { front.now ≡ take 3 text.now }
     ensures word { Some (word_view result) ≡ language_front text.now }
-    ensures reads { AreReads (result.len - 2) (4 * result.len + 6) reads.old reads.new }
+    ensures reads { AreReads (result.len - 2) (result.len + 6) reads.old reads.new }
 {
     if let Some(word) = based_front(reads, front, text) {
         return word;
