@@ -4,7 +4,8 @@ use Rattle.starlark_grammar.specs.Words.{Text, language}
 use Rattle.starlark_grammar.specs.Depths.{Mode, Outside, InText, AtTop, Deeper}
 use Rattle.starlark_grammar.specs.Pieces.{Before, Nothing, Layout, Gap, Other, Piece, Step, Stands, Fails, Ends, Situation, in_code, by_place, by_before, step_at}
 use Rattle.starlark_grammar.specs.Reading.{History, nothing, after, situation, next_step, Reading, read_onward, read_from, read, outcome_of, outcome_in, outcome}
-use Rattle.starlark_grammar.specs.EarlierLanguage.{is_rf_opener, earlier_language, holds_rf_opener}
+use Rattle.starlark_grammar.specs.Front.{language_front}
+use Rattle.starlark_grammar.specs.EarlierLanguage.{earlier_front, is_rf_opener, earlier_language, holds_rf_opener}
 use Rattle.starlark_grammar.proofs.Words.EarlierTable.{front_agrees}
 
 or_false : (a b : Bool) → (a || b) ≡ false → (a ≡ false) × (b ≡ false)
@@ -17,6 +18,7 @@ unfolding holds_rf_opener
 held_parts b bs h = or_false (is_rf_opener (take 3 (b ∷ bs))) (holds_rf_opener bs) h
 
 code_agrees : (s : Situation) (text : Text) → holds_rf_opener text ≡ false → in_code language s text ≡ in_code earlier_language s text
+unfolding language_front earlier_front
 code_agrees s [] h = refl
 code_agrees s (b ∷ bs) h = rw (front_agrees (b ∷ bs) (held_parts b bs h).0) refl
 

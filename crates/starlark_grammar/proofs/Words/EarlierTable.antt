@@ -7,8 +7,8 @@ use Rattle.std.specs.Str.{bytes_eq}
 use Rattle.std.proofs.lemmas.Slice.Eq.{bytes_eq-Decides}
 use Rattle.std.proofs.lemmas.List.{take-append-drop}
 use Rattle.starlark_grammar.specs.Words.{Text, Class, class_in, listed, openers, line_ends, symbols, names, patterns, language}
-use Rattle.starlark_grammar.specs.Front.{longer, longest_front}
-use Rattle.starlark_grammar.specs.EarlierLanguage.{is_rf_opener, earlier_language}
+use Rattle.starlark_grammar.specs.Front.{longer, longest_front, language_front}
+use Rattle.starlark_grammar.specs.EarlierLanguage.{is_rf_opener, earlier_language, earlier_front}
 use Rattle.starlark_grammar.proofs.Words.Tables.{class_in-behind}
 
 -- the rows but for the two
@@ -62,5 +62,6 @@ fronts_of_three text n h = go (is_rf_opener (take n text)) refl
         cc
 
 -- where none of the two stands at the front, the longest front is the same by both tables
-pub front_agrees : (text : Text) → is_rf_opener (take 3 text) ≡ false → longest_front (class_in language) text ≡ longest_front (class_in earlier_language) text
+pub front_agrees : (text : Text) → is_rf_opener (take 3 text) ≡ false → language_front text ≡ earlier_front text
+unfolding language_front earlier_front
 front_agrees text h = fronts_agree (class_in language) (class_in earlier_language) text (λ n. class_agrees (take n text) (fronts_of_three text n h))
