@@ -197,9 +197,10 @@ patterns =
     (is_run (nat_eq 32), Skipped) ∷ (is_comment, Comment) ∷ (is_run (nat_eq 9), Tabs) ∷ (is_identifier, Identifier)
     ∷ numbers
 
--- The table with these openers. That an earlier row goes before a later one is how a keyword wins over an identifier.
+-- The table with these rows of openers. That an earlier row goes before a later one is how a keyword wins over an
+-- identifier.
 abbrev pub table_with : List (Text × Class) → Table
-table_with openers = listed openers ++ (listed line_ends ++ (listed symbols ++ (listed names ++ patterns)))
+table_with rows = listed rows ++ (listed line_ends ++ (listed symbols ++ (listed names ++ patterns)))
 
 -- the table of the language
 unfoldable pub language : Table

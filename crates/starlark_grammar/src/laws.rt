@@ -76,6 +76,6 @@ pub fn printed_words_read_back()
 
 /// A text in which neither `rf'` nor `rf"` stands has the lexemes and the fault that it had before these two were
 /// openers.
-pub fn other_texts_stay()
+pub fn texts_without_rf_stay()
     ensures { TablesAgree }
 {}
