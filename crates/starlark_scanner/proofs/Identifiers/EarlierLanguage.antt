@@ -1,19 +1,22 @@
 -- A text of skipped pieces and identifiers has no quote, and so no opener: it reads the same by the table before `rf'` and
 -- `rf"` were openers.
-use Rattle.std.proofs.Common.{◌≡◌, ◌↔◌, ℕ, zero, suc, Bool, true, false, nat_eq, not, List, [], ◌∷◌, ◌++◌, length, map, take, refl, sym, ap, subst, ◌∙◌, Some, None, ◌||◌, arith}
+use Rattle.std.proofs.Common.{◌≡◌, ◌↔◌, ℕ, Bool, true, false, nat_eq, not, List, [], ◌∷◌, ◌++◌, length, map, take, drop, refl, sym, ap, subst, ◌∙◌, Some, None, ◌||◌, arith}
 use Rattle.std.specs.Prelude.{codes}
 use Rattle.std.specs.List.{list_all}
 use Rattle.std.specs.Str.{bytes_eq}
 use Rattle.std.proofs.lemmas.Bool.{and_parts, eqb-true}
 use Rattle.std.proofs.lemmas.Bool.Decides.{nat_tests}
+use Rattle.std.proofs.lemmas.List.{take-append-drop}
+use Rattle.std.proofs.lemmas.List.Folds.{list_all-append}
 use Rattle.std.proofs.lemmas.Slice.Eq.{bytes_eq-Decides}
+use Rattle.std.proofs.Math.Seq.{take-append_seam}
 use Rattle.starlark_grammar.specs.Words.{Text, class_in, openers, line_ends, symbols, names, patterns, language, is_run, is_identifier, is_in_name, is_name_start, is_comment, is_based, is_octal_digit, is_binary_digit, is_float, is_pointed}
 use Rattle.std.specs.Char.{is_ascii_digit, is_ascii_hexdigit}
 use Rattle.starlark_grammar.specs.declared.class.Class.{Class}
 use Rattle.starlark_grammar.specs.declared.class.Class.TheVariants.{Skipped, Comment, Tabs, Identifier, Decimal, Hexadecimal, Octal, Binary, Float}
 use Rattle.starlark_grammar.specs.Front.{language_front}
 use Rattle.starlark_grammar.specs.EarlierLanguage.{is_rf_opener, earlier_language, earlier_front}
-use Rattle.starlark_grammar.proofs.Words.Classes.{all_fit, language_all_fit, row_fits, none_found}
+use Rattle.starlark_grammar.proofs.Words.Classes.{all_more, all_fit, language_all_fit, row_fits, none_found}
 use Rattle.starlark_grammar.proofs.Words.EarlierTable.{class_agrees, front_agrees}
 use Rattle.starlark_grammar.proofs.Words.Fronts.{front_sound}
 use Rattle.starlark_scanner.specs.Joints.Words.{is_quote}
@@ -47,11 +50,6 @@ names_fit : all_fit quote_fits names ≡ true
 unfolding names
 names_fit = refl
 
--- a list that passes a test passes a weaker one
-weaker : (p : ℕ → Bool) → ((b : ℕ) → p b ≡ true → is_no_quote b ≡ true) → (word : Text) → list_all p word ≡ true → has_no_quote word ≡ true
-weaker p h [] k = refl
-weaker p h (b ∷ bs) k = let parts = and_parts _ _ k in rw (h b parts.0) (weaker p h bs parts.1)
-
 name_is_none : (b : ℕ) → is_in_name b ≡ true → is_no_quote b ≡ true
 name_is_none b h = grind (arith, nat_tests)
 
@@ -63,13 +61,13 @@ blank_is_none b h = rw (← eqb-true 32 b h) refl
 
 blanks_fit : (word : Text) → is_run (nat_eq 32) word ≡ true → has_no_quote word ≡ true
 blanks_fit [] h = refl
-blanks_fit (b ∷ bs) h = weaker (nat_eq 32) blank_is_none (b ∷ bs) h
+blanks_fit (b ∷ bs) h = all_more (nat_eq 32) is_no_quote (b ∷ bs) blank_is_none h
 
 identifier_fits : (word : Text) → is_identifier word ≡ true → has_no_quote word ≡ true
 identifier_fits [] h = refl
 identifier_fits (b ∷ bs) h =
     let parts = and_parts _ _ h in
-    rw (begin_is_none b parts.0) (weaker is_in_name name_is_none bs parts.1)
+    rw (begin_is_none b parts.0) (all_more is_in_name is_no_quote bs name_is_none parts.1)
 
 patterns_fit : (word : Text) (class : Class) → class_in patterns word ≡ Some class → quote_fits class word ≡ true
 unfolding class_in patterns
@@ -126,17 +124,13 @@ earlier_finds text class len e = earlier_fits (take len text) class (front_sound
 -- Texts without a quote
 
 no_quote_both : (front back : Text) → has_no_quote front ≡ true → has_no_quote back ≡ true → has_no_quote (front ++ back) ≡ true
-no_quote_both [] back h k = k
-no_quote_both (b ∷ bs) back h k = let parts = and_parts (is_no_quote b) (has_no_quote bs) h in rw parts.0 (no_quote_both bs back parts.1 k)
+no_quote_both front back h k = rw (list_all-append is_no_quote front back, h, k) refl
 
-no_quote_behind : (front back : Text) → has_no_quote (front ++ back) ≡ true → has_no_quote back ≡ true
-no_quote_behind [] back h = h
-no_quote_behind (b ∷ bs) back h = no_quote_behind bs back (and_parts (is_no_quote b) (has_no_quote (bs ++ back)) h).1
+no_quote_parts : (front back : Text) → has_no_quote (front ++ back) ≡ true → (has_no_quote front ≡ true) × (has_no_quote back ≡ true)
+no_quote_parts front back h = and_parts (has_no_quote front) (has_no_quote back) (sym (list_all-append is_no_quote front back) ∙ h)
 
 no_quote_front : (n : ℕ) (text : Text) → has_no_quote text ≡ true → has_no_quote (take n text) ≡ true
-no_quote_front zero text h = refl
-no_quote_front (suc n) [] h = refl
-no_quote_front (suc n) (b ∷ bs) h = let parts = and_parts (is_no_quote b) (has_no_quote bs) h in rw parts.0 (no_quote_front n bs parts.1)
+no_quote_front n text h = (no_quote_parts (take n text) (drop n text) (subst (λ (t : Text). has_no_quote t ≡ true) (sym (take-append-drop n text)) h)).0
 
 is_no_opener : (word : Text) → has_no_quote word ≡ true → is_rf_opener word ≡ false
 is_no_opener word h = go (bytes_eq word (codes "rf'")) (bytes_eq word (codes "rf\"")) refl refl
@@ -158,16 +152,12 @@ agree text h = front_agrees text (is_no_opener (take 3 text) (no_quote_front 3 t
 abbrev NoQuotes : List (Class × Text) → Type 0
 NoQuotes words = (front : FrontOf) → FindsNoQuotes front → (text rest : Text) → ReadsBy front text words rest → has_no_quote rest ≡ true → has_no_quote text ≡ true
 
-cut_front : (word more : Text) → take (length word) (word ++ more) ≡ word
-cut_front [] more = refl
-cut_front (b ∷ word) more = ap (λ bytes. b ∷ bytes) (cut_front word more)
-
 -- a word and what is left behind it
 one_more : (front : FrontOf) → FindsNoQuotes front → (class : Class) → ((word : Text) → quote_fits class word ≡ true → has_no_quote word ≡ true)
     → (text word more : Text) → text ≡ word ++ more → front text ≡ Some (class, length word) → has_no_quote more ≡ true → has_no_quote text ≡ true
 one_more front finds class bare text word more cut found h =
     let fits : quote_fits class (take (length word) text) ≡ true = finds text class (length word) found in
-    let same : take (length word) text ≡ word = ap (take (length word)) cut ∙ cut_front word more in
+    let same : take (length word) text ≡ word = ap (take (length word)) cut ∙ take-append_seam word more in
     let none : has_no_quote word ≡ true = subst (λ (w : Text). has_no_quote w ≡ true) same (bare (take (length word) text) fits) in
     subst (λ (t : Text). has_no_quote t ≡ true) (sym cut) (no_quote_both word more none h)
 
@@ -186,7 +176,7 @@ all_before (piece ∷ before) behind name front finds text rest reads h =
 reads_too : (one other : FrontOf) → ((text : Text) → has_no_quote text ≡ true → one text ≡ other text) → (text rest : Text) (words : List (Class × Text)) → has_no_quote text ≡ true → ReadsBy one text words rest → ReadsBy other text words rest
 reads_too one other same text rest [] h reads = reads
 reads_too one other same text rest (word ∷ words) h reads =
-    let behind : has_no_quote reads.0 ≡ true = no_quote_behind word.1 reads.0 (subst (λ (t : Text). has_no_quote t ≡ true) reads.1 h) in
+    let behind : has_no_quote reads.0 ≡ true = (no_quote_parts word.1 reads.0 (subst (λ (t : Text). has_no_quote t ≡ true) reads.1 h)).1 in
     (reads.0, reads.1, sym (same text h) ∙ reads.2, reads_too one other same reads.0 rest words behind reads.3)
 
 is_one_too : (one other : FrontOf) → FindsNoQuotes one → ((text : Text) → has_no_quote text ≡ true → one text ≡ other text) → (text name : Text) → IsOneIdentifierBy one text name → IsOneIdentifierBy other text name
