@@ -114,6 +114,18 @@ raw_texts_2 :
 unfolding all_definitions
 raw_texts_2 = (refl, refl, refl)
 
+-- raw f-strings whose `r` stands first, and names that are longer or in upper case
+raw_texts_3 :
+    Lexes (codes "rf\"\\\"\"") (at 0 (fstring_start raw double plain) 3 ∷ at 3 (FStringText (codes "\"")) 5 ∷ at 5 FStringEnd 6 ∷ at 6 Newline 6 ∷ [])
+    × Lexes (codes "rf'''a'''") (at 0 (fstring_start raw single triple) 5 ∷ at 5 (FStringText (codes "a")) 6 ∷ at 6 FStringEnd 9 ∷ at 9 Newline 9 ∷ [])
+    × Lexes (codes "rf'\\n'") (at 0 (fstring_start raw single plain) 3 ∷ at 3 (FStringText (codes "\\n")) 5 ∷ at 5 FStringEnd 6 ∷ at 6 Newline 6 ∷ [])
+    × Lexes (codes "xrf'a'") (at 0 (Identifier (codes "xrf")) 3 ∷ at 3 (String (codes "a")) 6 ∷ at 6 Newline 6 ∷ [])
+    × Lexes (codes "Rf'a'") (at 0 (Identifier (codes "Rf")) 2 ∷ at 2 (String (codes "a")) 5 ∷ at 5 Newline 5 ∷ [])
+    × Lexes (codes "rF\"a\"") (at 0 (Identifier (codes "rF")) 2 ∷ at 2 (String (codes "a")) 5 ∷ at 5 Newline 5 ∷ [])
+    × Lexes (codes "rf") (at 0 (Identifier (codes "rf")) 2 ∷ at 2 Newline 2 ∷ [])
+unfolding all_definitions
+raw_texts_3 = (refl, refl, refl, refl, refl, refl, refl)
+
 -- bad escapes in f-strings
 bad_texts_1 :
     Stops (codes "f'\\x'") (at 0 (fstring_start cooked single plain) 2 ∷ []) (at 4 (InvalidEscapeSequence (codes "\\")) 5)
