@@ -1,6 +1,6 @@
 //! Reads bytes of a text, and counts them.
 
-ghost use Rattle.std.specs.Prelude.{◌≡◌, ◌≤◌, ◌<◌, ◌+◌, ◌-◌, ◌^◌, ℕ, length, take, nat_eq};
+ghost use Rattle.std.specs.Prelude.{◌≡◌, ◌==◌, get_or, ◌≤◌, ◌<◌, ◌+◌, ◌-◌, ◌^◌, ℕ, length, take, nat_eq};
 ghost use Rattle.std.specs.Char.{is_ascii_digit, is_ascii_hexdigit};
 ghost use Rattle.std.specs.List.{prefix_len, slice_get};
 ghost use Rattle.std.specs.Str.{IsCharBoundary};
@@ -95,6 +95,15 @@ impl Reads {
         ensures { self.new ≡ more_reads self.old 16 }
     {
         self.add(LANES);
+    }
+
+    /// Whether a CR is the last byte of a text.
+    pub fn ends_with_return(&mut self, text: &[u8]) -> bool
+        ensures value { result ≡ (get_or text.now (length text.now - 1) 0 == 13) }
+        ensures reads { self.new ≡ more_reads self.old 1 }
+    {
+        self.add(1);
+        matches!(text, [.., b'\r'])
     }
 
     /// The byte at a place of a text.

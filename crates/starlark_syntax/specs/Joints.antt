@@ -3,6 +3,7 @@ pub mod Steps
 pub mod Nesting
 pub mod Pieces
 pub mod Pending
+pub mod Reads
 pub mod Layout
 pub mod Reader
 pub mod LexedTexts

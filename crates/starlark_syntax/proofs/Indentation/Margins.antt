@@ -2,6 +2,7 @@
 use Rattle.std.proofs.Common.{◌≡◌, ℕ, zero, suc, ◌+◌, ◌-◌, ◌≤◌, ◌<◌, Bool, true, false, cond, not, List, [], ◌∷◌, ◌++◌, length, take, drop, refl, ap, ◌∙◌, sym, subst, arith, one-add, zero-add}
 use Rattle.std.specs.Prelude.{if◌then◌else◌, take_while}
 use Rattle.std.specs.List.{prefix_len, onto_first}
+use Rattle.std.proofs.lemmas.Bool.{false≢true}
 use Rattle.std.proofs.lemmas.Bool.Decides.{nat_tests}
 use Rattle.std.proofs.lemmas.List.{drop_all, length-drop, length-take-le, take_all}
 use Rattle.std.proofs.lemmas.List.Folds.{length-prefix_len}
@@ -181,3 +182,28 @@ last_passed text line behind at found content passed e same f h is =
       blanks = subst (λ (t : Text). IsBlanks (take (blanks_len t) t) found) here same;
       is_content = is ∙ ap is_content (there ∙ ap (λ (t : Text). drop (blanks_len t) t) here);
     }
+
+-- the first byte tells whether a comment begins, and whether content stands there
+pub comment_by_one : (text : Text) → begins_comment (take 1 text) ≡ begins_comment text
+comment_by_one [] = refl
+comment_by_one (b ∷ rest) = refl
+
+pub content_by_one : (text : Text) → is_content (take 1 text) ≡ is_content text
+content_by_one [] = refl
+content_by_one (b ∷ rest) = refl
+
+-- a comment has a byte before its line's LF
+pub comment_some : (text : Text) → begins_comment text ≡ true → 0 < prefix_len is_other text
+comment_some [] e = absurd (false≢true e)
+comment_some (b ∷ rest) e = let other : is_other b ≡ true = no_feed b e in rw other (omega arith)
+  where
+    no_feed : (b : ℕ) → begins_comment (b ∷ []) ≡ true → is_other b ≡ true
+    no_feed b e = grind (arith, nat_tests)
+
+-- the blanks of a comment-only line are not all of it
+pub comment_inside : (line : Text) → is_comment_only line ≡ true → blanks_len line < length line
+comment_inside line e = omega (arith, begins_some (drop (blanks_len line) line) e, length-drop (blanks_len line) line)
+  where
+    begins_some : (text : Text) → begins_comment text ≡ true → 0 < length text
+    begins_some [] e = absurd (false≢true e)
+    begins_some (b ∷ rest) e = omega arith

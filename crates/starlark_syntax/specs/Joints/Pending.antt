@@ -16,6 +16,10 @@ use Rattle.starlark_token.specs.declared.tokens.Token.{Token}
 abbrev pub lines_between : Text → ℕ → ℕ → List Text
 lines_between text from to = lines (take (to - from) (drop from text))
 
+-- how many bytes of comment-only lines are still to be read for their comments
+abbrev pub owed : Pending → ℕ
+owed pending = pending.to - pending.from
+
 -- the lexemes of what stands behind the comments
 abbrev pub behind_lexemes : Behind → List grammar.Lexeme
 behind_lexemes (behind.Dedents at count) = replicate count (record { begin = at; node = grammar.Dedent; end = at })

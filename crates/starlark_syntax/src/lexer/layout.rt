@@ -1,9 +1,10 @@
 //! Reads margins, which stand at the begin of lines, and keeps the widths that are open.
 
-ghost use Rattle.std.specs.Prelude.{◌≡◌, ◌+◌, ◌<◌, ◌≤◌, ◌^◌, ◌++◌, ◌∷◌, ℕ, List, [], drop, length, map, option_to_list, IfOk, OnOk};
+ghost use Rattle.std.specs.Prelude.{◌≡◌, ◌+◌, ◌-◌, ◌<◌, ◌≤◌, ◌^◌, ◌++◌, ◌∷◌, ℕ, List, [], drop, length, map, option_to_list, IfOk, OnOk};
 ghost use Rattle.std.specs.Str.{IsCharBoundary, IsUtf8};
 ghost use Rattle.starlark_syntax.specs.Joints.Layout.{IsDecided, IsLaid, IsMargin, margin_lexemes, margin_piece, margin_width};
-ghost use Rattle.starlark_syntax.specs.Joints.Pending.{IsPending, pending_lexemes};
+ghost use Rattle.starlark_syntax.specs.Joints.Pending.{IsPending, owed, pending_lexemes};
+ghost use Rattle.starlark_syntax.specs.Joints.Reads.{AreMarginReads};
 ghost use Rattle.starlark_grammar.specs.Words.{Text};
 ghost use Rattle.starlark_grammar.specs.Margins as grammar;
 ghost use Rattle.starlark_grammar.specs.Pieces as pieces;
@@ -20,6 +21,7 @@ pub use indent_stack::IndentStack;
 use indents::indentation;
 use margins::{Margin, margin_of};
 pub use pending::{Behind, Pending};
+use starlark_scanner::reads::Reads;
 use starlark_token::lexeme_error::LexemeError;
 use starlark_token::tokens::Token;
 use std::alloc::AllocError;
@@ -69,6 +71,7 @@ fn take_margin(
     margin: Margin,
 ) -> Result<Pending, AllocError>
     requires { begin + margin.at + margin.blanks.len < 2 ^ 64 }
+    ensures owed { IfOk result (λ pending. owed pending ≡ margin.at) }
     ensures lexemes { IfOk result (λ pending. (text : Text) → IsUtf8 text → IsCharBoundary text begin → IsMargin (grammar.margin_of (drop begin text)) margin →
         IsPending text pending × (map (tokens.moved begin) (margin_lexemes levels.old (grammar.margin_of (drop begin text))) ≡ pending_lexemes text pending)) }
     ensures widths { OnOk result ((widths : List ℕ) (seen : grammar.Margin) → IsMargin seen margin → levels.old ≡ grammar.open_widths widths →
@@ -87,11 +90,16 @@ fn take_margin(
 
 /// Reads the margin at a text's begin, where no width is open. Before a fault its comments are handed out. After an
 /// error the open widths are not known.
-pub fn first_margin(levels: &mut IndentStack, text: &str) -> Result<Laid, AllocError>
+pub fn first_margin(
+    levels: &mut IndentStack,
+    reads: &mut Reads,
+    text: &str,
+) -> Result<Laid, AllocError>
     requires { levels.old ≡ [] }
-    ensures { IfOk result (IsLaid text.now 0 (pieces.first_margin text.now) [] (grammar.margin_of text.now).comments [] levels.new) }
+    ensures laid { IfOk result (IsLaid text.now 0 (pieces.first_margin text.now) [] (grammar.margin_of text.now).comments [] levels.new) }
+    ensures reads { IfOk result (λ laid. AreMarginReads 0 (length text.now) laid reads.old reads.new) }
 {
-    let margin = margin_of(text);
+    let margin = margin_of(reads, text);
     match fault_of(levels, 0, margin) {
         None => Ok(Laid::Taken {
             pending: take_margin(levels, 0, margin)?,
@@ -113,16 +121,18 @@ pub fn first_margin(levels: &mut IndentStack, text: &str) -> Result<Laid, AllocE
 /// to be handed out behind the `Newline`; before a fault there are none. After an error the open widths are not known.
 pub fn line_end(
     levels: &mut IndentStack,
+    reads: &mut Reads,
     at: usize,
     len: usize,
     text: &str,
 ) -> Result<Laid, AllocError>
     requires { IsCharBoundary text.now (at + len) }
-    ensures { IfOk result (λ laid. (widths : List ℕ) → levels.old ≡ grammar.open_widths widths →
+    ensures laid { IfOk result (λ laid. (widths : List ℕ) → levels.old ≡ grammar.open_widths widths →
         IsLaid text.now at (pieces.line_end len (grammar.open_widths widths) (drop (at + len) text.now)) (record { begin = at; node = tokens.Newline; end = at + len } ∷ []) [] widths levels.new laid) }
+    ensures reads { IfOk result (λ laid. AreMarginReads len (length text.now - (at + len)) laid reads.old reads.new) }
 {
     let begin = at + len;
-    let margin = margin_of(&text[begin..]);
+    let margin = margin_of(reads, &text[begin..]);
     match fault_of(levels, len, margin) {
         None => Ok(Laid::Taken {
             pending: take_margin(levels, begin, margin)?,

@@ -9,6 +9,7 @@ ghost use Rattle.starlark_grammar.specs.Margins.{open_widths};
 ghost use Rattle.starlark_grammar.specs.Pieces as grammar;
 ghost use Rattle.starlark_grammar.specs.declared.class.Class.TheVariants as class;
 ghost use Rattle.starlark_syntax.specs.Joints.Pending.{IsIdle, IsPending};
+ghost use Rattle.starlark_syntax.specs.Joints.Reads.{HasRead, HasReadAt, HasReadNext, IsMarginRead, IsPassed, IsPassedBy};
 ghost use Rattle.starlark_syntax.specs.Joints.Reader.{IsAhead, IsAheadBehind, IsStateAfter, IsNext, IsOver, IsRead, IsReady, IsSomething, IsWordHere, before_view, left_here, left_to_read, silent_sort, step_here};
 ghost use Rattle.starlark_syntax.specs.Joints.Pieces.{IsBehind};
 ghost use Rattle.starlark_grammar.specs.Cuts.{is_layout, is_settled};
@@ -29,6 +30,7 @@ use crate::lexer::nesting::{LexerMode, Nesting};
 use crate::lexer::reading::code::{gap_len, is_code};
 use crate::lexer::reading::terminals::terminal_token;
 use crate::lexer::reading::{Piece, is_outside, piece_at};
+use starlark_scanner::reads::Reads;
 use starlark_scanner::scanner::{Terminal, Word, common_word};
 use starlark_token::lexeme_error::LexemeError;
 use starlark_token::tokens::Token;
@@ -76,6 +78,7 @@ pub struct Reader {
     before: Before,
     pending: Pending,
     stage: Stage,
+    reads: Reads,
 }
 
 /// What comes next of a text: a lexeme, or its fault with the places where that begins and ends.
@@ -93,7 +96,8 @@ pub enum Next {
 impl Reader {
     /// A reader at a text's begin. Takes no memory.
     pub fn new(alloc: Global) -> Self
-        ensures { (text : Text) → IsAhead text result result.stage (map shown_lexeme (outcome text).lexemes) (outcome text).fault }
+        ensures ahead { (text : Text) → IsAhead text result result.stage (map shown_lexeme (outcome text).lexemes) (outcome text).fault }
+        ensures reads { (text : Text) → HasRead text result }
     {
         Reader {
             alloc,
@@ -103,7 +107,15 @@ impl Reader {
             before: Before::Other,
             pending: Pending::nothing(),
             stage: Stage::Begin,
+            reads: Reads::new(),
         }
+    }
+
+    /// How often the bytes of the text were read.
+    pub fn reads(&self) -> u64
+        ensures { result ≡ self.now.reads }
+    {
+        self.reads.count()
     }
 
     /// Stops at a fault, from one place to another, in bytes from here on.
@@ -137,8 +149,9 @@ impl Reader {
         requires idle { IsIdle text.now self.old.pending }
         ensures ahead { OnOk result ((lexemes : List (Spanned TokenView)) (fault : Option (Spanned Fault)) → IsAhead text.now self.old Stage.Begin lexemes fault → IsAhead text.now self.new self.new.stage lexemes fault) }
         ensures less { OnOk result (left_to_read text.now self.new self.new.stage < left_to_read text.now self.old Stage.Begin) }
+        ensures reads { OnOk result (HasReadAt text.now self.old Stage.Begin → HasRead text.now self.new) }
     {
-        let laid = first_margin(&mut self.levels, text)?;
+        let laid = first_margin(&mut self.levels, &mut self.reads, text)?;
         match laid {
             Laid::Taken { pending, len } => {
                 self.pending = pending;
@@ -166,9 +179,10 @@ impl Reader {
         ensures read { IfOk result (λ given. (history : History) → IsStateAfter text.now history self.old → step_here text.now history self.old ≡ grammar.line_end len (open_widths history.widths) (drop len (drop self.old.at text.now)) →
             IsRead text.now (left_here text.now history self.old) given self.new) }
         ensures less { OnOk result (left_to_read text.now self.new self.new.stage < left_to_read text.now self.old Stage.Onward) }
+        ensures reads { OnOk result (IsMarginRead text.now len self.old self.new self.new.stage) }
     {
         let begin = self.at;
-        let laid = line_end(&mut self.levels, begin, len, text)?;
+        let laid = line_end(&mut self.levels, &mut self.reads, begin, len, text)?;
         match laid {
             Laid::Taken {
                 pending,
@@ -204,6 +218,7 @@ impl Reader {
         ensures read { IfOk result (λ given. (history : History) → IsStateAfter text.now history self.old → step_here text.now history self.old ≡ grammar.token len (FStringStart (opening_view opening)) →
             IsRead text.now (left_here text.now history self.old) (Some given) self.new) }
         ensures less { OnOk result (left_to_read text.now self.new self.new.stage < left_to_read text.now self.old Stage.Onward) }
+        ensures passed { OnOk result (IsPassedBy (self.old.at + len) self.old self.new × (self.new.stage ≡ Stage.Onward)) }
     {
         let begin = self.at;
         self.nesting.begin_fstring(opening)?;
@@ -221,6 +236,7 @@ impl Reader {
         ensures read { (history : History) → IsStateAfter text.now history self.old → IsStep (step_here text.now history self.old) (Step.Token token.now len) →
             IsRead text.now (left_here text.now history self.old) (Some (self.old.at, token.now, self.old.at + len)) self.new }
         ensures less { left_to_read text.now self.new self.new.stage < left_to_read text.now self.old Stage.Onward }
+        ensures passed { IsPassedBy (self.old.at + len) self.old self.new × (self.new.stage ≡ Stage.Onward) }
     {
         self.nesting.pass(token);
         self.step_over(len, Before::Other);
@@ -235,6 +251,7 @@ impl Reader {
         ensures read { (history : History) → IsStateAfter text.now history self.old → IsStep (step_here text.now history self.old) (Step.Token token len) →
             IsRead text.now (left_here text.now history self.old) (Some result) self.new }
         ensures less { left_to_read text.now self.new self.new.stage < left_to_read text.now self.old Stage.Onward }
+        ensures passed { IsPassedBy (self.old.at + len) self.old self.new × (self.new.stage ≡ Stage.Onward) }
     {
         let begin = self.at;
         self.pass_token(&token, len, text);
@@ -257,6 +274,7 @@ impl Reader {
         ensures read { (history : History) → IsStateAfter text.now history self.old → IsStep (step_here text.now history self.old) (Step.Text chunk chunk_len stop len) →
             IsRead text.now (left_here text.now history self.old) (Some result) self.new }
         ensures less { left_to_read text.now self.new self.new.stage < left_to_read text.now self.old Stage.Onward }
+        ensures passed { IsPassedBy (self.old.at + (chunk_len + len)) self.old self.new × (self.new.stage ≡ Stage.Onward) }
     {
         let begin = self.at;
         let between = begin + chunk_len;
@@ -284,6 +302,7 @@ impl Reader {
         ensures read { (history : History) → IsStateAfter text.now history self.old → IsStep (step_here text.now history self.old) step →
             IsRead text.now (left_here text.now history self.old) result self.new }
         ensures less { left_to_read text.now self.new self.new.stage < left_to_read text.now self.old Stage.Onward }
+        ensures passed { IsPassed self.old step self.new }
     {
         match step {
             Step::Token { token, len } => Some(self.take_token(token, len, text)),
@@ -329,6 +348,7 @@ impl Reader {
     fn close(&mut self, text: &str) -> PlacedToken
         ensures read { (history : History) → IsStateAfter text.now history self.old → step_here text.now history self.old ≡ grammar.Ends → IsRead text.now (left_here text.now history self.old) (Some result) self.new }
         ensures less { left_to_read text.now self.new self.new.stage < left_to_read text.now self.old Stage.Onward }
+        ensures passed { IsPassedBy self.old.at self.old self.new × (self.new.stage ≡ Stage.Closed) }
     {
         self.pending = Pending::only(Behind::Dedents {
             at: self.at,
@@ -346,11 +366,14 @@ impl Reader {
         requires idle { IsIdle text.now self.old.pending }
         ensures ahead { IfOk result (λ given. (lexemes : List (Spanned TokenView)) (fault : Option (Spanned Fault)) → IsAhead text.now self.old Stage.Onward lexemes fault → IsAheadBehind text.now given self.new lexemes fault) }
         ensures less { OnOk result (left_to_read text.now self.new self.new.stage < left_to_read text.now self.old Stage.Onward) }
+        ensures reads { OnOk result (HasReadAt text.now self.old Stage.Onward → HasRead text.now self.new) }
     {
         let place = self.nesting.place();
         let is_balanced = self.nesting.is_balanced();
         let rest = &text[self.at..];
-        let piece = piece_at(self.alloc, place, is_balanced, self.follows_gap(), rest)?;
+        let follows_gap = self.follows_gap();
+        let reads = &mut self.reads;
+        let piece = piece_at(reads, self.alloc, place, is_balanced, follows_gap, rest)?;
         match piece {
             Piece::Nothing { len, is_gap } => {
                 self.step_over(len, Before::silent(is_gap));
@@ -365,7 +388,8 @@ impl Reader {
 
     /// What stands behind the last lexeme of a text that is read: its fault, which isn't answered again, or nothing.
     fn last(&mut self) -> Next
-        ensures { (text : Text) (lexemes : List (Spanned TokenView)) (fault : Option (Spanned Fault)) → IsIdle text self.old.pending → IsOver self.old.stage → IsAhead text self.old self.old.stage lexemes fault → IsNext text lexemes fault result self.new }
+        ensures next { (text : Text) (lexemes : List (Spanned TokenView)) (fault : Option (Spanned Fault)) → IsIdle text self.old.pending → IsOver self.old.stage → IsAhead text self.old self.old.stage lexemes fault → IsNext text lexemes fault result self.new }
+        ensures reads { (text : Text) → IsOver self.old.stage → HasReadAt text self.old self.old.stage → HasReadNext text result self.new }
     {
         match mem::replace(&mut self.stage, Stage::Closed) {
             Stage::Fault { begin, fault, end } => Next::Fault { begin, fault, end },
@@ -394,7 +418,7 @@ impl Reader {
         ensures ahead { (lexemes : List (Spanned TokenView)) (fault : Option (Spanned Fault)) → IsAhead text.now self.old Stage.Onward lexemes fault → IsAhead text.now self.new Stage.Onward lexemes fault }
         ensures same { (self.new.nesting ≡ self.old.nesting) × (self.new.pending ≡ self.old.pending) × (self.new.stage ≡ Stage.Onward) }
     {
-        let len = gap_len(place, &text[self.at..]);
+        let len = gap_len(&mut self.reads, place, &text[self.at..]);
         if len > 0 {
             self.step_over(len, Before::Gap);
         }
@@ -414,7 +438,7 @@ impl Reader {
             return None;
         }
         self.pass_spaces(place, text);
-        common_word(&text[self.at..])
+        common_word(&mut self.reads, &text[self.at..])
     }
 
     /// Takes the name here, of so many bytes. After an error the reader isn't to be asked again.
@@ -454,9 +478,10 @@ impl Reader {
         requires ready { IsReady text.now self.old self.old.stage }
         ensures next { IfOk result (λ next. (lexemes : List (Spanned TokenView)) (fault : Option (Spanned Fault)) → IsAhead text.now self.old self.old.stage lexemes fault → IsNext text.now lexemes fault next self.new) }
         ensures memory { OnErr result ((lexemes : List (Spanned TokenView)) (fault : Option (Spanned Fault)) → IsAhead text.now self.old self.old.stage lexemes fault → IsSomething lexemes fault) }
+        ensures reads { IfOk result (λ next. HasReadAt text.now self.old self.old.stage → HasReadNext text.now next self.new) }
     {
         loop {
-            if let Some(lexeme) = self.pending.next(self.alloc, text)? {
+            if let Some(lexeme) = self.pending.next(&mut self.reads, self.alloc, text)? {
                 return Ok(Next::Lexeme(lexeme));
             }
             match self.stage {

@@ -1,8 +1,10 @@
 //! Reads the one piece that stands at a place behind the text's first margin, or the fault there.
 
-ghost use Rattle.std.specs.Prelude.{◌≡◌, ◌+◌, ◌<◌, ◌^◌, ◌&&◌, Some, drop, length, IfOk};
+ghost use Rattle.std.specs.Prelude.{◌≡◌, ◌+◌, ◌<◌, ◌^◌, ◌&&◌, if◌then◌else◌, Some, drop, length, IfOk};
 ghost use Rattle.std.specs.Str.{IsCharBoundary};
 ghost use Rattle.starlark_grammar.specs.Front.{language_front};
+ghost use Rattle.starlark_scanner.specs.Joints.Reads.{AreReads, more_reads};
+ghost use Rattle.starlark_syntax.specs.Joints.Reads.{ArePieceReads, AreReadsBehind, AreStepReads};
 ghost use Rattle.starlark_syntax.specs.Joints.Steps.{IsStep};
 ghost use Rattle.starlark_grammar.specs.Cuts.{is_outside};
 ghost use Rattle.starlark_syntax.specs.Joints.Nesting.{mode_view};
@@ -21,7 +23,8 @@ mod words;
 
 use crate::lexer::literal::{Opening, Step, chunk_from, literal_piece, opening_of};
 use crate::lexer::nesting::LexerMode;
-use starlark_scanner::scanner::{Class, LiteralKind, Quote, first_character_len, first_word};
+use starlark_scanner::reads::Reads;
+use starlark_scanner::scanner::{Class, LiteralKind, Quote, first_word};
 use starlark_token::lexeme_error::LexemeError;
 use starlark_token::tokens::Token;
 use std::alloc::{AllocError, Global};
@@ -76,18 +79,20 @@ fn line_end(place: LexerMode, is_balanced: bool, len: usize) -> Piece
 }
 
 /// The start of an f-string, by its opener's length and the text behind that.
-fn fstring(is_raw: bool, quote: Quote, len: usize, behind: &str) -> Piece
+fn fstring(reads: &mut Reads, is_raw: bool, quote: Quote, len: usize, behind: &str) -> Piece
     requires { len + length behind.now < 2 ^ 64 }
-    ensures { (s : grammar.Situation) (front text : word.Text) → length front ≡ len →
+    ensures reads { AreReadsBehind len 9 (length behind.now) 9 result reads.old reads.new }
+    ensures piece { (s : grammar.Situation) (front text : word.Text) → length front ≡ len →
         IsPiece s.levels text (grammar.word_step s (class.Opener kind.FString is_raw quote) front behind.now) result }
 {
-    let opening = opening_of(is_raw, quote, behind);
+    let opening = opening_of(reads, is_raw, quote, behind);
     let len = if opening.is_triple { len + 2 } else { len };
     Piece::FString { opening, len }
 }
 
 /// A literal, or the start of an f-string, by its opener's length and the text behind that.
 fn opener(
+    reads: &mut Reads,
     alloc: Global,
     place: LexerMode,
     kind: LiteralKind,
@@ -97,14 +102,15 @@ fn opener(
     behind: &str,
 ) -> Result<Piece, AllocError>
     requires { len + length behind.now < 2 ^ 64 }
-    ensures { IfOk result (λ piece. (s : grammar.Situation) (front text : word.Text) → s.place ≡ mode_view place → length front ≡ len →
+    ensures reads { IfOk result (λ piece. AreReadsBehind len 9 (length behind.now) 9 piece reads.old reads.new) }
+    ensures piece { IfOk result (λ piece. (s : grammar.Situation) (front text : word.Text) → s.place ≡ mode_view place → length front ≡ len →
         IsPiece s.levels text (grammar.word_step s (class.Opener kind is_raw quote) front behind.now) piece) }
 {
     match kind {
-        LiteralKind::FString => Ok(fstring(is_raw, quote, len, behind)),
+        LiteralKind::FString => Ok(fstring(reads, is_raw, quote, len, behind)),
         _ => {
             let outside = is_outside(place);
-            let step = literal_piece(alloc, outside, kind, is_raw, quote, len, behind)?;
+            let step = literal_piece(reads, alloc, outside, kind, is_raw, quote, len, behind)?;
             Ok(Piece::Lexed(step))
         }
     }
@@ -112,6 +118,7 @@ fn opener(
 
 /// The piece of a word at the front of a text, cut there.
 fn word_piece(
+    reads: &mut Reads,
     alloc: Global,
     place: LexerMode,
     is_balanced: bool,
@@ -121,7 +128,8 @@ fn word_piece(
 ) -> Result<Piece, AllocError>
     requires known { class_in language front.now ≡ Some class }
     requires fits { length front.now + length behind.now < 2 ^ 64 }
-    ensures { IfOk result (λ piece. (s : grammar.Situation) (text : word.Text) → s.place ≡ mode_view place → s.is_balanced ≡ is_balanced → drop (length front.now) text ≡ behind.now → IsCharBoundary text (length front.now) →
+    ensures reads { IfOk result (λ piece. AreReadsBehind (length front.now) 9 (length behind.now) 9 piece reads.old reads.new) }
+    ensures piece { IfOk result (λ piece. (s : grammar.Situation) (text : word.Text) → s.place ≡ mode_view place → s.is_balanced ≡ is_balanced → drop (length front.now) text ≡ behind.now → IsCharBoundary text (length front.now) →
         IsPiece s.levels text (grammar.word_step s class front.now behind.now) piece) }
 {
     let len = front.len();
@@ -132,12 +140,12 @@ fn word_piece(
             kind,
             is_raw,
             quote,
-        } => opener(alloc, place, kind, is_raw, quote, len, behind),
+        } => opener(reads, alloc, place, kind, is_raw, quote, len, behind),
         Class::Comment => Ok(Piece::Lexed(words::comment(alloc, front)?)),
         Class::Tabs => Ok(Piece::Lexed(words::tabs())),
         Class::Reserved => Ok(Piece::Lexed(words::reserved(alloc, front)?)),
         Class::Identifier => Ok(Piece::Lexed(words::identifier(alloc, front)?)),
-        Class::Decimal => Ok(Piece::Lexed(words::decimal(alloc, front)?)),
+        Class::Decimal => Ok(Piece::Lexed(words::decimal(reads, alloc, front)?)),
         Class::Hexadecimal => Ok(Piece::Lexed(words::hexadecimal(alloc, front)?)),
         Class::Octal => Ok(Piece::Lexed(words::octal(alloc, front)?)),
         Class::Binary => Ok(Piece::Lexed(words::binary(alloc, front)?)),
@@ -150,10 +158,11 @@ fn word_piece(
 }
 
 /// The fault of a text at whose front no word stands: its first character.
-fn invalid_input(alloc: Global, text: &str) -> Result<Step, AllocError>
-    ensures { IfOk result (IsStep (grammar.fault 0 (InvalidInput (first_character text.now)) (length (first_character text.now)))) }
+fn invalid_input(reads: &mut Reads, alloc: Global, text: &str) -> Result<Step, AllocError>
+    ensures reads { IfOk result (λ step. AreStepReads 0 1 (length text.now) 0 step reads.old reads.new) }
+    ensures step { IfOk result (IsStep (grammar.fault 0 (InvalidInput (first_character text.now)) (length (first_character text.now)))) }
 {
-    let end = first_character_len(text);
+    let end = reads.character_len(text);
     Ok(Step::Fault {
         begin: 0,
         fault: LexemeError::InvalidInput(String::from_str(alloc, &text[..end])?),
@@ -173,27 +182,31 @@ fn is_bang(text: &[u8]) -> bool
 }
 
 /// Whether a bang stands at the front of a text, by where that is and what stands before.
-fn bang_stands(place: LexerMode, follows_gap: bool, text: &str) -> bool
-    ensures { (before : grammar.Before) → IsBehind follows_gap before → result ≡ (grammar.takes_bang (mode_view place) before && grammar.is_bang text.now) }
+fn bang_stands(reads: &mut Reads, place: LexerMode, follows_gap: bool, text: &str) -> bool
+    ensures reads { AreReads (if result then 1 else 0) 2 reads.old reads.new }
+    ensures value { (before : grammar.Before) → IsBehind follows_gap before → result ≡ (grammar.takes_bang (mode_view place) before && grammar.is_bang text.now) }
 {
-    takes_bang(place, follows_gap) && is_bang(text.as_bytes())
+    takes_bang(place, follows_gap) && is_bang(reads.front(text.as_bytes(), 2))
 }
 
 /// The piece at the front of a text that is no text of an f-string.
 fn code_piece(
+    reads: &mut Reads,
     alloc: Global,
     place: LexerMode,
     is_balanced: bool,
     text: &str,
 ) -> Result<Piece, AllocError>
-    ensures { IfOk result (λ piece. (s : grammar.Situation) → s.place ≡ mode_view place → s.is_balanced ≡ is_balanced →
+    requires some { 0 < length text.now }
+    ensures reads { IfOk result (λ piece. ArePieceReads 14 (length text.now) 7 piece reads.old reads.new) }
+    ensures piece { IfOk result (λ piece. (s : grammar.Situation) → s.place ≡ mode_view place → s.is_balanced ≡ is_balanced →
         IsPiece s.levels text.now (grammar.front_step s text.now (language_front text.now)) piece) }
 {
-    match first_word(text) {
-        None => Ok(Piece::Lexed(invalid_input(alloc, text)?)),
+    match first_word(reads, text) {
+        None => Ok(Piece::Lexed(invalid_input(reads, alloc, text)?)),
         Some(word) => {
             let (front, behind) = text.split_at(word.len);
-            word_piece(alloc, place, is_balanced, word.class, front, behind)
+            word_piece(reads, alloc, place, is_balanced, word.class, front, behind)
         }
     }
 }
@@ -201,26 +214,28 @@ fn code_piece(
 /// The piece at the front of a text, by where that is, whether brackets are balanced there, and whether a skipped piece
 /// stands right before it.
 pub fn piece_at(
+    reads: &mut Reads,
     alloc: Global,
     place: LexerMode,
     is_balanced: bool,
     follows_gap: bool,
     text: &str,
 ) -> Result<Piece, AllocError>
-    ensures { IfOk result (λ piece. (s : grammar.Situation) → s.place ≡ mode_view place → s.is_balanced ≡ is_balanced → IsBehind follows_gap s.before →
+    ensures reads { IfOk result (λ piece. ArePieceReads 16 (length text.now) 8 piece reads.old reads.new) }
+    ensures piece { IfOk result (λ piece. (s : grammar.Situation) → s.place ≡ mode_view place → s.is_balanced ≡ is_balanced → IsBehind follows_gap s.before →
         IsPiece s.levels text.now (grammar.step_at language s text.now) piece) }
 {
     if let LexerMode::InText(opening) = place {
-        return Ok(Piece::Lexed(chunk_from(alloc, opening, text)?));
+        return Ok(Piece::Lexed(chunk_from(reads, alloc, opening, text)?));
     }
     if text.is_empty() {
         return Ok(Piece::End);
     }
-    if bang_stands(place, follows_gap, text) {
+    if bang_stands(reads, place, follows_gap, text) {
         return Ok(Piece::Lexed(Step::Token {
             token: Token::FStringBang,
             len: 1,
         }));
     }
-    code_piece(alloc, place, is_balanced, text)
+    code_piece(reads, alloc, place, is_balanced, text)
 }

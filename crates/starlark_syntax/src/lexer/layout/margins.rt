@@ -1,11 +1,13 @@
 //! What the margin at the front of a text is.
 
-ghost use Rattle.std.specs.Prelude.{◌≡◌, ◌+◌, ◌≤◌, ◌<◌, ◌^◌, ◌∷◌, drop, length, not, take};
+ghost use Rattle.std.specs.Prelude.{◌≡◌, ◌+◌, ◌*◌, ◌≤◌, ◌<◌, ◌^◌, ◌∷◌, drop, length, not, take};
 ghost use Rattle.std.specs.List.{prefix_len};
 ghost use Rattle.starlark_syntax.specs.Joints.Layout.{IsBlanks, IsMargin, IsWith};
 ghost use Rattle.starlark_grammar.specs.Margins as grammar;
+ghost use Rattle.starlark_scanner.specs.Joints.Reads.{AreReads, more_reads};
 
 use super::feeds::before_feed_len;
+use starlark_scanner::reads::Reads;
 
 /// The blanks at the front of a text: how many, how many of them are spaces, and whether one is a tab.
 #[derive(Clone, Copy, Debug, PartialEq, Eq)]
@@ -24,13 +26,17 @@ pub struct Margin {
 }
 
 /// The length of the run of spaces, tabs and CRs at the front of a text.
-pub fn blanks_len(text: &[u8]) -> usize
+pub fn blanks_len(reads: &mut Reads, text: &[u8]) -> usize
     ensures value { result ≡ grammar.blanks_len text.now }
     ensures within { result ≤ length text.now }
+    ensures reads { reads.new ≡ more_reads reads.old (result + 1) }
 {
-    text.iter()
+    let len = text
+        .iter()
         .take_while(|byte| matches!(**byte, b' ' | b'\t' | b'\r'))
-        .count()
+        .count();
+    reads.count_run(len);
+    len
 }
 
 /// The length of the first line of a text with its LF, by how many bytes stand before that.
@@ -39,6 +45,7 @@ pub fn line_len(text: &[u8], feed: usize) -> usize
     ensures line { 0 < length text.now → grammar.lines text.now ≡ take result text.now ∷ grammar.lines (drop result text.now) }
     ensures within { result ≤ length text.now }
     ensures feed { feed ≤ result }
+    ensures few { result ≤ feed + 1 }
 {
     if feed < text.len() { feed + 1 } else { feed }
 }
@@ -69,9 +76,10 @@ impl Blanks {
 }
 
 /// The blanks at the front of a text.
-fn blanks_of(text: &[u8]) -> Blanks
+fn blanks_of(reads: &mut Reads, text: &[u8]) -> Blanks
     ensures value { IsBlanks (take (grammar.blanks_len text.now) text.now) result }
     ensures within { result.len ≤ length text.now }
+    ensures reads { reads.new ≡ more_reads reads.old (result.len + 1) }
 {
     let mut blanks = Blanks {
         len: 0,
@@ -84,6 +92,7 @@ fn blanks_of(text: &[u8]) -> Blanks
         };
         blanks = more;
     }
+    reads.count_run(blanks.len);
     blanks
 }
 
@@ -101,23 +110,25 @@ fn is_content(text: &[u8]) -> bool
 }
 
 /// The margin at the front of a text.
-pub fn margin_of(text: &str) -> Margin
+pub fn margin_of(reads: &mut Reads, text: &str) -> Margin
     ensures margin { IsMargin (grammar.margin_of text.now) result }
     ensures within { result.at + result.blanks.len ≤ length text.now }
+    ensures reads { AreReads (result.at + result.blanks.len) (5 * result.at + result.blanks.len + 2) reads.old reads.new }
 {
     let bytes = text.as_bytes();
     let mut at = 0;
     loop {
         let line = &bytes[at..];
-        let blanks = blanks_of(line);
+        let blanks = blanks_of(reads, line);
         let behind = &line[blanks.len..];
-        if !begins_comment(behind) {
+        let first = reads.front(behind, 1);
+        if !begins_comment(first) {
             return Margin {
                 at,
                 blanks,
-                is_content: is_content(behind),
+                is_content: is_content(first),
             };
         }
-        at += blanks.len + line_len(behind, before_feed_len(behind));
+        at += blanks.len + line_len(behind, before_feed_len(reads, behind));
     }
 }

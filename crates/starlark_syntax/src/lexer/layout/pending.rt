@@ -1,12 +1,13 @@
 //! Lexemes that were read, and are made when they are asked for.
 
-ghost use Rattle.std.specs.Prelude.{◌≡◌, [], true, OnErr, IfOk};
-ghost use Rattle.starlark_syntax.specs.Joints.Pending.{IsFirst, IsFirstBehind, IsPending, behind_lexemes, pending_lexemes};
+ghost use Rattle.std.specs.Prelude.{◌≡◌, ◌≤◌, ◌+◌, ◌*◌, [], true, OnErr, IfOk};
+ghost use Rattle.starlark_syntax.specs.Joints.Pending.{IsFirst, IsFirstBehind, IsPending, behind_lexemes, owed, pending_lexemes};
 ghost use Rattle.starlark_grammar.specs.Words.{Text};
 
 use super::PlacedToken;
 use super::comments::first_comment;
 use crate::lexer::literal::TextEnd;
+use starlark_scanner::reads::Reads;
 use starlark_token::tokens::Token;
 use std::alloc::{AllocError, Global};
 
@@ -101,13 +102,19 @@ impl Pending {
 
     /// The first lexeme, which is then no longer to be handed out; `None` where there is none. A refused call changes
     /// nothing.
-    pub fn next(&mut self, alloc: Global, text: &str) -> Result<Option<PlacedToken>, AllocError>
+    pub fn next(
+        &mut self,
+        reads: &mut Reads,
+        alloc: Global,
+        text: &str,
+    ) -> Result<Option<PlacedToken>, AllocError>
         requires { IsPending text.now self.old }
         ensures next { IfOk result (λ first. IsFirst text.now self.old self.new first) }
         ensures memory { OnErr result (pending_lexemes text.now self.old ≡ [] → ⊥) }
+        ensures reads { IfOk result (λ first. (reads.old ≤ reads.new) × (reads.new + 6 * owed self.new ≤ reads.old + 6 * owed self.old)) }
     {
         if self.from < self.to {
-            let (comment, len) = first_comment(alloc, text, self.from, self.to)?;
+            let (comment, len) = first_comment(reads, alloc, text, self.from, self.to)?;
             self.from += len;
             return Ok(Some(comment));
         }

@@ -1,6 +1,7 @@
 //! Texts of f-strings, up to an expression or the closing quotes.
 
-ghost use Rattle.std.specs.Prelude.{IfOk};
+ghost use Rattle.std.specs.Prelude.{IfOk, length};
+ghost use Rattle.starlark_syntax.specs.Joints.Reads.{AreStepReads};
 ghost use Rattle.starlark_syntax.specs.Joints.Steps.{IsStep};
 ghost use Rattle.starlark_scanner.specs.Joints.Literals.{opening_view};
 ghost use Rattle.starlark_grammar.specs.Pieces as grammar;
@@ -9,13 +10,20 @@ use super::pieces::{Step, TextEnd};
 use starlark_scanner::literal::{
     Body, Literal, LiteralValue, Opening, Stop, closing_len, read_body,
 };
+use starlark_scanner::reads::Reads;
 use starlark_scanner::scanner::LiteralKind;
 use starlark_token::lexeme_error::LexemeError;
 use std::alloc::{AllocError, Global};
 
 /// The text of an f-string up to its first stop.
-pub fn chunk_from(alloc: Global, opening: Opening, text: &str) -> Result<Step, AllocError>
-    ensures { IfOk result (IsStep (grammar.chunk (opening_view opening) text.now)) }
+pub fn chunk_from(
+    reads: &mut Reads,
+    alloc: Global,
+    opening: Opening,
+    text: &str,
+) -> Result<Step, AllocError>
+    ensures step { IfOk result (IsStep (grammar.chunk (opening_view opening) text.now)) }
+    ensures reads { IfOk result (λ step. AreStepReads 0 8 (length text.now) 6 step reads.old reads.new) }
 {
     let literal = Literal {
         kind: LiteralKind::FString,
@@ -25,7 +33,7 @@ pub fn chunk_from(alloc: Global, opening: Opening, text: &str) -> Result<Step, A
         len: text_len,
         value,
         stop,
-    } = read_body(alloc, literal, text)?;
+    } = read_body(reads, alloc, literal, text)?;
     let LiteralValue::Text(value) = value else {
         unreachable!()
     };

@@ -4,6 +4,8 @@ ghost use Rattle.std.specs.Prelude.{◌≡◌, ◌≢◌, ◌+◌, ◌<◌, ◌^
 ghost use Rattle.starlark_grammar.specs.Depths.{Mode};
 ghost use Rattle.starlark_grammar.specs.Items as items;
 ghost use Rattle.starlark_syntax.specs.Joints.Steps.{IsStep, is_fstring_start, text_end_node};
+ghost use Rattle.starlark_syntax.specs.Joints.Reads.{AreWordReads};
+ghost use Rattle.starlark_scanner.specs.Joints.Reads.{AreReads, more_reads};
 ghost use Rattle.starlark_syntax.specs.Lexemes.{fault_view};
 ghost use Rattle.starlark_grammar.specs.Cuts.{is_outside};
 ghost use Rattle.starlark_scanner.specs.Joints.Literals.{bytes_of, holds_text, opening_view};
@@ -13,6 +15,7 @@ ghost use Rattle.starlark_grammar.specs.declared.class.LiteralKind.{LiteralKind 
 ghost use Rattle.starlark_grammar.specs.declared.class.LiteralKind.TheVariants.{FString as OfFString};
 
 use starlark_scanner::literal::{Literal, LiteralValue, Opening, Stop, closing_len, read_body};
+use starlark_scanner::reads::Reads;
 use starlark_scanner::scanner::{LiteralKind, Quote};
 use starlark_token::fstring_style::FStringQuote;
 use starlark_token::lexeme_error::LexemeError;
@@ -71,12 +74,16 @@ fn is_plain(opening: Opening, text: &[u8]) -> bool
 }
 
 /// The fault of a literal that isn't closed, by the text behind its opening.
-fn unfinished(outside: bool, literal: Literal, behind: &str) -> LexemeError
-    ensures { (place : Mode) → is_outside place ≡ outside → fault_view result ≡ Some (grammar.unfinished place literal.kind (opening_view literal.opening) behind.now) }
+fn unfinished(reads: &mut Reads, outside: bool, literal: Literal, behind: &str) -> LexemeError
+    ensures fault { (place : Mode) → is_outside place ≡ outside → fault_view result ≡ Some (grammar.unfinished place literal.kind (opening_view literal.opening) behind.now) }
+    ensures reads { AreReads 0 (length behind.now) reads.old reads.new }
 {
     if !outside
         && literal.kind == LiteralKind::Text
-        && is_plain(literal.opening, behind.as_bytes())
+        && is_plain(
+            literal.opening,
+            reads.front(behind.as_bytes(), behind.len()),
+        )
     {
         LexemeError::UnfinishedFStringExpression
     } else {
@@ -116,6 +123,7 @@ fn escape_fault(alloc: Global, begin: usize, read: &str) -> Result<Step, AllocEr
 
 /// A string or bytes literal, by the bytes of its opening and the text behind them.
 fn literal_from(
+    reads: &mut Reads,
     alloc: Global,
     outside: bool,
     literal: Literal,
@@ -123,9 +131,10 @@ fn literal_from(
     behind: &str,
 ) -> Result<Step, AllocError>
     requires { len + length behind.now < 2 ^ 64 }
-    ensures { IfOk result (λ step. (place : Mode) → is_outside place ≡ outside → IsStep (grammar.literal place literal.kind (opening_view literal.opening) len behind.now) step) }
+    ensures step { IfOk result (λ step. (place : Mode) → is_outside place ≡ outside → IsStep (grammar.literal place literal.kind (opening_view literal.opening) len behind.now) step) }
+    ensures reads { IfOk result (λ step. AreWordReads len 9 (length behind.now) 6 step reads.old reads.new) }
 {
-    let body = read_body(alloc, literal, behind)?;
+    let body = read_body(reads, alloc, literal, behind)?;
     match body.stop {
         Stop::Closing => Ok(Step::Token {
             token: literal_token(body.value),
@@ -140,12 +149,12 @@ fn literal_from(
         }
         Stop::Line => Ok(Step::Fault {
             begin: 0,
-            fault: unfinished(outside, literal, behind),
+            fault: unfinished(reads, outside, literal, behind),
             end: len + body.len,
         }),
         _ => Ok(Step::Fault {
             begin: 0,
-            fault: unfinished(outside, literal, behind),
+            fault: unfinished(reads, outside, literal, behind),
             end: len + behind.len(),
         }),
     }
@@ -164,29 +173,34 @@ pub fn quotes_of(opening: Opening) -> FStringQuote
 }
 
 /// Whether two more of its quotes stand behind an opener.
-fn is_triple(quote: Quote, behind: &str) -> bool
-    ensures { result ≡ (grammar.opening_of false quote behind.now).is_triple }
+fn is_triple(reads: &mut Reads, quote: Quote, behind: &str) -> bool
+    ensures value { result ≡ (grammar.opening_of false quote behind.now).is_triple }
+    ensures reads { reads.new ≡ more_reads reads.old 2 }
 {
     let quotes = match quote {
         Quote::Single => "''",
         Quote::Double => "\"\"",
     };
-    behind.as_bytes().starts_with(quotes.as_bytes())
+    reads
+        .front(behind.as_bytes(), 2)
+        .starts_with(quotes.as_bytes())
 }
 
 /// How a literal begins, by its opener and the text behind that.
-pub fn opening_of(is_raw: bool, quote: Quote, behind: &str) -> Opening
-    ensures { opening_view result ≡ grammar.opening_of is_raw quote behind.now }
+pub fn opening_of(reads: &mut Reads, is_raw: bool, quote: Quote, behind: &str) -> Opening
+    ensures reads { reads.new ≡ more_reads reads.old 2 }
+    ensures opening { opening_view result ≡ grammar.opening_of is_raw quote behind.now }
 {
     Opening {
         is_raw,
         quote,
-        is_triple: is_triple(quote, behind),
+        is_triple: is_triple(reads, quote, behind),
     }
 }
 
 /// The string or bytes literal of an opener of so many bytes, by the text behind that.
 pub fn literal_piece(
+    reads: &mut Reads,
     alloc: Global,
     outside: bool,
     kind: LiteralKind,
@@ -197,18 +211,19 @@ pub fn literal_piece(
 ) -> Result<Step, AllocError>
     requires kind { kind ≢ OfFString }
     requires fits { len + length behind.now < 2 ^ 64 }
-    ensures { IfOk result (λ step. (place : Mode) → is_outside place ≡ outside →
+    ensures reads { IfOk result (λ step. AreWordReads len 9 (length behind.now) 9 step reads.old reads.new) }
+    ensures step { IfOk result (λ step. (place : Mode) → is_outside place ≡ outside →
         IsStep (grammar.opener place kind (grammar.opening_of is_raw quote behind.now) len behind.now) step) }
 {
     let opening = Opening {
         is_raw,
         quote,
-        is_triple: is_triple(quote, behind),
+        is_triple: is_triple(reads, quote, behind),
     };
     let literal = Literal { kind, opening };
     if opening.is_triple {
-        literal_from(alloc, outside, literal, len + 2, &behind[2..])
+        literal_from(reads, alloc, outside, literal, len + 2, &behind[2..])
     } else {
-        literal_from(alloc, outside, literal, len, behind)
+        literal_from(reads, alloc, outside, literal, len, behind)
     }
 }

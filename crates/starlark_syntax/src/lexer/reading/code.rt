@@ -7,6 +7,7 @@ ghost use Rattle.starlark_syntax.specs.Joints.Nesting.{mode_view};
 ghost use Rattle.starlark_syntax.specs.Joints.Pieces.{IsBehind, is_code};
 
 use crate::lexer::nesting::LexerMode;
+use starlark_scanner::reads::Reads;
 use starlark_scanner::scanner::spaces_len;
 
 /// Whether a place is one of code, and not in the text of an f-string.
@@ -19,9 +20,9 @@ pub fn is_code(place: LexerMode) -> bool
 
 /// The length of the run of spaces at a place of code, by the text from there on.
 #[inline(always)]
-pub fn gap_len(place: LexerMode, text: &str) -> usize
+pub fn gap_len(reads: &mut Reads, place: LexerMode, text: &str) -> usize
     requires { is_code (mode_view place) ≡ true }
-    ensures { 0 < result → (s : grammar.Situation) (follows_gap : Bool) → s.place ≡ mode_view place → IsBehind follows_gap s.before → grammar.step_at language s text.now ≡ grammar.gap result }
+    ensures gap { 0 < result → (s : grammar.Situation) (follows_gap : Bool) → s.place ≡ mode_view place → IsBehind follows_gap s.before → grammar.step_at language s text.now ≡ grammar.gap result }
 {
-    spaces_len(text)
+    spaces_len(reads, text)
 }

@@ -2,6 +2,8 @@
 
 ghost use Rattle.std.specs.Prelude.{◌≡◌, ◌≤◌, Some, drop, length, true, IfOk};
 ghost use Rattle.std.specs.Char.{is_digit};
+ghost use Rattle.starlark_scanner.specs.Joints.Reads.{more_reads};
+ghost use Rattle.starlark_syntax.specs.Joints.Reads.{IsOfWord};
 ghost use Rattle.starlark_syntax.specs.Joints.Steps.{IsStep};
 ghost use Rattle.starlark_grammar.specs.Numbers.{integer_of};
 ghost use Rattle.starlark_grammar.specs.Pieces as grammar;
@@ -10,6 +12,7 @@ ghost use Rattle.starlark_grammar.specs.declared.class.Class.TheVariants as clas
 ghost use Rattle.starlark_grammar.specs.Words.{Text, class_in, is_run, language};
 
 use crate::lexer::literal::Step;
+use starlark_scanner::reads::Reads;
 use starlark_token::lexeme_error::LexemeError;
 use starlark_token::number_text::number_in;
 use starlark_token::tokens::Token;
@@ -18,7 +21,8 @@ use std::alloc::{AllocError, Global};
 /// A comment, whose value leaves out the `#`.
 pub fn comment(alloc: Global, word: &str) -> Result<Step, AllocError>
     requires { class_in language word.now ≡ Some class.Comment }
-    ensures { IfOk result (IsStep (grammar.token (length word.now) (tokens.Comment (drop 1 word.now)))) }
+    ensures step { IfOk result (IsStep (grammar.token (length word.now) (tokens.Comment (drop 1 word.now)))) }
+    ensures word { IfOk result (IsOfWord (length word.now)) }
 {
     Ok(Step::Token {
         token: Token::Comment(String::from_str(alloc, &word[1..])?),
@@ -28,7 +32,8 @@ pub fn comment(alloc: Global, word: &str) -> Result<Step, AllocError>
 
 /// Tabs outside of a margin. The fault is where they begin.
 pub fn tabs() -> Step
-    ensures { IsStep (grammar.fault 0 tokens.InvalidTab 0) result }
+    ensures step { IsStep (grammar.fault 0 tokens.InvalidTab 0) result }
+    ensures word { IsOfWord 1 result }
 {
     Step::Fault {
         begin: 0,
@@ -39,7 +44,8 @@ pub fn tabs() -> Step
 
 /// A reserved word, which is a fault.
 pub fn reserved(alloc: Global, word: &str) -> Result<Step, AllocError>
-    ensures { IfOk result (IsStep (grammar.fault 0 (tokens.ReservedKeyword word.now) (length word.now))) }
+    ensures step { IfOk result (IsStep (grammar.fault 0 (tokens.ReservedKeyword word.now) (length word.now))) }
+    ensures word { IfOk result (IsOfWord (length word.now)) }
 {
     Ok(Step::Fault {
         begin: 0,
@@ -51,7 +57,8 @@ pub fn reserved(alloc: Global, word: &str) -> Result<Step, AllocError>
 /// An identifier, with its name.
 #[inline(always)]
 pub fn identifier(alloc: Global, word: &str) -> Result<Step, AllocError>
-    ensures { IfOk result (IsStep (grammar.token (length word.now) (tokens.Identifier word.now))) }
+    ensures step { IfOk result (IsStep (grammar.token (length word.now) (tokens.Identifier word.now))) }
+    ensures word { IfOk result (IsOfWord (length word.now)) }
 {
     Ok(Step::Token {
         token: Token::Identifier(String::from_str(alloc, word)?),
@@ -61,7 +68,8 @@ pub fn identifier(alloc: Global, word: &str) -> Result<Step, AllocError>
 
 /// A float, whose value is its text.
 pub fn float(alloc: Global, word: &str) -> Result<Step, AllocError>
-    ensures { IfOk result (IsStep (grammar.token (length word.now) (tokens.Float word.now))) }
+    ensures step { IfOk result (IsStep (grammar.token (length word.now) (tokens.Float word.now))) }
+    ensures word { IfOk result (IsOfWord (length word.now)) }
 {
     Ok(Step::Token {
         token: Token::Float(String::from_str(alloc, word)?),
@@ -74,7 +82,8 @@ fn integer(alloc: Global, digits: &str, base: u32, len: usize) -> Result<Step, A
     requires least { 2 ≤ base }
     requires most { base ≤ 36 }
     requires digits { is_run (λ b. is_digit b base) digits.now ≡ true }
-    ensures { IfOk result (IsStep (grammar.token len (tokens.Int (integer_of base digits.now)))) }
+    ensures step { IfOk result (IsStep (grammar.token len (tokens.Int (integer_of base digits.now)))) }
+    ensures word { IfOk result (IsOfWord (len)) }
 {
     match number_in(alloc, digits, base)? {
         Some(number) => Ok(Step::Token {
@@ -93,11 +102,13 @@ fn starts_zero(word: &[u8]) -> bool
 }
 
 /// A decimal integer. One that begins with a 0 too many is a fault.
-pub fn decimal(alloc: Global, word: &str) -> Result<Step, AllocError>
+pub fn decimal(reads: &mut Reads, alloc: Global, word: &str) -> Result<Step, AllocError>
     requires { class_in language word.now ≡ Some class.Decimal }
-    ensures { IfOk result (λ step. (s : grammar.Situation) (behind : Text) → IsStep (grammar.word_step s class.Decimal word.now behind) step) }
+    ensures reads { reads.new ≡ more_reads reads.old 2 }
+    ensures step { IfOk result (λ step. (s : grammar.Situation) (behind : Text) → IsStep (grammar.word_step s class.Decimal word.now behind) step) }
+    ensures word { IfOk result (IsOfWord (length word.now)) }
 {
-    if starts_zero(word.as_bytes()) {
+    if starts_zero(reads.front(word.as_bytes(), 2)) {
         return Ok(Step::Fault {
             begin: 0,
             fault: LexemeError::StartsZero(String::from_str(alloc, word)?),
@@ -110,7 +121,8 @@ pub fn decimal(alloc: Global, word: &str) -> Result<Step, AllocError>
 /// A hexadecimal integer.
 pub fn hexadecimal(alloc: Global, word: &str) -> Result<Step, AllocError>
     requires { class_in language word.now ≡ Some class.Hexadecimal }
-    ensures { IfOk result (IsStep (grammar.token (length word.now) (tokens.Int (integer_of 16 (drop 2 word.now))))) }
+    ensures step { IfOk result (IsStep (grammar.token (length word.now) (tokens.Int (integer_of 16 (drop 2 word.now))))) }
+    ensures word { IfOk result (IsOfWord (length word.now)) }
 {
     integer(alloc, &word[2..], 16, word.len())
 }
@@ -118,7 +130,8 @@ pub fn hexadecimal(alloc: Global, word: &str) -> Result<Step, AllocError>
 /// An octal integer.
 pub fn octal(alloc: Global, word: &str) -> Result<Step, AllocError>
     requires { class_in language word.now ≡ Some class.Octal }
-    ensures { IfOk result (IsStep (grammar.token (length word.now) (tokens.Int (integer_of 8 (drop 2 word.now))))) }
+    ensures step { IfOk result (IsStep (grammar.token (length word.now) (tokens.Int (integer_of 8 (drop 2 word.now))))) }
+    ensures word { IfOk result (IsOfWord (length word.now)) }
 {
     integer(alloc, &word[2..], 8, word.len())
 }
@@ -126,7 +139,8 @@ pub fn octal(alloc: Global, word: &str) -> Result<Step, AllocError>
 /// A binary integer.
 pub fn binary(alloc: Global, word: &str) -> Result<Step, AllocError>
     requires { class_in language word.now ≡ Some class.Binary }
-    ensures { IfOk result (IsStep (grammar.token (length word.now) (tokens.Int (integer_of 2 (drop 2 word.now))))) }
+    ensures step { IfOk result (IsStep (grammar.token (length word.now) (tokens.Int (integer_of 2 (drop 2 word.now))))) }
+    ensures word { IfOk result (IsOfWord (length word.now)) }
 {
     integer(alloc, &word[2..], 2, word.len())
 }

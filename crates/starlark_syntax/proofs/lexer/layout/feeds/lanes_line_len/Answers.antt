@@ -5,8 +5,8 @@ use Rattle.starlark_grammar.specs.Margins.{is_feed}
 use Rattle.starlark_scanner.proofs.Literals.LaneRuns.{lane_of, lanes_counted}
 use Rattle.starlark_syntax.proofs.lexer.layout.feeds.lanes_line_len.Goals as goal
 
-pub returns : goal.returns
-returns c =
+pub returns-clause-value : goal.returns-clause-value
+returns-clause-value c =
     let v = chunk c.args.at 16 c.args.text.now in
     let long : length v ≡ 16 = length-chunk c.args.at 16 c.args.text.now c.requires in
     let equal : ℕ → ℕ → ℕ = λ a b. lane_of (eqb a b) in
