@@ -33,11 +33,16 @@ IsOfWord len (step.Token token taken) = taken ≡ len
 IsOfWord len (step.Text text text_len stop taken) = ⊥
 IsOfWord len (step.Fault begin fault end) = ⊤
 
+-- A step is a fault.
+abbrev pub IsFault : Step → Type 0
+IsFault (step.Fault begin fault end) = ⊤
+IsFault step = ⊥
+
 -- Reads of a token or a fault behind its word of so many bytes, which may be the whole of it.
-abbrev pub AreWordReads : (passed factor rest extra : ℕ) → Step → (before after : ℕ) → Type 0
-AreWordReads passed factor rest extra (step.Token token len) before after = AreReads (len - passed) (factor * (len - passed) + 2) before after × (passed ≤ len)
-AreWordReads passed factor rest extra (step.Text text text_len stop len) before after = ⊥
-AreWordReads passed factor rest extra (step.Fault begin fault end) before after = after ≤ before + factor * rest + extra
+abbrev pub AreWordReads : (passed factor more rest extra : ℕ) → Step → (before after : ℕ) → Type 0
+AreWordReads passed factor more rest extra (step.Token token len) before after = AreReads (len - passed) (factor * (len - passed) + more) before after × (passed ≤ len)
+AreWordReads passed factor more rest extra (step.Text text text_len stop len) before after = ⊥
+AreWordReads passed factor more rest extra (step.Fault begin fault end) before after = after ≤ before + factor * rest + extra
 
 -- Reads of a piece in a text that goes on for `rest` bytes: so many a byte.
 abbrev pub ArePieceReads : (factor rest extra : ℕ) → Piece → (before after : ℕ) → Type 0
@@ -52,7 +57,7 @@ abbrev pub AreReadsBehind : (passed factor rest extra : ℕ) → Piece → (befo
 AreReadsBehind passed factor rest extra (piece.Nothing len is_gap) before after = (len ≡ passed) × (after ≡ before)
 AreReadsBehind passed factor rest extra (piece.LineEnd len) before after = (len ≡ passed) × (after ≡ before)
 AreReadsBehind passed factor rest extra (piece.FString opening len) before after = (passed ≤ len) × (len ≤ passed + 2) × AreReads 2 2 before after
-AreReadsBehind passed factor rest extra (piece.Lexed step) before after = AreWordReads passed factor rest extra step before after
+AreReadsBehind passed factor rest extra (piece.Lexed step) before after = AreWordReads passed factor 2 rest extra step before after
 AreReadsBehind passed factor rest extra piece.End before after = ⊥
 
 -- A reader went on to a place, and read nothing.

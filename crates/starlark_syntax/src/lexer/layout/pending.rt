@@ -3,6 +3,7 @@
 ghost use Rattle.std.specs.Prelude.{◌≡◌, ◌≤◌, ◌+◌, ◌*◌, [], true, OnErr, IfOk};
 ghost use Rattle.starlark_syntax.specs.Joints.Pending.{IsFirst, IsFirstBehind, IsPending, behind_lexemes, owed, pending_lexemes};
 ghost use Rattle.starlark_grammar.specs.Words.{Text};
+ghost use Rattle.starlark_scanner.specs.Joints.Reads.{more_reads};
 
 use super::PlacedToken;
 use super::comments::first_comment;
@@ -111,7 +112,7 @@ impl Pending {
         requires { IsPending text.now self.old }
         ensures next { IfOk result (λ first. IsFirst text.now self.old self.new first) }
         ensures memory { OnErr result (pending_lexemes text.now self.old ≡ [] → ⊥) }
-        ensures reads { IfOk result (λ first. (reads.old ≤ reads.new) × (reads.new + 6 * owed self.new ≤ reads.old + 6 * owed self.old)) }
+        ensures reads { IfOk result (λ first. (more_reads reads.old 0 ≤ reads.new) × (reads.new + 6 * owed self.new ≤ reads.old + 6 * owed self.old)) }
     {
         if self.from < self.to {
             let (comment, len) = first_comment(reads, alloc, text, self.from, self.to)?;

@@ -4,7 +4,7 @@ ghost use Rattle.std.specs.Prelude.{◌≡◌, ◌≢◌, ◌+◌, ◌<◌, ◌^
 ghost use Rattle.starlark_grammar.specs.Depths.{Mode};
 ghost use Rattle.starlark_grammar.specs.Items as items;
 ghost use Rattle.starlark_syntax.specs.Joints.Steps.{IsStep, is_fstring_start, text_end_node};
-ghost use Rattle.starlark_syntax.specs.Joints.Reads.{AreWordReads};
+ghost use Rattle.starlark_syntax.specs.Joints.Reads.{AreWordReads, IsFault};
 ghost use Rattle.starlark_scanner.specs.Joints.Reads.{AreReads, more_reads};
 ghost use Rattle.starlark_syntax.specs.Lexemes.{fault_view};
 ghost use Rattle.starlark_grammar.specs.Cuts.{is_outside};
@@ -104,7 +104,8 @@ fn literal_token(value: LiteralValue) -> Token
 /// The fault of a bad escape, by the text that was read behind its backslash.
 fn escape_fault(alloc: Global, begin: usize, read: &str) -> Result<Step, AllocError>
     requires { begin + 1 + length read.now < 2 ^ 64 }
-    ensures { IfOk result (IsStep (grammar.escape_fault begin read.now)) }
+    ensures step { IfOk result (IsStep (grammar.escape_fault begin read.now)) }
+    ensures fault { IfOk result IsFault }
 {
     if read.is_empty() {
         return Ok(Step::Fault {
@@ -132,7 +133,7 @@ fn literal_from(
 ) -> Result<Step, AllocError>
     requires { len + length behind.now < 2 ^ 64 }
     ensures step { IfOk result (λ step. (place : Mode) → is_outside place ≡ outside → IsStep (grammar.literal place literal.kind (opening_view literal.opening) len behind.now) step) }
-    ensures reads { IfOk result (λ step. AreWordReads len 9 (length behind.now) 6 step reads.old reads.new) }
+    ensures reads { IfOk result (λ step. AreWordReads len 9 0 (length behind.now) 6 step reads.old reads.new) }
 {
     let body = read_body(reads, alloc, literal, behind)?;
     match body.stop {
@@ -211,7 +212,7 @@ pub fn literal_piece(
 ) -> Result<Step, AllocError>
     requires kind { kind ≢ OfFString }
     requires fits { len + length behind.now < 2 ^ 64 }
-    ensures reads { IfOk result (λ step. AreWordReads len 9 (length behind.now) 9 step reads.old reads.new) }
+    ensures reads { IfOk result (λ step. AreWordReads len 9 2 (length behind.now) 9 step reads.old reads.new) }
     ensures step { IfOk result (λ step. (place : Mode) → is_outside place ≡ outside →
         IsStep (grammar.opener place kind (grammar.opening_of is_raw quote behind.now) len behind.now) step) }
 {

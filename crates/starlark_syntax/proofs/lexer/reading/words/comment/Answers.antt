@@ -8,6 +8,6 @@ use Rattle.starlark_syntax.proofs.lexer.reading.words.comment.Goals as goal
 pub range_from-requires : goal.range_from-requires
 range_from-requires c = λ some. comment_boundary c.args.word.now c.utf8.word c.requires
 
-pub returns : goal.returns
+pub returns-clause-step : goal.returns-clause-step
 unfolding token_view
-returns c = (Comment (drop 1 c.args.word.now), ap (λ text. Whole (Comment text)) (c.in_ok-from_str.ensures.ok ∙ c.range_from.ensures.value), refl, refl)
+returns-clause-step c = (Comment (drop 1 c.args.word.now), ap (λ text. Whole (Comment text)) (c.in_ok-from_str.ensures.ok ∙ c.range_from.ensures.value), refl, refl)

@@ -3,6 +3,6 @@ use Rattle.starlark_grammar.specs.Tokens.{Identifier}
 use Rattle.starlark_token.specs.TokenViews.{Whole, token_view}
 use Rattle.starlark_syntax.proofs.lexer.reading.words.identifier.Goals as goal
 
-pub returns : goal.returns
+pub returns-clause-step : goal.returns-clause-step
 unfolding token_view
-returns c = (Identifier c.args.word.now, ap (λ text. Whole (Identifier text)) c.in_ok-from_str.ensures.ok, refl, refl)
+returns-clause-step c = (Identifier c.args.word.now, ap (λ text. Whole (Identifier text)) c.in_ok-from_str.ensures.ok, refl, refl)

@@ -13,9 +13,9 @@ unreachable-requires c =
     let none : ◌≡◌ {A = Option Integer} None (Some (integer_of c.args.base c.args.digits.now)) = sym (ap (option_map integer_view) c.in-None.is) ∙ c.in_ok-number.ensures.value ∙ number in
     grind arith
 
-pub returns : goal.returns
+pub returns-clause-step : goal.returns-clause-step
 unfolding token_view
-returns c =
+returns-clause-step c =
     let number = digits_are_number c.args.base c.args.digits.now c.requires.most c.requires.digits in
     let found : Some (integer_view c.in-Some.number) ≡ Some (integer_of c.args.base c.args.digits.now) = sym (ap (option_map integer_view) c.in-Some.is) ∙ c.in_ok-number.ensures.value ∙ number in
     let same : integer_view c.in-Some.number ≡ integer_of c.args.base c.args.digits.now = cc in
