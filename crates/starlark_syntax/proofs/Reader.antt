@@ -1,4 +1,5 @@
 -- What a reader keeps, takes and hands out.
+pub mod PieceReads
 pub mod CodePlaces
 pub mod Waiting
 pub mod Here

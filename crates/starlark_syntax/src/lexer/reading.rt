@@ -1,6 +1,6 @@
 //! Reads the one piece that stands at a place behind the text's first margin, or the fault there.
 
-ghost use Rattle.std.specs.Prelude.{◌≡◌, ◌+◌, ◌<◌, ◌^◌, ◌&&◌, if◌then◌else◌, Some, drop, length, IfOk};
+ghost use Rattle.std.specs.Prelude.{◌≡◌, ℕ, ◌+◌, ◌<◌, ◌^◌, ◌&&◌, if◌then◌else◌, Some, drop, length, IfOk};
 ghost use Rattle.std.specs.Str.{IsCharBoundary};
 ghost use Rattle.starlark_grammar.specs.Front.{language_front};
 ghost use Rattle.starlark_scanner.specs.Joints.Reads.{AreReads, more_reads};
@@ -68,7 +68,8 @@ fn takes_bang(place: LexerMode, follows_gap: bool) -> bool
 
 /// A line end of so many bytes.
 fn line_end(place: LexerMode, is_balanced: bool, len: usize) -> Piece
-    ensures { (s : grammar.Situation) (front behind text : word.Text) → s.place ≡ mode_view place → s.is_balanced ≡ is_balanced → length front ≡ len → drop len text ≡ behind → IsCharBoundary text len →
+    ensures reads { (rest reads : ℕ) → AreReadsBehind len 9 rest 9 result reads reads }
+    ensures piece { (s : grammar.Situation) (front behind text : word.Text) → s.place ≡ mode_view place → s.is_balanced ≡ is_balanced → length front ≡ len → drop len text ≡ behind → IsCharBoundary text len →
         IsPiece s.levels text (grammar.word_step s class.LineEnd front behind) result }
 {
     if counts(place, is_balanced) {

@@ -1,4 +1,4 @@
 use Rattle.starlark_syntax.proofs.lexer.reading.opener.Goals as goal
 
-pub returns-in-FString : goal.returns-in-FString
-returns-in-FString c = λ s front text place same. rw c.in-FString.is (c.fstring.ensures s front text same)
+pub returns-in-FString-clause-piece : goal.returns-in-FString-clause-piece
+returns-in-FString-clause-piece c = λ s front text place same. rw c.in-FString.is (c.fstring.ensures.piece s front text same)

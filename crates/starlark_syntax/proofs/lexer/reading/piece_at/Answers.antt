@@ -1,4 +1,4 @@
-use Rattle.std.proofs.Common.{◌≡◌, Bool, true, false, [], ◌∷◌, length, refl, ap, sym, ◌∙◌, arith}
+use Rattle.std.proofs.Common.{◌≡◌, ◌<◌, Bool, true, false, [], ◌∷◌, length, refl, ap, sym, ◌∙◌, arith}
 use Rattle.std.specs.Prelude.{◌&&◌, ◌==◌}
 use Rattle.starlark_grammar.specs.Depths.{Mode, InText}
 use Rattle.starlark_grammar.specs.Front.{language_front}
@@ -13,6 +13,7 @@ use Rattle.starlark_scanner.specs.declared.literal.items.Opening as code
 use Rattle.starlark_syntax.specs.declared.lexer.nesting.LexerMode.{LexerMode}
 use Rattle.starlark_syntax.specs.declared.lexer.nesting.LexerMode.TheVariants as place
 use Rattle.starlark_syntax.proofs.Literals.Pieces.{if_ok}
+use Rattle.starlark_syntax.proofs.Reader.PieceReads.{chunk_reads, code_reads}
 use Rattle.starlark_syntax.proofs.lexer.reading.piece_at.Goals as goal
 
 -- behind something that was read the place decides
@@ -55,27 +56,39 @@ unfolding language_front
 code_front s [] some bang = grind arith
 code_front s (b ∷ bs) some bang = rw bang refl
 
+some_text : (text : Text) → (length text == 0) ≡ false → 0 < length text
+some_text [] some = grind arith
+some_text (b ∷ bs) some = omega arith
+
 -- whether a bang stands, by the situation
 bang_by : (s : Situation) (text : Text) (at : Mode) (stands known : Bool) → s.place ≡ at → stands ≡ (takes_bang at s.before && is_bang text) → stands ≡ known → (takes_bang s.place s.before && is_bang text) ≡ known
 bang_by s text at stands known here is e = ap (λ p. takes_bang p s.before && is_bang text) here ∙ sym is ∙ e
 
-pub returns-in-InText : goal.returns-in-InText
-returns-in-InText c = λ s here balanced behind. rw (in_text c.args.follows_gap s c.args.text.now (opening_view c.in-InText.opening) behind (here ∙ ap mode_view c.in-InText.is)) c.in_ok-chunk_from.ensures
+pub returns-in-InText-clause-piece : goal.returns-in-InText-clause-piece
+returns-in-InText-clause-piece c = λ s here balanced behind. rw (in_text c.args.follows_gap s c.args.text.now (opening_view c.in-InText.opening) behind (here ∙ ap mode_view c.in-InText.is)) c.in_ok-chunk_from.ensures.step
 
-pub returns-then-is_empty : goal.returns-then-is_empty
-returns-then-is_empty c = λ s here balanced behind.
+pub returns-then-is_empty-clause-piece : goal.returns-then-is_empty-clause-piece
+returns-then-is_empty-clause-piece c = λ s here balanced behind.
     elsewhere c.args.follows_gap s c.args.text.now c.args.place c.in_default.not-InText behind here
     ∙ code_ends s c.args.text.now (sym c.is_empty.ensures ∙ c.if-is_empty.true)
 
-pub returns-then-bang_stands : goal.returns-then-bang_stands
+pub returns-then-bang_stands-clause-piece : goal.returns-then-bang_stands-clause-piece
 unfolding token_view
-returns-then-bang_stands c = λ s here balanced behind.
+returns-then-bang_stands-clause-piece c = λ s here balanced behind.
     let some : (length c.args.text.now == 0) ≡ false = sym c.is_empty.ensures ∙ c.if-is_empty.false in
-    let bang = bang_by s c.args.text.now (mode_view c.args.place) c.bang_stands.result true here (c.bang_stands.ensures s.before behind) c.if-bang_stands.true in
+    let bang = bang_by s c.args.text.now (mode_view c.args.place) c.bang_stands.result true here (c.bang_stands.ensures.value s.before behind) c.if-bang_stands.true in
     (FStringBang, refl, refl, elsewhere c.args.follows_gap s c.args.text.now c.args.place c.in_default.not-InText behind here ∙ code_bang s c.args.text.now some bang)
 
-pub returns : goal.returns
-returns c = if_ok _ _ c.code_piece.result (λ piece is s here balanced behind.
+pub returns-clause-piece : goal.returns-clause-piece
+returns-clause-piece c = if_ok _ _ c.code_piece.result (λ piece is s here balanced behind.
     let some : (length c.args.text.now == 0) ≡ false = sym c.is_empty.ensures ∙ c.if-is_empty.false in
-    let no_bang = bang_by s c.args.text.now (mode_view c.args.place) c.bang_stands.result false here (c.bang_stands.ensures s.before behind) c.if-bang_stands.false in
-    rw (elsewhere c.args.follows_gap s c.args.text.now c.args.place c.in_default.not-InText behind here, code_front s c.args.text.now some no_bang) (is s here balanced)) c.code_piece.ensures
+    let no_bang = bang_by s c.args.text.now (mode_view c.args.place) c.bang_stands.result false here (c.bang_stands.ensures.value s.before behind) c.if-bang_stands.false in
+    rw (elsewhere c.args.follows_gap s c.args.text.now c.args.place c.in_default.not-InText behind here, code_front s c.args.text.now some no_bang) (is s here balanced)) c.code_piece.ensures.piece
+
+pub returns-in-InText-clause-reads : goal.returns-in-InText-clause-reads
+returns-in-InText-clause-reads c = chunk_reads (length c.args.text.now) c.in_ok-chunk_from.field-0 _ _ c.in_ok-chunk_from.ensures.reads
+
+pub returns-clause-reads : goal.returns-clause-reads
+returns-clause-reads c =
+    let some : 0 < length c.args.text.now = some_text c.args.text.now (sym c.is_empty.ensures ∙ c.if-is_empty.false) in
+    if_ok _ _ c.code_piece.result (λ piece is. code_reads (length c.args.text.now) piece _ _ _ some c.if-bang_stands.ensures.reads is) c.code_piece.ensures.reads
