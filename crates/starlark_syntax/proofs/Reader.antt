@@ -1,5 +1,6 @@
 -- What a reader keeps, takes and hands out.
 pub mod PieceReads
+pub mod ReaderReads
 pub mod CodePlaces
 pub mod Waiting
 pub mod Here

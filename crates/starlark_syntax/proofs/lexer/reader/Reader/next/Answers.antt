@@ -33,5 +33,5 @@ returns-in-Some-2-clause-next c = λ lexemes fault ahead.
 pub returns-in-Fault-clause-next : goal.returns-in-Fault-clause-next
 returns-in-Fault-clause-next c = λ lexemes fault ahead.
     let none = none_left c.args.text.now c.loop-lexeme.self c.next.new.self c.in_ok-lexeme.field-0 c.in_default.not-Some c.in_ok-lexeme.ensures.next c.loop-lexeme.invariant.ready in
-    c.last.ensures c.args.text.now lexemes fault (subst (IsIdle c.args.text.now) (sym none.1) none.0) (over c.loop-lexeme.self.stage c.in-Fault.is)
+    c.last.ensures.next c.args.text.now lexemes fault (subst (IsIdle c.args.text.now) (sym none.1) none.0) (over c.loop-lexeme.self.stage c.in-Fault.is)
     (ahead_now c.args.text.now c.loop-lexeme.self c.next.new.self c.loop-lexeme.self.stage lexemes fault none.1 refl (c.loop-lexeme.invariant.ahead lexemes fault ahead))

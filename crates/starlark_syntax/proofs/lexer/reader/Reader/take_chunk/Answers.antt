@@ -89,3 +89,8 @@ returns-clause-less c =
     let here = piece_here c.args.text.now stands.0 c.args.self.now (two (string_bytes c.args.chunk) c.args.chunk_len c.args.len (text_end_node c.args.stop)) stands.1 stands.2 in
     let is = c.step_over.ensures in
     less_onward c.args.text.now c.args.self.now (record c.step_over.new.self { pending = c.only-self.result }) (c.args.chunk_len + c.args.len) (ap (λ (reader : Reader). reader.stage) is) (ap (λ (reader : Reader). reader.at) is) here.0 here.1
+
+pub returns-clause-passed : goal.returns-clause-passed
+returns-clause-passed c =
+    let pending = c.only-self.ensures [] in
+    rw c.step_over.ensures ((refl, refl, omega (arith, pending.1.order, pending.1.inside)), refl)
