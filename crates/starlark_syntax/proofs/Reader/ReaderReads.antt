@@ -1,8 +1,10 @@
 -- How often a reader has read bytes, behind each of its steps.
-use Rattle.std.proofs.Common.{◌≡◌, ◌≤◌, ◌<◌, ◌+◌, ◌-◌, ◌*◌, ℕ, length, subst, sym, arith}
+use Rattle.std.proofs.Common.{◌≡◌, ◌≤◌, ◌<◌, ◌+◌, ◌-◌, ◌*◌, ℕ, List, Option, length, subst, sym, arith}
 use Rattle.starlark_grammar.specs.Reading.{History}
 use Rattle.starlark_grammar.specs.Words.{Text}
-use Rattle.starlark_syntax.specs.Joints.Reader.{IsStateAfter}
+use Rattle.starlark_grammar.specs.Tokens.{Fault, Spanned}
+use Rattle.starlark_token.specs.TokenViews.{TokenView}
+use Rattle.starlark_syntax.specs.Joints.Reader.{IsAhead, IsLeft, IsStateAfter, history_of}
 use Rattle.starlark_scanner.specs.Joints.Reads.{AreReads, more_reads}
 use Rattle.starlark_syntax.specs.Joints.Pending.{owed}
 use Rattle.starlark_syntax.specs.Joints.Reads.{ArePieceReads, AreStepReads, HasRead, HasReadAt, HasReadNext, IsMarginRead, IsPassed, IsPassedBy}
@@ -82,3 +84,14 @@ first_failed_reads text after owes old new begin fault end has stage reads owing
 pub state_reads : (text : Text) (history : History) (reader : Reader) (reads : ℕ) → IsStateAfter text history reader → IsStateAfter text history (record reader { reads = reads })
 state_reads text history reader reads state =
     record { nesting = state.nesting; levels = state.levels; before = state.before; inside = state.inside; boundary = state.boundary; few = state.few; onward = state.onward }
+
+pub reads_ahead : (text : Text) (reader : Reader) (reads : ℕ) (stage : Stage) (lexemes : List (Spanned TokenView)) (fault : Option (Spanned Fault)) → IsAhead text reader stage lexemes fault
+    → IsAhead text (record reader { reads = reads }) stage lexemes fault
+reads_ahead text reader reads stage lexemes fault ahead =
+    record { left = ahead.left; is_left = by_stage stage ahead.is_left; is_pending = ahead.is_pending; ahead = ahead.ahead; behind_them = ahead.behind_them }
+  where
+    by_stage : (stage : Stage) → IsLeft text reader stage ahead.left → IsLeft text (record reader { reads = reads }) stage ahead.left
+    by_stage stages.Begin left = left
+    by_stage stages.Onward left = (left.0, state_reads text left.0 reader reads left.1, left.2)
+    by_stage (stages.Fault begin fault end) left = left
+    by_stage stages.Closed left = (left.0, state_reads text (history_of text) reader reads left.1)

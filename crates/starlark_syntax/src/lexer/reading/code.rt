@@ -22,7 +22,7 @@ pub fn is_code(place: LexerMode) -> bool
 #[inline(always)]
 pub fn gap_len(reads: &mut Reads, place: LexerMode, text: &str) -> usize
     requires { is_code (mode_view place) ≡ true }
-    ensures gap { 0 < result → (s : grammar.Situation) (follows_gap : Bool) → s.place ≡ mode_view place → IsBehind follows_gap s.before → grammar.step_at language s text.now ≡ grammar.gap result }
+    ensures { 0 < result → (s : grammar.Situation) (follows_gap : Bool) → s.place ≡ mode_view place → IsBehind follows_gap s.before → grammar.step_at language s text.now ≡ grammar.gap result }
 {
     spaces_len(reads, text)
 }

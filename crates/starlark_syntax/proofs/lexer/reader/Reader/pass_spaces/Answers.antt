@@ -3,6 +3,7 @@ use Rattle.starlark_syntax.specs.Joints.Reader.{IsAhead}
 use Rattle.starlark_syntax.specs.declared.lexer.reader.Reader.{Reader}
 use Rattle.starlark_syntax.specs.declared.lexer.reader.Stage.{Stage}
 use Rattle.starlark_syntax.proofs.Reader.PieceTaken.{gap_read, nothing_here, nothing_taken, onward_ahead}
+use Rattle.starlark_syntax.proofs.Reader.ReaderReads.{reads_ahead, state_reads}
 use Rattle.starlark_syntax.proofs.lexer.reader.Reader.pass_spaces.Goals as goal
 
 pub step_over-requires-clause-fits : goal.step_over-requires-clause-fits
@@ -17,4 +18,7 @@ returns-then-len-gt0-clause-ahead c = λ lexemes fault ahead.
     subst (λ (s : Stage). IsAhead c.args.text.now c.step_over.new.self s lexemes fault) (ap (λ (reader : Reader). reader.stage) c.step_over.ensures)
     (onward_ahead c.args.text.now c.args.self.now None c.step_over.new.self lexemes fault (λ history kept.
     let stands = gap_read c.args.text.now history c.args.self.now c.args.place c.range_from.result.now c.gap_len-len.result c.range_from.ensures.value kept c.requires.here (c.gap_len-len.ensures (omega (arith, c.if-len-gt0.true))) in
-    nothing_taken c.args.text.now history c.args.self.now c.step_over.new.self c.gap_len-len.result true c.utf8.text kept stands c.requires.idle c.step_over.ensures) c.requires.idle ahead)
+    nothing_taken c.args.text.now history (record c.args.self.now { reads = c.gap_len-len.new.reads }) c.step_over.new.self c.gap_len-len.result true c.utf8.text (state_reads c.args.text.now history c.args.self.now c.gap_len-len.new.reads kept) stands c.requires.idle c.step_over.ensures) c.requires.idle ahead)
+
+pub returns-else-len-gt0-clause-ahead : goal.returns-else-len-gt0-clause-ahead
+returns-else-len-gt0-clause-ahead c = λ lexemes fault ahead. reads_ahead c.args.text.now c.args.self.now c.gap_len-len.new.reads _ lexemes fault ahead
