@@ -1,7 +1,7 @@
 -- Whether a call was refused for another reason than want of memory.
 use Rattle.std.specs.Prelude.{⊤, Result, Ok, Err}
-use Rattle.starlark_base.specs.declared.codemap.refusals.OrMemory.{OrMemory}
-use Rattle.starlark_base.specs.declared.codemap.refusals.OrMemory.TheVariants.{Error, Memory}
+use Rattle.starlark_text.specs.declared.refusals.OrMemory.{OrMemory}
+use Rattle.starlark_text.specs.declared.refusals.OrMemory.TheVariants.{Error, Memory}
 
 abbrev pub IsRefused : {A E : Type 0} → Result A (OrMemory E) → Type 0
 IsRefused (Ok value) = ⊥

@@ -5,10 +5,11 @@ use Rattle.starlark_base.specs.Places.{resolved}
 use Rattle.starlark_base.specs.Sources.{Holds}
 use Rattle.starlark_base.specs.declared.codemap.file_span.FileSpan.{FileSpan}
 use Rattle.starlark_base.specs.declared.codemap.resolved.ResolvedFileSpan.{ResolvedFileSpan}
-use Rattle.starlark_error.specs.FaultTexts.{kind_text}
-use Rattle.starlark_error.specs.declared.error.kinds.ParserMessage.TheVariants.{Lexeme}
+use Rattle.starlark_error.specs.declared.error.kinds.ParserMessage.{ParserMessage}
+use Rattle.starlark_error.specs.declared.error.kinds.ParserMessage.TheVariants.{Lexeme, Text}
 use Rattle.starlark_error.specs.declared.error.kinds.ErrorKind.{ErrorKind}
-use Rattle.starlark_error.specs.declared.error.kinds.ErrorKind.TheVariants.{Parser, Internal}
+use Rattle.starlark_error.specs.declared.error.kinds.ErrorKind.TheVariants.{Parser, Other, Internal}
+use Rattle.starlark_token.specs.FaultTexts.{fault_text}
 
 -- a fault of the lexer
 abbrev pub IsFault : ErrorKind → Type 0
@@ -19,6 +20,17 @@ IsFault _ = ⊥
 abbrev pub IsInternal : ErrorKind → Option (List ℕ) → Type 0
 IsInternal (Internal text) said = IfSome said (λ bytes. string_bytes text ≡ bytes)
 IsInternal _ said = ⊥
+
+-- of a parser's message, the message alone
+unfoldable pub message_text : ParserMessage → List ℕ
+message_text (Lexeme fault) = fault_text fault
+message_text (Text text) = string_bytes text
+
+-- of an error's kind, the message alone
+unfoldable pub kind_text : ErrorKind → List ℕ
+kind_text (Parser message) = message_text message
+kind_text (Other text) = string_bytes text
+kind_text (Internal text) = string_bytes text
 
 -- the message, and the place where it is known
 abbrev pub error_text : Diagnosed ErrorKind → Option (List ℕ)

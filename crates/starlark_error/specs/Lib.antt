@@ -3,4 +3,3 @@ pub use Rattle.starlark_base.specs.Places
 pub use Rattle.starlark_base.specs.Sources
 pub use Rattle.starlark_base.specs.Diagnostics
 pub mod Errors
-pub mod FaultTexts

@@ -3,15 +3,15 @@
 ghost use Rattle.std.specs.Prelude.{◌≡◌, ◌≢◌, [], Some, None, option_copied, IsOk, IsSome, IfOk, IfErr, OnOk, OnErr};
 ghost use Rattle.starlark_base.specs.Diagnostics.{place_in, unplaced, with_value, with_span};
 ghost use Rattle.starlark_error.specs.Errors.{IsFault, IsInternal};
-ghost use Rattle.starlark_error.specs.FaultTexts.{kind_text};
+ghost use Rattle.starlark_error.specs.Errors.{kind_text};
 
 mod kinds;
 
-use crate::lexeme_error::LexemeError;
 pub use kinds::{ErrorKind, ParserMessage};
 use starlark_base::call_stack::CallStack;
 use starlark_base::codemap::{CodeMap, FileSpan, Span};
 use starlark_base::diagnostic::WithDiagnostic;
+use starlark_token::lexeme_error::LexemeError;
 use std::alloc::{AllocError, AllocFailed, Global};
 use std::marker::Model;
 use std::{fmt, mem};
@@ -105,7 +105,7 @@ impl Error {
         }
     }
 
-    #[tactic(auto, unfolding(crate::specs::FaultTexts::kind_text, crate::specs::FaultTexts::message_text))]
+    #[tactic(auto, unfolding(crate::specs::Errors::kind_text, crate::specs::Errors::message_text))]
     /// The error as one of this code, with the same message, place and calls. Only for a fault of the
     /// lexer is memory taken; want of it hands the error back.
     pub fn into_internal_error(self, alloc: Global) -> Result<Error, Error>

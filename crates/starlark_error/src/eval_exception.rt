@@ -3,7 +3,7 @@
 ghost use Rattle.std.specs.Prelude.{◌≡◌, ◌≢◌, [], Some, None, IsOk, IsSome, IfSome, IfNone, IfOk, IfErr, OnErr};
 ghost use Rattle.starlark_base.specs.Diagnostics.{place_in, with_value, with_span};
 ghost use Rattle.starlark_error.specs.Errors.{IsFault, IsInternal, IsLocation, HasNoLocation};
-ghost use Rattle.starlark_error.specs.FaultTexts.{kind_text};
+ghost use Rattle.starlark_error.specs.Errors.{kind_text};
 
 use crate::error::{Error, ErrorKind};
 use starlark_base::call_stack::CallStack;

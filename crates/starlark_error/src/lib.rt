@@ -3,7 +3,6 @@
 
 pub mod error;
 pub mod eval_exception;
-pub mod lexeme_error;
 
 pub use starlark_base::{
     call_stack, codemap, convert_indices, cursors, diagnostic, dialect, dot_format_parser,

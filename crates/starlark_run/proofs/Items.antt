@@ -11,13 +11,14 @@ use Rattle.starlark_base.specs.Places.{Text}
 use Rattle.starlark_base.specs.Sources.{SourceFile}
 use Rattle.starlark_base.specs.Spans.{ByteSpan}
 use Rattle.starlark_base.specs.declared.codemap.file_span.FileSpan.{FileSpan}
-use Rattle.starlark_base.specs.declared.codemap.refusals.OrMemory.TheVariants as refusal
-use Rattle.starlark_error.specs.FaultTexts.{fault_text, kind_text, message_text}
+use Rattle.starlark_text.specs.declared.refusals.OrMemory.TheVariants as refusal
+use Rattle.starlark_error.specs.Errors.{kind_text, message_text}
+use Rattle.starlark_token.specs.FaultTexts.{fault_text}
 use Rattle.starlark_error.specs.declared.error.kinds.ErrorKind.{ErrorKind}
 use Rattle.starlark_error.specs.declared.error.kinds.ErrorKind.TheVariants.{Parser}
 use Rattle.starlark_error.specs.declared.error.kinds.ParserMessage.TheVariants as message
-use Rattle.starlark_error.specs.declared.lexeme_error.LexemeError.{LexemeError}
-use Rattle.starlark_error.specs.declared.lexeme_error.LexemeError.TheVariants as error
+use Rattle.starlark_token.specs.declared.lexeme_error.LexemeError.{LexemeError}
+use Rattle.starlark_token.specs.declared.lexeme_error.LexemeError.TheVariants as error
 use Rattle.starlark_grammar.specs.Cuts.{InOrder}
 use Rattle.starlark_grammar.specs.Laws.{AtBoundaries}
 use Rattle.starlark_grammar.specs.Reading.{outcome}

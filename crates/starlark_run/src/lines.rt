@@ -3,7 +3,7 @@
 ghost use Rattle.std.specs.Prelude.{◌≡◌, ◌<◌, ◌++◌, OnOk, codes, string_bytes};
 ghost use Rattle.std.specs.Char.{digit_char};
 ghost use Rattle.starlark_base.specs.Places.{span_text};
-ghost use Rattle.starlark_error.specs.FaultTexts.{kind_text};
+ghost use Rattle.starlark_error.specs.Errors.{kind_text};
 ghost use Rattle.starlark_run.specs.Output.{fault_text, hex, lexeme_text, quotes_name, value_text};
 ghost use Rattle.starlark_token.specs.TokenViews.{fstring_quote_view, token_view};
 

@@ -2,7 +2,7 @@
 
 ghost use Rattle.std.specs.Prelude.{◌≡◌, ◌<◌, ◌≤◌, ◌++◌, [], length, false, Some, IfOk, IfErr, IsSome};
 ghost use Rattle.std.specs.Str.{IsCharBoundary};
-ghost use Rattle.starlark_error.specs.FaultTexts.{kind_text};
+ghost use Rattle.starlark_error.specs.Errors.{kind_text};
 ghost use Rattle.starlark_run.specs.Output.{fault_text, item_line, output, place_text};
 ghost use Rattle.starlark_run.specs.Places.{IsPlace};
 ghost use Rattle.starlark_run.specs.Runs.{status_of};

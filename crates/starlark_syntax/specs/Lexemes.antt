@@ -3,8 +3,8 @@ use Rattle.std.specs.Prelude.{◌≡◌, ℕ, ◌+◌, ◌++◌, ◌∷◌, [], 
 use Rattle.starlark_grammar.specs.Tokens as grammar
 use Rattle.starlark_grammar.specs.Depths.{Mode, Outside}
 use Rattle.starlark_grammar.specs.Pieces as pieces
-use Rattle.starlark_error.specs.declared.lexeme_error.LexemeError.{LexemeError}
-use Rattle.starlark_error.specs.declared.lexeme_error.LexemeError.TheVariants as fault
+use Rattle.starlark_token.specs.declared.lexeme_error.LexemeError.{LexemeError}
+use Rattle.starlark_token.specs.declared.lexeme_error.LexemeError.TheVariants as fault
 use Rattle.starlark_token.specs.TokenViews.{TokenView, Whole, token_view}
 use Rattle.starlark_syntax.specs.declared.lexer.literal.pieces.Step.{Step}
 use Rattle.starlark_token.specs.declared.tokens.Token.{Token}

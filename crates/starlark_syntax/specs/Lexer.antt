@@ -4,12 +4,12 @@ use Rattle.std.specs.Iterator.{Count, at_most}
 use Rattle.std.specs.List.{slice_get}
 use Rattle.starlark_base.specs.Sources.{SourceFile}
 use Rattle.starlark_base.specs.Diagnostics.{Diagnosed, place_in, unplaced, with_span}
-use Rattle.starlark_base.specs.declared.codemap.refusals.OrMemory.{OrMemory}
-use Rattle.starlark_base.specs.declared.codemap.refusals.OrMemory.TheVariants as refusal
+use Rattle.starlark_text.specs.declared.refusals.OrMemory.{OrMemory}
+use Rattle.starlark_text.specs.declared.refusals.OrMemory.TheVariants as refusal
 use Rattle.starlark_error.specs.declared.error.kinds.ErrorKind.{ErrorKind}
 use Rattle.starlark_error.specs.declared.error.kinds.ErrorKind.TheVariants.{Parser}
 use Rattle.starlark_error.specs.declared.error.kinds.ParserMessage.TheVariants.{Lexeme}
-use Rattle.starlark_error.specs.declared.lexeme_error.LexemeError.{LexemeError}
+use Rattle.starlark_token.specs.declared.lexeme_error.LexemeError.{LexemeError}
 use Rattle.starlark_grammar.specs.Words.{Text}
 use Rattle.starlark_grammar.specs.Tokens as grammar
 use Rattle.starlark_grammar.specs.Reading.{outcome}

@@ -10,9 +10,9 @@ mod reading;
 
 pub use lexed_text::LexedText;
 pub use lexemes::{Lexeme, Lexer};
-pub use starlark_error::lexeme_error::LexemeError;
 pub use starlark_scanner::one_identifier::lex_exactly_one_identifier;
 pub use starlark_token::big_int::BigInt;
 pub use starlark_token::fstring_style::{FStringConv, FStringQuote};
+pub use starlark_token::lexeme_error::LexemeError;
 pub use starlark_token::token_int::TokenInt;
 pub use starlark_token::tokens::Token;

@@ -9,3 +9,4 @@ pub mod dot_format_parser;
 pub mod fast_string;
 mod lanes;
 pub mod laws;
+pub mod refusals;

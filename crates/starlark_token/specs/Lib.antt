@@ -3,6 +3,7 @@ pub mod TokenInts
 pub mod TokenViews
 pub mod TokenTexts
 pub mod NumberRefusals
+pub mod FaultTexts
 pub use Rattle.starlark_grammar.specs.Words
 pub use Rattle.starlark_grammar.specs.Front
 pub use Rattle.starlark_grammar.specs.Lengths

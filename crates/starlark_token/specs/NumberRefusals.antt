@@ -1,12 +1,12 @@
 -- Why no number is read from a text.
 use Rattle.std.specs.Prelude.{◌≡◌, ℕ, None, string_bytes, IsSomeAnd, ◌⊎◌}
-use Rattle.starlark_base.specs.declared.codemap.refusals.OrMemory.{OrMemory}
-use Rattle.starlark_base.specs.declared.codemap.refusals.OrMemory.TheVariants.{Error, Memory}
+use Rattle.starlark_text.specs.declared.refusals.OrMemory.{OrMemory}
+use Rattle.starlark_text.specs.declared.refusals.OrMemory.TheVariants.{Error, Memory}
 use Rattle.starlark_grammar.specs.Words.{Text}
 use Rattle.starlark_grammar.specs.Numbers.{integer_in}
 use Rattle.starlark_token.specs.TokenInts.{IsBig}
-use Rattle.starlark_error.specs.declared.lexeme_error.LexemeError.{LexemeError}
-use Rattle.starlark_error.specs.declared.lexeme_error.LexemeError.TheVariants.{CannotParse}
+use Rattle.starlark_token.specs.declared.lexeme_error.LexemeError.{LexemeError}
+use Rattle.starlark_token.specs.declared.lexeme_error.LexemeError.TheVariants.{CannotParse}
 
 -- the fault names this text and this base
 abbrev pub CannotParseText : ℕ → Text → LexemeError → Type 0

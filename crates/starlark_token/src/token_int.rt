@@ -6,9 +6,9 @@ ghost use Rattle.starlark_grammar.specs.Numbers.{integer_in};
 ghost use Rattle.starlark_token.specs.TokenInts.{IsBig, integer_view};
 
 use crate::big_int::BigInt;
+use crate::lexeme_error::LexemeError;
 use crate::number_text::number_in;
-use starlark_base::codemap::OrMemory;
-use starlark_error::lexeme_error::LexemeError;
+use starlark_text::refusals::OrMemory;
 use std::alloc::{AllocError, Global};
 use std::fmt;
 

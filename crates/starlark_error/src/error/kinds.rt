@@ -1,9 +1,9 @@
 //! What is said of a text that is refused.
 
 ghost use Rattle.std.specs.Prelude.{Some};
-ghost use Rattle.starlark_error.specs.FaultTexts.{message_text, kind_text};
+ghost use Rattle.starlark_error.specs.Errors.{message_text, kind_text};
 
-use crate::lexeme_error::LexemeError;
+use starlark_token::lexeme_error::LexemeError;
 use std::fmt;
 
 /// What a parser says.
@@ -26,7 +26,7 @@ pub enum ErrorKind {
     Internal(String),
 }
 
-#[tactic(auto, unfolding(crate::specs::FaultTexts::message_text))]
+#[tactic(auto, unfolding(crate::specs::Errors::message_text))]
 impl fmt::Display for ParserMessage {
     ghost output = { λ message. Some (message_text message) };
 
@@ -38,7 +38,7 @@ impl fmt::Display for ParserMessage {
     }
 }
 
-#[tactic(auto, unfolding(crate::specs::FaultTexts::kind_text))]
+#[tactic(auto, unfolding(crate::specs::Errors::kind_text))]
 impl fmt::Display for ErrorKind {
     ghost output = { λ kind. Some (kind_text kind) };
 

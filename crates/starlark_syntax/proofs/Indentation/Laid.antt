@@ -13,7 +13,7 @@ use Rattle.starlark_syntax.specs.Joints.Pending.{IsPending, behind_lexemes, pend
 use Rattle.starlark_syntax.specs.declared.lexer.layout.margins.Margin.{Margin as Measured}
 use Rattle.starlark_syntax.specs.declared.lexer.layout.pending.Behind.{Behind}
 use Rattle.starlark_syntax.specs.declared.lexer.layout.pending.Pending.{Pending}
-use Rattle.starlark_error.specs.declared.lexeme_error.LexemeError.{LexemeError}
+use Rattle.starlark_token.specs.declared.lexeme_error.LexemeError.{LexemeError}
 use Rattle.starlark_syntax.proofs.Indentation.Pending.{are_comments, margin_between}
 
 -- What stands there

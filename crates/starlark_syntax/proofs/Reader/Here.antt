@@ -14,7 +14,7 @@ use Rattle.starlark_syntax.specs.Joints.Reader.{IsStateAfter, before_view, histo
 use Rattle.starlark_syntax.specs.declared.lexer.reader.Before as code
 use Rattle.starlark_syntax.specs.declared.lexer.reader.Before.TheVariants as sort
 use Rattle.starlark_syntax.specs.declared.lexer.reader.Stage.TheVariants as stage
-use Rattle.starlark_error.specs.declared.lexeme_error.LexemeError.{LexemeError}
+use Rattle.starlark_token.specs.declared.lexeme_error.LexemeError.{LexemeError}
 use Rattle.starlark_syntax.specs.declared.lexer.reader.Reader.{Reader}
 use Rattle.starlark_grammar.proofs.Reading.Steps.{is_nothing, least_len}
 use Rattle.starlark_grammar.proofs.Reading.Readings.{piece_fits, fault_fits}

@@ -18,7 +18,7 @@ use Rattle.starlark_syntax.specs.Joints.Pending.{IsIdle, IsPending, pending_lexe
 use Rattle.starlark_syntax.specs.Joints.Nesting.{Represents, bracket_count, change_by, closes, fstring_of, opens}
 use Rattle.starlark_syntax.specs.Joints.Reader.{IsAhead, IsAheadBehind, IsStateAfter, IsLeft, IsRead, before_view, history_from, history_of, left_here, left_to_read, remaining_outcome, step_here}
 use Rattle.starlark_token.specs.TokenViews.{TokenView, Whole, token_view}
-use Rattle.starlark_error.specs.declared.lexeme_error.LexemeError.{LexemeError}
+use Rattle.starlark_token.specs.declared.lexeme_error.LexemeError.{LexemeError}
 use Rattle.starlark_syntax.specs.declared.lexer.nesting.Nesting.{Nesting}
 use Rattle.starlark_syntax.specs.declared.lexer.nesting.changes.Change.TheVariants as change
 use Rattle.starlark_syntax.specs.declared.lexer.reader.Before.TheVariants as sort

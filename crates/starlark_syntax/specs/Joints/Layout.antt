@@ -14,7 +14,7 @@ use Rattle.starlark_syntax.specs.declared.lexer.layout.Laid.TheVariants as laid
 use Rattle.starlark_syntax.specs.declared.lexer.layout.margins.Blanks.{Blanks}
 use Rattle.starlark_syntax.specs.declared.lexer.layout.margins.Margin.{Margin}
 use Rattle.starlark_syntax.specs.declared.lexer.layout.pending.Pending.{Pending}
-use Rattle.starlark_error.specs.declared.lexeme_error.LexemeError.{LexemeError}
+use Rattle.starlark_token.specs.declared.lexeme_error.LexemeError.{LexemeError}
 
 -- blanks as the code has measured them
 pub record IsBlanks (blanks : Text) (found : Blanks) : Type 0 where

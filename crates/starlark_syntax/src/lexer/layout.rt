@@ -20,7 +20,7 @@ pub use indent_stack::IndentStack;
 use indents::indentation;
 use margins::{Margin, margin_of};
 pub use pending::{Behind, Pending};
-use starlark_error::lexeme_error::LexemeError;
+use starlark_token::lexeme_error::LexemeError;
 use starlark_token::tokens::Token;
 use std::alloc::AllocError;
 

@@ -21,8 +21,8 @@ mod words;
 
 use crate::lexer::literal::{Opening, Step, chunk_from, literal_piece, opening_of};
 use crate::lexer::nesting::LexerMode;
-use starlark_error::lexeme_error::LexemeError;
 use starlark_scanner::scanner::{Class, LiteralKind, Quote, first_character_len, first_word};
+use starlark_token::lexeme_error::LexemeError;
 use starlark_token::tokens::Token;
 use std::alloc::{AllocError, Global};
 use terminals::terminal_token;

@@ -6,11 +6,11 @@ ghost use Rattle.starlark_scanner.specs.Joints.Literals.{opening_view};
 ghost use Rattle.starlark_grammar.specs.Pieces as grammar;
 
 use super::pieces::{Step, TextEnd};
-use starlark_error::lexeme_error::LexemeError;
 use starlark_scanner::literal::{
     Body, Literal, LiteralValue, Opening, Stop, closing_len, read_body,
 };
 use starlark_scanner::scanner::LiteralKind;
+use starlark_token::lexeme_error::LexemeError;
 use std::alloc::{AllocError, Global};
 
 /// The text of an f-string up to its first stop.

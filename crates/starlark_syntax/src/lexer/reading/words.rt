@@ -10,7 +10,7 @@ ghost use Rattle.starlark_grammar.specs.declared.class.Class.TheVariants as clas
 ghost use Rattle.starlark_grammar.specs.Words.{Text, class_in, is_run, language};
 
 use crate::lexer::literal::Step;
-use starlark_error::lexeme_error::LexemeError;
+use starlark_token::lexeme_error::LexemeError;
 use starlark_token::number_text::number_in;
 use starlark_token::tokens::Token;
 use std::alloc::{AllocError, Global};

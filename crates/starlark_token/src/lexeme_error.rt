@@ -1,7 +1,7 @@
 //! What can be wrong with a text.
 
 ghost use Rattle.std.specs.Prelude.{Some};
-ghost use Rattle.starlark_error.specs.FaultTexts.{fault_text};
+ghost use Rattle.starlark_token.specs.FaultTexts.{fault_text};
 
 use std::fmt;
 

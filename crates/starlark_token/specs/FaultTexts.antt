@@ -1,12 +1,8 @@
 -- What is said of each fault.
 use Rattle.std.specs.Prelude.{ℕ, List, ◌++◌, codes, string_bytes}
 use Rattle.std.specs.Fmt.{decimal}
-use Rattle.starlark_error.specs.declared.lexeme_error.LexemeError.{LexemeError}
-use Rattle.starlark_error.specs.declared.lexeme_error.LexemeError.TheVariants.{Indentation, InvalidInput, InvalidTab, UnfinishedStringLiteral, InvalidEscapeSequence, EmptyEscapeSequence, ReservedKeyword, StartsZero, IntParse, CommentSpanComputedIncorrectly, CannotParse, UnfinishedFStringExpression}
-use Rattle.starlark_error.specs.declared.error.kinds.ParserMessage.{ParserMessage}
-use Rattle.starlark_error.specs.declared.error.kinds.ParserMessage.TheVariants.{Lexeme, Text}
-use Rattle.starlark_error.specs.declared.error.kinds.ErrorKind.{ErrorKind}
-use Rattle.starlark_error.specs.declared.error.kinds.ErrorKind.TheVariants.{Parser, Other, Internal}
+use Rattle.starlark_token.specs.declared.lexeme_error.LexemeError.{LexemeError}
+use Rattle.starlark_token.specs.declared.lexeme_error.LexemeError.TheVariants.{Indentation, InvalidInput, InvalidTab, UnfinishedStringLiteral, InvalidEscapeSequence, EmptyEscapeSequence, ReservedKeyword, StartsZero, IntParse, CommentSpanComputedIncorrectly, CannotParse, UnfinishedFStringExpression}
 
 -- the twelve texts
 unfoldable pub fault_text : LexemeError → List ℕ
@@ -22,14 +18,3 @@ fault_text (IntParse text) = codes "Parse error: failed to parse integer: `" ++ 
 fault_text CommentSpanComputedIncorrectly = codes "Comment span is computed incorrectly (internal error)"
 fault_text (CannotParse text base) = codes "Cannot parse `" ++ string_bytes text ++ (codes "` as an integer in base " ++ decimal base)
 fault_text UnfinishedFStringExpression = codes "Parse error: f-string expression is missing closing `}`"
-
--- of a parser's message, the message alone
-unfoldable pub message_text : ParserMessage → List ℕ
-message_text (Lexeme fault) = fault_text fault
-message_text (Text text) = string_bytes text
-
--- of an error's kind, the message alone
-unfoldable pub kind_text : ErrorKind → List ℕ
-kind_text (Parser message) = message_text message
-kind_text (Other text) = string_bytes text
-kind_text (Internal text) = string_bytes text
