@@ -27,6 +27,7 @@ PROGRAM = Path(__file__).resolve().parent.parent / "crates/starlark_lex/out/star
 
 PREFIXES = {  # of openers: the kind of literal, and whether it is raw
     b"": ("String", False), b"r": ("String", True), b"f": ("FString", False), b"fr": ("FString", True),
+    b"rf": ("FString", True),
     b"b": ("Bytes", False), b"br": ("Bytes", True), b"rb": ("Bytes", True),
 }
 OPENERS = [prefix + quote for prefix in PREFIXES for quote in (b"'", b'"')]
@@ -548,7 +549,7 @@ def expected(text):
 # Random texts. Most are programs whose parts are rarely faults, and most of these are then changed in one place.
 
 TEXT_PREFIXES = ["", "r", "b", "br", "rb"]
-FSTRING_PREFIXES = ["f", "fr"]
+FSTRING_PREFIXES = ["f", "fr", "rf"]
 QUOTES = ["'", '"', "'''", '"""']
 NAMES = "x y1 _z Ab format b f rf e1 iff".split()
 NUMBERS = (

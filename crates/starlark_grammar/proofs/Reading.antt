@@ -2,3 +2,4 @@
 pub mod Steps
 pub mod Readings
 pub mod Faults
+pub mod EarlierTable

@@ -8,3 +8,4 @@ mod FStrings
 mod Mixed
 mod Cuts
 mod LineEnds
+mod EarlierLanguage

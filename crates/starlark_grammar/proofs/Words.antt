@@ -7,3 +7,4 @@ pub mod Lines
 pub mod Printed
 pub mod IntegerValues
 pub mod Ascii
+pub mod EarlierTable

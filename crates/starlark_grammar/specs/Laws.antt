@@ -9,6 +9,7 @@ use Rattle.starlark_grammar.specs.Margins.{margin_of}
 use Rattle.starlark_grammar.specs.Pieces.{Piece, Stands, Fails}
 use Rattle.starlark_grammar.specs.Reading.{History, nothing, next_step, IsReading, pieces_len, read, outcome_in, outcome, IsOutcome}
 use Rattle.starlark_grammar.specs.LineEnds.{crlf_form, no_raw_feed}
+use Rattle.starlark_grammar.specs.EarlierLanguage.{earlier_language, holds_rf_opener}
 use Rattle.starlark_grammar.specs.Cuts.{InOrder, is_clean_cut, is_kept_cut, without_closing, joined, tabbed}
 
 -- What is computed as the longest front of a text is one, …
@@ -124,3 +125,7 @@ tokens_of text = map (λ (lexeme : Lexeme). lexeme.node) (outcome text).lexemes
 abbrev pub CrlfKeepsTokens : Type 0
 CrlfKeepsTokens = (text : Text) → IsUtf8 text → (outcome text).fault ≡ None → list_any (nat_eq (byte "\r")) text ≡ false → no_raw_feed nothing text (read language text).pieces ≡ true
     → ((outcome (crlf_form text)).fault ≡ None) × (tokens_of (crlf_form text) ≡ tokens_of text)
+
+-- A text in which neither `rf'` nor `rf"` stands comes to what it came to before these were openers.
+abbrev pub TablesAgree : Type 0
+TablesAgree = (text : Text) → holds_rf_opener text ≡ false → outcome text ≡ outcome_in earlier_language text

@@ -13,4 +13,5 @@ pub mod Pieces
 pub mod Reading
 pub mod Cuts
 pub mod LineEnds
+pub mod EarlierLanguage
 pub mod Laws

@@ -37,7 +37,9 @@ openers =
     (codes "'", Opener OfText false SingleQuote) ∷ (codes "r'", Opener OfText true SingleQuote)
     ∷ (codes "\"", Opener OfText false DoubleQuote) ∷ (codes "r\"", Opener OfText true DoubleQuote)
     ∷ (codes "f'", Opener OfFString false SingleQuote) ∷ (codes "fr'", Opener OfFString true SingleQuote)
+    ∷ (codes "rf'", Opener OfFString true SingleQuote)
     ∷ (codes "f\"", Opener OfFString false DoubleQuote) ∷ (codes "fr\"", Opener OfFString true DoubleQuote)
+    ∷ (codes "rf\"", Opener OfFString true DoubleQuote)
     ∷ (codes "b'", Opener OfBytes false SingleQuote) ∷ (codes "br'", Opener OfBytes true SingleQuote)
     ∷ (codes "rb'", Opener OfBytes true SingleQuote)
     ∷ (codes "b\"", Opener OfBytes false DoubleQuote) ∷ (codes "br\"", Opener OfBytes true DoubleQuote)
@@ -195,6 +197,11 @@ patterns =
     (is_run (nat_eq 32), Skipped) ∷ (is_comment, Comment) ∷ (is_run (nat_eq 9), Tabs) ∷ (is_identifier, Identifier)
     ∷ numbers
 
--- The table of the language. That an earlier row goes before a later one is how a keyword wins over an identifier.
+-- The table with these rows of openers. That an earlier row goes before a later one is how a keyword wins over an
+-- identifier.
+abbrev pub table_with : List (Text × Class) → Table
+table_with rows = listed rows ++ (listed line_ends ++ (listed symbols ++ (listed names ++ patterns)))
+
+-- the table of the language
 unfoldable pub language : Table
-language = listed openers ++ (listed line_ends ++ (listed symbols ++ (listed names ++ patterns)))
+language = table_with openers

@@ -2,7 +2,7 @@
 //! programs don't call them.
 
 ghost use Rattle.starlark_grammar.specs.IntegerValues.{IntegersKeepTheirValue};
-ghost use Rattle.starlark_grammar.specs.Laws.{FrontIsLongest, LongestFrontIsOne, ReadingsAgree, ReadingsFit, OutcomeIs, OutcomeIsOne, DedentsFollow, BlocksClose, ItemsAreFew, LexemesInOrder, FaultlessInOrder, LexemesAtBoundaries, CutsJoin, FaultsJoin, CutsOfJoined, TabsBehindCuts, KeptCutsKeep, CrlfKeepsTokens, FaultsInside, FaultAtBoundaries};
+ghost use Rattle.starlark_grammar.specs.Laws.{FrontIsLongest, LongestFrontIsOne, ReadingsAgree, ReadingsFit, OutcomeIs, OutcomeIsOne, DedentsFollow, BlocksClose, ItemsAreFew, LexemesInOrder, FaultlessInOrder, LexemesAtBoundaries, CutsJoin, FaultsJoin, CutsOfJoined, TabsBehindCuts, KeptCutsKeep, CrlfKeepsTokens, FaultsInside, FaultAtBoundaries, TablesAgree};
 ghost use Rattle.starlark_grammar.specs.PrintedWords.{PrintedWordsReadBack};
 
 /// The longest front of a text that is a word is the longest, and there is only one.
@@ -72,4 +72,10 @@ pub fn integers_keep_their_value()
 /// The word that is printed of a keyword or a symbol is read as that keyword or symbol.
 pub fn printed_words_read_back()
     ensures { PrintedWordsReadBack }
+{}
+
+/// A text in which neither `rf'` nor `rf"` stands has the lexemes and the fault that it had before these two were
+/// openers.
+pub fn texts_without_rf_stay()
+    ensures { TablesAgree }
 {}

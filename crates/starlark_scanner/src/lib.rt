@@ -2,6 +2,7 @@
 #![tactic(auto)]
 
 pub mod lanes;
+pub mod laws;
 pub mod literal;
 pub mod one_identifier;
 pub mod scanner;

@@ -14,7 +14,7 @@ fstrings_1 :
     × Lexes (codes "f\"{(}{x}\"") (at 0 (fstring_start cooked double plain) 2 ∷ at 2 FStringExprStart 3 ∷ at 3 (Word word.OpeningRound) 4 ∷ at 4 (Word word.ClosingCurly) 5 ∷ at 5 FStringExprStart 6 ∷ at 6 (Identifier (codes "x")) 7 ∷ at 7 (Word word.ClosingCurly) 8 ∷ at 8 FStringEnd 9 ∷ at 9 Newline 9 ∷ [])
     × Stops (codes "f'{\"a") (at 0 (fstring_start cooked single plain) 2 ∷ at 2 FStringExprStart 3 ∷ []) (at 3 UnfinishedFStringExpression 5)
     × Stops (utf8 "f\"a\\xé\"") (at 0 (fstring_start cooked double plain) 2 ∷ []) (at 5 (InvalidEscapeSequence (codes "\\")) 7)
-    × Lexes (codes "rf'x'") (at 0 (Identifier (codes "rf")) 2 ∷ at 2 (String (codes "x")) 5 ∷ at 5 Newline 5 ∷ [])
+    × Lexes (codes "rf'x'") (at 0 (fstring_start raw single plain) 3 ∷ at 3 (FStringText (codes "x")) 4 ∷ at 4 FStringEnd 5 ∷ at 5 Newline 5 ∷ [])
     × Lexes (codes "f\"\"") (at 0 (fstring_start cooked double plain) 2 ∷ at 2 FStringEnd 3 ∷ at 3 Newline 3 ∷ [])
 unfolding all_definitions
 fstrings_1 = (refl, refl, refl, refl, refl, refl, refl, refl)
@@ -110,9 +110,21 @@ raw_texts_1 = (refl, refl, refl, refl, refl, refl, refl, refl)
 raw_texts_2 :
     Stops (codes "fr'''\\'''") (at 0 (fstring_start raw single triple) 5 ∷ []) (at 5 UnfinishedStringLiteral 9)
     × Lexes (codes "fr'''\\\n'''") (at 0 (fstring_start raw single triple) 5 ∷ at 5 (FStringText (codes "\\\n")) 7 ∷ at 7 FStringEnd 10 ∷ at 10 Newline 10 ∷ [])
-    × Lexes (codes "rf'a'") (at 0 (Identifier (codes "rf")) 2 ∷ at 2 (String (codes "a")) 5 ∷ at 5 Newline 5 ∷ [])
+    × Lexes (codes "rf'a'") (at 0 (fstring_start raw single plain) 3 ∷ at 3 (FStringText (codes "a")) 4 ∷ at 4 FStringEnd 5 ∷ at 5 Newline 5 ∷ [])
 unfolding all_definitions
 raw_texts_2 = (refl, refl, refl)
+
+-- raw f-strings whose `r` stands first, and names that are longer or in upper case
+raw_texts_3 :
+    Lexes (codes "rf\"\\\"\"") (at 0 (fstring_start raw double plain) 3 ∷ at 3 (FStringText (codes "\"")) 5 ∷ at 5 FStringEnd 6 ∷ at 6 Newline 6 ∷ [])
+    × Lexes (codes "rf'''a'''") (at 0 (fstring_start raw single triple) 5 ∷ at 5 (FStringText (codes "a")) 6 ∷ at 6 FStringEnd 9 ∷ at 9 Newline 9 ∷ [])
+    × Lexes (codes "rf'\\n'") (at 0 (fstring_start raw single plain) 3 ∷ at 3 (FStringText (codes "\\n")) 5 ∷ at 5 FStringEnd 6 ∷ at 6 Newline 6 ∷ [])
+    × Lexes (codes "xrf'a'") (at 0 (Identifier (codes "xrf")) 3 ∷ at 3 (String (codes "a")) 6 ∷ at 6 Newline 6 ∷ [])
+    × Lexes (codes "Rf'a'") (at 0 (Identifier (codes "Rf")) 2 ∷ at 2 (String (codes "a")) 5 ∷ at 5 Newline 5 ∷ [])
+    × Lexes (codes "rF\"a\"") (at 0 (Identifier (codes "rF")) 2 ∷ at 2 (String (codes "a")) 5 ∷ at 5 Newline 5 ∷ [])
+    × Lexes (codes "rf") (at 0 (Identifier (codes "rf")) 2 ∷ at 2 Newline 2 ∷ [])
+unfolding all_definitions
+raw_texts_3 = (refl, refl, refl, refl, refl, refl, refl)
 
 -- bad escapes in f-strings
 bad_texts_1 :

@@ -60,6 +60,14 @@ pub returns-in-text-14 : goal.returns-in-text-14
 unfolding openers
 returns-in-text-14 c = ap Some c.opener-in-text-14.ensures ∙ sym (ap opener_of c.in-text-14.is)
 
+pub returns-in-text-15 : goal.returns-in-text-15
+unfolding openers
+returns-in-text-15 c = ap Some c.opener-in-text-15.ensures ∙ sym (ap opener_of c.in-text-15.is)
+
+pub returns-in-text-16 : goal.returns-in-text-16
+unfolding openers
+returns-in-text-16 c = ap Some c.opener-in-text-16.ensures ∙ sym (ap opener_of c.in-text-16.is)
+
 pub returns-in_default : goal.returns-in_default
 unfolding openers
-returns-in_default c = sym (no_listed_opener c.args.word.now (c.in_default.not-text, (c.in_default.not-text-2, (c.in_default.not-text-3, (c.in_default.not-text-4, (c.in_default.not-text-5, (c.in_default.not-text-6, (c.in_default.not-text-7, (c.in_default.not-text-8, (c.in_default.not-text-9, (c.in_default.not-text-10, (c.in_default.not-text-11, (c.in_default.not-text-12, (c.in_default.not-text-13, (c.in_default.not-text-14, tt)))))))))))))))
+returns-in_default c = sym (no_listed_opener c.args.word.now (c.in_default.not-text, (c.in_default.not-text-2, (c.in_default.not-text-3, (c.in_default.not-text-4, (c.in_default.not-text-5, (c.in_default.not-text-6, (c.in_default.not-text-7, (c.in_default.not-text-8, (c.in_default.not-text-9, (c.in_default.not-text-10, (c.in_default.not-text-11, (c.in_default.not-text-12, (c.in_default.not-text-13, (c.in_default.not-text-14, (c.in_default.not-text-15, (c.in_default.not-text-16, tt)))))))))))))))))
