@@ -151,7 +151,11 @@ fn wrong_with_lexemes(lexed: &LexedText<'_>) -> Option<&'static str> {
     if !are_few(lexed) {
         return Some("more than two lexemes a byte and one");
     }
-    if lexed.lexemes().iter().any(|(_, token, _)| is_never_handed_out(token)) {
+    if lexed
+        .lexemes()
+        .iter()
+        .any(|(_, token, _)| is_never_handed_out(token))
+    {
         return Some("a token that no lexer hands out");
     }
     None

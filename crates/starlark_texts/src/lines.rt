@@ -45,6 +45,14 @@ fn add_place(lines: &mut String, file: &CodeMap, span: Span) -> Result<(), Alloc
     write!(lines, "{}", file.resolve_span(span))
 }
 
+/// The span between two places; `None` where they are out of order, or 32 bits don't count them.
+fn span_of(begin: usize, end: usize) -> Option<Span> {
+    if begin > end || end > u32::MAX as usize {
+        return None;
+    }
+    Some(Span::new(Pos::new(begin as u32), Pos::new(end as u32)))
+}
+
 /// Adds the line of a token between two places.
 fn add_line(
     lines: &mut String,
@@ -54,8 +62,7 @@ fn add_line(
     end: usize,
 ) -> Result<(), AllocError> {
     write!(lines, "{begin}-{end} ")?;
-    if begin <= end {
-        let span = Span::new(Pos::new(begin as u32), Pos::new(end as u32));
+    if let Some(span) = span_of(begin, end) {
         add_place(lines, file, span)?;
     }
     write!(lines, " {}", token.kind())?;
