@@ -77,6 +77,15 @@ SHAPES = [
 ]
 
 
+def write_apart(make, count, source):
+    """Writes a text from another process: what this one holds would be counted as held by the programs that it starts."""
+    process = os.fork()
+    if process == 0:
+        source.write_bytes(make(count))
+        os._exit(0)
+    os.waitpid(process, 0)
+
+
 class Ran:
     """One run of a program over a text: its status, its processor time in seconds, and the most memory that it held."""
 
@@ -92,9 +101,9 @@ class Ran:
 class Measured:
     """What one text takes: the least time to lex it, the least time to print its lines, and the most memory."""
 
-    def __init__(self, text, source):
-        source.write_bytes(text)
-        self.source, self.length = source, len(text)
+    def __init__(self, make, count, source):
+        write_apart(make, count, source)
+        self.source, self.length = source, source.stat().st_size
         self.lexed = self.printed = float("inf")
         self.peak = 0
         self.failed = False
@@ -113,8 +122,8 @@ class Shape:
     def __init__(self, name, count, make, folder):
         self.name = name
         longer = 2 * count if make is not widths else round(count * 2**0.5)
-        self.short = Measured(make(count), folder / "short")
-        self.long = Measured(make(longer), folder / "long")
+        self.short = Measured(make, count, folder / "short")
+        self.long = Measured(make, longer, folder / "long")
 
     def measure(self, bench, lex, times):
         """Measures so many times, and again where that didn't come out linear."""
