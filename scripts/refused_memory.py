@@ -15,7 +15,7 @@ With no request refused a row has the answer that is stored, and no run ends in 
 
 It needs a C compiler (`CC`, `cc`, `gcc` or `clang`) and the GNU C library: refusing_allocator.c is loaded into the programs.
 Programs that aren't built, or are older than a source, are proved and built first. The exit status is 0 where every run
-was as it has to be, and 1 where one was not, where nothing was refused, or where nothing could be tried; a line says which.
+was as it has to be, 1 where one was not, and 2 where nothing could be tried, or nothing was refused; a line says which.
 """
 
 import argparse
@@ -54,6 +54,12 @@ TEXTS = [
     b"name_of_some_length = 'text' # comment\n" * 600,
     b"\xff",
 ]
+
+
+def give_up(why):
+    """Ends where nothing could be tried."""
+    print(why, file=sys.stderr)
+    sys.exit(2)
 
 
 class Run:
@@ -118,9 +124,9 @@ def built(name):
     try:
         ran = subprocess.run(["rt", "run"], cwd=crate, stdin=subprocess.DEVNULL, capture_output=True, check=False)
     except FileNotFoundError:
-        sys.exit(f"{name} isn't built, and there is no rt on the path to build it")
+        give_up(f"{name} isn't built, and there is no rt on the path to build it")
     if not program.exists() or b"not-proved" in ran.stdout + ran.stderr:
-        sys.exit(f"{name} isn't built: rt run in {crate} says why")
+        give_up(f"{name} isn't built: rt run in {crate} says why")
     return program
 
 
@@ -129,7 +135,7 @@ def compiler():
     for name in [os.environ.get("CC"), "cc", "gcc", "clang"]:
         if name and shutil.which(name):
             return name
-    sys.exit("nothing was tried: there is no C compiler, as cc, gcc or clang, for refusing_allocator.c")
+    give_up("nothing was tried: there is no C compiler, as cc, gcc or clang, for refusing_allocator.c")
 
 
 def built_allocator(folder):
@@ -138,7 +144,7 @@ def built_allocator(folder):
     source = TOP / "scripts" / "refusing_allocator.c"
     made = subprocess.run([compiler(), "-O1", "-shared", "-fPIC", "-o", allocator, source], capture_output=True, check=False)
     if made.returncode != 0:
-        sys.exit(f"nothing was tried: refusing_allocator.c isn't compiled: {made.stderr.decode(errors='replace')}")
+        give_up(f"nothing was tried: refusing_allocator.c isn't compiled: {made.stderr.decode(errors='replace')}")
     return allocator
 
 
@@ -222,7 +228,9 @@ def main():
         print(line)
     runs, refused = sum(tries.runs for tries in tried), sum(tries.refused for tries in tried)
     print(f"{len(tried)} inputs, {runs} runs, {refused} of them ended otherwise than with ample memory, {len(wrong)} wrong")
-    return 1 if wrong or not refused else 0
+    if not refused:
+        give_up("no request was refused: the programs don't use the C library's allocator")
+    return 1 if wrong else 0
 
 
 if __name__ == "__main__":
