@@ -97,6 +97,21 @@ pub fn join(alloc: Global, first: &str, second: &str) -> Answer {
     }
 }
 
+/// A text lexed again behind an edit, from a place on before which both are the same, as it prints. Where that is
+/// refused, the text is handed back.
+pub fn relex(alloc: Global, text: &str, from: usize, edited: &str) -> Answer {
+    if !text.is_char_boundary(from) || text.get(..from) != edited.get(..from) {
+        return String::from_str(alloc, "no edit");
+    }
+    let map = code_map(alloc, "f", edited)?;
+    let old = lexed(alloc, text)?;
+    let before = printed(alloc, &old)?;
+    match old.relex(from, edited, &map) {
+        Ok(new) => printed(alloc, &new),
+        Err(old) => unchanged(alloc, before.as_str(), &printed(alloc, &old)?),
+    }
+}
+
 /// A text with its lexemes, as it prints.
 pub fn lex(alloc: Global, text: &str) -> Answer {
     printed(alloc, &lexed(alloc, text)?)
@@ -138,6 +153,7 @@ pub fn answer(alloc: Global, row: &Row) -> Answer {
         "is_clean_cut" => shown(alloc, &lexed(alloc, text)?.is_clean_cut()),
         "join" => join(alloc, text, row.text(3)),
         "join_each" => marks(alloc, row),
+        "relex" => relex(alloc, text, row.count(3) as usize, row.text(4)),
         _ => unknown(alloc, row),
     }
 }
