@@ -8,3 +8,4 @@ pub mod KeptCuts
 pub mod Begins
 pub mod Relexed
 pub mod Parts
+pub mod Edits

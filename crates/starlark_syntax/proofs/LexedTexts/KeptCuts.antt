@@ -76,7 +76,7 @@ whole_kept text clean =
       lexemes = sym (ap (λ t. length (without_closing (outcome t).lexemes)) (take_all text) ∙ count_is (outcome text).lexemes);
     }
 
-take_less : (a b : ℕ) (text : Text) → a ≤ b → take a (take b text) ≡ take a text
+pub take_less : (a b : ℕ) (text : Text) → a ≤ b → take a (take b text) ≡ take a text
 take_less zero b text h = refl
 take_less (suc a) zero text h = absurd (omega (arith, h))
 take_less (suc a) (suc b) [] h = refl

@@ -1,6 +1,6 @@
 -- What was read of a text, as a lexed text.
-use Rattle.std.proofs.Common.{◌≡◌, ℕ, ◌+◌, ◌<◌, ◌≤◌, ◌^◌, List, [], ◌∷◌, map, length, refl, ap, sym, subst, ◌∙◌, arith, Some, None}
-use Rattle.std.specs.Prelude.{Option, IfSome, option_map}
+use Rattle.std.proofs.Common.{◌≡◌, Bool, true, false, ℕ, ◌+◌, ◌<◌, ◌≤◌, ◌^◌, List, [], ◌∷◌, map, length, refl, ap, sym, subst, ◌∙◌, arith, Some, None}
+use Rattle.std.specs.Prelude.{Option, IfSome, if◌then◌else◌, option_map}
 use Rattle.starlark_base.specs.Diagnostics.{Diagnosed}
 use Rattle.starlark_base.specs.Sources.{SourceFile}
 use Rattle.starlark_error.specs.declared.error.kinds.ErrorKind.{ErrorKind}
@@ -10,9 +10,11 @@ use Rattle.starlark_grammar.specs.Tokens.{Fault, Lexeme, Spanned, moved}
 use Rattle.starlark_grammar.specs.Reading.{outcome}
 use Rattle.starlark_syntax.specs.LexedTexts.{IsFaultIn, IsLexed}
 use Rattle.starlark_syntax.specs.Lexemes.{lexeme_view}
-use Rattle.starlark_syntax.specs.Joints.LexedTexts.{IsPart, IsPlacedFault}
+use Rattle.starlark_syntax.specs.Joints.LexedTexts.{AllNear, IsPart, IsPlacedFault}
 use Rattle.starlark_syntax.specs.declared.lexer.lexed_text.parts.Part.{Part}
+use Rattle.starlark_syntax.proofs.LexedTexts.Within.{lexemes_near}
 use Rattle.starlark_syntax.proofs.Reader.LexerItems.{fault_within}
+use Rattle.starlark_token.specs.declared.tokens.Token.{Token}
 
 -- the fault of a text lies in it, so that it is near
 pub fault_near : (text : Text) (placed : Option (ℕ × LexemeError × ℕ)) (len : ℕ) → IsPlacedFault (outcome text).fault placed → len + length text < 2 ^ 32 → IfSome placed (λ placed. (placed.0 ≤ placed.2) × (len + placed.2 < 2 ^ 32))
@@ -40,3 +42,8 @@ lexed_part file text part exception is thrown = record {
   lexemes = is.lexemes;
   fault = subst (λ f. IsFaultIn file f exception) (unmoved_fault (outcome text).fault) (thrown (outcome text).fault is.fault);
 }
+
+-- the lexemes that are given lie near
+pub given_near : (text : Text) (part : Part) (gives : Bool) (given : List (ℕ × Token × ℕ)) → IsPart text part → length text < 2 ^ 32 → given ≡ (if gives then part.lexemes.items else []) → AllNear given
+given_near text part true given is short same = subst AllNear (sym same) (lexemes_near text part.lexemes.items is.lexemes short)
+given_near text part false given is short same = subst AllNear (sym same) tt

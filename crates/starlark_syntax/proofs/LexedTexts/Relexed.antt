@@ -117,7 +117,7 @@ above_later text len count (cut ∷ cuts) each =
     let parts = kept_parts text cut.at each.0.is_kept in
     (omega (arith, some_cut (take cut.at text) parts.1, length-take cut.at text), above_later text len count cuts each.1)
 
-all_both : {A : Type 0} (P : A → Type 0) (one other : List A) → AllByRecursion P one → AllByRecursion P other → AllByRecursion P (one ++ other)
+pub all_both : {A : Type 0} (P : A → Type 0) (one other : List A) → AllByRecursion P one → AllByRecursion P other → AllByRecursion P (one ++ other)
 all_both P [] other h k = k
 all_both P (x ∷ one) other h k = (h.0, all_both P one other h.1 k)
 
@@ -146,3 +146,19 @@ cuts_near text (cut ∷ cuts) short each =
     let len : length (take cut.at text) ≡ cut.at = length-take-le cut.at text each.0.inside in
     let near = count_near (take cut.at text) (omega (arith, len, short, each.0.inside)) in
     ((omega (arith, short, each.0.inside), omega (arith, each.0.lexemes, near, count_is (outcome (take cut.at text)).lexemes)), cuts_near text cuts short each.1)
+
+-- The place
+
+last_feed : (text : Text) → ends_line text ≡ true → slice_index_or text (length text - 1) 0 ≡ 10
+last_feed [] h = cc
+last_feed (b ∷ []) h = eqb-true b 10 h
+last_feed (b ∷ c ∷ bs) h = let less : length (b ∷ c ∷ bs) - 1 ≡ suc (length (c ∷ bs) - 1) = omega arith in ap (λ n. slice_index_or (b ∷ c ∷ bs) n 0) less ∙ last_feed (c ∷ bs) h
+
+-- a clean cut ends between characters of a text that begins with it
+pub cut_boundary : (text : Text) (at : ℕ) → IsUtf8 text → at ≤ length text → is_clean_cut (take at text) ≡ true → IsCharBoundary text at
+cut_boundary text at utf8 inside clean =
+    let len : length (take at text) ≡ at = length-take-le at text inside in
+    let some : 0 < at = omega (arith, some_cut (take at text) clean, len) in
+    let feed : slice_index_or text (at - 1) 0 ≡ 10 = sym (get_or-take at text (at - 1) 0 (omega (arith, some))) ∙ ap (λ n. slice_index_or (take at text) (n - 1) 0) (sym len) ∙ last_feed (take at text) (cut (take at text) clean).ends in
+    let next : at - 1 + 1 ≡ at = omega (arith, some) in
+    subst (IsCharBoundary text) next (IsCharBoundary-after_ascii text (at - 1) utf8 (omega (arith, some, inside)) (omega (arith, feed)))
