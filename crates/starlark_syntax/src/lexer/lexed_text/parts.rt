@@ -99,11 +99,5 @@ pub fn exception_of(
     let Some((begin, fault, end)) = fault else {
         return Ok(None);
     };
-    Ok(Some(exception(
-        alloc,
-        len + begin,
-        fault,
-        len + end,
-        code_map,
-    )?))
+    Ok(Some(exception(alloc, len + begin, fault, len + end, code_map)?))
 }
