@@ -102,10 +102,7 @@ pub fn join(alloc: Global, first: &str, second: &str) -> Answer {
 fn agree(first: &str, second: &str, from: usize) -> bool
     ensures { result ≡ true → IsCharBoundary first.now from × IsCharBoundary second.now from × (take from first.now ≡ take from second.now) }
 {
-    match (first.get(..from), second.get(..from)) {
-        (Some(first), Some(second)) => first == second,
-        _ => false,
-    }
+    first.is_char_boundary(from) && second.is_char_boundary(from) && first[..from] == second[..from]
 }
 
 /// A lexed text that is lexed again behind an edit, as it prints. Where that is refused, the text is handed back.
@@ -127,13 +124,7 @@ pub fn relex(alloc: Global, text: &str, from: u32, edited: &str) -> Answer {
 }
 
 /// Two texts joined, and lexed again behind an edit, as they print.
-pub fn relex_joined(
-    alloc: Global,
-    first: &str,
-    second: &str,
-    from: u32,
-    edited: &str,
-) -> Answer {
+pub fn relex_joined(alloc: Global, first: &str, second: &str, from: u32, edited: &str) -> Answer {
     let both = both_texts(alloc, first, second)?;
     match joined(alloc, first, second, both.as_str())? {
         Some(old) => relexed(alloc, old, from as usize, edited),
