@@ -1,23 +1,23 @@
 -- What a text comes to behind an edit.
-use Rattle.std.proofs.Common.{◌≡◌, ℕ, suc, zero, ◌+◌, ◌-◌, ◌<◌, ◌≤◌, Bool, true, false, List, [], ◌∷◌, ◌++◌, map, take, drop, length, refl, ap, sym, subst, ◌∙◌, arith, Some, None, inl, inr, ◌⊎◌, append-nil, length-append}
+use Rattle.std.proofs.Common.{◌≡◌, ℕ, suc, zero, ◌+◌, ◌<◌, ◌≤◌, Bool, true, false, List, [], ◌∷◌, ◌++◌, map, take, drop, length, refl, ap, sym, subst, ◌∙◌, arith, Some, None, inl, inr, ◌⊎◌, append-nil, length-append}
 use Rattle.std.specs.Prelude.{Option, ◌&&◌, ◌||◌, ◌==◌, if◌then◌else◌, nat_lt, option_map, slice_get, slice_index_or}
 use Rattle.std.specs.List.{AllByRecursion}
 use Rattle.std.specs.Str.{IsCharBoundary, IsUtf8}
 use Rattle.std.proofs.lemmas.Str.{IsCharBoundary-start}
 use Rattle.std.proofs.Math.Seq.{take-append_seam}
 use Rattle.std.proofs.lemmas.Bool.{and_parts, lt-ltb}
-use Rattle.std.proofs.lemmas.List.{length-map, length-take, length-take-le, length-drop, map-append, take-append-drop, take-map}
+use Rattle.std.proofs.lemmas.List.{length-map, length-take, length-take-le, map-append, take-append-drop, take-map}
 use Rattle.std.proofs.lemmas.Option.{slice_get_cases}
 use Rattle.starlark_grammar.specs.Words.{Text, language}
 use Rattle.starlark_grammar.specs.Tokens.{Fault, InvalidTab, Lexeme, Newline, Outcome, Spanned, moved}
 use Rattle.starlark_grammar.specs.Margins.{has_tab, is_content, margin_of}
 use Rattle.starlark_grammar.specs.Pieces.{Fails}
-use Rattle.starlark_grammar.specs.Reading.{next_step, nothing, outcome, pieces_len, read}
-use Rattle.starlark_grammar.specs.Cuts.{before_newline, is_clean_cut, tabbed, without_closing}
+use Rattle.starlark_grammar.specs.Reading.{nothing, outcome, pieces_len, read}
+use Rattle.starlark_grammar.specs.Cuts.{is_clean_cut, tabbed, without_closing}
 use Rattle.starlark_grammar.specs.Laws.{HasFirstMargin}
 use Rattle.starlark_grammar.proofs.Joining.CleanCuts.{cuts_join}
 use Rattle.starlark_grammar.proofs.Joining.Laws.{kept_cuts_keep}
-use Rattle.starlark_grammar.proofs.Joining.Tabs.{BehindTab, HasTab, behind_tab, first_margin_is, first_step, margin_tab, outcome_by, tab, tab_longest}
+use Rattle.starlark_grammar.proofs.Joining.Tabs.{HasTab, behind_tab, first_margin_is, first_step, margin_tab, outcome_by, tab, tab_longest}
 use Rattle.starlark_grammar.proofs.Reading.Readings.{one_longest, read_is}
 use Rattle.starlark_syntax.specs.Lexemes.{lexeme_view, shown_lexeme}
 use Rattle.starlark_syntax.specs.Joints.LexedTexts.{AreCuts, IsBegin, IsCutOf, IsPart, IsTakenBack, last_newline_of, later, later_cut}
@@ -33,7 +33,7 @@ use Rattle.starlark_syntax.proofs.LexedTexts.KeptCuts.{kept_parts, reach_joined,
 use Rattle.starlark_syntax.proofs.LexedTexts.Newlines.{FoundNewline, none_shown, some_shown}
 use Rattle.starlark_syntax.proofs.LexedTexts.Parts.{unmoved_fault}
 use Rattle.starlark_syntax.proofs.LexedTexts.Relexed.{above_later, all_both, all_later, all_stay, cut_boundary, rising_both, rising_later, rising_take, some_cut}
-use Rattle.starlark_syntax.proofs.Reader.Onward.{first_fails, margin_first}
+use Rattle.starlark_syntax.proofs.Reader.Onward.{first_fails}
 
 -- What is kept and what is put behind it are what a text comes to.
 pub record IsRelexed (edited : Text) (ls : List (ℕ × Token × ℕ)) (cuts : List Cut) (at count : ℕ) (part : Part) (kept : Kept) : Type 0 where

@@ -1,20 +1,16 @@
 -- Kept cuts, and how many lexemes stand before them.
-use Rattle.std.proofs.Common.{◌≡◌, ℕ, suc, zero, ◌+◌, ◌-◌, ◌<◌, ◌≤◌, Bool, true, false, List, [], ◌∷◌, ◌++◌, map, take, drop, length, refl, ap, sym, subst, ◌∙◌, arith, Some, None, inl, inr, ◌⊎◌, length-append, le-leb, append-nil}
-use Rattle.std.specs.Prelude.{Option, nat_le, ◌&&◌, ◌==◌, option_map}
-use Rattle.std.specs.List.{AllByRecursion}
-use Rattle.std.proofs.Math.Seq.{drop-append-add}
+use Rattle.std.proofs.Common.{◌≡◌, ℕ, suc, zero, ◌+◌, ◌-◌, ◌<◌, ◌≤◌, Bool, true, false, List, [], ◌∷◌, ◌++◌, map, take, drop, length, refl, ap, sym, ◌∙◌, arith, None, length-append, le-leb}
+use Rattle.std.specs.Prelude.{nat_le, ◌&&◌}
 use Rattle.std.proofs.lemmas.Bool.{and_parts, leb-false, leb-true}
-use Rattle.std.proofs.lemmas.List.{length-map, length-take, length-take-le, length-drop, take-append-drop, take-append-le}
+use Rattle.std.proofs.lemmas.List.{length-map, length-take-le, take-append-drop}
 use Rattle.starlark_grammar.specs.Words.{Text, language}
-use Rattle.starlark_grammar.specs.Tokens.{Fault, Lexeme, Outcome, Spanned, moved}
-use Rattle.starlark_grammar.specs.Margins.{margin_of}
+use Rattle.starlark_grammar.specs.Tokens.{Lexeme, Outcome, moved}
 use Rattle.starlark_grammar.specs.Pieces.{Ends, Fails, Piece, Stands, Step}
 use Rattle.starlark_grammar.specs.Reading.{after_all, closing, lexemes_along, nothing, outcome, outcome_in, outcome_of, pieces_len, read}
-use Rattle.starlark_grammar.specs.Cuts.{before_newline, is_clean_cut, is_clean_cut_in, is_faultless, is_kept_cut, is_settled, without_closing}
+use Rattle.starlark_grammar.specs.Cuts.{is_clean_cut, is_clean_cut_in, is_faultless, is_kept_cut, is_settled, without_closing}
 use Rattle.starlark_grammar.specs.Laws.{HasFirstMargin}
 use Rattle.starlark_grammar.proofs.Joining.CleanCuts.{both, begun, cut, longest, pieces_both}
-use Rattle.starlark_grammar.proofs.Joining.Laws.{cuts_of_joined, faults_join, kept_cuts_keep}
-use Rattle.starlark_grammar.proofs.Joining.Tabs.{HasTab, behind_tab, first_margin_is, outcome_by, tab, tab_longest}
+use Rattle.starlark_grammar.proofs.Joining.Laws.{faults_join}
 use Rattle.starlark_grammar.proofs.Reading.Readings.{longest_onward, one_longest, read_is}
 use Rattle.starlark_syntax.specs.Joints.LexedTexts.{IsCutOf, lexemes_before}
 use Rattle.starlark_syntax.specs.declared.lexer.lexed_text.cuts.Cut.{Cut}

@@ -1,12 +1,12 @@
 -- The last `Newline` of a list of lexemes.
-use Rattle.std.proofs.Common.{◌≡◌, ℕ, zero, suc, ◌<◌, Bool, true, false, List, [], ◌∷◌, map, take, length, refl, ap, sym, subst, ◌∙◌, arith, Some, None}
+use Rattle.std.proofs.Common.{◌≡◌, ℕ, zero, suc, ◌<◌, Bool, true, false, List, [], ◌∷◌, map, take, length, refl, sym, subst, ◌∙◌, arith, Some, None}
 use Rattle.std.specs.Prelude.{Option, slice_index_or}
 use Rattle.starlark_grammar.specs.Tokens as grammar
 use Rattle.starlark_grammar.specs.Tokens.{Lexeme, Spanned}
 use Rattle.starlark_grammar.specs.Cuts.{before_newline, is_newline}
 use Rattle.starlark_syntax.specs.Lexemes.{lexeme_view, shown, shown_lexeme}
 use Rattle.starlark_syntax.specs.Joints.LexedTexts.{is_newline_view, last_newline_of}
-use Rattle.starlark_token.specs.TokenViews.{TokenView, Whole, token_view}
+use Rattle.starlark_token.specs.TokenViews.{Whole, token_view}
 use Rattle.starlark_token.specs.declared.tokens.Token.{Token}
 
 -- with one lexeme more, by whether that is one

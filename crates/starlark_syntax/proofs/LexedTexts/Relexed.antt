@@ -1,34 +1,23 @@
 -- What a text comes to that is lexed from a kept cut on.
-use Rattle.std.proofs.Common.{◌≡◌, ℕ, suc, zero, ◌+◌, ◌-◌, ◌<◌, ◌≤◌, ◌^◌, Bool, true, false, List, [], ◌∷◌, ◌++◌, map, take, drop, length, refl, ap, sym, subst, ◌∙◌, arith, Some, None, inl, inr, ◌⊎◌, length-append, append-nil}
-use Rattle.std.specs.Prelude.{Option, ◌&&◌, ◌||◌, ◌==◌, nat_eq, nat_lt, codes, option_map, slice_index_or}
-use Rattle.std.specs.List.{AllByRecursion, ends_with}
+use Rattle.std.proofs.Common.{◌≡◌, ℕ, suc, zero, ◌+◌, ◌-◌, ◌<◌, ◌≤◌, ◌^◌, true, List, [], ◌∷◌, ◌++◌, map, take, length, refl, ap, sym, subst, ◌∙◌, arith, length-append}
+use Rattle.std.specs.Prelude.{slice_index_or}
+use Rattle.std.specs.List.{AllByRecursion}
 use Rattle.std.specs.Str.{IsCharBoundary, IsUtf8}
 use Rattle.std.proofs.Math.Seq.{take-append-add, take-append_seam}
-use Rattle.std.proofs.lemmas.Bool.{and_parts, eqb-true}
-use Rattle.std.proofs.lemmas.List.{get_or-take, length-map, length-take, length-take-le, length-drop, map-append, take-append-drop, take-append-le, take-map}
-use Rattle.std.proofs.lemmas.Str.{IsCharBoundary-after_ascii, IsCharBoundary-start}
+use Rattle.std.proofs.lemmas.Bool.{eqb-true}
+use Rattle.std.proofs.lemmas.List.{get_or-take, length-take, length-take-le}
+use Rattle.std.proofs.lemmas.Str.{IsCharBoundary-after_ascii}
 use Rattle.starlark_grammar.specs.Words.{Text, language}
-use Rattle.starlark_grammar.specs.Tokens.{Fault, InvalidTab, Lexeme, Outcome, Spanned, moved}
-use Rattle.starlark_grammar.specs.Margins.{has_tab, is_content, margin_of}
-use Rattle.starlark_grammar.specs.Pieces.{Fails}
-use Rattle.starlark_grammar.specs.Reading.{next_step, nothing, outcome, pieces_len, read}
-use Rattle.starlark_grammar.specs.Cuts.{before_newline, is_clean_cut, tabbed, without_closing}
+use Rattle.starlark_grammar.specs.Reading.{outcome, pieces_len, read}
+use Rattle.starlark_grammar.specs.Cuts.{is_clean_cut, without_closing}
 use Rattle.starlark_grammar.specs.Laws.{HasFirstMargin}
-use Rattle.starlark_grammar.proofs.Joining.CleanCuts.{cut, cuts_join}
+use Rattle.starlark_grammar.proofs.Joining.CleanCuts.{cut}
 use Rattle.starlark_grammar.proofs.Joining.Followed.{ends_line}
-use Rattle.starlark_grammar.proofs.Joining.Laws.{cuts_of_joined, kept_cuts_keep, tabs_behind_cuts}
-use Rattle.starlark_grammar.proofs.Joining.Tabs.{BehindTab, HasTab, behind_tab, first_margin_is, first_step, margin_tab, outcome_by, tab}
-use Rattle.starlark_grammar.proofs.Reading.Readings.{one_longest, read_is}
+use Rattle.starlark_grammar.proofs.Joining.Laws.{cuts_of_joined}
 use Rattle.starlark_grammar.proofs.Indentation.Totals.{outcome_balances}
-use Rattle.starlark_syntax.specs.Lexemes.{lexeme_view, shown_lexeme}
-use Rattle.starlark_syntax.specs.Joints.LexedTexts.{AllNearCuts, AreCuts, IsCutOf, IsRising, last_newline_of, later, later_cut, lexemes_before}
+use Rattle.starlark_syntax.specs.Joints.LexedTexts.{AllNearCuts, AreCuts, IsCutOf, IsRising, later_cut}
 use Rattle.starlark_syntax.specs.declared.lexer.lexed_text.cuts.Cut.{Cut}
-use Rattle.starlark_token.specs.declared.tokens.Token.{Token}
-use Rattle.starlark_token.specs.TokenViews.{TokenView}
-use Rattle.starlark_syntax.proofs.LexedTexts.Joined.{cut_joined, shown_later, viewed_later}
-use Rattle.starlark_syntax.proofs.LexedTexts.KeptCuts.{clean_faultless, count_is, count_joined, kept_by, kept_parts, no_more_before, reach_joined, take_all}
-use Rattle.starlark_syntax.proofs.LexedTexts.Newlines.{FoundNewline, none_shown, some_shown}
-use Rattle.starlark_syntax.proofs.Reader.Onward.{first_fails, margin_first}
+use Rattle.starlark_syntax.proofs.LexedTexts.KeptCuts.{clean_faultless, count_is, count_joined, kept_by, kept_parts, reach_joined, take_all}
 
 -- Cuts
 

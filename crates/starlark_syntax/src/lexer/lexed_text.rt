@@ -156,9 +156,9 @@ impl<'a> LexedText<'a> {
         })
     }
 
-    /// The lexed text behind an edit: `edited` has the same bytes as this text up to `from`, and any behind it. Only what
-    /// stands behind the last kept cut at or before `from` is read; the lexemes before it are moved. The answer is what
-    /// `lex` makes of `edited`, with its fault in this code map. Want of memory hands this text back as it was.
+    /// The lexed text behind an edit: `edited` has the same bytes as this text up to `from`, in bytes, and any behind it.
+    /// What stands behind the last stored cut at or before `from` is read, and the lexemes before that are kept. The answer
+    /// is what `lex` makes of `edited`, with its fault in this code map. Want of memory hands this text back as it was.
     pub fn relex(
         self,
         from: usize,

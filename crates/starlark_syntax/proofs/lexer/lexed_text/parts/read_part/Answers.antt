@@ -1,4 +1,4 @@
-use Rattle.std.proofs.Common.{◌≡◌, ℕ, List, ap, arith, length, refl, subst, sym, ◌∙◌}
+use Rattle.std.proofs.Common.{◌≡◌, ℕ, List, ap, length, refl, subst, sym, ◌∙◌}
 use Rattle.starlark_syntax.specs.Joints.LexedTexts.{end_cuts}
 use Rattle.starlark_token.specs.declared.tokens.Token.{Token}
 use Rattle.starlark_grammar.specs.Cuts.{is_clean_cut}
@@ -6,9 +6,8 @@ use Rattle.starlark_grammar.specs.Reading.{outcome}
 use Rattle.starlark_syntax.specs.Joints.Reader.{IsNext}
 use Rattle.starlark_syntax.specs.declared.lexer.reader.Next.{Next}
 use Rattle.starlark_syntax.specs.declared.lexer.reader.Next.TheVariants as next
-use Rattle.starlark_syntax.proofs.LexedTexts.CleanCuts.{faultless_cut, faulty_cut, open_cut, settled_cut}
+use Rattle.starlark_syntax.proofs.LexedTexts.CleanCuts.{faultless_cut, open_cut, settled_cut}
 use Rattle.starlark_syntax.proofs.LexedTexts.Collected.{IsCollected, all_given, collected_none, fault_given, less_left, one_more, some_given}
-use Rattle.starlark_syntax.proofs.Reader.LexerItems.{fault_within}
 use Rattle.starlark_syntax.proofs.lexer.lexed_text.parts.read_part.Goals as goal
 use Rattle.starlark_syntax.proofs.lexer.lexed_text.parts.read_part.Goals.{then-is_settled, else-is_settled}
 

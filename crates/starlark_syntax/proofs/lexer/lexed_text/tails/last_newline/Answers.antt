@@ -1,4 +1,4 @@
-use Rattle.std.proofs.Common.{◌≡◌, ◌-◌, arith, suc, ap, map, sym, take, ◌∙◌, length, Some}
+use Rattle.std.proofs.Common.{◌≡◌, ◌-◌, arith, suc, ap, map, sym, take, ◌∙◌}
 use Rattle.starlark_syntax.specs.Joints.LexedTexts.{last_newline_of}
 use Rattle.starlark_syntax.specs.Lexemes.{lexeme_view}
 use Rattle.starlark_syntax.proofs.LexedTexts.Newlines.{one_more_is, one_more_not}
