@@ -1,7 +1,7 @@
 use Rattle.std.proofs.Common.{◌-◌, length}
 use Rattle.starlark_grammar.specs.Reading.{outcome}
 use Rattle.starlark_syntax.proofs.LexedTexts.Collected.{IsCollected}
-use Rattle.starlark_syntax.proofs.lexer.lexed_text.read_text.Given as goal
+use Rattle.starlark_syntax.proofs.lexer.lexed_text.parts.read_part.Given as goal
 
 abbrev pub invariant-loop-lexemes : goal.invariant-loop-lexemes
 invariant-loop-lexemes l = IsCollected l.text l.reader l.lexemes.items
