@@ -13,16 +13,19 @@ With no request refused a row has the answer that is stored, and no run ends in 
 
     scripts/refused_memory.py [--rows N]    tries N rows of each call that takes no memory itself; 1 if it isn't given
 
-It needs a C compiler, as `cc`, and the GNU C library: refusing_allocator.c is loaded into the programs. Those that aren't
-built yet are proved and built first. The exit status is 1 where a run answered something else.
+It needs a C compiler (`CC`, `cc`, `gcc` or `clang`) and the GNU C library: refusing_allocator.c is loaded into the programs.
+Programs that aren't built, or are older than a source, are proved and built first. The exit status is 0 where every run
+was as it has to be, 1 where one was not, and 2 where nothing could be tried, or nothing was refused; a line says which.
 """
 
 import argparse
 import os
+import shutil
 import subprocess
 import sys
 import tempfile
 from collections import Counter
+from concurrent.futures import ThreadPoolExecutor
 from pathlib import Path
 
 TOP = Path(__file__).resolve().parent.parent
@@ -51,6 +54,12 @@ TEXTS = [
     b"name_of_some_length = 'text' # comment\n" * 600,
     b"\xff",
 ]
+
+
+def give_up(why):
+    """Ends where nothing could be tried."""
+    print(why, file=sys.stderr)
+    sys.exit(2)
 
 
 class Run:
@@ -94,14 +103,49 @@ def is_text_kept(run, whole):
     return WANT_OF_MEMORY in run.message or (run.output == b"" and run.message.startswith(b"usage: "))
 
 
+def is_current(program):
+    """Whether a program is there and no older than each file that it is built from."""
+    if not program.exists():
+        return False
+    sources = [TOP / "crates.txt"]
+    for folder, folders, files in os.walk(TOP / "crates"):
+        folders[:] = [name for name in folders if name != "out"]
+        sources += [Path(folder) / name for name in files if name.endswith((".rt", ".antt"))]
+    return max(source.stat().st_mtime for source in sources) <= program.stat().st_mtime
+
+
 def built(name):
-    """The program of a crate, which is proved and built where it isn't yet."""
+    """The program of a crate, which is proved and built where it isn't there or is older than a source."""
     crate = TOP / "crates" / name
     program = crate / "out" / name
-    subprocess.run(["rt", "run"], cwd=crate, stdin=subprocess.DEVNULL, stdout=subprocess.DEVNULL, check=False)
-    if not program.exists():
-        sys.exit(f"{program} isn't there: rt run in {crate} says why")
+    if is_current(program):
+        return program
+    print(f"proving and building {name}", file=sys.stderr)
+    try:
+        ran = subprocess.run(["rt", "run"], cwd=crate, stdin=subprocess.DEVNULL, capture_output=True, check=False)
+    except FileNotFoundError:
+        give_up(f"{name} isn't built, and there is no rt on the path to build it")
+    if not program.exists() or b"not-proved" in ran.stdout + ran.stderr:
+        give_up(f"{name} isn't built: rt run in {crate} says why")
     return program
+
+
+def compiler():
+    """The C compiler that is there."""
+    for name in [os.environ.get("CC"), "cc", "gcc", "clang"]:
+        if name and shutil.which(name):
+            return name
+    give_up("nothing was tried: there is no C compiler, as cc, gcc or clang, for refusing_allocator.c")
+
+
+def built_allocator(folder):
+    """The library that refuses requests, built in a folder."""
+    allocator = Path(folder) / "refusing_allocator.so"
+    source = TOP / "scripts" / "refusing_allocator.c"
+    made = subprocess.run([compiler(), "-O1", "-shared", "-fPIC", "-o", allocator, source], capture_output=True, check=False)
+    if made.returncode != 0:
+        give_up(f"nothing was tried: refusing_allocator.c isn't compiled: {made.stderr.decode(errors='replace')}")
+    return allocator
 
 
 def tried_rows(most):
@@ -118,41 +162,55 @@ def tried_rows(most):
 
 
 class Tries:
-    """Runs of one program with each of its requests refused, and what was found."""
+    """Runs of a program over one input, with each of its requests refused in turn, and what was found."""
 
-    def __init__(self, allocator):
-        self.allocator = allocator
-        self.runs = 0
-        self.refused = 0
-        self.wrong = 0
+    def __init__(self, allocator, program, stdin):
+        self.allocator, self.program, self.stdin = allocator, program, stdin
+        self.runs = self.refused = 0
+        self.wrong = []
 
-    def report(self, what, number, run):
-        self.wrong += 1
-        print(f"{what!r}, request {number} refused: status {run.status}, printed {run.output[-200:]!r}, {run.message!r}")
+    def run(self, number):
+        return Run(self.program, self.allocator, self.stdin, number)
 
-    def each_request(self, program, stdin, what, whole, is_kept):
-        """Refuses the requests of a run one after another."""
+    def report(self, number, run):
+        self.wrong.append(
+            f"{self.stdin[:200]!r}, request {number} refused: status {run.status}, "
+            f"printed {run.output[-200:]!r}, {run.message!r}"
+        )
+
+    def each_request(self, whole, is_kept):
+        """Refuses the requests of a run one after another, up to a run that has no such request."""
         for number in range(1, MOST_REQUESTS):
-            run = Run(program, self.allocator, stdin, number)
+            run = self.run(number)
             self.runs += 1
             self.refused += run.status != whole.status
             if not is_kept(run):
-                self.report(what, number, run)
+                self.report(number, run)
             if run.requests < number:
+                if run.requests < 1:
+                    self.report(number, run)
                 return
-        sys.exit(f"{what!r}: more than {MOST_REQUESTS} requests")
+        self.wrong.append(f"{self.stdin[:200]!r}: more than {MOST_REQUESTS} requests")
 
-    def row(self, program, row, answer):
-        whole = Run(program, self.allocator, row + b"\n", 0)
-        if whole.status != 0 or whole.output != answer:
-            self.report(row, 0, whole)
-        self.each_request(program, row + b"\n", row, whole, lambda run: is_row_kept(run, answer, row))
 
-    def text(self, program, text):
-        whole = Run(program, self.allocator, text, 0)
-        if WANT_OF_MEMORY in whole.message:
-            self.report(text[:60], 0, whole)
-        self.each_request(program, text, text[:60], whole, lambda run: is_text_kept(run, whole))
+def tried_row(allocator, program, row, answer):
+    """A row with each of its requests refused in turn. With none refused it has to have its stored answer."""
+    tries = Tries(allocator, program, row + b"\n")
+    whole = tries.run(0)
+    if whole.status != 0 or whole.output != answer:
+        tries.report(0, whole)
+    tries.each_request(whole, lambda run: is_row_kept(run, answer, row))
+    return tries
+
+
+def tried_text(allocator, program, text):
+    """A text with each of the program's requests refused in turn. With none refused no memory may be wanting."""
+    tries = Tries(allocator, program, text)
+    whole = tries.run(0)
+    if WANT_OF_MEMORY in whole.message or whole.status not in (0, 1, 2):
+        tries.report(0, whole)
+    tries.each_request(whole, lambda run: is_text_kept(run, whole))
+    return tries
 
 
 def main():
@@ -160,17 +218,19 @@ def main():
     arguments.add_argument("--rows", type=int, default=1, metavar="N")
     most = arguments.parse_args().rows
     rows, lex = built("starlark_rows"), built("starlark_lex")
-    with tempfile.TemporaryDirectory() as folder:
-        allocator = Path(folder) / "refusing_allocator.so"
-        source = TOP / "scripts" / "refusing_allocator.c"
-        subprocess.run(["cc", "-O1", "-shared", "-fPIC", "-o", allocator, source], check=True)
-        tries = Tries(allocator)
-        for row, answer in tried_rows(most):
-            tries.row(rows, row, answer)
-        for text in TEXTS:
-            tries.text(lex, text)
-    print(f"{tries.runs} runs, {tries.refused} of them ended otherwise than with ample memory, {tries.wrong} wrong")
-    return 1 if tries.wrong else 0
+    with tempfile.TemporaryDirectory() as folder, ThreadPoolExecutor(os.cpu_count()) as pool:
+        allocator = built_allocator(folder)
+        started = [pool.submit(tried_row, allocator, rows, row, answer) for row, answer in tried_rows(most)]
+        started += [pool.submit(tried_text, allocator, lex, text) for text in TEXTS]
+        tried = [it.result() for it in started]
+    wrong = [line for tries in tried for line in tries.wrong]
+    for line in wrong:
+        print(line)
+    runs, refused = sum(tries.runs for tries in tried), sum(tries.refused for tries in tried)
+    print(f"{len(tried)} inputs, {runs} runs, {refused} of them ended otherwise than with ample memory, {len(wrong)} wrong")
+    if not refused:
+        give_up("no request was refused: the programs don't use the C library's allocator")
+    return 1 if wrong else 0
 
 
 if __name__ == "__main__":

@@ -1,6 +1,7 @@
 //! Lexed texts: their lexemes, whether they are clean cuts, and what they come to joined.
 
-ghost use Rattle.std.specs.Prelude.{◌≡◌, ◌++◌, IfOk, string_bytes};
+ghost use Rattle.std.specs.Prelude.{◌≡◌, ◌++◌, IfOk, string_bytes, take, true};
+ghost use Rattle.std.specs.Str.{IsCharBoundary};
 
 use crate::code_maps::code_map;
 use crate::refusals::unchanged;
@@ -97,6 +98,40 @@ pub fn join(alloc: Global, first: &str, second: &str) -> Answer {
     }
 }
 
+/// Whether two texts have the same bytes up to a place between characters of both.
+fn agree(first: &str, second: &str, from: usize) -> bool
+    ensures { result ≡ true → IsCharBoundary first.now from × IsCharBoundary second.now from × (take from first.now ≡ take from second.now) }
+{
+    first.is_char_boundary(from) && second.is_char_boundary(from) && first[..from] == second[..from]
+}
+
+/// A lexed text that is lexed again behind an edit, as it prints. Where that is refused, the text is handed back.
+fn relexed<'a>(alloc: Global, old: LexedText<'a>, from: usize, edited: &'a str) -> Answer {
+    if !agree(old.text(), edited, from) || edited.len() > u32::MAX as usize {
+        return String::from_str(alloc, "no edit");
+    }
+    let map = code_map(alloc, "f", edited)?;
+    let before = printed(alloc, &old)?;
+    match old.relex(from, edited, &map) {
+        Ok(new) => printed(alloc, &new),
+        Err(old) => unchanged(alloc, before.as_str(), &printed(alloc, &old)?),
+    }
+}
+
+/// A text lexed again behind an edit, as it prints.
+pub fn relex(alloc: Global, text: &str, from: u32, edited: &str) -> Answer {
+    relexed(alloc, lexed(alloc, text)?, from as usize, edited)
+}
+
+/// Two texts joined, and lexed again behind an edit, as they print.
+pub fn relex_joined(alloc: Global, first: &str, second: &str, from: u32, edited: &str) -> Answer {
+    let both = both_texts(alloc, first, second)?;
+    match joined(alloc, first, second, both.as_str())? {
+        Some(old) => relexed(alloc, old, from as usize, edited),
+        None => String::from_str(alloc, "not joined"),
+    }
+}
+
 /// A text with its lexemes, as it prints.
 pub fn lex(alloc: Global, text: &str) -> Answer {
     printed(alloc, &lexed(alloc, text)?)
@@ -138,6 +173,8 @@ pub fn answer(alloc: Global, row: &Row) -> Answer {
         "is_clean_cut" => shown(alloc, &lexed(alloc, text)?.is_clean_cut()),
         "join" => join(alloc, text, row.text(3)),
         "join_each" => marks(alloc, row),
+        "relex" => relex(alloc, text, row.count(3), row.text(4)),
+        "relex_joined" => relex_joined(alloc, text, row.text(3), row.count(4), row.text(5)),
         _ => unknown(alloc, row),
     }
 }

@@ -251,6 +251,7 @@ pub fn answer(alloc: Global, row: &Row) -> Answer {
         "lexemes" => lexemes(alloc, row.text(2)),
         "lex" => lexed_texts::lex(alloc, row.text(2)),
         "join" => lexed_texts::join(alloc, row.text(2), row.text(3)),
+        "relex" => lexed_texts::relex(alloc, row.text(2), row.count(3), row.text(4)),
         _ => of_file(alloc, row),
     }
 }

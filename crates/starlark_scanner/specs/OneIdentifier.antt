@@ -11,11 +11,12 @@ use Rattle.starlark_grammar.specs.EarlierLanguage.{earlier_front}
 abbrev pub FrontOf : Type 0
 FrontOf = Text → Option (Class × ℕ)
 
--- Words one behind another, each the longest front of what is left, and what is left behind them.
+-- Words one behind another, each found at the front of what is left, and what is left behind them.
 abbrev pub ReadsBy : FrontOf → Text → List (Class × Text) → Text → Type 0
 ReadsBy front text [] rest = text ≡ rest
 ReadsBy front text (word ∷ words) rest = (more : Text) × (text ≡ word.1 ++ more) × (front text ≡ Some (word.0, length word.1)) × ReadsBy front more words rest
 
+-- … by the longest front of the language
 abbrev pub Reads : Text → List (Class × Text) → Text → Type 0
 Reads = ReadsBy language_front
 
@@ -28,6 +29,7 @@ pub record IsOneIdentifierBy (front : FrontOf) (text name : Text) : Type 0 where
   pub behind : List Text
   pub words : ReadsBy front text (map skipped before ++ (Identifier, name) ∷ map skipped behind) []
 
+-- … by the longest front of the language
 abbrev pub IsOneIdentifier : Text → Text → Type 0
 IsOneIdentifier = IsOneIdentifierBy language_front
 

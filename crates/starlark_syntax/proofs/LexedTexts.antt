@@ -3,3 +3,9 @@ pub mod Collected
 pub mod Within
 pub mod CleanCuts
 pub mod Joined
+pub mod Newlines
+pub mod KeptCuts
+pub mod Begins
+pub mod Relexed
+pub mod Parts
+pub mod Edits

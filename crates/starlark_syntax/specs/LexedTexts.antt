@@ -1,5 +1,5 @@
 -- What a lexed text is to its user.
-use Rattle.std.specs.Prelude.{◌≡◌, ◌-◌, List, ◌++◌, map, take, length, Option, Some, None, ⊤}
+use Rattle.std.specs.Prelude.{◌≡◌, ◌-◌, ℕ, List, ◌++◌, map, take, length, Option, Some, None, ⊤}
 use Rattle.starlark_base.specs.Sources.{SourceFile}
 use Rattle.starlark_base.specs.Diagnostics.{Diagnosed}
 use Rattle.starlark_error.specs.declared.error.kinds.ErrorKind.{ErrorKind}
@@ -10,11 +10,12 @@ use Rattle.starlark_syntax.specs.Lexemes.{shown_lexeme}
 use Rattle.starlark_syntax.specs.Lexer.{IsException}
 use Rattle.starlark_token.specs.TokenViews.{TokenView}
 
--- A lexed text: its text, its lexemes, and the exception of its fault.
+-- A lexed text: its text, its lexemes, the exception of its fault, and how often bytes of it were read for that.
 pub record LexedView : Type 0 where
   pub text : Text
   pub lexemes : List (grammar.Spanned TokenView)
   pub fault : Option (Diagnosed ErrorKind)
+  pub reads : ℕ
 
 -- The exception of a fault in a code map. There is one exactly where there is a fault.
 abbrev pub IsFaultIn : SourceFile → Option (grammar.Spanned grammar.Fault) → Option (Diagnosed ErrorKind) → Type 0
@@ -27,10 +28,11 @@ pub record IsLexed (file : SourceFile) (lexed : LexedView) : Type 0 where
   pub lexemes : lexed.lexemes ≡ map shown_lexeme (outcome lexed.text).lexemes
   pub fault : IsFaultIn file (outcome lexed.text).fault lexed.fault
 
--- the first of two lexed texts without its last lexeme, and the second one's lexemes behind the first text
+-- the first of two lexed texts without its last lexeme, and the second one's lexemes behind the first text; no byte is read
 abbrev pub joined : LexedView → LexedView → LexedView
 joined first second = record {
   text = first.text ++ second.text;
   lexemes = take (length first.lexemes - 1) first.lexemes ++ map (grammar.moved (length first.text)) second.lexemes;
   fault = None;
+  reads = 0;
 }

@@ -1,15 +1,15 @@
 -- The lexemes of a text that were handed out so far, in a list.
-use Rattle.std.proofs.Common.{◌≡◌, ℕ, ◌+◌, ◌-◌, ◌<◌, List, [], ◌∷◌, ◌++◌, map, length, ap, sym, subst, ◌∙◌, arith, append-nil, append_assoc, length-append, None, Some}
+use Rattle.std.proofs.Common.{◌≡◌, Bool, true, false, ℕ, ◌+◌, ◌-◌, ◌<◌, List, [], ◌∷◌, ◌++◌, map, length, ap, sym, subst, ◌∙◌, arith, append-nil, append_assoc, length-append, None, Some}
 use Rattle.std.proofs.lemmas.List.{length-map, map-append}
-use Rattle.starlark_base.specs.Diagnostics.{Diagnosed}
-use Rattle.starlark_base.specs.Sources.{SourceFile}
-use Rattle.starlark_error.specs.declared.error.kinds.ErrorKind.{ErrorKind}
 use Rattle.starlark_grammar.specs.Words.{Text}
 use Rattle.starlark_grammar.specs.Tokens.{Fault, Spanned}
 use Rattle.starlark_grammar.specs.Reading.{outcome}
 use Rattle.starlark_syntax.specs.Lexemes.{lexeme_view, shown_lexeme}
-use Rattle.starlark_syntax.specs.LexedTexts.{IsFaultIn, IsLexed}
-use Rattle.starlark_syntax.specs.Lexer.{IsException}
+use Rattle.starlark_grammar.specs.Cuts.{is_clean_cut}
+use Rattle.starlark_syntax.specs.Joints.LexedTexts.{AreCuts, IsCutOf, IsPart, IsPlacedFault, end_cuts}
+use Rattle.starlark_syntax.specs.declared.lexer.lexed_text.parts.Part.{Part}
+use Rattle.starlark_syntax.proofs.LexedTexts.CleanCuts.{faulty_cut}
+use Rattle.starlark_syntax.proofs.LexedTexts.KeptCuts.{some_lexemes, whole_kept}
 use Rattle.starlark_syntax.specs.Joints.Reader.{IsAhead, IsAheadBehind}
 use Rattle.starlark_token.specs.TokenViews.{TokenView}
 use Rattle.starlark_syntax.specs.declared.lexer.reader.Reader.{Reader}
@@ -46,16 +46,34 @@ none_ahead : (text : Text) (reader : Reader) (found : List (ℕ × Token × ℕ)
 none_ahead text reader found is none = sym (is.all ∙ ap (λ vs. map lexeme_view found ++ vs) none ∙ append-nil (map lexeme_view found))
 
 -- with the text's fault behind them
-pub fault_given : (file : SourceFile) (text : Text) (reader : Reader) (found : List (ℕ × Token × ℕ)) (is : IsCollected text reader found) (fault : Spanned Fault) (exception : Diagnosed ErrorKind) → is.rest ≡ [] → (outcome text).fault ≡ Some fault → IsException file fault exception
-    → IsLexed file (record { text = text; lexemes = map lexeme_view found; fault = Some exception })
-fault_given file text reader found is fault exception none at thrown = record {
-  lexemes = none_ahead text reader found is none;
-  fault = subst (λ f. IsFaultIn file f (Some exception)) (sym at) thrown;
+pub fault_given : (text : Text) (reader : Reader) (part : Part) (is : IsCollected text reader part.lexemes.items) (fault : Spanned Fault) → is.rest ≡ [] → (outcome text).fault ≡ Some fault → IsPlacedFault (Some fault) part.fault
+    → part.cuts.items ≡ [] → part.is_cut ≡ false → IsPart text part
+fault_given text reader part is fault none at placed no_cuts no_cut = record {
+  lexemes = none_ahead text reader part.lexemes.items is none;
+  fault = subst (λ f. IsPlacedFault f part.fault) (sym at) placed;
+  cuts = subst (AreCuts text) (sym no_cuts) (record { each = tt; order = tt });
+  is_cut = no_cut ∙ sym (faulty_cut text fault at);
 }
 
+-- the cut at a text's end, where it is one
+end_is : (text : Text) (count : ℕ) (is_cut : Bool) → is_cut ≡ is_clean_cut text → count ≡ length (outcome text).lexemes → AreCuts text (end_cuts text count is_cut)
+end_is text count true is same = record { each = (subst (λ n. IsCutOf text (record { at = length text; lexemes = n - 1 })) (sym same) (whole_kept text (sym is)), tt); order = (tt, tt) }
+end_is text count false is same = record { each = tt; order = tt }
+
 -- where the text has none
-pub all_given : (file : SourceFile) (text : Text) (reader : Reader) (found : List (ℕ × Token × ℕ)) (is : IsCollected text reader found) → is.rest ≡ [] → (outcome text).fault ≡ None → IsLexed file (record { text = text; lexemes = map lexeme_view found; fault = None })
-all_given file text reader found is none at = record {
-  lexemes = none_ahead text reader found is none;
-  fault = subst (λ f. IsFaultIn file f None) (sym at) tt;
-}
+pub all_given : (text : Text) (reader : Reader) (part : Part) (is : IsCollected text reader part.lexemes.items) → is.rest ≡ [] → (outcome text).fault ≡ None → part.fault ≡ None
+    → part.cuts.items ≡ end_cuts text (length part.lexemes.items) part.is_cut → part.is_cut ≡ is_clean_cut text → IsPart text part
+all_given text reader part is none at no_fault cuts is_cut =
+    let all = none_ahead text reader part.lexemes.items is none in
+    let count : length part.lexemes.items ≡ length (outcome text).lexemes = sym (length-map part.lexemes.items lexeme_view) ∙ ap length all ∙ length-map (outcome text).lexemes shown_lexeme in
+    record {
+      lexemes = all;
+      fault = subst (λ f. IsPlacedFault f part.fault) (sym at) (subst (IsPlacedFault None) (sym no_fault) tt);
+      cuts = subst (AreCuts text) (sym cuts) (end_is text (length part.lexemes.items) part.is_cut is_cut count);
+      is_cut = is_cut;
+    }
+
+-- Nothing is ahead of a text without fault only where it has a lexeme at least.
+pub some_given : (text : Text) (reader : Reader) (found : List (ℕ × Token × ℕ)) (is : IsCollected text reader found) → is.rest ≡ [] → (outcome text).fault ≡ None → 0 < length found
+some_given text reader found is none at =
+    omega (arith, some_lexemes text at, ap length (none_ahead text reader found is none), length-map found lexeme_view, length-map (outcome text).lexemes shown_lexeme)

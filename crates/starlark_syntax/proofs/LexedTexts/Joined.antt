@@ -29,7 +29,7 @@ no_fault file None exception e h = refl
 no_fault file (Some fault) exception e h = absurd (subst (IsFaultIn file (Some fault)) e h)
 
 -- the first margin of a text without fault stands
-begun : (text : Text) → (outcome text).fault ≡ None → HasFirstMargin language text
+pub begun : (text : Text) → (outcome text).fault ≡ None → HasFirstMargin language text
 begun text none = go (first_margin_is text)
   where
     go : HasFirstMargin language text ⊎ HasTab (margin_of text) → HasFirstMargin language text
@@ -45,7 +45,7 @@ outcome_joined first second clean none =
     cuts_join first second clean (begun second none)
     ∙ ap (λ f. record { lexemes = joined (length first) (outcome first).lexemes (outcome second).lexemes; fault = option_map (moved (length first)) f }) none
 
-shown_later : (len : ℕ) (lexemes : List Lexeme) → map shown_lexeme (map (moved len) lexemes) ≡ map (moved len) (map shown_lexeme lexemes)
+pub shown_later : (len : ℕ) (lexemes : List Lexeme) → map shown_lexeme (map (moved len) lexemes) ≡ map (moved len) (map shown_lexeme lexemes)
 shown_later len [] = refl
 shown_later len (l ∷ ls) = ap (λ vs. shown_lexeme (moved len l) ∷ vs) (shown_later len ls)
 
@@ -73,7 +73,7 @@ joined_lexed one other first second clean none first_is second_is file =
 
 -- The list
 
-viewed_later : (len : ℕ) (lexemes : List (ℕ × Token × ℕ)) → map lexeme_view (map (later len) lexemes) ≡ map (moved len) (map lexeme_view lexemes)
+pub viewed_later : (len : ℕ) (lexemes : List (ℕ × Token × ℕ)) → map lexeme_view (map (later len) lexemes) ≡ map (moved len) (map lexeme_view lexemes)
 viewed_later len [] = refl
 viewed_later len (x ∷ xs) = ap (λ vs. lexeme_view (later len x) ∷ vs) (viewed_later len xs)
 

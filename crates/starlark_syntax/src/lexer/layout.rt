@@ -1,12 +1,13 @@
 //! Reads margins, which stand at the begin of lines, and keeps the widths that are open.
 
-ghost use Rattle.std.specs.Prelude.{◌≡◌, ◌+◌, ◌-◌, ◌<◌, ◌≤◌, ◌^◌, ◌++◌, ◌∷◌, ℕ, List, [], drop, length, map, option_to_list, IfOk, OnOk};
+ghost use Rattle.std.specs.Prelude.{◌≡◌, ◌&&◌, ◌+◌, ◌-◌, ◌<◌, ◌≤◌, ◌^◌, ◌++◌, ◌∷◌, ℕ, List, [], drop, length, map, option_to_list, IfOk, OnOk};
 ghost use Rattle.std.specs.Str.{IsCharBoundary, IsUtf8};
 ghost use Rattle.starlark_syntax.specs.Joints.Layout.{IsDecided, IsLaid, IsMargin, margin_lexemes, margin_piece, margin_width};
 ghost use Rattle.starlark_syntax.specs.Joints.Pending.{IsPending, owed, pending_lexemes};
 ghost use Rattle.starlark_syntax.specs.Joints.Reads.{AreMarginReads};
 ghost use Rattle.starlark_grammar.specs.Words.{Text};
 ghost use Rattle.starlark_grammar.specs.Margins as grammar;
+ghost use Rattle.starlark_grammar.specs.Margins.{has_tab, is_content};
 ghost use Rattle.starlark_grammar.specs.Pieces as pieces;
 ghost use Rattle.starlark_grammar.specs.Tokens as tokens;
 
@@ -86,6 +87,14 @@ fn take_margin(
         to: begin + margin.at,
         behind,
     })
+}
+
+/// Whether the margin at the front of a text has a tab before content.
+pub fn begins_with_tab(reads: &mut Reads, text: &str) -> bool
+    ensures { result ≡ (is_content (grammar.margin_of text.now).behind && has_tab (grammar.margin_of text.now)) }
+{
+    let margin = margin_of(reads, text);
+    margin.is_content && margin.blanks.has_tab
 }
 
 /// Reads the margin at a text's begin, where no width is open. Before a fault its comments are handed out. After an

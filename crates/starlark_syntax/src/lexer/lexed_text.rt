@@ -1,106 +1,61 @@
 //! Texts with all their lexemes.
 
-ghost use Rattle.std.specs.Prelude.{◌≡◌, ◌<◌, ◌≤◌, ◌+◌, ◌-◌, ◌++◌, ◌==◌, ◌||◌, ◌^◌, ◌↔◌, ℕ, List, None, codes, length, nat_eq, map, true, IfOk, IfErr, option_copied, take, vec_capacity, vec_len};
-ghost use Rattle.std.specs.List.{All, ends_with};
+ghost use Rattle.std.specs.Prelude.{◌≡◌, ◌<◌, ◌≤◌, ◌+◌, ◌*◌, ◌-◌, ◌++◌, ◌==◌, ◌||◌, ◌^◌, ◌↔◌, ℕ, List, None, length, map, true, IfOk, IfErr, option_copied, take};
+ghost use Rattle.std.specs.List.{All};
+ghost use Rattle.std.specs.Str.{IsCharBoundary};
 ghost use Rattle.starlark_base.specs.Refusals.{IsRefused};
 ghost use Rattle.starlark_base.specs.Sources.{SourceFile};
 ghost use Rattle.starlark_grammar.specs.Cuts.{is_clean_cut};
-ghost use Rattle.starlark_syntax.specs.Joints.LexedTexts.{AllNear, later};
 ghost use Rattle.starlark_syntax.specs.LexedTexts.{IsLexed};
 ghost use Rattle.starlark_syntax.specs.LexedTexts as texts;
 ghost use Rattle.starlark_syntax.specs.Lexemes.{lexeme_view};
 ghost use Rattle.starlark_syntax.specs.Lexer.{IsWithin};
 
-use crate::lexer::layout::PlacedToken;
-use crate::lexer::lexemes::exception;
-use crate::lexer::reader::{Next, Reader};
+mod cuts;
+mod parts;
+mod tails;
+
+use crate::lexer::layout::{PlacedToken, begins_with_tab};
+use cuts::{Cut, append_cuts, begin_of, is_cut_behind};
+use parts::{exception_of, read_part};
 use starlark_base::codemap::{CodeMap, OrMemory, SourceTooLong};
 use starlark_base::dialect::Dialect;
 use starlark_error::eval_exception::EvalException;
+use starlark_scanner::reads::Reads;
 use starlark_token::tokens::Token;
-use std::alloc::{AllocError, Global};
+use std::alloc::Global;
 use std::marker::Model;
+use tails::{append_later, given_behind, kept_of, make_room};
 
-/// A text with its lexemes and its fault, if it has one. In a contract it is these three.
+/// A text with its lexemes and its fault, if it has one. In a contract it is these three, and how often bytes of it were
+/// read. It keeps places where it may be
+/// cut, so that a text with an edit behind one of them is lexed from there on.
 #[derive(Drop)]
 pub struct LexedText<'a> {
     text: &'a str,
     lexemes: Vec<PlacedToken>,
     fault: Option<EvalException>,
+    cuts: Vec<Cut>,
     is_cut: bool,
+    reads: u64,
 }
 
 impl<'a> Model for LexedText<'a> {
     ghost use Rattle.std.specs.Prelude.{◌≡◌, ◌<◌, ◌^◌, length, map};
     ghost use Rattle.starlark_base.specs.Sources.{SourceFile};
     ghost use Rattle.starlark_grammar.specs.Cuts.{is_clean_cut};
+    ghost use Rattle.starlark_syntax.specs.Joints.LexedTexts.{AreCuts};
     ghost use Rattle.starlark_syntax.specs.LexedTexts.{IsLexed, LexedView};
     ghost use Rattle.starlark_syntax.specs.Lexemes.{lexeme_view};
 
     ghost Value = { LexedView };
 
-    ghost view = { λ lexed. record { text = lexed.text.now; lexemes = map lexeme_view lexed.lexemes.items; fault = lexed.fault } };
+    ghost view = { λ lexed. record { text = lexed.text.now; lexemes = map lexeme_view lexed.lexemes.items; fault = lexed.fault; reads = lexed.reads } };
 
     ghost invariant = { λ lexed. (length lexed.text.now < 2 ^ 32)
         × (lexed.is_cut ≡ is_clean_cut lexed.text.now)
-        × ((file : SourceFile) × IsLexed file (record { text = lexed.text.now; lexemes = map lexeme_view lexed.lexemes.items; fault = lexed.fault })) };
-}
-
-/// Whether the last byte of a text is an LF.
-fn ends_with_feed(text: &str) -> bool
-    ensures { result ≡ ends_with nat_eq text.now (codes "\n") }
-{
-    text.as_bytes().ends_with(b"\n")
-}
-
-/// A text with its lexemes and its fault, which lies in a code map.
-fn read_text<'a>(
-    alloc: Global,
-    text: &'a str,
-    code_map: &CodeMap,
-) -> Result<LexedText<'a>, AllocError>
-    requires fits { length text.now < 2 ^ 32 }
-    ensures text { IfOk result (λ lexed. lexed.text ≡ text.now) }
-    ensures lexed { IfOk result (λ lexed. IsLexed code_map.now lexed) }
-{
-    let mut reader = Reader::new(alloc);
-    let mut lexemes = Vec::new(alloc);
-    loop {
-        match reader.next(text)? {
-            Next::Lexeme(lexeme) => lexemes.push(lexeme)?,
-            Next::Fault { begin, fault, end } => {
-                let fault = exception(alloc, begin, fault, end, code_map)?;
-                return Ok(LexedText {
-                    text,
-                    lexemes,
-                    fault: Some(fault),
-                    is_cut: false,
-                });
-            }
-            Next::Nothing => {
-                let is_cut = reader.is_settled() && ends_with_feed(text);
-                return Ok(LexedText {
-                    text,
-                    lexemes,
-                    fault: None,
-                    is_cut,
-                });
-            }
-        }
-    }
-}
-
-/// Puts lexemes in the place of the last one of a list that has room for them, each so many bytes further on.
-fn append_later(lexemes: &mut Vec<PlacedToken>, more: Vec<PlacedToken>, len: usize)
-    requires room { vec_len lexemes.old + vec_len more ≤ vec_capacity lexemes.old }
-    requires near { AllNear more.items }
-    requires fits { len < 2 ^ 32 }
-    ensures { lexemes.new.items ≡ take (length lexemes.old.items - 1) lexemes.old.items ++ map (later len) more.items }
-{
-    lexemes.pop();
-    for (begin, token, end) in more {
-        lexemes.push_reserved((len + begin, token, len + end));
-    }
+        × AreCuts lexed.text.now lexed.cuts.items
+        × ((file : SourceFile) × IsLexed file (record { text = lexed.text.now; lexemes = map lexeme_view lexed.lexemes.items; fault = lexed.fault; reads = lexed.reads })) };
 }
 
 impl<'a> LexedText<'a> {
@@ -114,12 +69,23 @@ impl<'a> LexedText<'a> {
     ) -> Result<LexedText<'a>, OrMemory<SourceTooLong>>
         ensures text { IfOk result (λ lexed. lexed.text ≡ input.now) }
         ensures lexed { IfOk result (λ lexed. IsLexed code_map lexed) }
+        ensures most_reads { IfOk result (λ lexed. lexed.reads ≤ 16 * (length input.now + 1)) }
+        ensures least_reads { IfOk result (λ lexed. lexed.fault ≡ None → length input.now ≤ lexed.reads) }
         ensures too_long { IsRefused result ↔ (2 ^ 32 ≤ length input.now) }
     {
         if input.len() > u32::MAX as usize {
             return Err(OrMemory::Error(SourceTooLong));
         }
-        Ok(read_text(alloc, input, &code_map)?)
+        let part = read_part(alloc, input)?;
+        let fault = exception_of(alloc, part.fault, 0, &code_map)?;
+        Ok(LexedText {
+            text: input,
+            lexemes: part.lexemes,
+            fault,
+            cuts: part.cuts,
+            is_cut: part.is_cut,
+            reads: part.reads,
+        })
     }
 
     /// The text.
@@ -143,6 +109,15 @@ impl<'a> LexedText<'a> {
         ensures { option_copied result ≡ self.now.fault }
     {
         self.fault.as_ref()
+    }
+
+    /// How often bytes of the text were read by the call that made this: each look at a byte counts, looks ahead included,
+    /// and each byte of those that are looked at together. At most `16 * (n + 1)` after `lex`, where the text has `n` bytes,
+    /// and at least `n` where it has no fault; 0 after `join`.
+    pub fn reads(&self) -> u64
+        ensures { result ≡ self.now.reads }
+    {
+        self.reads
     }
 
     /// Whether other texts may be joined to this one: it has no fault, its last byte is an LF that ends a line, and no
@@ -176,17 +151,73 @@ impl<'a> LexedText<'a> {
         ensures refused { IfErr result (λ both. both ≡ (self.entry, second.entry)) }
     {
         let mut first = self;
-        if first.lexemes.reserve(second.lexemes.len()).is_err() {
+        let kept = first.lexemes.len().saturating_sub(1);
+        let cuts = first.cuts.len();
+        if make_room(&mut first.lexemes, kept, second.lexemes.len()).is_err()
+            || make_room(&mut first.cuts, cuts, second.cuts.len()).is_err()
+        {
             return Err((first, second));
         }
         let is_cut = second.leaves_cut();
         let begin = first.text.len();
-        append_later(&mut first.lexemes, second.lexemes, begin);
+        append_later(&mut first.lexemes, kept, second.lexemes, begin);
+        append_cuts(&mut first.cuts, cuts, second.cuts, begin, kept);
         Ok(LexedText {
             text: joined,
             lexemes: first.lexemes,
             fault: None,
+            cuts: first.cuts,
             is_cut,
+            reads: 0,
+        })
+    }
+
+    /// The lexed text behind an edit: `edited` has the same bytes as this text up to `from`, in bytes, and any behind it.
+    /// What stands behind the last stored cut at or before `from` is read, and the lexemes before that are kept. The answer
+    /// is what `lex` makes of `edited`, with its fault in this code map. Want of memory hands this text back as it was.
+    pub fn relex(
+        self,
+        from: usize,
+        edited: &'a str,
+        code_map: &CodeMap,
+    ) -> Result<LexedText<'a>, LexedText<'a>>
+        requires old { IsCharBoundary self.text from }
+        requires new { IsCharBoundary edited.now from }
+        requires same { take from self.text ≡ take from edited.now }
+        requires fits { length edited.now < 2 ^ 32 }
+        ensures text { IfOk result (λ lexed. lexed.text ≡ edited.now) }
+        ensures lexed { IfOk result (λ lexed. IsLexed code_map.now lexed) }
+        ensures refused { IfErr result (λ lexed. lexed ≡ self.entry) }
+    {
+        let mut old = self;
+        let alloc = *old.lexemes.allocator();
+        let begin = begin_of(&old.cuts, from);
+        let rest = &edited[begin.at..];
+        let Ok(part) = read_part(alloc, rest) else {
+            return Err(old);
+        };
+        let mut reads = Reads::new();
+        let has_tab = begins_with_tab(&mut reads, rest);
+        let kept = kept_of(&old.lexemes, &old.cuts, begin, has_tab);
+        let Ok(fault) = exception_of(alloc, part.fault, kept.fault_at, code_map) else {
+            return Err(old);
+        };
+        let more = given_behind(part.lexemes, kept);
+        if make_room(&mut old.lexemes, kept.lexemes, more.len()).is_err()
+            || make_room(&mut old.cuts, kept.cuts, part.cuts.len()).is_err()
+        {
+            return Err(old);
+        }
+        let is_cut = is_cut_behind(part.is_cut, rest, begin.at);
+        append_later(&mut old.lexemes, kept.lexemes, more, begin.at);
+        append_cuts(&mut old.cuts, kept.cuts, part.cuts, begin.at, begin.lexemes);
+        Ok(LexedText {
+            text: edited,
+            lexemes: old.lexemes,
+            fault,
+            cuts: old.cuts,
+            is_cut,
+            reads: part.reads.saturating_add(reads.count()),
         })
     }
 }

@@ -4,7 +4,7 @@ use Rattle.starlark_grammar.specs.Depths.{Mode, InText}
 use Rattle.starlark_grammar.specs.Front.{language_front}
 use Rattle.starlark_scanner.specs.Joints.Literals.{opening_view}
 use Rattle.starlark_syntax.specs.Joints.Nesting.{mode_view}
-use Rattle.starlark_grammar.specs.Pieces.{Situation, Before, Nothing, Layout, Gap, Other, Ends, token, chunk, front_step, takes_bang, is_bang, in_code, by_place, by_before, step_at}
+use Rattle.starlark_grammar.specs.Pieces.{Situation, Ends, token, chunk, front_step, takes_bang, is_bang, in_code, by_place, step_at}
 use Rattle.starlark_syntax.specs.Joints.Pieces.{IsBehind}
 use Rattle.starlark_token.specs.TokenViews.{token_view}
 use Rattle.starlark_grammar.specs.Tokens.{Opening, FStringBang}
@@ -14,18 +14,8 @@ use Rattle.starlark_syntax.specs.declared.lexer.nesting.LexerMode.{LexerMode}
 use Rattle.starlark_syntax.specs.declared.lexer.nesting.LexerMode.TheVariants as place
 use Rattle.starlark_syntax.proofs.Literals.Pieces.{if_ok}
 use Rattle.starlark_syntax.proofs.Reader.PieceReads.{chunk_reads, code_reads}
+use Rattle.starlark_syntax.proofs.Reader.CodePlaces.{by_read}
 use Rattle.starlark_syntax.proofs.lexer.reading.piece_at.Goals as goal
-
--- behind something that was read the place decides
-by_read : (follows_gap : Bool) (s : Situation) (text : Text) → IsBehind follows_gap s.before → step_at language s text ≡ by_place language s s.place text
-unfolding step_at
-by_read follows_gap s text behind = go s.before behind
-  where
-    go : (before : Before) → IsBehind follows_gap before → by_before language s before text ≡ by_place language s s.place text
-    go Nothing h = absurd h
-    go Layout h = refl
-    go Gap h = refl
-    go Other h = refl
 
 -- in the text of an f-string
 in_text : (follows_gap : Bool) (s : Situation) (text : Text) (opening : Opening) → IsBehind follows_gap s.before → s.place ≡ InText opening → step_at language s text ≡ chunk opening text

@@ -49,6 +49,7 @@ returns-clause-comment c =
 
 pub returns-clause-reads : goal.returns-clause-reads
 returns-clause-reads c =
-    let line = first (goal.at.returns-clause-reads c).After-comment_end in
-    (omega (arith, c.blanks_len.ensures.reads, c.before_feed_len-feed.ensures.reads.0, c.comment_end.ensures.reads),
-      omega (arith, comment_inside (take c.line_len-len.result (drop c.args.from c.args.text.now)) line.passes, line.whole, line.blanks, c.blanks_len.ensures.reads, c.before_feed_len-feed.ensures.reads.1, c.comment_end.ensures.reads, c.line_len-len.ensures.feed))
+    let line = first (goal.at.returns-clause-reads c).After-comment_end in (
+      omega (arith, c.blanks_len.ensures.reads, c.before_feed_len-feed.ensures.reads.0, c.comment_end.ensures.reads),
+      omega (arith, comment_inside (take c.line_len-len.result (drop c.args.from c.args.text.now)) line.passes, line.whole, line.blanks, c.blanks_len.ensures.reads, c.before_feed_len-feed.ensures.reads.1, c.comment_end.ensures.reads, c.line_len-len.ensures.feed),
+    )

@@ -26,6 +26,8 @@ loop-bytes-preserved c =
     let feed = c.before_feed_len.ensures.value in
     record {
       passed = margin;
-      reads = (omega (arith, c.loop-bytes.invariant.reads.0, c.blanks_of-blanks.ensures.reads, c.front-first.ensures.reads, c.before_feed_len.ensures.reads.0, c.line_len.ensures.few),
-        omega (arith, some, feed, c.loop-bytes.invariant.reads.1, c.blanks_of-blanks.ensures.reads, c.front-first.ensures.reads, c.before_feed_len.ensures.reads.1, c.line_len.ensures.feed));
+      reads = (
+        omega (arith, c.loop-bytes.invariant.reads.0, c.blanks_of-blanks.ensures.reads, c.front-first.ensures.reads, c.before_feed_len.ensures.reads.0, c.line_len.ensures.few),
+        omega (arith, some, feed, c.loop-bytes.invariant.reads.1, c.blanks_of-blanks.ensures.reads, c.front-first.ensures.reads, c.before_feed_len.ensures.reads.1, c.line_len.ensures.feed),
+      );
     }

@@ -2,4 +2,4 @@ use Rattle.starlark_syntax.proofs.LexedTexts.Within.{lexemes_within}
 use Rattle.starlark_syntax.proofs.lexer.lexed_text.LexedText.lexemes.Goals as goal
 
 pub returns-clause-within : goal.returns-clause-within
-returns-clause-within c = rw (c.deref.ensures.value, ← c.self.view_is) (lexemes_within c.self.inside.text.now c.self.inside.lexemes.items c.self.invariant.2.1.lexemes c.self.invariant.0)
+returns-clause-within c = rw (c.deref.ensures.value, ← c.self.view_is) (lexemes_within c.self.inside.text.now c.self.inside.lexemes.items c.self.invariant.3.1.lexemes c.self.invariant.0)

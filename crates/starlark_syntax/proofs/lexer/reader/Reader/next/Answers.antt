@@ -44,12 +44,12 @@ pub loop-lexeme-preserved : goal.loop-lexeme-preserved
 loop-lexeme-preserved c =
     let none = none_left c.args.text.now c.loop-lexeme.self c.next.new.self c.in_ok-lexeme.field-0 c.in_default.not-Some c.in_ok-lexeme.ensures.next c.loop-lexeme.invariant.ready in
     let on = λ (lexemes : List (Spanned TokenView)) (fault : Option (Spanned Fault)) (ahead : IsAhead c.args.text.now c.loop-lexeme.self c.loop-lexeme.self.stage lexemes fault).
-      subst (λ given. IsAheadBehind c.args.text.now given c.read_piece.new.self lexemes fault) c.in_default-2.is
-      (c.in_ok-lexeme-in-Onward.ensures.ahead lexemes fault (reads_ahead c.args.text.now (record c.loop-lexeme.self { pending = c.next.new.self }) c.next.new.reads stage.Onward lexemes fault (ahead_now c.args.text.now c.loop-lexeme.self c.next.new.self stage.Onward lexemes fault none.1 c.in-Onward.is ahead))) in
+    subst (λ given. IsAheadBehind c.args.text.now given c.read_piece.new.self lexemes fault) c.in_default-2.is
+    (c.in_ok-lexeme-in-Onward.ensures.ahead lexemes fault (reads_ahead c.args.text.now (record c.loop-lexeme.self { pending = c.next.new.self }) c.next.new.reads stage.Onward lexemes fault (ahead_now c.args.text.now c.loop-lexeme.self c.next.new.self stage.Onward lexemes fault none.1 c.in-Onward.is ahead))) in
     let ready = c.loop-lexeme.invariant.ready in
     record {
       ready = (ready.0, ready.1, on ready.0 ready.1 ready.2);
       ahead = λ lexemes fault ahead. on lexemes fault (c.loop-lexeme.invariant.ahead lexemes fault ahead);
       reads = λ has. c.in_ok-lexeme-in-Onward.ensures.reads (pending_reads c.args.text.now c.loop-lexeme.self (record c.loop-lexeme.self { pending = c.next.new.self; reads = c.next.new.reads }) refl c.in_ok-lexeme.ensures.reads.0 c.in_ok-lexeme.ensures.reads.1 stage.Onward
-        (subst (HasReadAt c.args.text.now c.loop-lexeme.self) c.in-Onward.is (c.loop-lexeme.invariant.reads has)));
+          (subst (HasReadAt c.args.text.now c.loop-lexeme.self) c.in-Onward.is (c.loop-lexeme.invariant.reads has)));
     }

@@ -2,7 +2,7 @@ use Rattle.std.proofs.Common.{◌≡◌, ◌+◌, ◌≤◌, ◌++◌, length, m
 use Rattle.std.specs.Vec.{vec_capacity}
 use Rattle.std.specs.Vec.Iter.{into_iter_items, into_iter_len}
 use Rattle.starlark_syntax.specs.Joints.LexedTexts.{AllNear, later}
-use Rattle.starlark_syntax.proofs.lexer.lexed_text.append_later.Given as goal
+use Rattle.starlark_syntax.proofs.lexer.lexed_text.tails.append_later.Given as goal
 
 abbrev pub invariant-loop-begin : goal.invariant-loop-begin
 invariant-loop-begin l = record {

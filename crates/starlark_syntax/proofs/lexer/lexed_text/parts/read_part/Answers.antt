@@ -1,0 +1,72 @@
+use Rattle.std.proofs.Common.{◌≡◌, arith, ℕ, List, ap, length, refl, subst, sym, ◌∙◌}
+use Rattle.starlark_syntax.specs.Joints.LexedTexts.{end_cuts}
+use Rattle.starlark_token.specs.declared.tokens.Token.{Token}
+use Rattle.starlark_grammar.specs.Cuts.{is_clean_cut}
+use Rattle.starlark_grammar.specs.Reading.{outcome}
+use Rattle.starlark_syntax.specs.Joints.Reader.{IsNext}
+use Rattle.starlark_syntax.specs.Joints.Reads.{HasReadNext}
+use Rattle.starlark_syntax.specs.declared.lexer.reader.Next.{Next}
+use Rattle.starlark_syntax.specs.declared.lexer.reader.Next.TheVariants as next
+use Rattle.starlark_syntax.proofs.LexedTexts.CleanCuts.{faultless_cut, open_cut, settled_cut}
+use Rattle.starlark_syntax.proofs.LexedTexts.Collected.{IsCollected, all_given, collected_none, fault_given, less_left, one_more, some_given}
+use Rattle.starlark_syntax.proofs.lexer.lexed_text.parts.read_part.Goals as goal
+use Rattle.starlark_syntax.proofs.lexer.lexed_text.parts.read_part.Goals.{then-is_settled, else-is_settled}
+
+pub loop-lexemes-init : goal.loop-lexemes-init
+loop-lexemes-init c = record {
+  collected = collected_none c.args.text.now c.new-reader.result c.new-lexemes.result.items c.new-lexemes.ensures.items (c.new-reader.ensures.ahead c.args.text.now);
+  reads = c.new-reader.ensures.reads c.args.text.now;
+}
+
+pub loop-lexemes-smaller : goal.loop-lexemes-smaller
+loop-lexemes-smaller c =
+    let is = c.loop-lexemes.invariant.collected in
+    let next : IsNext c.args.text.now is.rest (outcome c.args.text.now).fault (next.Lexeme c.in-Lexeme.lexeme) c.next.new.self = subst (λ (n : Next). IsNext c.args.text.now is.rest (outcome c.args.text.now).fault n c.next.new.self) c.in-Lexeme.is (c.in_ok-lexeme.ensures.next _ _ is.ahead) in
+    let more = one_more c.args.text.now c.loop-lexemes.reader c.next.new.self c.loop-lexemes.lexemes.items c.in-Lexeme.lexeme is next in
+    less_left (length (outcome c.args.text.now).lexemes) c.loop-lexemes.lexemes.items c.push.new.self.items c.in-Lexeme.lexeme c.in_ok-push-in-Lexeme.ensures.items more.1
+
+pub loop-lexemes-preserved : goal.loop-lexemes-preserved
+loop-lexemes-preserved c =
+    let is = c.loop-lexemes.invariant.collected in
+    let next : IsNext c.args.text.now is.rest (outcome c.args.text.now).fault (next.Lexeme c.in-Lexeme.lexeme) c.next.new.self = subst (λ (n : Next). IsNext c.args.text.now is.rest (outcome c.args.text.now).fault n c.next.new.self) c.in-Lexeme.is (c.in_ok-lexeme.ensures.next _ _ is.ahead) in
+    let more = one_more c.args.text.now c.loop-lexemes.reader c.next.new.self c.loop-lexemes.lexemes.items c.in-Lexeme.lexeme is next in
+    record {
+      collected = subst (IsCollected c.args.text.now c.next.new.self) (sym c.in_ok-push-in-Lexeme.ensures.items) more.0;
+      reads = subst (λ (n : Next). HasReadNext c.args.text.now n c.next.new.self) c.in-Lexeme.is (c.in_ok-lexeme.ensures.reads c.loop-lexemes.invariant.reads);
+    }
+
+pub returns-in-Fault-clause-part : goal.returns-in-Fault-clause-part
+returns-in-Fault-clause-part c =
+    let is = c.loop-lexemes.invariant.collected in
+    let next : IsNext c.args.text.now is.rest (outcome c.args.text.now).fault (next.Fault c.in-Fault.begin c.in-Fault.fault c.in-Fault.end) c.next.new.self = subst (λ (n : Next). IsNext c.args.text.now is.rest (outcome c.args.text.now).fault n c.next.new.self) c.in-Fault.is (c.in_ok-lexeme.ensures.next _ _ is.ahead) in
+    fault_given c.args.text.now c.loop-lexemes.reader _ is _ next.2 next.3 (next.1, refl, refl) c.new.ensures.items refl
+
+pub end_cut-requires : goal.end_cut-requires
+end_cut-requires c =
+    let is = c.loop-lexemes.invariant.collected in
+    let next : IsNext c.args.text.now is.rest (outcome c.args.text.now).fault next.Nothing c.next.new.self = subst (λ (n : Next). IsNext c.args.text.now is.rest (outcome c.args.text.now).fault n c.next.new.self) c.in-Nothing.is (c.in_ok-lexeme.ensures.next _ _ is.ahead) in
+    rw c.deref.ensures.value (some_given c.args.text.now c.loop-lexemes.reader c.loop-lexemes.lexemes.items is next.0 next.1)
+
+pub returns-in-Nothing-clause-part : goal.returns-in-Nothing-clause-part
+returns-in-Nothing-clause-part c =
+    let is = c.loop-lexemes.invariant.collected in
+    let next : IsNext c.args.text.now is.rest (outcome c.args.text.now).fault next.Nothing c.next.new.self = subst (λ (n : Next). IsNext c.args.text.now is.rest (outcome c.args.text.now).fault n c.next.new.self) c.in-Nothing.is (c.in_ok-lexeme.ensures.next _ _ is.ahead) in
+    let settled = c.is_settled.ensures c.args.text.now _ next.3 in
+    let cut = faultless_cut c.args.text.now next.1 in
+    let is_cut : c.if-is_settled.is_cut ≡ is_clean_cut c.args.text.now = elim c.if-is_settled.branch [ then-is_settled w ↦ settled_cut (w.is_cut-is ∙ w.ends_with_feed-is_cut.ensures) (sym settled ∙ w.if-is_settled.true) cut | else-is_settled w ↦ open_cut _ (w.is_cut-is ∙ w.if-is_settled.false) (sym settled ∙ w.if-is_settled.false) cut ] in
+    all_given c.args.text.now c.loop-lexemes.reader _ is next.0 next.1 refl (c.in_ok-cuts-in-Nothing.ensures ∙ ap (λ (xs : List (ℕ × Token × ℕ)). end_cuts c.args.text.now (length xs) c.if-is_settled.is_cut) c.deref.ensures.value) is_cut
+
+pub returns-in-Fault-clause-most : goal.returns-in-Fault-clause-most
+returns-in-Fault-clause-most c =
+    let read = subst (λ (n : Next). HasReadNext c.args.text.now n c.next.new.self) c.in-Fault.is (c.in_ok-lexeme.ensures.reads c.loop-lexemes.invariant.reads) in
+    omega (arith, read, c.reads.ensures)
+
+pub returns-in-Nothing-clause-most : goal.returns-in-Nothing-clause-most
+returns-in-Nothing-clause-most c =
+    let read = subst (λ (n : Next). HasReadNext c.args.text.now n c.next.new.self) c.in-Nothing.is (c.in_ok-lexeme.ensures.reads c.loop-lexemes.invariant.reads) in
+    omega (arith, read.1, c.reads-in-Nothing.ensures)
+
+pub returns-in-Nothing-clause-least : goal.returns-in-Nothing-clause-least
+returns-in-Nothing-clause-least c = λ none.
+    let read = subst (λ (n : Next). HasReadNext c.args.text.now n c.next.new.self) c.in-Nothing.is (c.in_ok-lexeme.ensures.reads c.loop-lexemes.invariant.reads) in
+    omega (arith, read.0, c.requires, c.reads-in-Nothing.ensures)

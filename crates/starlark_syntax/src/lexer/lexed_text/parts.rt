@@ -1,0 +1,110 @@
+//! Reads all lexemes of a text.
+
+ghost use Rattle.std.specs.Prelude.{◌≡◌, ◌<◌, ◌≤◌, ◌+◌, ◌*◌, ◌^◌, Option, None, IfOk, IfSome, codes, length, nat_eq, option_map};
+ghost use Rattle.std.specs.List.{ends_with};
+ghost use Rattle.starlark_grammar.specs.Tokens.{Fault, Spanned, moved};
+ghost use Rattle.starlark_syntax.specs.Joints.LexedTexts.{IsPart, IsPlacedFault, end_cuts};
+ghost use Rattle.starlark_syntax.specs.LexedTexts.{IsFaultIn};
+
+use super::cuts::Cut;
+use crate::lexer::layout::PlacedToken;
+use crate::lexer::lexemes::exception;
+use crate::lexer::reader::{Next, Reader};
+use starlark_base::codemap::CodeMap;
+use starlark_error::eval_exception::EvalException;
+use starlark_error::lexeme_error::LexemeError;
+use std::alloc::{AllocError, Global};
+
+/// A fault with the places, in bytes, where it begins and ends.
+pub type PlacedFault = (usize, LexemeError, usize);
+
+/// What a text comes to: its lexemes, its fault behind them, places where it may be cut, whether its end is one, and how
+/// often its bytes were read.
+#[derive(Debug, Drop)]
+pub struct Part {
+    pub lexemes: Vec<PlacedToken>,
+    pub fault: Option<PlacedFault>,
+    pub cuts: Vec<Cut>,
+    pub is_cut: bool,
+    pub reads: u64,
+}
+
+/// Whether the last byte of a text is an LF.
+fn ends_with_feed(text: &str) -> bool
+    ensures { result ≡ ends_with nat_eq text.now (codes "\n") }
+{
+    text.as_bytes().ends_with(b"\n")
+}
+
+/// The cut at a text's end, where it is one.
+fn end_cut(
+    alloc: Global,
+    text: &str,
+    lexemes: &[PlacedToken],
+    is_cut: bool,
+) -> Result<Vec<Cut>, AllocError>
+    requires { 0 < length lexemes.now }
+    ensures { IfOk result (λ cuts. cuts.items ≡ end_cuts text.now (length lexemes.now) is_cut) }
+{
+    let mut cuts = Vec::new(alloc);
+    if is_cut {
+        cuts.push(Cut {
+            at: text.len(),
+            lexemes: lexemes.len() - 1,
+        })?;
+    }
+    Ok(cuts)
+}
+
+/// Reads a text to its end or to its fault.
+pub fn read_part(alloc: Global, text: &str) -> Result<Part, AllocError>
+    requires fits { length text.now < 2 ^ 32 }
+    ensures part { IfOk result (IsPart text.now) }
+    ensures most { IfOk result (λ part. part.reads ≤ 16 * (length text.now + 1)) }
+    ensures least { IfOk result (λ part. part.fault ≡ None → length text.now ≤ part.reads) }
+{
+    let mut reader = Reader::new(alloc);
+    let mut lexemes = Vec::new(alloc);
+    loop {
+        match reader.next(text)? {
+            Next::Lexeme(lexeme) => lexemes.push(lexeme)?,
+            Next::Fault { begin, fault, end } => {
+                return Ok(Part {
+                    lexemes,
+                    fault: Some((begin, fault, end)),
+                    cuts: Vec::new(alloc),
+                    is_cut: false,
+                    reads: reader.reads(),
+                });
+            }
+            Next::Nothing => {
+                let is_cut = reader.is_settled() && ends_with_feed(text);
+                let cuts = end_cut(alloc, text, &lexemes, is_cut)?;
+                return Ok(Part {
+                    lexemes,
+                    fault: None,
+                    cuts,
+                    is_cut,
+                    reads: reader.reads(),
+                });
+            }
+        }
+    }
+}
+
+/// A fault that lies so many bytes further on, as an exception in a code map.
+pub fn exception_of(
+    alloc: Global,
+    fault: Option<PlacedFault>,
+    len: usize,
+    code_map: &CodeMap,
+) -> Result<Option<EvalException>, AllocError>
+    requires near { IfSome fault (λ placed. (placed.0 ≤ placed.2) × (len + placed.2 < 2 ^ 32)) }
+    ensures none { IfOk result (λ exception. exception ≡ None → fault ≡ None) }
+    ensures exception { IfOk result (λ exception. (found : Option (Spanned Fault)) → IsPlacedFault found fault → IsFaultIn code_map.now (option_map (moved len) found) exception) }
+{
+    let Some((begin, fault, end)) = fault else {
+        return Ok(None);
+    };
+    Ok(Some(exception(alloc, len + begin, fault, len + end, code_map)?))
+}

@@ -1,0 +1,204 @@
+//! What has to hold of every text: of its lexemes, of a lexer whose code map has another source, and of what is printed.
+
+use crate::lines::{file_of, lines_of};
+use starlark_syntax::codemap::{CodeMap, OrMemory};
+use starlark_syntax::dialect::Dialect;
+use starlark_syntax::eval_exception::EvalException;
+use starlark_syntax::lexer::{LexedText, Lexeme, Lexer, Token};
+use std::alloc::{AllocError, Global};
+
+/// The length in bytes of the longest text whose lines are all compared.
+const LONGEST_WITH_LINES: usize = 4096;
+
+/// A text with its lexemes, and its fault in a file.
+pub fn lexed_in<'a>(
+    alloc: Global,
+    text: &'a str,
+    file: &CodeMap,
+) -> Result<LexedText<'a>, AllocError> {
+    LexedText::lex(alloc, text, &Dialect::Standard, file.dupe()?).map_err(|_| AllocError)
+}
+
+/// Whether a blank, a byte of a line end, or a backslash before a line end stands at the front.
+fn is_gap_byte(rest: &[u8]) -> bool {
+    match rest {
+        [b' ' | b'\t' | b'\r' | b'\n', ..] => true,
+        [b'\\', b'\n', ..] => true,
+        [b'\\', b'\r', b'\n', ..] => true,
+        _ => false,
+    }
+}
+
+/// Whether only blanks, line ends and escaped line ends stand from one place of a text to another.
+fn is_gap(text: &str, from: usize, to: usize) -> bool {
+    let Some(gap) = text.get(from..to) else {
+        return false;
+    };
+    for at in 0..gap.len() {
+        if !is_gap_byte(&gap.as_bytes()[at..]) {
+            return false;
+        }
+    }
+    true
+}
+
+/// Whether the lexemes are in order, with only gaps between them, and behind them where the text has no fault.
+fn is_in_order(lexed: &LexedText<'_>) -> bool {
+    let mut at = 0;
+    for (begin, _, end) in lexed.lexemes() {
+        if begin > end || !is_gap(lexed.text(), at, *begin) {
+            return false;
+        }
+        at = *end;
+    }
+    lexed.fault().is_some() || is_gap(lexed.text(), at, lexed.text().len())
+}
+
+/// Whether each `Dedent` closes an `Indent`, and where the text has no fault each `Indent` is closed.
+fn is_balanced(lexed: &LexedText<'_>) -> bool {
+    let mut open: usize = 0;
+    for (_, token, _) in lexed.lexemes() {
+        match token.kind() {
+            "Indent" => open = open.saturating_add(1),
+            "Dedent" if open == 0 => return false,
+            "Dedent" => open = open.saturating_sub(1),
+            _ => {}
+        }
+    }
+    open == 0 || lexed.fault().is_some()
+}
+
+/// Whether a token is one that no lexer hands out.
+fn is_never_handed_out(token: &Token) -> bool {
+    let kind = token.kind();
+    kind == "Tabs" || kind == "Reserved" || kind.starts_with("Raw")
+}
+
+/// How many lexemes and faults there are.
+fn item_count(lexed: &LexedText<'_>) -> usize {
+    let faults = usize::from(lexed.fault().is_some());
+    lexed.lexemes().len().saturating_add(faults)
+}
+
+/// Whether there are at most two lexemes and faults for each byte, and one.
+fn are_few(lexed: &LexedText<'_>) -> bool {
+    item_count(lexed) <= lexed.text().len().saturating_mul(2).saturating_add(1)
+}
+
+/// Whether a lexer handed out this lexeme.
+fn is_lexeme(next: &Option<Lexeme>, wanted: &(usize, Token, usize)) -> bool {
+    match next {
+        Some(Ok(lexeme)) => lexeme == wanted,
+        _ => false,
+    }
+}
+
+/// A fault as it prints in a file without a text: with its place in bytes, unless that is the empty text's only place.
+fn in_bytes(alloc: Global, fault: &EvalException) -> Result<String, AllocError> {
+    let kind = fault.error().kind();
+    let Some(place) = fault.error().span() else {
+        return format!(in alloc; "{kind}");
+    };
+    let (begin, end) = (place.span.begin().get(), place.span.end().get());
+    if end == 0 {
+        return format!(in alloc; "{kind} at <stdin>:1:1");
+    }
+    let place = format!(in alloc; "<stdin>:@{begin}-{end}")?;
+    format!(in alloc; "{kind} at {place}")
+}
+
+/// Whether a lexer handed out this fault, in a file without a text.
+fn is_fault(
+    alloc: Global,
+    next: &Option<Lexeme>,
+    wanted: &EvalException,
+) -> Result<bool, AllocError> {
+    match next {
+        Some(Err(OrMemory::Error(fault))) => {
+            Ok(fault.to_string(alloc)?.as_str() == in_bytes(alloc, wanted)?.as_str())
+        }
+        _ => Ok(false),
+    }
+}
+
+/// Whether a lexer in a file without a text hands out the same lexemes, then the same fault, and nothing behind them.
+fn is_handed_out(alloc: Global, lexed: &LexedText<'_>) -> Result<bool, AllocError> {
+    let file = file_of(alloc, "")?;
+    let Ok(mut lexer) = Lexer::new(alloc, lexed.text(), &Dialect::Standard, file) else {
+        return Ok(false);
+    };
+    for lexeme in lexed.lexemes() {
+        if !is_lexeme(&lexer.next(), lexeme) {
+            return Ok(false);
+        }
+    }
+    if let Some(fault) = lexed.fault() {
+        if !is_fault(alloc, &lexer.next(), fault)? {
+            return Ok(false);
+        }
+    }
+    Ok(lexer.next().is_none() && lexer.next().is_none())
+}
+
+/// What is wrong with the lexemes of a text by themselves, if something is.
+fn wrong_with_lexemes(lexed: &LexedText<'_>) -> Option<&'static str> {
+    if !is_in_order(lexed) {
+        return Some("text between lexemes, or lexemes out of order");
+    }
+    if !is_balanced(lexed) {
+        return Some("an indent or a dedent too many");
+    }
+    if !are_few(lexed) {
+        return Some("more than two lexemes a byte and one");
+    }
+    if lexed
+        .lexemes()
+        .iter()
+        .any(|(_, token, _)| is_never_handed_out(token))
+    {
+        return Some("a token that no lexer hands out");
+    }
+    None
+}
+
+/// Whether the lines of a lexed text were printed. Of a long text only their number is compared: a code map counts each
+/// column from its line's begin, which would take time quadratic in a line.
+fn is_printed(
+    alloc: Global,
+    lexed: &LexedText<'_>,
+    file: &CodeMap,
+    printed: &[u8],
+) -> Result<bool, AllocError> {
+    if lexed.text().len() > LONGEST_WITH_LINES {
+        let count = printed.iter().filter(|&&byte| byte == b'\n').count();
+        return Ok(count == item_count(lexed));
+    }
+    Ok(lines_of(alloc, lexed, file)?.as_bytes() == printed)
+}
+
+/// What is wrong with a lexed text, or with what was printed for it; nothing where all is well.
+pub fn wrong_with_lexed(
+    alloc: Global,
+    lexed: &LexedText<'_>,
+    file: &CodeMap,
+    printed: &[u8],
+) -> Result<Option<&'static str>, AllocError> {
+    if !is_handed_out(alloc, lexed)? {
+        return Ok(Some("a lexer hands out something else"));
+    }
+    if !is_printed(alloc, lexed, file, printed)? {
+        return Ok(Some("something else is printed"));
+    }
+    Ok(wrong_with_lexemes(lexed))
+}
+
+/// What is wrong with the lexemes of a text, or with what was printed for it; nothing where all is well.
+pub fn first_wrong(
+    alloc: Global,
+    text: &str,
+    printed: &[u8],
+) -> Result<Option<&'static str>, AllocError> {
+    let file = file_of(alloc, text)?;
+    let lexed = lexed_in(alloc, text, &file)?;
+    wrong_with_lexed(alloc, &lexed, &file, printed)
+}

@@ -1,0 +1,44 @@
+//! The stored texts: a list of records one behind another.
+//!
+//! A record is the length of its text in bytes as decimal digits, perhaps a space and what is to be done, a line feed,
+//! the text, and a line feed. What is to be done is `fronts`, or `times` and a number behind a space.
+
+/// What is done with a text.
+#[derive(Clone, Copy, Debug, PartialEq, Eq)]
+pub enum Task {
+    /// It is lexed, and all lines are printed.
+    Lines,
+    /// Each front of it is lexed and checked, up to the text itself, and what they come to is counted.
+    Fronts,
+    /// The text so many times, as one text, is lexed and checked, and what that comes to is counted.
+    Repeated(u32),
+}
+
+/// A text, and what is done with it.
+#[derive(Clone, Copy, Debug)]
+pub struct Record<'b> {
+    pub task: Task,
+    pub text: &'b [u8],
+}
+
+/// The length of a text and what is done with it, as a record's first line says them.
+fn header(line: &str) -> Option<(usize, Task)> {
+    let mut words = line.split(' ');
+    let len = words.next()?.parse().ok()?;
+    let task = match words.next() {
+        None => Task::Lines,
+        Some("fronts") => Task::Fronts,
+        Some("times") => Task::Repeated(words.next()?.parse().ok()?),
+        Some(_) => return None,
+    };
+    Some((len, task))
+}
+
+/// The first record, and what stands behind it; `None` where no record begins.
+pub fn first_record(stored: &[u8]) -> Option<(Record<'_>, &[u8])> {
+    let line_end = stored.iter().position(|&byte| byte == b'\n')?;
+    let line = str::from_utf8(&stored[..line_end]).ok()?;
+    let (len, task) = header(line)?;
+    let (text, behind) = stored[line_end + 1..].split_at_checked(len)?;
+    Some((Record { task, text }, behind.strip_prefix(b"\n")?))
+}

@@ -1,0 +1,183 @@
+#!/usr/bin/env python3
+"""Measures the built programs over hostile texts: that processor time and memory are linear in the text's bytes.
+
+Each shape of a text is made once and at twice its length. starlark_bench lexes both, and starlark_lex prints the lines of
+both, some times over in turn; the least time of each counts. A line says, in this order: the shorter text's length in
+megabytes; nanoseconds a byte for lexing the shorter and the longer one; how many times as long the longer one took to be
+lexed, and to be printed; and the most memory that starlark_lex held for the longer one, in bytes a byte of the text.
+
+    scripts/linear_time.py [--times N] [WORD..]     N runs of each text, 3 if it isn't given; only shapes named by a WORD
+
+The exit status is 1 where a longer text took more than 2.3 times as long, or where a program gave up. Beside other work
+the figures vary: a shape that comes out longer is measured on, twice at most. Programs that aren't built are proved and
+built first.
+"""
+
+import argparse
+import os
+import subprocess
+import sys
+import tempfile
+from pathlib import Path
+
+from refused_memory import built
+
+MOST_RATIO = 2.3
+ATTEMPTS = 3
+MEGABYTE = 1_000_000
+
+
+def widths(count):
+    """So many lines, each one blank wider than the one before."""
+    return b"".join(b" " * width + b"if x:\n" for width in range(count))
+
+
+# A name, how long the shorter text is in the shape's own measure, and the text of such a measure.
+SHAPES = [
+    ("open f-strings", 1_000_000, lambda n: b'f"{' * n),
+    ("open round brackets", 4_000_000, lambda n: b"(" * n),
+    ("open brackets of all kinds", 1_000_000, lambda n: b"([{" * n),
+    ("closing brackets", 1_000_000, lambda n: b")" * n),
+    ("brackets inside of an f-string", 1_000_000, lambda n: b'f"{' + b"(" * n),
+    ("closed f-strings", 500_000, lambda n: b'f"{x}" ' * n),
+    ("f-strings in f-strings", 500_000, lambda n: b"f'{f\"{" * n),
+    ("braces in the text of an f-string", 2_000_000, lambda n: b'f"' + b"{{" * n + b'"'),
+    ("one literal", 8_000_000, lambda n: b'"' + b"a" * n + b'"'),
+    ("one literal of escapes", 2_000_000, lambda n: b'"' + rb"\x41" * n + b'"'),
+    ("one bytes literal", 8_000_000, lambda n: b'b"' + b"a" * n + b'"'),
+    ("one triple literal of quotes", 3_000_000, lambda n: b'"""' + b'""a' * n + b'"""'),
+    ("one triple literal of quotes and CR", 2_000_000, lambda n: b'"""' + b'""\ra' * n + b'"""'),
+    ("one literal that isn't closed", 8_000_000, lambda n: b'"' + b"a" * n),
+    ("empty literals", 2_000_000, lambda n: b"''\"\"" * n),
+    ("one comment", 8_000_000, lambda n: b"# " + b"a" * n),
+    ("one comment of characters past ASCII", 4_000_000, lambda n: b"# " + "é".encode() * n),
+    ("comment lines", 4_000_000, lambda n: b"#\n" * n),
+    ("comment lines behind a line", 2_000_000, lambda n: b"x\n" + b" #\n" * n),
+    ("one name", 8_000_000, lambda n: b"a" * n),
+    ("one decimal number", 8_000_000, lambda n: b"9" * n),
+    ("one hexadecimal number", 8_000_000, lambda n: b"0x" + b"f" * n),
+    ("one octal number", 8_000_000, lambda n: b"0o" + b"7" * n),
+    ("one binary number", 8_000_000, lambda n: b"0b" + b"1" * n),
+    ("one number of zeros", 8_000_000, lambda n: b"0x" + b"0" * n),
+    ("one float", 8_000_000, lambda n: b"1." + b"0" * n),
+    ("one exponent", 8_000_000, lambda n: b"1e" + b"9" * n),
+    ("points", 2_000_000, lambda n: b"." * n),
+    ("line feeds", 8_000_000, lambda n: b"\n" * n),
+    ("CR LF", 4_000_000, lambda n: b"\r\n" * n),
+    ("blank lines", 2_000_000, lambda n: b"x\n" + b"   \n" * n),
+    ("escaped line ends", 4_000_000, lambda n: b"\\\n" * n),
+    ("blanks", 8_000_000, lambda n: b" " * n + b"x"),
+    ("one long line", 1_000_000, lambda n: b"ab 12 " * n),
+    ("one long line past ASCII", 1_000_000, lambda n: "'é' ".encode() * n),
+    ("short lines", 1_000_000, lambda n: b"ab 12\n" * n),
+    ("blocks opened and closed", 500_000, lambda n: b"if x:\n  y\n" * n),
+    ("a fault at the end", 4_000_000, lambda n: b"x " * n + b"$"),
+    # The measure of this one is its count of widths, whose bytes are quadratic in it.
+    ("open widths", 3_536, widths),
+]
+
+
+def write_apart(make, count, source):
+    """Writes a text from another process: what this one holds would be counted as held by the programs that it starts."""
+    process = os.fork()
+    if process == 0:
+        source.write_bytes(make(count))
+        os._exit(0)
+    os.waitpid(process, 0)
+
+
+class Ran:
+    """One run of a program over a text: its status, its processor time in seconds, and the most memory that it held."""
+
+    def __init__(self, command, source):
+        with source.open("rb") as text:
+            process = subprocess.Popen(command, stdin=text, stdout=subprocess.DEVNULL)
+            _, status, usage = os.wait4(process.pid, 0)
+        process.returncode = self.status = os.waitstatus_to_exitcode(status)
+        self.seconds = usage.ru_utime + usage.ru_stime
+        self.peak = usage.ru_maxrss * 1024
+
+
+class Measured:
+    """What one text takes: the least time to lex it, the least time to print its lines, and the most memory."""
+
+    def __init__(self, make, count, source):
+        write_apart(make, count, source)
+        self.source, self.length = source, source.stat().st_size
+        self.lexed = self.printed = float("inf")
+        self.peak = 0
+        self.failed = False
+
+    def measure(self, bench, lex):
+        lexing, printing = Ran([bench], self.source), Ran([lex], self.source)
+        self.lexed = min(self.lexed, lexing.seconds)
+        self.printed = min(self.printed, printing.seconds)
+        self.peak = max(self.peak, printing.peak)
+        self.failed |= lexing.status != 0 or printing.status not in (0, 1)
+
+
+class Shape:
+    """One shape of a text at one length and at about twice that."""
+
+    def __init__(self, name, count, make, folder):
+        self.name = name
+        longer = 2 * count if make is not widths else round(count * 2**0.5)
+        self.short = Measured(make, count, folder / "short")
+        self.long = Measured(make, longer, folder / "long")
+
+    def measure(self, bench, lex, times):
+        """Measures so many times, and again where that didn't come out linear."""
+        for _ in range(ATTEMPTS):
+            for _ in range(times):
+                self.short.measure(bench, lex)
+                self.long.measure(bench, lex)
+            if self.is_linear() or self.failed():
+                break
+
+    def failed(self):
+        return self.short.failed or self.long.failed
+
+    def ratio(self, short_time, long_time):
+        """How many times as long a text of exactly twice the bytes would have taken."""
+        return 2 * (long_time / self.long.length) / (short_time / self.short.length)
+
+    def ratios(self):
+        short, long = self.short, self.long
+        return self.ratio(short.lexed, long.lexed), self.ratio(short.printed, long.printed)
+
+    def is_linear(self):
+        return not self.failed() and max(self.ratios()) <= MOST_RATIO
+
+    def line(self):
+        if self.failed():
+            return f"{self.name:38} gave up"
+        short, long = self.short, self.long
+        lexed, printed = self.ratios()
+        return (
+            f"{self.name:38} {short.length / MEGABYTE:6.2f} {short.lexed / short.length * 1e9:9.2f}"
+            f" {long.lexed / long.length * 1e9:9.2f} {lexed:6.2f} {printed:6.2f} {long.peak / long.length:8.2f}"
+        )
+
+
+def main():
+    arguments = argparse.ArgumentParser(description=__doc__.splitlines()[0])
+    arguments.add_argument("--times", type=int, default=3, metavar="N")
+    arguments.add_argument("words", nargs="*", metavar="WORD")
+    options = arguments.parse_args()
+    bench, lex = built("starlark_bench"), built("starlark_lex")
+    print(f"{'':38} {'MB':>6} {'ns/byte':>9} {'at twice':>9} {'lexed':>6} {'lines':>6} {'memory':>8}")
+    wrong = 0
+    with tempfile.TemporaryDirectory() as folder:
+        for name, count, make in SHAPES:
+            if options.words and not any(word in name for word in options.words):
+                continue
+            shape = Shape(name, count, make, Path(folder))
+            shape.measure(bench, lex, options.times)
+            wrong += not shape.is_linear()
+            print(shape.line(), flush=True)
+    print(f"{wrong} of these aren't linear" if wrong else "all of these are linear")
+    return 1 if wrong else 0
+
+
+if __name__ == "__main__":
+    sys.exit(main())
