@@ -12,7 +12,7 @@ use crate::lexer::lexemes::exception;
 use crate::lexer::reader::{Next, Reader};
 use starlark_base::codemap::CodeMap;
 use starlark_error::eval_exception::EvalException;
-use starlark_error::lexeme_error::LexemeError;
+use starlark_token::lexeme_error::LexemeError;
 use std::alloc::{AllocError, Global};
 
 /// A fault with the places, in bytes, where it begins and ends.
