@@ -83,7 +83,7 @@ abbrev pub HasReadAt : Text → Reader → Stage → Type 0
 HasReadAt text reader stage.Begin = (reader.at ≡ 0) × (reader.reads + 6 * owed reader.pending ≡ 0)
 HasReadAt text reader stage.Onward = (more_reads 0 reader.at ≤ reader.reads) × (reader.reads + 6 * owed reader.pending ≤ 16 * reader.at + 8)
 HasReadAt text reader (stage.Fault begin fault end) = reader.reads + 6 * owed reader.pending ≤ 16 * length text + 16
-HasReadAt text reader stage.Closed = (more_reads 0 (length text) ≤ reader.reads) × (reader.reads + 6 * owed reader.pending ≤ 16 * length text + 16)
+HasReadAt text reader stage.Closed = (more_reads 0 (length text) ≤ reader.reads) × (reader.reads + 6 * owed reader.pending ≤ 16 * length text + 15)
 
 abbrev pub HasRead : Text → Reader → Type 0
 HasRead text reader = HasReadAt text reader reader.stage
@@ -92,4 +92,4 @@ HasRead text reader = HasReadAt text reader reader.stage
 abbrev pub HasReadNext : Text → Next → Reader → Type 0
 HasReadNext text (next.Lexeme lexeme) reader = HasRead text reader
 HasReadNext text (next.Fault begin fault end) reader = reader.reads ≤ 16 * (length text + 1)
-HasReadNext text next.Nothing reader = (more_reads 0 (length text) ≤ reader.reads) × (reader.reads ≤ 16 * (length text + 1))
+HasReadNext text next.Nothing reader = (more_reads 0 (length text) ≤ reader.reads) × (reader.reads < 16 * (length text + 1))

@@ -2,6 +2,7 @@
 
 ghost use Rattle.std.specs.Prelude.{◌≡◌, ◌<◌, ◌≤◌, ◌+◌, ◌*◌, ◌^◌, Option, None, IfOk, IfSome, codes, length, nat_eq, option_map};
 ghost use Rattle.std.specs.List.{ends_with};
+ghost use Rattle.starlark_scanner.specs.Joints.Reads.{more_reads};
 ghost use Rattle.starlark_grammar.specs.Tokens.{Fault, Spanned, moved};
 ghost use Rattle.starlark_syntax.specs.Joints.LexedTexts.{IsPart, IsPlacedFault, end_cuts};
 ghost use Rattle.starlark_syntax.specs.LexedTexts.{IsFaultIn};
@@ -12,6 +13,7 @@ use crate::lexer::lexemes::exception;
 use crate::lexer::reader::{Next, Reader};
 use starlark_base::codemap::CodeMap;
 use starlark_error::eval_exception::EvalException;
+use starlark_scanner::reads::Reads;
 use starlark_token::lexeme_error::LexemeError;
 use std::alloc::{AllocError, Global};
 
@@ -30,9 +32,11 @@ pub struct Part {
 }
 
 /// Whether the last byte of a text is an LF.
-fn ends_with_feed(text: &str) -> bool
-    ensures { result ≡ ends_with nat_eq text.now (codes "\n") }
+fn ends_with_feed(reads: &mut Reads, text: &str) -> bool
+    ensures value { result ≡ ends_with nat_eq text.now (codes "\n") }
+    ensures reads { reads.new ≡ more_reads reads.old 1 }
 {
+    reads.count_run(0);
     text.as_bytes().ends_with(b"\n")
 }
 
@@ -78,14 +82,15 @@ pub fn read_part(alloc: Global, text: &str) -> Result<Part, AllocError>
                 });
             }
             Next::Nothing => {
-                let is_cut = reader.is_settled() && ends_with_feed(text);
+                let mut reads = Reads::new();
+                let is_cut = reader.is_settled() && ends_with_feed(&mut reads, text);
                 let cuts = end_cut(alloc, text, &lexemes, is_cut)?;
                 return Ok(Part {
                     lexemes,
                     fault: None,
                     cuts,
                     is_cut,
-                    reads: reader.reads(),
+                    reads: reader.reads().saturating_add(reads.count()),
                 });
             }
         }
