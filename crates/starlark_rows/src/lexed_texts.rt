@@ -165,12 +165,23 @@ fn marks(alloc: Global, row: &Row) -> Answer {
     Ok(marks)
 }
 
+/// How often bytes were read to join two texts.
+fn join_reads(alloc: Global, first: &str, second: &str) -> Answer {
+    let both = both_texts(alloc, first, second)?;
+    match joined(alloc, first, second, both.as_str())? {
+        Some(joined) => shown(alloc, &joined.reads()),
+        None => String::from_str(alloc, "not joined"),
+    }
+}
+
 /// The answer to a call with lexed texts.
 pub fn answer(alloc: Global, row: &Row) -> Answer {
     let text = row.text(2);
     match row.text(1) {
         "lex" => lex(alloc, text),
         "is_clean_cut" => shown(alloc, &lexed(alloc, text)?.is_clean_cut()),
+        "reads" => shown(alloc, &lexed(alloc, text)?.reads()),
+        "join_reads" => join_reads(alloc, text, row.text(3)),
         "join" => join(alloc, text, row.text(3)),
         "join_each" => marks(alloc, row),
         "relex" => relex(alloc, text, row.count(3), row.text(4)),
