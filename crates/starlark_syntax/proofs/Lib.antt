@@ -1,6 +1,3 @@
-pub mod Literals
-pub mod Indentation
-pub mod Nesting
-pub mod Reader
+pub mod LexerItems
 pub mod LexedTexts
 pub mod Held

@@ -6,7 +6,7 @@ use Rattle.starlark_error.specs.declared.error.kinds.ErrorKind.{ErrorKind}
 use Rattle.starlark_grammar.specs.Words.{Text}
 use Rattle.starlark_grammar.specs.Tokens as grammar
 use Rattle.starlark_grammar.specs.Reading.{outcome}
-use Rattle.starlark_syntax.specs.Lexemes.{shown_lexeme}
+use Rattle.starlark_reader.specs.Lexemes.{shown_lexeme}
 use Rattle.starlark_syntax.specs.Lexer.{IsException}
 use Rattle.starlark_token.specs.TokenViews.{TokenView}
 

@@ -1,8 +1,8 @@
-pub mod Lexemes
 pub mod Lexer
 pub mod LexedTexts
 pub mod Held
 pub mod Joints
+pub use Rattle.starlark_reader.specs.Lexemes
 pub use Rattle.starlark_grammar.specs.Words
 pub use Rattle.starlark_grammar.specs.Front
 pub use Rattle.starlark_grammar.specs.Lengths

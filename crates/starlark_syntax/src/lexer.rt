@@ -1,12 +1,7 @@
 //! Tokens, and the faults of a text that has none.
 
-mod layout;
 mod lexed_text;
 mod lexemes;
-mod literal;
-mod nesting;
-mod reader;
-mod reading;
 
 pub use lexed_text::LexedText;
 pub use lexemes::{Lexeme, Lexer};

@@ -4,15 +4,15 @@ use Rattle.std.proofs.lemmas.List.{length-map, map-append}
 use Rattle.starlark_grammar.specs.Words.{Text}
 use Rattle.starlark_grammar.specs.Tokens.{Fault, Spanned}
 use Rattle.starlark_grammar.specs.Reading.{outcome}
-use Rattle.starlark_syntax.specs.Lexemes.{lexeme_view, shown_lexeme}
+use Rattle.starlark_reader.specs.Lexemes.{lexeme_view, shown_lexeme}
 use Rattle.starlark_grammar.specs.Cuts.{is_clean_cut}
 use Rattle.starlark_syntax.specs.Joints.LexedTexts.{AreCuts, IsCutOf, IsPart, IsPlacedFault, end_cuts}
 use Rattle.starlark_syntax.specs.declared.lexer.lexed_text.parts.Part.{Part}
 use Rattle.starlark_syntax.proofs.LexedTexts.CleanCuts.{faulty_cut}
 use Rattle.starlark_syntax.proofs.LexedTexts.KeptCuts.{some_lexemes, whole_kept}
-use Rattle.starlark_syntax.specs.Joints.Reader.{IsAhead, IsAheadBehind}
+use Rattle.starlark_reader.specs.Joints.Reader.{IsAhead, IsAheadBehind}
 use Rattle.starlark_token.specs.TokenViews.{TokenView}
-use Rattle.starlark_syntax.specs.declared.lexer.reader.Reader.{Reader}
+use Rattle.starlark_reader.specs.declared.reader.Reader.{Reader}
 use Rattle.starlark_token.specs.declared.tokens.Token.{Token}
 
 -- What was handed out and what is ahead of a reader are all lexemes of a text, and its fault is behind them.

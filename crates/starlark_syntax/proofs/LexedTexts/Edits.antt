@@ -19,7 +19,7 @@ use Rattle.starlark_grammar.proofs.Joining.CleanCuts.{cuts_join}
 use Rattle.starlark_grammar.proofs.Joining.Laws.{kept_cuts_keep}
 use Rattle.starlark_grammar.proofs.Joining.Tabs.{HasTab, behind_tab, first_margin_is, first_step, margin_tab, outcome_by, tab, tab_longest}
 use Rattle.starlark_grammar.proofs.Reading.Readings.{one_longest, read_is}
-use Rattle.starlark_syntax.specs.Lexemes.{lexeme_view, shown_lexeme}
+use Rattle.starlark_reader.specs.Lexemes.{lexeme_view, shown_lexeme}
 use Rattle.starlark_syntax.specs.Joints.LexedTexts.{AreCuts, IsBegin, IsCutOf, IsPart, IsTakenBack, last_newline_of, later, later_cut}
 use Rattle.starlark_syntax.specs.declared.lexer.lexed_text.cuts.Begin.{Begin}
 use Rattle.starlark_syntax.specs.declared.lexer.lexed_text.cuts.Cut.{Cut}
@@ -33,7 +33,7 @@ use Rattle.starlark_syntax.proofs.LexedTexts.KeptCuts.{kept_parts, reach_joined,
 use Rattle.starlark_syntax.proofs.LexedTexts.Newlines.{FoundNewline, none_shown, some_shown}
 use Rattle.starlark_syntax.proofs.LexedTexts.Parts.{unmoved_fault}
 use Rattle.starlark_syntax.proofs.LexedTexts.Relexed.{above_later, all_both, all_later, all_stay, cut_boundary, rising_both, rising_later, rising_take, some_cut}
-use Rattle.starlark_syntax.proofs.Reader.Onward.{first_fails}
+use Rattle.starlark_reader.proofs.Pieces.Onward.{first_fails}
 
 -- What is kept and what is put behind it are what a text comes to.
 pub record IsRelexed (edited : Text) (ls : List (ℕ × Token × ℕ)) (cuts : List Cut) (at count : ℕ) (part : Part) (kept : Kept) : Type 0 where

@@ -8,7 +8,7 @@ use Rattle.starlark_grammar.specs.Reading.{outcome}
 use Rattle.starlark_grammar.specs.Cuts.{is_clean_cut, is_kept_cut, without_closing}
 use Rattle.starlark_token.specs.TokenViews.{TokenView, Whole}
 use Rattle.starlark_token.specs.declared.tokens.Token.{Token}
-use Rattle.starlark_syntax.specs.Lexemes.{fault_view, lexeme_view, shown_lexeme}
+use Rattle.starlark_reader.specs.Lexemes.{fault_view, lexeme_view, shown_lexeme}
 use Rattle.starlark_syntax.specs.declared.lexer.lexed_text.cuts.Begin.{Begin}
 use Rattle.starlark_syntax.specs.declared.lexer.lexed_text.cuts.Cut.{Cut}
 use Rattle.starlark_syntax.specs.declared.lexer.lexed_text.parts.Part.{Part}

@@ -8,14 +8,14 @@ ghost use Rattle.starlark_base.specs.Sources.{SourceFile};
 ghost use Rattle.starlark_grammar.specs.Cuts.{is_clean_cut};
 ghost use Rattle.starlark_syntax.specs.LexedTexts.{IsLexed};
 ghost use Rattle.starlark_syntax.specs.LexedTexts as texts;
-ghost use Rattle.starlark_syntax.specs.Lexemes.{lexeme_view};
+ghost use Rattle.starlark_reader.specs.Lexemes.{lexeme_view};
 ghost use Rattle.starlark_syntax.specs.Lexer.{IsWithin};
 
 mod cuts;
 mod parts;
 mod tails;
 
-use crate::lexer::layout::{PlacedToken, begins_with_tab};
+use starlark_reader::layout::{PlacedToken, begins_with_tab};
 use cuts::{Cut, append_cuts, begin_of, is_cut_behind};
 use parts::{exception_of, read_part};
 use starlark_base::codemap::{CodeMap, OrMemory, SourceTooLong};
@@ -46,7 +46,7 @@ impl<'a> Model for LexedText<'a> {
     ghost use Rattle.starlark_grammar.specs.Cuts.{is_clean_cut};
     ghost use Rattle.starlark_syntax.specs.Joints.LexedTexts.{AreCuts};
     ghost use Rattle.starlark_syntax.specs.LexedTexts.{IsLexed, LexedView};
-    ghost use Rattle.starlark_syntax.specs.Lexemes.{lexeme_view};
+    ghost use Rattle.starlark_reader.specs.Lexemes.{lexeme_view};
 
     ghost Value = { LexedView };
 

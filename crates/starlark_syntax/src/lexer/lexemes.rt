@@ -5,7 +5,7 @@ ghost use Rattle.std.specs.List.{slice_get};
 ghost use Rattle.starlark_base.specs.Diagnostics.{place_in, unplaced, with_span};
 ghost use Rattle.starlark_syntax.specs.Lexer.{AnswersNext, AnswersWithin, handed_out_by, is_ended_by, items};
 
-use crate::lexer::reader::{Next, Reader};
+use starlark_reader::reader::{Next, Reader};
 use starlark_base::codemap::{CodeMap, OrMemory, Pos, SourceTooLong, Span};
 use starlark_base::dialect::Dialect;
 use starlark_error::error::{ErrorKind, ParserMessage, error_from_lexeme};
@@ -33,9 +33,9 @@ pub struct Lexer<'a> {
 
 impl<'a> Model for Lexer<'a> {
     ghost use Rattle.std.specs.Prelude.{◌≡◌, ◌<◌, ◌≤◌, ◌^◌, false, drop, length, map};
-    ghost use Rattle.starlark_syntax.specs.Lexemes.{shown_lexeme};
+    ghost use Rattle.starlark_reader.specs.Lexemes.{shown_lexeme};
     ghost use Rattle.starlark_syntax.specs.Lexer.{LexerView};
-    ghost use Rattle.starlark_syntax.specs.Joints.Reader.{IsAhead};
+    ghost use Rattle.starlark_reader.specs.Joints.Reader.{IsAhead};
     ghost use Rattle.starlark_grammar.specs.Reading.{outcome};
 
     ghost Value = { LexerView };

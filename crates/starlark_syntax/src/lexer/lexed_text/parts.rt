@@ -8,9 +8,9 @@ ghost use Rattle.starlark_syntax.specs.Joints.LexedTexts.{IsPart, IsPlacedFault,
 ghost use Rattle.starlark_syntax.specs.LexedTexts.{IsFaultIn};
 
 use super::cuts::Cut;
-use crate::lexer::layout::PlacedToken;
+use starlark_reader::layout::PlacedToken;
 use crate::lexer::lexemes::exception;
-use crate::lexer::reader::{Next, Reader};
+use starlark_reader::reader::{Next, Reader};
 use starlark_base::codemap::CodeMap;
 use starlark_error::eval_exception::EvalException;
 use starlark_scanner::reads::Reads;

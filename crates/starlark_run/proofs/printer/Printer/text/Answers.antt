@@ -5,7 +5,7 @@ use Rattle.starlark_base.specs.Sources.{SourceFile}
 use Rattle.starlark_error.specs.Errors.{kind_text}
 use Rattle.starlark_error.specs.declared.error.kinds.ErrorKind.{ErrorKind}
 use Rattle.starlark_grammar.specs.Cuts.{InOrder}
-use Rattle.starlark_syntax.specs.Lexemes.{lexeme_view}
+use Rattle.starlark_reader.specs.Lexemes.{lexeme_view}
 use Rattle.starlark_syntax.specs.Lexer.{Given, LexerView, Refused, items}
 use Rattle.starlark_grammar.specs.Reading.{outcome}
 use Rattle.starlark_grammar.proofs.Order.Lexemes.{outcome_order}

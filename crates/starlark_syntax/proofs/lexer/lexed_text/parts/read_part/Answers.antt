@@ -3,10 +3,10 @@ use Rattle.starlark_syntax.specs.Joints.LexedTexts.{end_cuts}
 use Rattle.starlark_token.specs.declared.tokens.Token.{Token}
 use Rattle.starlark_grammar.specs.Cuts.{is_clean_cut}
 use Rattle.starlark_grammar.specs.Reading.{outcome}
-use Rattle.starlark_syntax.specs.Joints.Reader.{IsNext}
-use Rattle.starlark_syntax.specs.Joints.Reads.{HasReadNext}
-use Rattle.starlark_syntax.specs.declared.lexer.reader.Next.{Next}
-use Rattle.starlark_syntax.specs.declared.lexer.reader.Next.TheVariants as next
+use Rattle.starlark_reader.specs.Joints.Reader.{IsNext}
+use Rattle.starlark_reader.specs.Joints.Reads.{HasReadNext}
+use Rattle.starlark_reader.specs.declared.reader.Next.{Next}
+use Rattle.starlark_reader.specs.declared.reader.Next.TheVariants as next
 use Rattle.starlark_syntax.proofs.LexedTexts.CleanCuts.{faultless_cut, open_cut, settled_cut}
 use Rattle.starlark_syntax.proofs.LexedTexts.Collected.{IsCollected, all_given, collected_none, fault_given, less_left, one_more, some_given}
 use Rattle.starlark_syntax.proofs.lexer.lexed_text.parts.read_part.Goals as goal

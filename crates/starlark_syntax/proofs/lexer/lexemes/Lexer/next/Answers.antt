@@ -1,8 +1,8 @@
 use Rattle.std.proofs.Common.{◌+◌, ◌≤◌, ◌^◌, arith, map, refl, rules}
 use Rattle.std.proofs.lemmas.List.{length-map}
-use Rattle.starlark_syntax.specs.Lexemes.{shown_lexeme}
+use Rattle.starlark_reader.specs.Lexemes.{shown_lexeme}
 use Rattle.starlark_grammar.specs.Reading.{outcome}
-use Rattle.starlark_syntax.proofs.Reader.LexerItems.{lexeme_item, lexeme_within, lexemes_few, one_more, some_item}
+use Rattle.starlark_syntax.proofs.LexerItems.{lexeme_item, lexeme_within, lexemes_few, one_more, some_item}
 use Rattle.starlark_syntax.proofs.lexer.lexemes.Lexer.next.Goals as goal
 
 pub overflow_add-self : goal.overflow_add-self

@@ -1,14 +1,14 @@
 use Rattle.std.proofs.Common.{ap, ◌∙◌, sym, IfSome, ◌+◌, ◌≤◌, ◌^◌, arith, drop, map, refl, rules, subst}
 use Rattle.std.proofs.lemmas.List.{length-map}
-use Rattle.starlark_syntax.specs.Lexemes.{shown_lexeme}
+use Rattle.starlark_reader.specs.Lexemes.{shown_lexeme}
 use Rattle.starlark_grammar.specs.Reading.{outcome}
-use Rattle.starlark_syntax.specs.Joints.Reader.{IsNext}
+use Rattle.starlark_reader.specs.Joints.Reader.{IsNext}
 use Rattle.starlark_syntax.specs.Lexer.{IsWithin, LexerView}
 use Rattle.starlark_base.specs.Diagnostics.{Diagnosed}
 use Rattle.starlark_error.specs.declared.error.kinds.ErrorKind.{ErrorKind}
-use Rattle.starlark_syntax.specs.declared.lexer.reader.Next.{Next}
-use Rattle.starlark_syntax.specs.declared.lexer.reader.Next.TheVariants as next
-use Rattle.starlark_syntax.proofs.Reader.LexerItems.{fault_item, fault_within, lexeme_item, lexeme_within, lexemes_few, nothing_item, one_more, some_item}
+use Rattle.starlark_reader.specs.declared.reader.Next.{Next}
+use Rattle.starlark_reader.specs.declared.reader.Next.TheVariants as next
+use Rattle.starlark_syntax.proofs.LexerItems.{fault_item, fault_within, lexeme_item, lexeme_within, lexemes_few, nothing_item, one_more, some_item}
 use Rattle.starlark_syntax.proofs.lexer.lexemes.Lexer.next_of_all.Goals as goal
 
 pub overflow_add-self : goal.overflow_add-self

@@ -1,0 +1,4 @@
+pub mod Literals
+pub mod Indentation
+pub mod OpenBrackets
+pub mod Pieces

@@ -1,0 +1,33 @@
+-- How often the bytes of a literal are read.
+use Rattle.std.proofs.Common.{◌≡◌, ◌≤◌, ◌+◌, ◌-◌, ◌*◌, ℕ, Bool, true, false, length, refl, arith}
+use Rattle.starlark_grammar.specs.Items.{closing_quotes}
+use Rattle.starlark_grammar.specs.Tokens.{Opening}
+use Rattle.starlark_scanner.specs.Joints.Reads.{more_reads}
+use Rattle.starlark_reader.specs.Joints.Reads.{AreWordReads, IsFault}
+use Rattle.starlark_reader.specs.declared.literal.pieces.Step.{Step}
+use Rattle.starlark_reader.specs.declared.literal.pieces.Step.TheVariants as step
+
+-- one quote closes a literal, or three do
+pub closing_some : (opening : Opening) → (1 ≤ length (closing_quotes opening)) × (length (closing_quotes opening) ≤ 3)
+closing_some opening = by_quotes opening.is_triple refl
+  where
+    by_quotes : (is_triple : Bool) → opening.is_triple ≡ is_triple → (1 ≤ length (closing_quotes opening)) × (length (closing_quotes opening) ≤ 3)
+    by_quotes true e = rw e (omega arith, omega arith)
+    by_quotes false e = rw e (omega arith, omega arith)
+
+pub fault_reads : (passed factor more rest extra : ℕ) (step : Step) (before after : ℕ) → IsFault step → after ≤ before + factor * rest + extra → AreWordReads passed factor more rest extra step before after
+fault_reads passed factor more rest extra (step.Fault begin fault end) before after is few = few
+fault_reads passed factor more rest extra (step.Token token len) before after is few = absurd is
+fault_reads passed factor more rest extra (step.Text text text_len stop len) before after is few = absurd is
+
+-- the reads of what stands behind an opener of one quote, and of the two bytes that tell it
+pub single_reads : (passed rest : ℕ) (step : Step) (before between after : ℕ) → between ≡ more_reads before 2 → AreWordReads passed 9 0 rest 6 step between after → AreWordReads passed 9 2 rest 9 step before after
+single_reads passed rest (step.Token token len) before between after told reads = ((omega (arith, told, reads.0.0), omega (arith, told, reads.0.1)), reads.1)
+single_reads passed rest (step.Fault begin fault end) before between after told reads = omega (arith, told, reads)
+single_reads passed rest (step.Text text text_len stop len) before between after told reads = absurd reads
+
+-- the same behind an opener of three
+pub triple_reads : (passed behind rest : ℕ) (step : Step) (before between after : ℕ) → behind ≡ rest - 2 → between ≡ more_reads before 2 → AreWordReads (passed + 2) 9 0 behind 6 step between after → AreWordReads passed 9 2 rest 9 step before after
+triple_reads passed behind rest (step.Token token len) before between after shorter told reads = ((omega (arith, told, reads.0.0, reads.1), omega (arith, told, reads.0.1, reads.1)), omega (arith, reads.1))
+triple_reads passed behind rest (step.Fault begin fault end) before between after shorter told reads = omega (arith, shorter, told, reads)
+triple_reads passed behind rest (step.Text text text_len stop len) before between after shorter told reads = absurd reads

@@ -1,0 +1,11 @@
+-- What a reader keeps, takes and hands out.
+pub mod PieceReads
+pub mod ReaderReads
+pub mod CodePlaces
+pub mod Waiting
+pub mod Here
+pub mod Onward
+pub mod Taken
+pub mod ChunksTaken
+pub mod PieceTaken
+pub mod NextLexeme

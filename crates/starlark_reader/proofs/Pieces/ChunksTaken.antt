@@ -1,0 +1,62 @@
+-- Texts of f-strings as lexemes that are handed out, and as tokens of a history.
+use Rattle.std.proofs.Common.{◌≡◌, ℕ, ◌+◌, ◌==◌, true, false, List, [], ◌∷◌, ◌++◌, map, length, refl, ap, sym, ◌∙◌, arith, Some, String, string_bytes}
+use Rattle.std.specs.declared.alloc.Global.{Global}
+use Rattle.starlark_grammar.specs.Words.{Text}
+use Rattle.starlark_grammar.specs.Tokens as grammar
+use Rattle.starlark_grammar.specs.Tokens.{Lexeme, moved}
+use Rattle.starlark_grammar.specs.Pieces.{chunk_text}
+use Rattle.starlark_grammar.specs.Reading.{tokens_onto}
+use Rattle.starlark_reader.specs.Joints.Steps.{is_fstring_start, text_end_node}
+use Rattle.starlark_reader.specs.Lexemes.{lexeme_view}
+use Rattle.starlark_reader.specs.Joints.Pending.{IsIdle, IsPending, pending_lexemes}
+use Rattle.starlark_reader.specs.Joints.Nesting.{Represents}
+use Rattle.starlark_token.specs.TokenViews.{Whole, token_view}
+use Rattle.starlark_reader.specs.declared.layout.pending.Pending.{Pending}
+use Rattle.starlark_reader.specs.declared.literal.pieces.TextEnd.{TextEnd}
+use Rattle.starlark_reader.specs.declared.literal.pieces.TextEnd.TheVariants as ends
+use Rattle.starlark_reader.specs.declared.nesting.Nesting.{Nesting}
+use Rattle.starlark_token.specs.declared.tokens.Token.{Token}
+use Rattle.starlark_token.specs.declared.tokens.Token.TheVariants as token
+use Rattle.starlark_reader.proofs.Pieces.Taken.{one_kept}
+use Rattle.starlark_reader.proofs.Pieces.Here.{shown_at}
+use Rattle.starlark_reader.proofs.Pieces.Waiting.{Hands, hands_first, hands_one}
+
+pub text_onto : (tokens : List grammar.Token) (len : ℕ) (value : Text) (nesting : Nesting) → Represents tokens nesting → Represents (tokens_onto tokens (chunk_text len value)) nesting
+text_onto tokens len [] nesting kept = kept
+text_onto tokens len (b ∷ bs) nesting kept = one_kept (grammar.FStringText (b ∷ bs)) tokens nesting refl kept
+
+pub onto_last : (tokens : List grammar.Token) (len : ℕ) (value : Text) (last : Lexeme) → tokens_onto tokens (chunk_text len value ++ last ∷ []) ≡ last.node ∷ tokens_onto tokens (chunk_text len value)
+onto_last tokens len [] last = refl
+onto_last tokens len (b ∷ bs) last = refl
+
+pub own_end : (stop : TextEnd) → is_fstring_start (text_end_node stop) ≡ false
+own_end ends.Expression = refl
+own_end ends.FString = refl
+
+-- a text that denotes something is handed out, and what ends it is still to be
+pub text_hands : (text : Text) (pending : Pending) (at len more : ℕ) (chunk : String Global) (node : grammar.Token) → (length (string_bytes chunk) == 0) ≡ false
+    → (pending_lexemes text pending ≡ record { begin = at + len; node = node; end = at + len + more } ∷ []) × IsPending text pending
+    → Hands text (Some (at, token.FStringText chunk, at + len)) pending (map (moved at) (chunk_text len (string_bytes chunk) ++ record { begin = len; node = node; end = len + more } ∷ []))
+unfolding token_view
+text_hands text pending at len more chunk node some waits = go (string_bytes chunk) refl some
+  where
+    far : at + (len + more) ≡ at + len + more
+    far = omega arith
+
+    none : at ≡ at + 0
+    none = omega arith
+
+    go : (value : Text) → string_bytes chunk ≡ value → (length value == 0) ≡ false → Hands text (Some (at, token.FStringText chunk, at + len)) pending (map (moved at) (chunk_text len value ++ record { begin = len; node = node; end = len + more } ∷ []))
+    go [] same some = grind arith
+    go (b ∷ bs) same some =
+        hands_first text pending (at, token.FStringText chunk, at + len) (moved at (record { begin = 0; node = grammar.FStringText (b ∷ bs); end = len })) (moved at (record { begin = len; node = node; end = len + more }) ∷ []) waits.1
+        (ap (λ n. record { begin = n; node = Whole (grammar.FStringText (string_bytes chunk)); end = at + len }) none ∙ ap (λ v. record { begin = at + 0; node = Whole (grammar.FStringText v); end = at + len }) same)
+        (ap (λ n. record { begin = at + len; node = node; end = n } ∷ []) far ∙ sym waits.0)
+
+-- behind one that denotes nothing, what ends it is handed out
+pub end_hands : (text : Text) (pending : Pending) (at len more : ℕ) (value : Text) (found : Token) (node : grammar.Token) → token_view found ≡ Whole node → is_fstring_start node ≡ false → (length value == 0) ≡ true → IsIdle text pending
+    → Hands text (Some (at + len, found, at + len + more)) pending (map (moved at) (chunk_text len value ++ record { begin = len; node = node; end = len + more } ∷ []))
+end_hands text pending at len more (b ∷ bs) found node view own none idle = grind arith
+end_hands text pending at len more [] found node view own none idle =
+    let far : at + len + more ≡ at + (len + more) = omega arith in
+    hands_one text pending (at + len, found, at + len + more) (moved at (record { begin = len; node = node; end = len + more })) idle (ap (λ n. lexeme_view (at + len, found, n)) far ∙ shown_at at len (len + more) found node view own)

@@ -1,0 +1,58 @@
+-- What stands at a place of code, by the word there.
+use Rattle.std.proofs.Common.{◌≡◌, ℕ, ◌≤◌, Bool, true, false, ◌&&◌, [], ◌∷◌, length, take, drop, refl, ap, ◌∙◌, Some}
+use Rattle.std.proofs.lemmas.List.{length-take-le}
+use Rattle.std.specs.Str.{IsUtf8, IsCharBoundary}
+use Rattle.starlark_grammar.specs.Depths.{Mode, Outside, InText, AtTop, Deeper}
+use Rattle.starlark_grammar.specs.Front.{language_front, longest_front}
+use Rattle.starlark_grammar.specs.Pieces.{Situation, Before, Nothing, Layout, Gap, Other, by_place, by_before, in_code, is_bang, takes_bang, step_at, word_step}
+use Rattle.starlark_grammar.specs.Words.{Text, class_in, language}
+use Rattle.starlark_grammar.specs.declared.class.Class.{Class}
+use Rattle.starlark_grammar.proofs.Order.WholeTexts.{word_edge}
+use Rattle.starlark_grammar.proofs.Words.Fronts.{front_sound}
+use Rattle.starlark_reader.specs.Joints.Pieces.{IsBehind, is_code}
+
+-- behind something that was read the place decides
+pub by_read : (follows_gap : Bool) (s : Situation) (text : Text) → IsBehind follows_gap s.before → step_at language s text ≡ by_place language s s.place text
+unfolding step_at
+by_read follows_gap s text behind = go s.before behind
+  where
+    go : (before : Before) → IsBehind follows_gap before → by_before language s before text ≡ by_place language s s.place text
+    go Nothing h = absurd h
+    go Layout h = refl
+    go Gap h = refl
+    go Other h = refl
+
+-- at a place of code
+pub code_at : (follows_gap : Bool) (s : Situation) (text : Text) (at : Mode) → is_code at ≡ true → IsBehind follows_gap s.before → s.place ≡ at → step_at language s text ≡ in_code language s text
+code_at follows_gap s text at code behind here = by_read follows_gap s text behind ∙ ap (λ p. by_place language s p text) here ∙ go at code
+  where
+    go : (at : Mode) → is_code at ≡ true → by_place language s at text ≡ in_code language s text
+    go Outside code = refl
+    go (InText opening) code = cc
+    go AtTop code = refl
+    go Deeper code = refl
+
+both_false : (x : Bool) → (x && false) ≡ false
+both_false true = refl
+both_false false = refl
+
+in_code_front : (s : Situation) (text : Text) (class : Class) (len : ℕ) → language_front text ≡ Some (class, len) → is_bang text ≡ false → in_code language s text ≡ word_step s class (take len text) (drop len text)
+unfolding language_front longest_front
+in_code_front s [] class len front bang = cc
+in_code_front s (b ∷ bs) class len front bang = rw (bang, both_false (takes_bang s.place s.before), front) refl
+
+-- the word there decides, where no bang stands
+pub word_at : (follows_gap : Bool) (s : Situation) (text : Text) (at : Mode) (class : Class) (len : ℕ) → is_code at ≡ true → IsBehind follows_gap s.before → s.place ≡ at → language_front text ≡ Some (class, len) → is_bang text ≡ false
+    → step_at language s text ≡ word_step s class (take len text) (drop len text)
+word_at follows_gap s text at class len code behind here front bang = code_at follows_gap s text at code behind here ∙ in_code_front s text class len front bang
+
+-- a word lies inside of its text, which may be cut behind it
+pub word_len : (text : Text) (class : Class) (len : ℕ) → language_front text ≡ Some (class, len) → length (take len text) ≡ len
+unfolding language_front
+word_len text class len front =
+    let inside : len ≤ length text = (front_sound (class_in language) text class len front).1 in
+    length-take-le len text inside
+
+pub word_cut : (text : Text) (class : Class) (len : ℕ) → IsUtf8 text → language_front text ≡ Some (class, len) → IsCharBoundary text len
+unfolding language_front
+word_cut text class len utf8 front = word_edge text class len utf8 front

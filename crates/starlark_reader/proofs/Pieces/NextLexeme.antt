@@ -1,0 +1,146 @@
+-- What a reader hands out next.
+use Rattle.std.proofs.Common.{◌≡◌, ℕ, List, [], ◌∷◌, ◌++◌, map, drop, refl, sym, ap, subst, ◌∙◌, None, Some, ◌⊎◌, inl, inr}
+use Rattle.std.specs.Prelude.{Option}
+use Rattle.starlark_grammar.specs.Words.{Text, language}
+use Rattle.starlark_grammar.specs.Tokens.{Fault, Lexeme, Outcome, Spanned}
+use Rattle.starlark_grammar.specs.Pieces.{Piece, Step, Stands, Fails, Ends}
+use Rattle.starlark_grammar.specs.Reading.{History, lexemes_along, outcome, outcome_in, outcome_of, read, read_from}
+use Rattle.starlark_reader.specs.Lexemes.{fault_view, shown_lexeme}
+use Rattle.starlark_reader.specs.Joints.Nesting.{bracket_count}
+use Rattle.starlark_reader.specs.Joints.Pending.{IsFirst, IsIdle, pending_lexemes}
+use Rattle.starlark_reader.specs.Joints.Reader.{IsAhead, IsAheadBehind, IsStateAfter, IsLeft, IsOver, IsReady, IsSomething, history_of, outcome_along, remaining_outcome}
+use Rattle.starlark_token.specs.TokenViews.{TokenView}
+use Rattle.starlark_token.specs.declared.lexeme_error.LexemeError.{LexemeError}
+use Rattle.starlark_token.specs.declared.tokens.Token.{Token}
+use Rattle.starlark_reader.specs.declared.reader.Reader.{Reader}
+use Rattle.starlark_reader.specs.declared.reader.Stage.{Stage}
+use Rattle.starlark_reader.specs.declared.reader.Stage.TheVariants as stage
+use Rattle.starlark_reader.specs.declared.layout.pending.Pending.{Pending}
+use Rattle.starlark_reader.proofs.Pieces.Here.{IsHere, kept_here}
+use Rattle.starlark_reader.proofs.Pieces.Taken.{none_before}
+
+pub same_left : (text : Text) (old new : Reader) (stage : Stage) (left : Outcome) → IsHere old new → IsLeft text old stage left → IsLeft text new stage left
+same_left text old new stage.Begin left here h = (h.0, here.at ∙ h.1, rw here.nesting h.2, here.levels ∙ h.3, ap bracket_count here.nesting ∙ h.4)
+same_left text old new stage.Onward left here h = (h.0, kept_here text h.0 old new here h.1, h.2 ∙ ap (λ at. remaining_outcome h.0 at (drop at text)) (sym here.at))
+same_left text old new (stage.Fault begin fault end) left here h = h
+same_left text old new stage.Closed left here h = (h.0, kept_here text (history_of text) old new here h.1)
+
+-- what is ahead of a reader is ahead of one that stands where it does
+pub ahead_here : (text : Text) (old new : Reader) (lexemes : List (Spanned TokenView)) (fault : Option (Spanned Fault)) → IsHere old new → new.stage ≡ old.stage → new.pending ≡ old.pending → IsAhead text old old.stage lexemes fault → IsAhead text new new.stage lexemes fault
+ahead_here text old new lexemes fault here same pending ahead = record {
+  left = ahead.left;
+  is_left = same_left text old new new.stage ahead.left here (subst (λ (s : Stage). IsLeft text old s ahead.left) (sym same) ahead.is_left);
+  is_pending = rw pending ahead.is_pending;
+  ahead = ahead.ahead ∙ ap (λ (p : Pending). map shown_lexeme (pending_lexemes text p) ++ map shown_lexeme ahead.left.lexemes) (sym pending);
+  behind_them = ahead.behind_them;
+}
+
+-- the first lexeme that was read and is to be handed out
+pub lexeme_next : (text : Text) (old new : Reader) (x : ℕ × Token × ℕ) (lexemes : List (Spanned TokenView)) (fault : Option (Spanned Fault)) → IsHere old new → new.stage ≡ old.stage → IsFirst text old.pending new.pending (Some x)
+    → IsAhead text old old.stage lexemes fault → IsAheadBehind text (Some x) new lexemes fault
+lexeme_next text old new x lexemes fault here same first ahead = (
+  map shown_lexeme (pending_lexemes text new.pending) ++ map shown_lexeme ahead.left.lexemes,
+  ahead.ahead ∙ ap (λ vs. vs ++ map shown_lexeme ahead.left.lexemes) first.1,
+  record {
+    left = ahead.left;
+    is_left = same_left text old new new.stage ahead.left here (subst (λ (s : Stage). IsLeft text old s ahead.left) (sym same) ahead.is_left);
+    is_pending = first.0;
+    ahead = refl;
+    behind_them = ahead.behind_them;
+  },
+)
+
+-- what comes behind the last lexeme
+pub fault_next : (text : Text) (reader : Reader) (lexemes : List (Spanned TokenView)) (fault : Option (Spanned Fault)) (begin : ℕ) (error : LexemeError) (end : ℕ) → IsIdle text reader.pending → reader.stage ≡ stage.Fault begin error end → IsAhead text reader reader.stage lexemes fault
+    → (node : Fault) × (fault_view error ≡ Some node) × (lexemes ≡ []) × (fault ≡ Some (record { begin = begin; node = node; end = end }))
+fault_next text reader lexemes fault begin error end idle e ahead =
+    let is = subst (λ (s : Stage). IsLeft text reader s ahead.left) e ahead.is_left in
+    let both = none_before text reader reader.stage lexemes fault _ idle ahead is.2 in
+    (is.0, is.1, both.0, both.1)
+
+pub nothing_next : (text : Text) (old new : Reader) (lexemes : List (Spanned TokenView)) (fault : Option (Spanned Fault)) → IsHere old new → IsIdle text old.pending → new.pending ≡ old.pending → old.stage ≡ stage.Closed → new.stage ≡ stage.Closed
+    → IsAhead text old old.stage lexemes fault → (lexemes ≡ []) × (fault ≡ None) × IsAhead text new new.stage [] None × IsStateAfter text (history_of text) new
+nothing_next text old new lexemes fault here idle same e e_now ahead =
+    let is = subst (λ (s : Stage). IsLeft text old s ahead.left) e ahead.is_left in
+    let kept = kept_here text (history_of text) old new here is.1 in
+    let both = none_before text old old.stage lexemes fault _ idle ahead is.0 in (
+      both.0,
+      both.1,
+      record {
+        left = record { lexemes = []; fault = None };
+        is_left = subst (λ (s : Stage). IsLeft text new s (record { lexemes = []; fault = None })) (sym e_now) (refl, kept);
+        is_pending = rw same idle.0;
+        ahead = ap (λ ls. map shown_lexeme ls ++ []) (sym (ap (pending_lexemes text) same ∙ idle.1));
+        behind_them = refl;
+      },
+      kept,
+    )
+
+-- Something is ahead of a text that isn't read to its end.
+
+some_lexeme : (xs : List Lexeme) (y : Lexeme) (ys : List Lexeme) → map shown_lexeme (xs ++ y ∷ ys) ≡ [] → ⊥
+some_lexeme [] y ys e = cc
+some_lexeme (x ∷ xs) y ys e = cc
+
+along_something : (history : History) (at : ℕ) (pieces : List Piece) (last : Step) → map shown_lexeme (outcome_along history at pieces last).lexemes ≡ [] → (outcome_along history at pieces last).fault ≡ None → ⊥
+along_something history at pieces (Stands piece) e none = some_lexeme (lexemes_along at pieces) _ _ e
+along_something history at pieces (Fails fault) e none = cc
+along_something history at pieces Ends e none = some_lexeme (lexemes_along at pieces) _ _ e
+
+rest_something : (history : History) (at : ℕ) (text : Text) → map shown_lexeme (remaining_outcome history at text).lexemes ≡ [] → (remaining_outcome history at text).fault ≡ None → ⊥
+unfolding remaining_outcome
+rest_something history at text e none = along_something history at (read_from language history 0 text).pieces (read_from language history 0 text).last e none
+
+whole_something : (text : Text) → map shown_lexeme (outcome text).lexemes ≡ [] → (outcome text).fault ≡ None → ⊥
+unfolding outcome outcome_in
+whole_something text e none = go (read language text).pieces (read language text).last e none
+  where
+    go : (pieces : List Piece) (last : Step) → map shown_lexeme (outcome_of text pieces last).lexemes ≡ [] → (outcome_of text pieces last).fault ≡ None → ⊥
+    go pieces (Stands piece) e none = some_lexeme (lexemes_along 0 pieces) _ _ e
+    go pieces (Fails fault) e none = cc
+    go pieces Ends e none = some_lexeme (lexemes_along 0 pieces) _ _ e
+
+pub begin_something : (text : Text) (reader : Reader) (lexemes : List (Spanned TokenView)) (fault : Option (Spanned Fault)) → IsIdle text reader.pending → reader.stage ≡ stage.Begin → IsAhead text reader reader.stage lexemes fault → IsSomething lexemes fault
+begin_something text reader lexemes fault idle e ahead =
+    let is = subst (λ (s : Stage). IsLeft text reader s ahead.left) e ahead.is_left in
+    let both = none_before text reader reader.stage lexemes fault (outcome text) idle ahead is.0 in
+    λ empty faultless. whole_something text (sym both.0 ∙ empty) (sym both.1 ∙ faultless)
+
+pub onward_something : (text : Text) (reader : Reader) (lexemes : List (Spanned TokenView)) (fault : Option (Spanned Fault)) → IsIdle text reader.pending → reader.stage ≡ stage.Onward → IsAhead text reader reader.stage lexemes fault → IsSomething lexemes fault
+onward_something text reader lexemes fault idle e ahead =
+    let is = subst (λ (s : Stage). IsLeft text reader s ahead.left) e ahead.is_left in
+    let both = none_before text reader reader.stage lexemes fault _ idle ahead is.2 in
+    λ empty faultless. rest_something is.0 reader.at (drop reader.at text) (sym both.0 ∙ empty) (sym both.1 ∙ faultless)
+
+-- lexemes that were read are still to be handed out
+pub pending_something : (text : Text) (reader : Reader) (lexemes : List (Spanned TokenView)) (fault : Option (Spanned Fault)) → (pending_lexemes text reader.pending ≡ [] → ⊥) → IsAhead text reader reader.stage lexemes fault → IsSomething lexemes fault
+pending_something text reader lexemes fault some ahead = λ empty faultless. go (pending_lexemes text reader.pending) refl (sym ahead.ahead ∙ empty)
+  where
+    go : (ls : List Lexeme) → pending_lexemes text reader.pending ≡ ls → map shown_lexeme ls ++ map shown_lexeme ahead.left.lexemes ≡ [] → ⊥
+    go [] e h = some e
+    go (l ∷ ls) e h = cc
+
+-- where no lexeme came, none was left
+pub none_left : (text : Text) (old : Reader) (new : Pending) (found : Option (ℕ × Token × ℕ)) → ((x : ℕ × Token × ℕ) → found ≡ Some x → ⊥) → IsFirst text old.pending new found → IsReady text old old.stage → IsIdle text old.pending × (new ≡ old.pending)
+none_left text old new None none first ready = ((ready.2.is_pending, first.0), first.1)
+none_left text old new (Some x) none first ready = absurd (none x refl)
+
+-- what is ahead stays so
+pub ahead_now : (text : Text) (old : Reader) (new : Pending) (now : Stage) (lexemes : List (Spanned TokenView)) (fault : Option (Spanned Fault)) → new ≡ old.pending → old.stage ≡ now → IsAhead text old old.stage lexemes fault → IsAhead text (record old { pending = new }) now lexemes fault
+ahead_now text old new now lexemes fault same e ahead =
+    subst (λ (s : Stage). IsAhead text (record old { pending = new }) s lexemes fault) e (ahead_here text old (record old { pending = new }) lexemes fault (record { at = refl; nesting = refl; levels = refl; before = refl }) refl same ahead)
+
+-- behind the last lexeme
+pub over : (now : Stage) → ((begin : ℕ) × (error : LexemeError) × (end : ℕ) × (now ≡ stage.Fault begin error end)) ⊎ (now ≡ stage.Closed) → IsOver now
+over now (inl at_fault) = subst IsOver (sym at_fault.3) tt
+over now (inr closed) = subst IsOver (sym closed) tt
+
+pub last_next : (text : Text) (old new : Reader) (lexemes : List (Spanned TokenView)) (fault : Option (Spanned Fault)) → IsHere old new → IsIdle text old.pending → new.pending ≡ old.pending → IsOver old.stage → ((begin : ℕ) (error : LexemeError) (end : ℕ) → old.stage ≡ stage.Fault begin error end → ⊥)
+    → new.stage ≡ stage.Closed → IsAhead text old old.stage lexemes fault → (lexemes ≡ []) × (fault ≡ None) × IsAhead text new new.stage [] None × IsStateAfter text (history_of text) new
+last_next text old new lexemes fault here idle same all none e_now ahead = by old.stage refl all
+  where
+    by : (now : Stage) → old.stage ≡ now → IsOver now → (lexemes ≡ []) × (fault ≡ None) × IsAhead text new new.stage [] None × IsStateAfter text (history_of text) new
+    by stage.Begin e h = absurd h
+    by stage.Onward e h = absurd h
+    by (stage.Fault begin error end) e h = absurd (none begin error end e)
+    by stage.Closed e h = nothing_next text old new lexemes fault here idle same e e_now ahead

@@ -1,0 +1,138 @@
+-- What a reader makes of the piece that stands where it is.
+use Rattle.std.proofs.Common.{◌≡◌, ℕ, ◌+◌, ◌≤◌, Bool, true, false, List, [], length, drop, refl, sym, ap, ◌∙◌, subst, arith, append-nil, take, None}
+use Rattle.std.specs.Prelude.{Option, String, string_bytes}
+use Rattle.std.specs.Str.{IsUtf8}
+use Rattle.std.specs.declared.alloc.Global.{Global}
+use Rattle.starlark_grammar.specs.Words.{Text, language}
+use Rattle.starlark_grammar.specs.Tokens as Tokens
+use Rattle.starlark_grammar.specs.Tokens.{Fault, Spanned}
+use Rattle.starlark_grammar.specs.declared.class.Class.TheVariants as class
+use Rattle.starlark_grammar.specs.declared.class.Terminal.{Terminal}
+use Rattle.starlark_reader.specs.Joints.Steps.{IsStep, is_fstring_start}
+use Rattle.starlark_reader.specs.declared.literal.pieces.Step.TheVariants as step
+use Rattle.starlark_reader.specs.declared.reader.Stage.{Stage}
+use Rattle.starlark_token.specs.declared.tokens.Token.TheVariants as token
+use Rattle.starlark_grammar.specs.Depths.{is_balanced, mode_after}
+use Rattle.starlark_grammar.specs.Margins.{open_widths}
+use Rattle.starlark_grammar.specs.Pieces as pieces
+use Rattle.starlark_grammar.specs.Pieces.{Piece, Situation, Stands, step_at}
+use Rattle.starlark_grammar.specs.Reading.{History, next_step, situation}
+use Rattle.starlark_reader.specs.Joints.Nesting.{Represents, mode_view}
+use Rattle.starlark_reader.specs.Joints.Pending.{IsIdle}
+use Rattle.starlark_token.specs.declared.tokens.Token.{Token}
+use Rattle.starlark_scanner.specs.declared.scanner.word.Word.{Word}
+use Rattle.starlark_reader.specs.Joints.Pieces.{IsBehind, IsPiece, nothing_of}
+use Rattle.starlark_reader.specs.Joints.Reader.{IsAhead, IsAheadBehind, IsStateAfter, IsRead, IsWordHere, before_view, left_here, silent_sort, step_here}
+use Rattle.starlark_token.specs.TokenViews.{TokenView, Whole, token_view}
+use Rattle.starlark_reader.specs.declared.nesting.LexerMode.{LexerMode}
+use Rattle.starlark_reader.specs.declared.reading.Piece as code
+use Rattle.starlark_reader.specs.declared.reader.Before as sort
+use Rattle.starlark_reader.specs.declared.reader.Before.TheVariants as before
+use Rattle.starlark_reader.specs.declared.reader.Reader.{Reader}
+use Rattle.starlark_reader.specs.declared.reader.Stage.TheVariants as stage
+use Rattle.starlark_reader.proofs.Pieces.CodePlaces.{word_at, word_len}
+use Rattle.starlark_reader.proofs.Pieces.Here.{piece_here}
+use Rattle.starlark_reader.proofs.Pieces.Taken.{none_before, read_ahead, took}
+use Rattle.starlark_reader.proofs.Pieces.Waiting.{hands_none}
+
+-- what was read at a reader's place stands there
+pub piece_read : (text : Text) (history : History) (reader : Reader) (place : LexerMode) (balanced follows_gap : Bool) (rest : Text) (piece : code.Piece) → rest ≡ drop reader.at text → IsStateAfter text history reader
+    → ((tokens : List Rattle.starlark_grammar.specs.Tokens.Token) → Represents tokens reader.nesting → mode_view place ≡ mode_after tokens)
+    → ((tokens : List Rattle.starlark_grammar.specs.Tokens.Token) → Represents tokens reader.nesting → balanced ≡ is_balanced tokens)
+    → ((before : pieces.Before) → before_view reader.before ≡ before → IsBehind follows_gap before)
+    → ((s : Situation) → s.place ≡ mode_view place → s.is_balanced ≡ balanced → IsBehind follows_gap s.before → IsPiece s.levels rest (step_at language s rest) piece)
+    → IsPiece (open_widths history.widths) (drop reader.at text) (step_here text history reader) piece
+unfolding next_step situation
+piece_read text history reader place balanced follows_gap rest piece e kept here count gap is =
+    subst (λ (t : Text). IsPiece (open_widths history.widths) t (step_at language (situation history) t) piece) e (is (situation history) (sym (here history.tokens kept.nesting)) (sym (count history.tokens kept.nesting)) (gap history.before kept.before))
+
+-- whether the piece right before is a skipped one
+abbrev is_gap_sort : sort.Before → Bool
+is_gap_sort before.Gap = true
+is_gap_sort sort = false
+
+behind_sort : (sort : sort.Before) (before : pieces.Before) → before_view sort ≡ before → IsBehind (is_gap_sort sort) before
+behind_sort before.Layout before is = subst (IsBehind false) is refl
+behind_sort before.Gap before is = subst (IsBehind true) is refl
+behind_sort before.Other before is = subst (IsBehind false) is refl
+
+-- the same of a gap
+pub gap_read : (text : Text) (history : History) (reader : Reader) (place : LexerMode) (rest : Text) (len : ℕ) → rest ≡ drop reader.at text → IsStateAfter text history reader
+    → ((tokens : List Rattle.starlark_grammar.specs.Tokens.Token) → Represents tokens reader.nesting → mode_view place ≡ mode_after tokens)
+    → ((s : Situation) (follows_gap : Bool) → s.place ≡ mode_view place → IsBehind follows_gap s.before → step_at language s rest ≡ pieces.gap len)
+    → step_here text history reader ≡ pieces.gap len
+unfolding next_step situation
+gap_read text history reader place rest len e kept here is =
+    subst (λ (t : Text). step_at language (situation history) t ≡ pieces.gap len) e (is (situation history) (is_gap_sort reader.before) (sym (here history.tokens kept.nesting)) (behind_sort reader.before history.before kept.before))
+
+-- what a word here comes to
+pub word_read : (text : Text) (history : History) (reader : Reader) (word : Word) → IsStateAfter text history reader → IsWordHere text reader word
+    → step_here text history reader ≡ pieces.word_step (situation history) word.class (take word.len (drop reader.at text)) (drop word.len (drop reader.at text))
+unfolding next_step situation
+word_read text history reader word kept here =
+    word_at (is_gap_sort reader.before) (situation history) (drop reader.at text) (mode_after history.tokens) word.class word.len (here.code history.tokens kept.nesting) (behind_sort reader.before history.before kept.before) refl (sym here.front) here.bang
+
+pub name_step : (text : Text) (history : History) (reader : Reader) (len : ℕ) (name : String Global) → IsStateAfter text history reader → IsWordHere text reader (record { class = class.Identifier; len = len }) → string_bytes name ≡ take len (drop reader.at text)
+    → IsStep (step_here text history reader) (step.Token (token.Identifier name) len)
+unfolding token_view
+name_step text history reader len name kept here is = (
+  Tokens.Identifier (take len (drop reader.at text)),
+  ap (λ t. Whole (Tokens.Identifier t)) is,
+  refl,
+  word_read text history reader (record { class = class.Identifier; len = len }) kept here ∙ ap (λ n. pieces.token n (Tokens.Identifier (take len (drop reader.at text)))) (word_len (drop reader.at text) class.Identifier len (sym here.front)),
+)
+
+pub terminal_step : (text : Text) (history : History) (reader : Reader) (terminal : Terminal) (len : ℕ) (place : LexerMode) (found : Token) → IsStateAfter text history reader → IsWordHere text reader (record { class = class.Fixed terminal; len = len })
+    → ((before : List Tokens.Token) → Represents before reader.nesting → mode_view place ≡ mode_after before)
+    → token_view found ≡ Whole (pieces.terminal_token (mode_view place) terminal) → is_fstring_start (pieces.terminal_token (mode_view place) terminal) ≡ false
+    → IsStep (step_here text history reader) (step.Token found len)
+unfolding situation
+terminal_step text history reader terminal len place found kept here at view own = (
+  pieces.terminal_token (mode_view place) terminal,
+  view,
+  own,
+  word_read text history reader (record { class = class.Fixed terminal; len = len }) kept here
+      ∙ ap (λ n. pieces.token n (pieces.terminal_token (mode_after history.tokens) terminal)) (word_len (drop reader.at text) (class.Fixed terminal) len (sym here.front))
+      ∙ ap (λ m. pieces.token len (pieces.terminal_token m terminal)) (sym (at history.tokens kept.nesting)),
+)
+
+-- what is left where a reader goes on
+pub left_onward : (text : Text) (reader : Reader) (lexemes : List (Spanned TokenView)) (fault : Option (Spanned Fault)) → reader.stage ≡ stage.Onward → IsAhead text reader reader.stage lexemes fault → IsAhead text reader stage.Onward lexemes fault
+left_onward text reader lexemes fault on ahead = subst (λ (s : Stage). IsAhead text reader s lexemes fault) on ahead
+
+-- what is ahead stays ahead where what stands here is read, behind whichever history it is
+pub onward_ahead : (text : Text) (old : Reader) (given : Option (ℕ × Token × ℕ)) (new : Reader) (lexemes : List (Spanned TokenView)) (fault : Option (Spanned Fault)) → ((history : History) → IsStateAfter text history old → IsRead text (left_here text history old) given new)
+    → IsIdle text old.pending → IsAhead text old stage.Onward lexemes fault → IsAheadBehind text given new lexemes fault
+onward_ahead text old given new lexemes fault read idle ahead =
+    let history = ahead.is_left.0 in
+    let both = none_before text old stage.Onward lexemes fault (left_here text history old) idle ahead ahead.is_left.2 in
+    read_ahead text (left_here text history old) given new lexemes fault (read history ahead.is_left.1) both.0 both.1
+
+abbrev pub nothing_piece : ℕ → Bool → Piece
+nothing_piece len true = record { len = len; lexemes = []; width = None; sort = pieces.Gap }
+nothing_piece len false = record { len = len; lexemes = []; width = None; sort = pieces.Other }
+
+pub nothing_stands : (len : ℕ) (is_gap : Bool) → nothing_of len is_gap ≡ Stands (nothing_piece len is_gap)
+nothing_stands len true = refl
+nothing_stands len false = refl
+
+nothing_len : (len : ℕ) (is_gap : Bool) → (nothing_piece len is_gap).len ≡ len
+nothing_len len true = refl
+nothing_len len false = refl
+
+-- bytes that give nothing have some length, and lie inside
+pub nothing_here : (text : Text) (history : History) (reader : Reader) (len : ℕ) (is_gap : Bool) → IsStateAfter text history reader → step_here text history reader ≡ nothing_of len is_gap → (1 ≤ len) × (reader.at + len ≤ length text)
+nothing_here text history reader len is_gap kept stands =
+    let here = piece_here text history reader (nothing_piece len is_gap) kept (stands ∙ nothing_stands len is_gap) in
+    let same = nothing_len len is_gap in
+    (omega (arith, here.0, same), omega (arith, here.1, same))
+
+-- they leave all as it is but for the place and what stands before it
+pub nothing_taken : (text : Text) (history : History) (old new : Reader) (len : ℕ) (is_gap : Bool) → IsUtf8 text → IsStateAfter text history old → step_here text history old ≡ nothing_of len is_gap → IsIdle text old.pending
+    → new ≡ record old { at = old.at + len; before = silent_sort is_gap; stage = stage.Onward } → IsRead text (left_here text history old) None new
+nothing_taken text history old new len true utf8 kept stands idle is =
+    let here = piece_here text history old (nothing_piece len true) kept stands in
+    rw is (took text history old None _ (nothing_piece len true) utf8 kept stands kept.nesting (kept.levels ∙ ap open_widths (sym (append-nil history.widths))) refl refl (omega (arith, kept.few, here.0)) refl (hands_none text old.pending idle))
+nothing_taken text history old new len false utf8 kept stands idle is =
+    let here = piece_here text history old (nothing_piece len false) kept stands in
+    rw is (took text history old None _ (nothing_piece len false) utf8 kept stands kept.nesting (kept.levels ∙ ap open_widths (sym (append-nil history.widths))) refl refl (omega (arith, kept.few, here.0)) refl (hands_none text old.pending idle))

@@ -1,0 +1,97 @@
+-- How often a reader has read bytes, behind each of its steps.
+use Rattle.std.proofs.Common.{◌≡◌, ◌≤◌, ◌<◌, ◌+◌, ◌-◌, ◌*◌, ℕ, List, Option, length, subst, sym, arith}
+use Rattle.starlark_grammar.specs.Reading.{History}
+use Rattle.starlark_grammar.specs.Words.{Text}
+use Rattle.starlark_grammar.specs.Tokens.{Fault, Spanned}
+use Rattle.starlark_token.specs.TokenViews.{TokenView}
+use Rattle.starlark_reader.specs.Joints.Reader.{IsAhead, IsLeft, IsStateAfter, history_of}
+use Rattle.starlark_scanner.specs.Joints.Reads.{AreReads, more_reads}
+use Rattle.starlark_reader.specs.Joints.Pending.{owed}
+use Rattle.starlark_reader.specs.Joints.Reads.{AreStepReads, HasRead, HasReadAt, IsMarginRead, IsPassed, IsPassedBy}
+use Rattle.starlark_reader.specs.declared.literal.pieces.Step.{Step}
+use Rattle.starlark_reader.specs.declared.literal.pieces.Step.TheVariants as steps
+use Rattle.starlark_reader.specs.declared.reader.Reader.{Reader}
+use Rattle.starlark_reader.specs.declared.reader.Stage.{Stage}
+use Rattle.starlark_token.specs.declared.lexeme_error.LexemeError.{LexemeError}
+use Rattle.starlark_reader.specs.declared.reader.Stage.TheVariants as stages
+
+-- what a reader has read before a place, as numbers
+abbrev pub IsReadBefore : (before at owes : ℕ) → Type 0
+IsReadBefore before at owes = (more_reads 0 at ≤ before) × (before + 6 * owes ≤ 16 * at + 8)
+
+-- behind a piece of so many bytes
+pub onward_reads : (text : Text) (len before : ℕ) (old new : Reader) → IsReadBefore before old.at (owed old.pending) → AreReads len (16 * len) before old.reads
+    → IsPassedBy (old.at + len) old new × (new.stage ≡ stages.Onward) → HasRead text new
+onward_reads text len before old new has read passed =
+    subst (HasReadAt text new) (sym passed.1) (omega (arith, has.0, read.0, passed.0.0, passed.0.1), omega (arith, has.1, read.1, passed.0.0, passed.0.1, passed.0.2))
+
+-- behind a token, a text of an f-string, or at a fault
+pub step_reads : (text : Text) (rest before : ℕ) (step : Step) (old new : Reader) → length text ≡ old.at + rest → IsReadBefore before old.at (owed old.pending)
+    → AreStepReads 0 16 rest 8 step before old.reads → IsPassed old step new → HasRead text new
+step_reads text rest before (steps.Token token len) old new whole has read passed = onward_reads text len before old new has (omega (arith, read.0.0), omega (arith, read.0.1)) passed
+step_reads text rest before (steps.Text chunk chunk_len stop len) old new whole has read passed = onward_reads text (chunk_len + len) before old new has (omega (arith, read.0.0), omega (arith, read.0.1)) passed
+step_reads text rest before (steps.Fault begin fault end) old new whole has read passed =
+    subst (HasReadAt text new) (sym passed.1) (omega (arith, whole, has.1, read, passed.0.1, passed.0.2))
+
+-- behind a line end and its margin
+pub line_reads : (text : Text) (len before : ℕ) (old new : Reader) → old.at + len ≤ length text → IsReadBefore before old.at (owed old.pending) → AreReads len (16 * len - 2) before old.reads → 0 < len
+    → IsMarginRead text len old new new.stage → HasRead text new
+line_reads text len before old new inside has read some margin = go new.stage margin
+  where
+    go : (stage : Stage) → IsMarginRead text len old new stage → HasReadAt text new stage
+    go stages.Begin margin = absurd margin
+    go stages.Onward margin = (omega (arith, has.0, read.0, margin.0.0, margin.1), omega (arith, has.1, read.1, some, margin.0.1, margin.1))
+    go (stages.Fault begin fault end) margin = omega (arith, inside, has.1, read.1, some, margin.0, margin.1)
+    go stages.Closed margin = absurd margin
+
+-- at the text's end
+pub end_reads : (text : Text) (rest before : ℕ) (old new : Reader) → length text ≡ old.at + rest → IsReadBefore before old.at (owed old.pending) → (old.reads ≡ before) × (rest ≡ 0)
+    → IsPassedBy old.at old new × (new.stage ≡ stages.Closed) → HasRead text new
+end_reads text rest before old new whole has read passed =
+    subst (HasReadAt text new) (sym passed.1) (omega (arith, whole, has.0, read.0, read.1, passed.0.1), omega (arith, whole, has.1, read.0, passed.0.1, passed.0.2))
+
+-- behind a lexeme that was handed out
+pub pending_reads : (text : Text) (old new : Reader) → new.at ≡ old.at → more_reads old.reads 0 ≤ new.reads → new.reads + 6 * owed new.pending ≤ old.reads + 6 * owed old.pending
+    → (stage : Stage) → HasReadAt text old stage → HasReadAt text new stage
+pending_reads text old new same least most stages.Begin has = (omega (arith, same, has.0), omega (arith, has.1, most))
+pending_reads text old new same least most stages.Onward has = (omega (arith, same, has.0, least), omega (arith, same, has.1, most))
+pending_reads text old new same least most (stages.Fault begin fault end) has = omega (arith, has, most)
+pending_reads text old new same least most stages.Closed has = (omega (arith, has.0, least), omega (arith, has.1, most))
+
+-- a margin that is taken behind a line end, and one that has a fault
+pub margin_reads : (text : Text) (len whole after owes : ℕ) (old new : Reader) → new.stage ≡ stages.Onward → new.at ≡ old.at + whole → new.reads ≡ after → owed new.pending ≡ owes
+    → AreReads (whole - len) (5 * (whole - len) + 2) old.reads after × (len + owes ≤ whole) → IsMarginRead text len old new new.stage
+margin_reads text len whole after owes old new stage at reads owing margin =
+    subst (IsMarginRead text len old new) (sym stage) ((omega (arith, at, reads, margin.0.0, margin.1), omega (arith, at, reads, margin.0.1, margin.1)), omega (arith, at, owing, margin.1))
+
+pub failed_margin_reads : (text : Text) (len after owes : ℕ) (old new : Reader) (begin : ℕ) (fault : LexemeError) (end : ℕ) → new.stage ≡ stages.Fault begin fault end → new.reads ≡ after → owed new.pending ≡ owes
+    → (after ≤ old.reads + 5 * (length text - (old.at + len)) + 2) × (owes ≤ length text - (old.at + len)) → IsMarginRead text len old new new.stage
+failed_margin_reads text len after owes old new begin fault end stage reads owing margin =
+    subst (IsMarginRead text len old new) (sym stage) (omega (arith, reads, margin.0), omega (arith, owing, margin.1))
+
+-- the text's first margin
+pub first_reads : (text : Text) (len after owes : ℕ) (old new : Reader) → HasReadAt text old stages.Begin → new.stage ≡ stages.Onward → new.at ≡ old.at + len → new.reads ≡ after → owed new.pending ≡ owes
+    → AreReads (len - 0) (5 * (len - 0) + 2) old.reads after × (0 + owes ≤ len) → HasRead text new
+first_reads text len after owes old new has stage at reads owing margin =
+    subst (HasReadAt text new) (sym stage) (omega (arith, has.0, at, reads, margin.0.0), omega (arith, has.0, has.1, at, reads, owing, margin.0.1, margin.1))
+
+pub first_failed_reads : (text : Text) (after owes : ℕ) (old new : Reader) (begin : ℕ) (fault : LexemeError) (end : ℕ) → HasReadAt text old stages.Begin → new.stage ≡ stages.Fault begin fault end → new.reads ≡ after → owed new.pending ≡ owes
+    → (after ≤ old.reads + 5 * length text + 2) × (owes ≤ length text) → HasRead text new
+first_failed_reads text after owes old new begin fault end has stage reads owing margin =
+    subst (HasReadAt text new) (sym stage) (omega (arith, has.1, reads, owing, margin.0, margin.1))
+
+-- what is kept of a history doesn't speak of reads
+pub state_reads : (text : Text) (history : History) (reader : Reader) (reads : ℕ) → IsStateAfter text history reader → IsStateAfter text history (record reader { reads = reads })
+state_reads text history reader reads state =
+    record { nesting = state.nesting; levels = state.levels; before = state.before; inside = state.inside; boundary = state.boundary; few = state.few; onward = state.onward }
+
+pub reads_ahead : (text : Text) (reader : Reader) (reads : ℕ) (stage : Stage) (lexemes : List (Spanned TokenView)) (fault : Option (Spanned Fault)) → IsAhead text reader stage lexemes fault
+    → IsAhead text (record reader { reads = reads }) stage lexemes fault
+reads_ahead text reader reads stage lexemes fault ahead =
+    record { left = ahead.left; is_left = by_stage stage ahead.is_left; is_pending = ahead.is_pending; ahead = ahead.ahead; behind_them = ahead.behind_them }
+  where
+    by_stage : (stage : Stage) → IsLeft text reader stage ahead.left → IsLeft text (record reader { reads = reads }) stage ahead.left
+    by_stage stages.Begin left = left
+    by_stage stages.Onward left = (left.0, state_reads text left.0 reader reads left.1, left.2)
+    by_stage (stages.Fault begin fault end) left = left
+    by_stage stages.Closed left = (left.0, state_reads text (history_of text) reader reads left.1)

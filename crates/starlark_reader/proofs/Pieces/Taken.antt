@@ -1,0 +1,395 @@
+-- A reader before and after a piece.
+use Rattle.std.proofs.Common.{◌≡◌, ℕ, zero, suc, ◌+◌, ◌≤◌, ◌<◌, Bool, true, false, not, List, [], ◌∷◌, ◌++◌, length, drop, map, refl, ap, ◌∙◌, sym, subst, Option, Some, None, arith, append-nil, nat_lt}
+use Rattle.std.specs.Prelude.{⊤, ◌&&◌, if◌then◌else◌, count_by, option_map, option_to_list, replicate}
+use Rattle.std.specs.List.{AllByRecursion}
+use Rattle.std.specs.Str.{IsCharBoundary, IsUtf8}
+use Rattle.std.proofs.lemmas.List.{length-drop, map-append}
+use Rattle.std.proofs.lemmas.Str.{IsCharBoundary-start, IsUtf8-drop}
+use Rattle.starlark_grammar.specs.Words.{Text, language}
+use Rattle.starlark_grammar.specs.Tokens.{Lexeme, Outcome, Spanned, moved}
+use Rattle.starlark_grammar.specs.Tokens as grammar
+use Rattle.starlark_grammar.specs.Depths.{is_any_closing, is_any_opening, open_fstring}
+use Rattle.starlark_grammar.specs.Margins.{Margin, comment_lines, comments_from, fits, has_tab, indentation, is_content, is_widest, margin_len, margin_of, open_widths, width_of}
+use Rattle.starlark_grammar.specs.Pieces.{Ends, Fails, Layout, Piece, Stands, first_margin, line_end, margin_step}
+use Rattle.starlark_grammar.specs.Reading.{History, after, closing, next_step, nothing, outcome, tokens_onto}
+use Rattle.starlark_reader.specs.Lexemes.{fault_view, lexeme_view, shown_lexeme}
+use Rattle.starlark_reader.specs.Joints.Layout.{IsRefused, IsTaken}
+use Rattle.starlark_reader.specs.Joints.Pending.{IsIdle, IsPending, pending_lexemes}
+use Rattle.starlark_reader.specs.Joints.Nesting.{Represents, bracket_count, change_by, closes, fstring_of, opens}
+use Rattle.starlark_reader.specs.Joints.Reader.{IsAhead, IsAheadBehind, IsStateAfter, IsLeft, IsRead, before_view, history_from, history_of, left_here, left_to_read, remaining_outcome, step_here}
+use Rattle.starlark_token.specs.TokenViews.{TokenView, Whole, token_view}
+use Rattle.starlark_token.specs.declared.lexeme_error.LexemeError.{LexemeError}
+use Rattle.starlark_reader.specs.declared.nesting.Nesting.{Nesting}
+use Rattle.starlark_reader.specs.declared.nesting.changes.Change.TheVariants as change
+use Rattle.starlark_reader.specs.declared.reader.Before.TheVariants as sort
+use Rattle.starlark_reader.specs.declared.reader.Reader.{Reader}
+use Rattle.starlark_reader.specs.declared.reader.Stage.{Stage}
+use Rattle.starlark_reader.specs.declared.reader.Stage.TheVariants as stage
+use Rattle.starlark_reader.specs.declared.layout.pending.Pending.{Pending}
+use Rattle.starlark_token.specs.declared.tokens.Token.{Token}
+use Rattle.starlark_grammar.proofs.Order.WholeTexts.{piece_bounded}
+use Rattle.starlark_reader.proofs.Indentation.CommentLines.{margin_comments}
+use Rattle.starlark_grammar.proofs.Order.Edges.{boundary_shift}
+use Rattle.starlark_grammar.proofs.Lists.{drop-sum}
+use Rattle.starlark_reader.proofs.OpenBrackets.Counts.{closed_onward, fstring_onward, opened_onward}
+use Rattle.starlark_reader.proofs.Pieces.Here.{IsHere, behind_some, kept_here}
+use Rattle.starlark_reader.proofs.Pieces.Onward.{GoesOn, first_fails, first_stands, history_ends, history_first, history_onward, margin_first, onward_ends, onward_fails, onward_stands}
+use Rattle.starlark_grammar.proofs.Reading.Readings.{fault_fits, one_least, piece_fits}
+use Rattle.starlark_reader.proofs.OpenBrackets.FStrings.{innermost_onward, keeps, outer_onward}
+use Rattle.starlark_grammar.proofs.Reading.Steps.{Each, is_nothing}
+use Rattle.starlark_grammar.proofs.Choices.{either}
+use Rattle.starlark_reader.proofs.Pieces.Waiting.{Hands, hands_first, hands_later}
+
+-- What is kept is kept behind the text's first margin.
+begun : (text : Text) (history : History) (reader : Reader) → IsStateAfter text history reader → is_nothing history.before ≡ false
+begun text history reader kept = (behind_some reader.before history.before kept.before).0
+
+-- Layout
+
+-- a token that changes neither brackets nor f-strings: one of layout, or a text of an f-string
+abbrev pub is_quiet : grammar.Token → Bool
+is_quiet (grammar.FStringText value) = true
+is_quiet grammar.Newline = true
+is_quiet (grammar.Comment text) = true
+is_quiet grammar.Indent = true
+is_quiet grammar.Dedent = true
+is_quiet node = false
+
+abbrev pub AllQuiet : List Lexeme → Type 0
+AllQuiet lexemes = AllByRecursion (λ (lexeme : Lexeme). is_quiet lexeme.node ≡ true) lexemes
+
+quiet_changes : (node : grammar.Token) → is_quiet node ≡ true → change_by (Whole node) ≡ change.Nothing
+unfolding change_by
+quiet_changes (grammar.FStringText value) h = refl
+quiet_changes grammar.Newline h = refl
+quiet_changes (grammar.Comment text) h = refl
+quiet_changes grammar.Indent h = refl
+quiet_changes grammar.Dedent h = refl
+quiet_changes node h = cc
+
+quiet_keeps : (node : grammar.Token) → is_quiet node ≡ true → keeps node ≡ true
+quiet_keeps (grammar.FStringText value) h = refl
+quiet_keeps grammar.Newline h = refl
+quiet_keeps (grammar.Comment text) h = refl
+quiet_keeps grammar.Indent h = refl
+quiet_keeps grammar.Dedent h = refl
+quiet_keeps node h = cc
+
+-- an f-string is what it was
+same_fstring : (node : grammar.Token) → is_quiet node ≡ true → (found : Option (grammar.Opening × List grammar.Token))
+    → option_map fstring_of (option_map (λ (found : grammar.Opening × List grammar.Token). (found.0, node ∷ found.1)) found) ≡ option_map fstring_of found
+same_fstring node h None = refl
+same_fstring node h (Some found) = ap Some (sym (fstring_onward (fstring_of found) (fstring_of found) change.Nothing found node (sym (quiet_changes node h)) refl (record { opening = refl; expression = refl; rounds = refl; squares = refl })))
+
+same_fstrings : (n : ℕ) (node : grammar.Token) (tokens : List grammar.Token) → is_quiet node ≡ true → option_map fstring_of (open_fstring n (node ∷ tokens)) ≡ option_map fstring_of (open_fstring n tokens)
+same_fstrings zero node tokens h = ap (option_map fstring_of) (innermost_onward node tokens (quiet_keeps node h)) ∙ same_fstring node h (open_fstring 0 tokens)
+same_fstrings (suc n) node tokens h = ap (option_map fstring_of) (outer_onward n node tokens (quiet_keeps node h))
+
+pub one_kept : (node : grammar.Token) (tokens : List grammar.Token) (nesting : Nesting) → is_quiet node ≡ true → Represents tokens nesting → Represents (node ∷ tokens) nesting
+one_kept node tokens nesting h same =
+    let none = quiet_changes node h in
+    let opened : count_by is_any_opening (node ∷ tokens) ≡ 0 + count_by is_any_opening tokens = opened_onward node tokens ∙ ap (λ c. opens c + count_by is_any_opening tokens) none in
+    let closed : count_by is_any_closing (node ∷ tokens) ≡ 0 + count_by is_any_closing tokens = closed_onward node tokens ∙ ap (λ c. closes c + count_by is_any_closing tokens) none in
+    record {
+      fstrings = λ n. same.fstrings n ∙ sym (same_fstrings n node tokens h);
+      opened = omega (arith, same.opened, opened);
+      closed = omega (arith, same.closed, closed);
+    }
+
+-- Such tokens leave brackets and f-strings as they are.
+pub quiet_kept : (lexemes : List Lexeme) (tokens : List grammar.Token) (nesting : Nesting) → AllQuiet lexemes → Represents tokens nesting → Represents (tokens_onto tokens lexemes) nesting
+quiet_kept [] tokens nesting h same = same
+quiet_kept (lexeme ∷ lexemes) tokens nesting h same = quiet_kept lexemes (lexeme.node ∷ tokens) nesting h.1 (one_kept lexeme.node tokens nesting h.0 same)
+
+quiet_both : (one other : List Lexeme) → AllQuiet one → AllQuiet other → AllQuiet (one ++ other)
+quiet_both [] other h k = k
+quiet_both (lexeme ∷ one) other h k = (h.0, quiet_both one other h.1 k)
+
+quiet_moved : (n : ℕ) (lexemes : List Lexeme) → AllQuiet lexemes → AllQuiet (map (moved n) lexemes)
+quiet_moved n [] h = tt
+quiet_moved n (lexeme ∷ lexemes) h = (h.0, quiet_moved n lexemes h.1)
+
+dedents_quiet : (at count : ℕ) → AllQuiet (replicate count (record { begin = at; node = grammar.Dedent; end = at }))
+dedents_quiet at zero = tt
+dedents_quiet at (suc count) = (refl, dedents_quiet at count)
+
+comments_quiet : (at : ℕ) (lines : List Text) → AllQuiet (comments_from at lines)
+comments_quiet at [] = tt
+comments_quiet at (line ∷ more) = (refl, comments_quiet (at + length line) more)
+
+indentation_is_quiet : (levels : List ℕ) (margin : Margin) → AllQuiet (indentation levels margin)
+unfolding indentation
+indentation_is_quiet levels margin = go (nat_lt 0 (width_of margin) && is_widest (width_of margin) levels)
+  where
+    go : (opens : Bool) → AllQuiet (if opens then record { begin = margin.at; node = grammar.Indent; end = margin_len margin } ∷ [] else replicate (count_by (nat_lt (width_of margin)) levels) (record { begin = margin.at; node = grammar.Dedent; end = margin.at }))
+    go true = (refl, tt)
+    go false = dedents_quiet margin.at (count_by (nat_lt (width_of margin)) levels)
+
+-- A margin, with or without a line end before it: tokens of layout alone.
+pub record IsLayout (piece : Piece) : Type 0 where
+  pub tokens : AllQuiet piece.lexemes
+  pub sort : piece.sort ≡ Layout
+
+margin_is_quiet : (len : ℕ) (line : List Lexeme) (levels : List ℕ) (text : Text) → AllQuiet line → Each IsLayout (λ fault. ⊤) (margin_step len line levels (margin_of text))
+unfolding margin_step
+margin_is_quiet len line levels text h =
+    either (Each IsLayout (λ fault. ⊤)) (not (is_content (margin_of text).behind)) _ _ (record { tokens = all [] tt; sort = refl })
+    (either (Each IsLayout (λ fault. ⊤)) (has_tab (margin_of text)) _ _ tt
+    (either (Each IsLayout (λ fault. ⊤)) (fits (width_of (margin_of text)) levels) _ _ (record { tokens = all (indentation levels (margin_of text)) (indentation_is_quiet levels (margin_of text)); sort = refl }) tt))
+  where
+    comments : AllQuiet (margin_of text).comments
+    comments = subst AllQuiet (sym (margin_comments text)) (comments_quiet 0 (comment_lines text))
+
+    all : (more : List Lexeme) → AllQuiet more → AllQuiet (line ++ map (moved len) ((margin_of text).comments ++ more))
+    all more k = quiet_both line (map (moved len) ((margin_of text).comments ++ more)) h (quiet_moved len ((margin_of text).comments ++ more) (quiet_both (margin_of text).comments more comments k))
+
+pub line_is_quiet : (len : ℕ) (levels : List ℕ) (behind : Text) (piece : Piece) → line_end len levels behind ≡ Stands piece → IsLayout piece
+line_is_quiet len levels behind piece e = subst (Each IsLayout (λ fault. ⊤)) e (margin_is_quiet len (record { begin = 0; node = grammar.Newline; end = len } ∷ []) levels behind (refl, tt))
+
+pub first_is_quiet : (text : Text) (piece : Piece) → first_margin text ≡ Stands piece → IsLayout piece
+first_is_quiet text piece e = subst (Each IsLayout (λ fault. ⊤)) e (margin_is_quiet 0 [] [] text tt)
+
+-- A piece
+
+-- what is kept behind one piece more
+kept_behind : (text : Text) (history : History) (at : ℕ) (new : Reader) (piece : Piece) → IsUtf8 text → IsCharBoundary text at → next_step language history (drop at text) ≡ Stands piece
+    → Represents (tokens_onto history.tokens piece.lexemes) new.nesting → new.levels ≡ open_widths (history.widths ++ option_to_list piece.width) → before_view new.before ≡ piece.sort → new.at ≡ at + piece.len → bracket_count new.nesting ≤ new.at
+    → history_from (after history piece) (drop piece.len (drop at text)) ≡ history_of text → IsStateAfter text (after history piece) new
+unfolding after
+kept_behind text history at new piece utf8 here stands nesting levels before is_at few onward =
+    let found = piece_bounded history (drop at text) piece (IsUtf8-drop text at utf8 here) stands in
+    let end : IsCharBoundary text (at + piece.len) = boundary_shift text at piece.len here found.1 in
+    let last : at + piece.len ≤ length text = end.0 in
+    record {
+      nesting = nesting;
+      levels = levels;
+      before = before;
+      inside = omega (arith, last, is_at);
+      boundary = subst (IsCharBoundary text) (sym is_at) end;
+      few = few;
+      onward = ap (history_from (after history piece)) (ap (λ n. drop n text) is_at ∙ drop-sum at piece.len text) ∙ onward;
+    }
+
+-- a piece was read, by what is left behind it
+read_piece : (text : Text) (whole : Outcome) (history : History) (at : ℕ) (given : Option (ℕ × Token × ℕ)) (new : Reader) (piece : Piece) → GoesOn at piece whole (remaining_outcome (after history piece) (at + piece.len) (drop piece.len (drop at text)))
+    → IsStateAfter text (after history piece) new → new.at ≡ at + piece.len → new.stage ≡ stage.Onward → Hands text given new.pending (map (moved at) piece.lexemes) → IsRead text whole given new
+read_piece text whole history at given new piece goes kept is_at is_onward hands =
+    let behind : drop piece.len (drop at text) ≡ drop new.at text = sym (drop-sum at piece.len text) ∙ ap (λ n. drop n text) (sym is_at) in
+    let rest = remaining_outcome (after history piece) (at + piece.len) (drop piece.len (drop at text)) in
+    let left : rest ≡ remaining_outcome (after history piece) new.at (drop new.at text) = ap (λ n. remaining_outcome (after history piece) n (drop piece.len (drop at text))) (sym is_at) ∙ ap (remaining_outcome (after history piece) new.at) behind in
+    record {
+      lexemes = map (moved at) piece.lexemes;
+      left = rest;
+      is_left = subst (λ now. IsLeft text new now rest) (sym is_onward) (after history piece, kept, left);
+      parts = goes.lexemes;
+      fault = goes.fault;
+      is_pending = hands.0;
+      handed_out = hands.1;
+    }
+
+pub took : (text : Text) (history : History) (old : Reader) (given : Option (ℕ × Token × ℕ)) (new : Reader) (piece : Piece) → IsUtf8 text → IsStateAfter text history old → step_here text history old ≡ Stands piece
+    → Represents (tokens_onto history.tokens piece.lexemes) new.nesting → new.levels ≡ open_widths (history.widths ++ option_to_list piece.width) → before_view new.before ≡ piece.sort → new.at ≡ old.at + piece.len → bracket_count new.nesting ≤ new.at
+    → new.stage ≡ stage.Onward → Hands text given new.pending (map (moved old.at) piece.lexemes) → IsRead text (left_here text history old) given new
+took text history old given new piece utf8 kept stands nesting levels before is_at few is_onward hands =
+    read_piece text (left_here text history old) history old.at given new piece (onward_stands history old.at (drop old.at text) piece (begun text history old kept) stands)
+    (kept_behind text history old.at new piece utf8 kept.boundary stands nesting levels before is_at few (sym (history_onward history (drop old.at text) piece (begun text history old kept) stands) ∙ kept.onward)) is_at is_onward hands
+
+pub took_first : (text : Text) (new : Reader) (piece : Piece) → IsUtf8 text → first_margin text ≡ Stands piece
+    → Represents (tokens_onto [] piece.lexemes) new.nesting → new.levels ≡ open_widths ([] ++ option_to_list piece.width) → before_view new.before ≡ piece.sort → new.at ≡ 0 + piece.len → bracket_count new.nesting ≤ new.at
+    → new.stage ≡ stage.Onward → Hands text None new.pending (map (moved 0) piece.lexemes) → IsRead text (outcome text) None new
+took_first text new piece utf8 stands nesting levels before is_at few is_onward hands =
+    read_piece text (outcome text) nothing 0 None new piece (first_stands text piece stands)
+    (kept_behind text nothing 0 new piece utf8 (IsCharBoundary-start text utf8) (margin_first text ∙ stands) nesting levels before is_at few (sym (history_first text piece stands))) is_at is_onward hands
+
+pub piece_inside : (text : Text) (history : History) (old : Reader) (piece : Piece) → IsStateAfter text history old → step_here text history old ≡ Stands piece → (old.at < old.at + piece.len) × (old.at + piece.len ≤ length text)
+piece_inside text history old piece kept stands =
+    let fits = piece_fits language history (drop old.at text) piece stands in
+    let least = one_least history.before (begun text history old kept) in
+    let some = fits.some in
+    let inside = fits.inside in
+    let here = kept.inside in
+    (omega (arith, least, some), omega (arith, inside, here, length-drop old.at text))
+
+-- A fault
+
+-- a fault was read, by the lexemes before it
+read_fault : (text : Text) (whole : Outcome) (at : ℕ) (lexemes : List Lexeme) (new : Reader) (fault : Spanned grammar.Fault) (error : LexemeError) → whole ≡ record { lexemes = lexemes; fault = Some (moved at fault) }
+    → fault_view error ≡ Some fault.node → new.stage ≡ stage.Fault (at + fault.begin) error (at + fault.end) → Hands text None new.pending lexemes → IsRead text whole None new
+read_fault text whole at lexemes new fault error left view is hands = record {
+  lexemes = lexemes;
+  left = record { lexemes = []; fault = Some (moved at fault) };
+  is_left = subst (λ now. IsLeft text new now (record { lexemes = []; fault = Some (moved at fault) })) (sym is) (fault.node, view, refl);
+  parts = ap (λ (o : Outcome). o.lexemes) left ∙ sym (append-nil lexemes);
+  fault = ap (λ (o : Outcome). o.fault) left;
+  is_pending = hands.0;
+  handed_out = hands.1;
+}
+
+pub failed : (text : Text) (history : History) (old new : Reader) (fault : Spanned grammar.Fault) (error : LexemeError) → IsStateAfter text history old → step_here text history old ≡ Fails fault → fault_view error ≡ Some fault.node
+    → new.stage ≡ stage.Fault (old.at + fault.begin) error (old.at + fault.end) → Hands text None new.pending [] → IsRead text (left_here text history old) None new
+failed text history old new fault error kept fails view is hands =
+    read_fault text (left_here text history old) old.at [] new fault error (onward_fails history old.at (drop old.at text) fault (begun text history old kept) fails) view is hands
+
+pub failed_first : (text : Text) (new : Reader) (fault : Spanned grammar.Fault) (error : LexemeError) → first_margin text ≡ Fails fault → fault_view error ≡ Some fault.node
+    → new.stage ≡ stage.Fault (0 + fault.begin) error (0 + fault.end) → Hands text None new.pending (margin_of text).comments → IsRead text (outcome text) None new
+failed_first text new fault error fails view is hands = read_fault text (outcome text) 0 (margin_of text).comments new fault error (first_fails text fault fails) view is hands
+
+pub fault_inside : (text : Text) (history : History) (old : Reader) (fault : Spanned grammar.Fault) → IsStateAfter text history old → step_here text history old ≡ Fails fault → (old.at + fault.begin ≤ length text) × (old.at + fault.end ≤ length text)
+fault_inside text history old fault kept fails =
+    let fits = fault_fits language history (drop old.at text) fault fails in
+    let order = fits.order in
+    let inside = fits.inside in
+    let here = kept.inside in
+    (omega (arith, order, inside, here, length-drop old.at text), omega (arith, inside, here, length-drop old.at text))
+
+-- The text's end
+
+pub closed : (text : Text) (history : History) (old : Reader) (given : Option (ℕ × Token × ℕ)) (new : Reader) → IsHere old new → IsStateAfter text history old → step_here text history old ≡ Ends → Hands text given new.pending (closing old.at history) → new.stage ≡ stage.Closed → IsRead text (left_here text history old) given new
+closed text history old given new here kept ends hands is =
+    let whole = sym (history_ends history (drop old.at text) (begun text history old kept) ends) ∙ kept.onward in
+    let left = onward_ends history old.at (drop old.at text) (begun text history old kept) ends in
+    record {
+      lexemes = closing old.at history;
+      left = record { lexemes = []; fault = None };
+      is_left = subst (λ now. IsLeft text new now (record { lexemes = []; fault = None })) (sym is) (refl, subst (λ (h : History). IsStateAfter text h new) whole (kept_here text history old new here kept));
+      parts = ap (λ (o : Outcome). o.lexemes) left ∙ sym (append-nil (closing old.at history));
+      fault = ap (λ (o : Outcome). o.fault) left;
+      is_pending = hands.0;
+      handed_out = hands.1;
+    }
+
+-- what closes a text
+pub closing_hands : (text : Text) (history : History) (at count : ℕ) (levels : List ℕ) (pending : Pending) (found : Token) → token_view found ≡ Whole grammar.Newline → levels ≡ open_widths history.widths → count ≡ length levels
+    → (pending_lexemes text pending ≡ replicate count (record { begin = at; node = grammar.Dedent; end = at })) × IsPending text pending → Hands text (Some (at, found, at)) pending (closing at history)
+closing_hands text history at count levels pending found is open_now counted waits =
+    let total : count ≡ length (open_widths history.widths) = counted ∙ ap (λ (ws : List ℕ). length ws) open_now in
+    hands_first text pending (at, found, at) (record { begin = at; node = grammar.Newline; end = at }) (replicate (length (open_widths history.widths)) (record { begin = at; node = grammar.Dedent; end = at })) waits.1
+    (ap (λ view. record { begin = at; node = view; end = at }) is) (sym (waits.0 ∙ ap (λ n. replicate n (record { begin = at; node = grammar.Dedent; end = at })) total))
+
+-- What is ahead, where something was read
+
+pub read_ahead : (text : Text) (whole : Outcome) (given : Option (ℕ × Token × ℕ)) (new : Reader) (lexemes : List (Spanned TokenView)) (fault : Option (Spanned grammar.Fault)) → IsRead text whole given new
+    → lexemes ≡ map shown_lexeme whole.lexemes → fault ≡ whole.fault → IsAheadBehind text given new lexemes fault
+read_ahead text whole given new lexemes fault read ahead behind = by given read.handed_out
+  where
+    parts : lexemes ≡ map shown_lexeme read.lexemes ++ map shown_lexeme read.left.lexemes
+    parts = ahead ∙ ap (λ ls. map shown_lexeme ls) read.parts ∙ map-append shown_lexeme read.lexemes read.left.lexemes
+
+    by : (given : Option (ℕ × Token × ℕ)) → map shown_lexeme read.lexemes ≡ map lexeme_view (option_to_list given) ++ map shown_lexeme (pending_lexemes text new.pending) → IsAheadBehind text given new lexemes fault
+    by None e = record {
+      left = read.left;
+      is_left = read.is_left;
+      is_pending = read.is_pending;
+      ahead = parts ∙ ap (λ vs. vs ++ map shown_lexeme read.left.lexemes) e;
+      behind_them = behind ∙ read.fault;
+    }
+    by (Some x) e = (
+      map shown_lexeme (pending_lexemes text new.pending) ++ map shown_lexeme read.left.lexemes,
+      parts ∙ ap (λ vs. vs ++ map shown_lexeme read.left.lexemes) e,
+      record {
+        left = read.left;
+        is_left = read.is_left;
+        is_pending = read.is_pending;
+        ahead = refl;
+        behind_them = behind ∙ read.fault;
+      },
+    )
+
+-- Less is left to read
+
+pub less_taken : (text : Text) (history : History) (old new : Reader) (piece : Piece) → IsStateAfter text history old → step_here text history old ≡ Stands piece → new.stage ≡ stage.Onward → new.at ≡ old.at + piece.len → left_to_read text new new.stage < left_to_read text old stage.Onward
+less_taken text history old new piece kept stands is is_at =
+    let inside = piece_inside text history old piece kept stands in
+    let onward : left_to_read text new stage.Onward < left_to_read text old stage.Onward = omega (arith, inside.0, inside.1, is_at) in
+    subst (λ now. left_to_read text new now < left_to_read text old stage.Onward) (sym is) onward
+
+pub less_failed : (text : Text) (old new : Reader) (begin : ℕ) (error : LexemeError) (end : ℕ) → new.stage ≡ stage.Fault begin error end → left_to_read text new new.stage < left_to_read text old stage.Onward
+less_failed text old new begin error end is =
+    let one : left_to_read text new (stage.Fault begin error end) < left_to_read text old stage.Onward = omega arith in
+    subst (λ now. left_to_read text new now < left_to_read text old stage.Onward) (sym is) one
+
+pub less_closed : (text : Text) (old new : Reader) → new.stage ≡ stage.Closed → left_to_read text new new.stage < left_to_read text old stage.Onward
+less_closed text old new is =
+    let none : left_to_read text new stage.Closed < left_to_read text old stage.Onward = omega arith in
+    subst (λ now. left_to_read text new now < left_to_read text old stage.Onward) (sym is) none
+
+-- Margins, as they were read
+
+module _ (text : Text) (history : History) (old : Reader) (len : ℕ) (kept : IsStateAfter text history old)
+    (here : step_here text history old ≡ line_end len (open_widths history.widths) (drop len (drop old.at text))) where
+  -- the lexeme of the line end
+  abbrev given_line : List Lexeme
+  given_line = record { begin = old.at; node = grammar.Newline; end = old.at + len } ∷ []
+
+  -- what stands here, by the text behind the line end
+  line_here : step_here text history old ≡ line_end len (open_widths history.widths) (drop (old.at + len) text)
+  line_here = here ∙ ap (line_end len (open_widths history.widths)) (sym (drop-sum old.at len text))
+
+  pub line_inside : {levels : List ℕ} {pending : Pending} {whole : ℕ} → IsTaken text old.at (line_end len (open_widths history.widths) (drop (old.at + len) text)) given_line history.widths levels pending whole → (old.at < old.at + whole) × (old.at + whole ≤ length text)
+  line_inside taken =
+      let inside = piece_inside text history old taken.piece kept (line_here ∙ taken.stands) in
+      (omega (arith, inside.0, taken.whole), omega (arith, inside.1, taken.whole))
+
+  pub line_fault_inside : {handed_out : List Lexeme} {levels : List ℕ} {pending : Pending} {error : LexemeError} {end : ℕ} → IsRefused text (line_end len (open_widths history.widths) (drop (old.at + len) text)) handed_out history.widths levels pending error end
+      → (old.at ≤ length text) × (old.at + end ≤ length text)
+  line_fault_inside {end = end} refused = (kept.inside, (fault_inside text history old (record { begin = 0; node = refused.node; end = end }) kept (line_here ∙ refused.stands)).1)
+
+  pub line_less : {levels : List ℕ} {pending : Pending} {whole : ℕ} (new : Reader) → IsTaken text old.at (line_end len (open_widths history.widths) (drop (old.at + len) text)) given_line history.widths levels pending whole
+      → new.stage ≡ stage.Onward → new.at ≡ old.at + whole → left_to_read text new new.stage < left_to_read text old stage.Onward
+  line_less new taken is is_at = less_taken text history old new taken.piece kept (line_here ∙ taken.stands) is (is_at ∙ ap (λ n. old.at + n) (sym taken.whole))
+
+  pub line_taken : (new : Reader) (whole : ℕ) (found : Token) → token_view found ≡ Whole grammar.Newline → IsUtf8 text → IsTaken text old.at (line_end len (open_widths history.widths) (drop (old.at + len) text)) given_line history.widths new.levels new.pending whole
+      → new.nesting ≡ old.nesting → new.before ≡ sort.Layout → new.at ≡ old.at + whole → new.stage ≡ stage.Onward → IsRead text (left_here text history old) (Some (old.at, found, old.at + len)) new
+  line_taken new whole found is utf8 taken nesting before is_at is_onward =
+      let stands : step_here text history old ≡ Stands taken.piece = line_here ∙ taken.stands in
+      let layout = line_is_quiet len (open_widths history.widths) (drop (old.at + len) text) taken.piece taken.stands in
+      let few : bracket_count old.nesting ≤ new.at = omega (arith, kept.few, is_at) in
+      let hands : Hands text (Some (old.at, found, old.at + len)) new.pending (map (moved old.at) taken.piece.lexemes) =
+      rw taken.lexemes (hands_first text new.pending (old.at, found, old.at + len) (record { begin = old.at; node = grammar.Newline; end = old.at + len }) (pending_lexemes text new.pending) taken.is_pending
+      (ap (λ view. record { begin = old.at; node = view; end = old.at + len }) is) refl) in
+      took text history old (Some (old.at, found, old.at + len)) new taken.piece utf8 kept stands
+      (rw nesting (quiet_kept taken.piece.lexemes history.tokens old.nesting layout.tokens kept.nesting)) taken.open_now (ap before_view before ∙ sym layout.sort) (is_at ∙ ap (λ n. old.at + n) (sym taken.whole)) (rw nesting few) is_onward hands
+
+  pub line_refused : (new : Reader) (error : LexemeError) (end : ℕ) → IsRefused text (line_end len (open_widths history.widths) (drop (old.at + len) text)) [] history.widths new.levels new.pending error end
+      → new.stage ≡ stage.Fault (old.at + 0) error (old.at + end) → IsRead text (left_here text history old) None new
+  line_refused new error end refused is =
+      failed text history old new (record { begin = 0; node = refused.node; end = end }) error kept (line_here ∙ refused.stands) refused.is is (hands_later text new.pending [] refused.is_pending refused.lexemes)
+
+-- Nothing is kept yet.
+pub record IsNew (reader : Reader) : Type 0 where
+  pub at : reader.at ≡ 0
+  pub nesting : Represents [] reader.nesting
+  pub levels : reader.levels ≡ []
+  pub few : bracket_count reader.nesting ≡ 0
+
+module _ (text : Text) (old new : Reader) (is_new : IsNew old) where
+  pub margin_taken : (whole : ℕ) → IsUtf8 text → IsTaken text 0 (first_margin text) [] [] new.levels new.pending whole
+      → new.nesting ≡ old.nesting → new.before ≡ sort.Layout → new.at ≡ old.at + whole → new.stage ≡ stage.Onward → IsRead text (outcome text) None new
+  margin_taken whole utf8 taken nesting before is_at is_onward =
+      let layout = first_is_quiet text taken.piece taken.stands in
+      let few : bracket_count old.nesting ≤ new.at = omega (arith, is_new.few) in
+      let end : new.at ≡ 0 + taken.piece.len = omega (arith, is_at, is_new.at, taken.whole) in
+      took_first text new taken.piece utf8 taken.stands
+      (rw nesting (quiet_kept taken.piece.lexemes [] old.nesting layout.tokens is_new.nesting)) taken.open_now (ap before_view before ∙ sym layout.sort) end (rw nesting few) is_onward (hands_later text new.pending _ taken.is_pending taken.lexemes)
+
+  pub margin_refused : (error : LexemeError) (end : ℕ) → IsRefused text (first_margin text) (margin_of text).comments [] new.levels new.pending error end
+      → new.stage ≡ stage.Fault (old.at + 0) error (old.at + end) → IsRead text (outcome text) None new
+  margin_refused error end refused is =
+      failed_first text new (record { begin = 0; node = refused.node; end = end }) error refused.stands refused.is (is ∙ ap (λ n. stage.Fault (n + 0) error (n + end)) is_new.at) (hands_later text new.pending _ refused.is_pending refused.lexemes)
+
+-- what is ahead where nothing is to be handed out before it
+pub none_before : (text : Text) (reader : Reader) (now : Stage) (lexemes : List (Spanned TokenView)) (fault : Option (Spanned grammar.Fault)) (left : Outcome) → IsIdle text reader.pending → (ahead : IsAhead text reader now lexemes fault) → ahead.left ≡ left
+    → (lexemes ≡ map shown_lexeme left.lexemes) × (fault ≡ left.fault)
+none_before text reader now lexemes fault left idle ahead e = (
+  ahead.ahead ∙ ap (λ ls. map shown_lexeme ls ++ map shown_lexeme ahead.left.lexemes) idle.1 ∙ ap (λ (o : Outcome). map shown_lexeme o.lexemes) e,
+  ahead.behind_them ∙ ap (λ (o : Outcome). o.fault) e,
+)
+
+-- what a text comes to is ahead, where something was read from its begin on
+pub first_ahead : (text : Text) (old new : Reader) (lexemes : List (Spanned TokenView)) (fault : Option (Spanned grammar.Fault)) → IsRead text (outcome text) None new → IsIdle text old.pending → IsAhead text old stage.Begin lexemes fault → IsAhead text new new.stage lexemes fault
+first_ahead text old new lexemes fault read idle ahead =
+    let both = none_before text old stage.Begin lexemes fault (outcome text) idle ahead ahead.is_left.0 in
+    read_ahead text (outcome text) None new lexemes fault read both.0 both.1
+
+pub new_ahead : (text : Text) (old : Reader) (lexemes : List (Spanned TokenView)) (fault : Option (Spanned grammar.Fault)) → IsAhead text old stage.Begin lexemes fault → IsNew old
+new_ahead text old lexemes fault ahead = record { at = ahead.is_left.1; nesting = ahead.is_left.2; levels = ahead.is_left.3; few = ahead.is_left.4 }

@@ -1,0 +1,65 @@
+use Rattle.std.proofs.Common.{◌≡◌, ◌≤◌, ◌+◌, ◌*◌, ◌∙◌, ap, arith, length, sym}
+use Rattle.starlark_reader.proofs.Literals.StepReads.{closing_some, fault_reads}
+use Rattle.starlark_grammar.specs.Items as grammar
+use Rattle.starlark_scanner.specs.Joints.Literals.{literal_view, opening_view, stop_view, stopped_len}
+use Rattle.starlark_reader.proofs.Literals.Pieces.{bad_edges, bad_fits, bad_literal, closing_fits, if_ok, read_behind}
+use Rattle.starlark_reader.proofs.literal.pieces.literal_from.Goals as goal
+
+pub overflow_add-result-in-Closing : goal.overflow_add-result-in-Closing
+overflow_add-result-in-Closing c =
+    let stop : (grammar.body_at (literal_view c.args.literal) c.args.behind.now).stop ≡ grammar.Closing = sym c.in_ok-body.ensures.body.stop ∙ ap stop_view c.in-Closing.is in
+    let fits = closing_fits (literal_view c.args.literal) c.args.behind.now c.in_ok-body.body.len c.in_ok-body.ensures.body.len stop in
+    omega (arith, fits, c.closing_len.ensures, c.requires)
+
+pub overflow_add-body-in-BadEscape : goal.overflow_add-body-in-BadEscape
+overflow_add-body-in-BadEscape c =
+    let stop : (grammar.body_at (literal_view c.args.literal) c.args.behind.now).stop ≡ grammar.BadEscape c.in-BadEscape.read c.in-BadEscape.last = sym c.in_ok-body.ensures.body.stop ∙ ap stop_view c.in-BadEscape.is in
+    let fits = bad_fits (literal_view c.args.literal) c.args.behind.now c.in_ok-body.body.len c.in-BadEscape.read c.in-BadEscape.last c.in_ok-body.ensures.body.len stop in
+    omega (arith, fits.1, c.requires)
+
+pub range-requires-clause-start_le_end : goal.range-requires-clause-start_le_end
+range-requires-clause-start_le_end c =
+    let stop : (grammar.body_at (literal_view c.args.literal) c.args.behind.now).stop ≡ grammar.BadEscape c.in-BadEscape.read c.in-BadEscape.last = sym c.in_ok-body.ensures.body.stop ∙ ap stop_view c.in-BadEscape.is in
+    let fits = bad_fits (literal_view c.args.literal) c.args.behind.now c.in_ok-body.body.len c.in-BadEscape.read c.in-BadEscape.last c.in_ok-body.ensures.body.len stop in
+    omega (arith, fits.0)
+
+pub range-requires-clause-start_boundary : goal.range-requires-clause-start_boundary
+range-requires-clause-start_boundary c = λ some.
+    let stop : (grammar.body_at (literal_view c.args.literal) c.args.behind.now).stop ≡ grammar.BadEscape c.in-BadEscape.read c.in-BadEscape.last = sym c.in_ok-body.ensures.body.stop ∙ ap stop_view c.in-BadEscape.is in
+    let edges = bad_edges (literal_view c.args.literal) c.args.behind.now c.in_ok-body.body.len c.in-BadEscape.read c.in-BadEscape.last c.utf8.behind c.in_ok-body.ensures.boundary c.in_ok-body.ensures.body.len stop in
+    edges.0
+
+pub range-requires-clause-end_boundary : goal.range-requires-clause-end_boundary
+range-requires-clause-end_boundary c =
+    let stop : (grammar.body_at (literal_view c.args.literal) c.args.behind.now).stop ≡ grammar.BadEscape c.in-BadEscape.read c.in-BadEscape.last = sym c.in_ok-body.ensures.body.stop ∙ ap stop_view c.in-BadEscape.is in
+    let edges = bad_edges (literal_view c.args.literal) c.args.behind.now c.in_ok-body.body.len c.in-BadEscape.read c.in-BadEscape.last c.utf8.behind c.in_ok-body.ensures.boundary c.in_ok-body.ensures.body.len stop in
+    edges.1
+
+pub escape_fault-requires : goal.escape_fault-requires
+escape_fault-requires c =
+    let stop : (grammar.body_at (literal_view c.args.literal) c.args.behind.now).stop ≡ grammar.BadEscape c.in-BadEscape.read c.in-BadEscape.last = sym c.in_ok-body.ensures.body.stop ∙ ap stop_view c.in-BadEscape.is in
+    let fits = bad_fits (literal_view c.args.literal) c.args.behind.now c.in_ok-body.body.len c.in-BadEscape.read c.in-BadEscape.last c.in_ok-body.ensures.body.len stop in
+    omega (arith, fits.0, fits.1, c.range.ensures.len, c.requires)
+
+pub returns-in-BadEscape-clause-step : goal.returns-in-BadEscape-clause-step
+returns-in-BadEscape-clause-step c = if_ok _ _ c.escape_fault.result (λ step is place outside. rw (bad_literal place (literal_view c.args.literal) c.args.len c.in_ok-body.body.len c.in-BadEscape.read c.in-BadEscape.last c.args.behind.now c.in_ok-body.ensures.body.len (sym c.in_ok-body.ensures.body.stop ∙ ap stop_view c.in-BadEscape.is), ← read_behind c.args.behind.now c.in_ok-body.body.len c.in-BadEscape.read, ← c.range.ensures.value) is) c.escape_fault.ensures.step
+
+pub returns-in-BadEscape-clause-reads : goal.returns-in-BadEscape-clause-reads
+returns-in-BadEscape-clause-reads c =
+    let stop : (grammar.body_at (literal_view c.args.literal) c.args.behind.now).stop ≡ grammar.BadEscape c.in-BadEscape.read c.in-BadEscape.last = sym c.in_ok-body.ensures.body.stop ∙ ap stop_view c.in-BadEscape.is in
+    let fits = bad_fits (literal_view c.args.literal) c.args.behind.now c.in_ok-body.body.len c.in-BadEscape.read c.in-BadEscape.last c.in_ok-body.ensures.body.len stop in
+    let few : c.read_body.new.reads ≤ c.args.reads.now + 9 * length c.args.behind.now + 6 = omega (arith, fits.1, ap stopped_len c.in-BadEscape.is, c.in_ok-body.ensures.reads.1) in
+    if_ok _ _ c.escape_fault.result (λ step is. fault_reads c.args.len 9 0 (length c.args.behind.now) 6 step _ _ is few) c.escape_fault.ensures.fault
+
+pub returns-in-Closing-clause-reads : goal.returns-in-Closing-clause-reads
+returns-in-Closing-clause-reads c =
+    let quotes = closing_some (opening_view c.args.literal.opening) in
+    let closing = c.closing_len.ensures in
+    let reads = c.in_ok-body.ensures.reads in
+    let stopped = ap stopped_len c.in-Closing.is in
+    ((omega (arith, quotes.1, closing, reads.0), omega (arith, quotes.0, closing, stopped, reads.1)), omega arith)
+
+pub returns-in-Line-clause-reads : goal.returns-in-Line-clause-reads
+returns-in-Line-clause-reads c =
+    let stopped = ap stopped_len c.in-Line.is in
+    omega (arith, c.in_ok-body.ensures.boundary.0, stopped, c.in_ok-body.ensures.reads.1, c.unfinished.ensures.reads.1)

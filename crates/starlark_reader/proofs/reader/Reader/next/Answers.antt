@@ -1,0 +1,55 @@
+use Rattle.std.proofs.Common.{List, Option, refl, sym, subst}
+use Rattle.starlark_grammar.specs.Tokens.{Fault, Spanned}
+use Rattle.starlark_token.specs.TokenViews.{TokenView}
+use Rattle.starlark_reader.specs.Joints.Reads.{HasReadAt}
+use Rattle.starlark_reader.specs.Joints.Pending.{IsFirst, IsIdle}
+use Rattle.starlark_reader.specs.Joints.Reader.{IsAhead, IsAheadBehind}
+use Rattle.starlark_reader.specs.declared.reader.Stage.TheVariants as stage
+use Rattle.starlark_reader.proofs.Pieces.NextLexeme.{ahead_now, begin_something, lexeme_next, none_left, onward_something, over, pending_something}
+use Rattle.starlark_reader.proofs.Pieces.ReaderReads.{pending_reads, reads_ahead}
+use Rattle.starlark_reader.proofs.Pieces.Waiting.{after_error}
+use Rattle.starlark_reader.proofs.reader.Reader.next.Goals as goal
+
+pub returns-in_err-lexeme-clause-memory : goal.returns-in_err-lexeme-clause-memory
+returns-in_err-lexeme-clause-memory c = after_error c.from_residual.result _ (λ lexemes fault ahead. pending_something c.args.text.now c.loop-lexeme.self lexemes fault c.in_err-lexeme.ensures.memory (c.loop-lexeme.invariant.ahead lexemes fault ahead))
+
+pub returns-in-Some-clause-next : goal.returns-in-Some-clause-next
+returns-in-Some-clause-next c = λ lexemes fault ahead.
+    lexeme_next c.args.text.now c.loop-lexeme.self _ c.in-Some.lexeme lexemes fault (record { at = refl; nesting = refl; levels = refl; before = refl }) refl
+    (subst (IsFirst c.args.text.now c.loop-lexeme.self.pending c.next.new.self) c.in-Some.is c.in_ok-lexeme.ensures.next) (c.loop-lexeme.invariant.ahead lexemes fault ahead)
+
+pub returns-in_err-read_first_margin-in-Begin-clause-memory : goal.returns-in_err-read_first_margin-in-Begin-clause-memory
+returns-in_err-read_first_margin-in-Begin-clause-memory c = after_error c.from_residual-in_err-read_first_margin-in-Begin.result _ (λ lexemes fault ahead.
+    let none = none_left c.args.text.now c.loop-lexeme.self c.next.new.self c.in_ok-lexeme.field-0 c.in_default.not-Some c.in_ok-lexeme.ensures.next c.loop-lexeme.invariant.ready in
+    begin_something c.args.text.now c.loop-lexeme.self lexemes fault none.0 c.in-Begin.is (c.loop-lexeme.invariant.ahead lexemes fault ahead))
+
+pub returns-in_err-lexeme-in-Onward-clause-memory : goal.returns-in_err-lexeme-in-Onward-clause-memory
+returns-in_err-lexeme-in-Onward-clause-memory c = after_error c.from_residual-in_err-lexeme-in-Onward.result _ (λ lexemes fault ahead.
+    let none = none_left c.args.text.now c.loop-lexeme.self c.next.new.self c.in_ok-lexeme.field-0 c.in_default.not-Some c.in_ok-lexeme.ensures.next c.loop-lexeme.invariant.ready in
+    onward_something c.args.text.now c.loop-lexeme.self lexemes fault none.0 c.in-Onward.is (c.loop-lexeme.invariant.ahead lexemes fault ahead))
+
+pub returns-in-Some-2-clause-next : goal.returns-in-Some-2-clause-next
+returns-in-Some-2-clause-next c = λ lexemes fault ahead.
+    let none = none_left c.args.text.now c.loop-lexeme.self c.next.new.self c.in_ok-lexeme.field-0 c.in_default.not-Some c.in_ok-lexeme.ensures.next c.loop-lexeme.invariant.ready in
+    subst (λ given. IsAheadBehind c.args.text.now given c.read_piece.new.self lexemes fault) c.in-Some-2.is
+    (c.in_ok-lexeme-in-Onward.ensures.ahead lexemes fault (reads_ahead c.args.text.now (record c.loop-lexeme.self { pending = c.next.new.self }) c.next.new.reads stage.Onward lexemes fault (ahead_now c.args.text.now c.loop-lexeme.self c.next.new.self stage.Onward lexemes fault none.1 c.in-Onward.is (c.loop-lexeme.invariant.ahead lexemes fault ahead))))
+
+pub returns-in-Fault-clause-next : goal.returns-in-Fault-clause-next
+returns-in-Fault-clause-next c = λ lexemes fault ahead.
+    let none = none_left c.args.text.now c.loop-lexeme.self c.next.new.self c.in_ok-lexeme.field-0 c.in_default.not-Some c.in_ok-lexeme.ensures.next c.loop-lexeme.invariant.ready in
+    c.last.ensures.next c.args.text.now lexemes fault (subst (IsIdle c.args.text.now) (sym none.1) none.0) (over c.loop-lexeme.self.stage c.in-Fault.is)
+    (reads_ahead c.args.text.now (record c.loop-lexeme.self { pending = c.next.new.self }) c.next.new.reads c.loop-lexeme.self.stage lexemes fault (ahead_now c.args.text.now c.loop-lexeme.self c.next.new.self c.loop-lexeme.self.stage lexemes fault none.1 refl (c.loop-lexeme.invariant.ahead lexemes fault ahead)))
+
+pub loop-lexeme-preserved : goal.loop-lexeme-preserved
+loop-lexeme-preserved c =
+    let none = none_left c.args.text.now c.loop-lexeme.self c.next.new.self c.in_ok-lexeme.field-0 c.in_default.not-Some c.in_ok-lexeme.ensures.next c.loop-lexeme.invariant.ready in
+    let on = λ (lexemes : List (Spanned TokenView)) (fault : Option (Spanned Fault)) (ahead : IsAhead c.args.text.now c.loop-lexeme.self c.loop-lexeme.self.stage lexemes fault).
+    subst (λ given. IsAheadBehind c.args.text.now given c.read_piece.new.self lexemes fault) c.in_default-2.is
+    (c.in_ok-lexeme-in-Onward.ensures.ahead lexemes fault (reads_ahead c.args.text.now (record c.loop-lexeme.self { pending = c.next.new.self }) c.next.new.reads stage.Onward lexemes fault (ahead_now c.args.text.now c.loop-lexeme.self c.next.new.self stage.Onward lexemes fault none.1 c.in-Onward.is ahead))) in
+    let ready = c.loop-lexeme.invariant.ready in
+    record {
+      ready = (ready.0, ready.1, on ready.0 ready.1 ready.2);
+      ahead = λ lexemes fault ahead. on lexemes fault (c.loop-lexeme.invariant.ahead lexemes fault ahead);
+      reads = λ has. c.in_ok-lexeme-in-Onward.ensures.reads (pending_reads c.args.text.now c.loop-lexeme.self (record c.loop-lexeme.self { pending = c.next.new.self; reads = c.next.new.reads }) refl c.in_ok-lexeme.ensures.reads.0 c.in_ok-lexeme.ensures.reads.1 stage.Onward
+          (subst (HasReadAt c.args.text.now c.loop-lexeme.self) c.in-Onward.is (c.loop-lexeme.invariant.reads has)));
+    }

@@ -1,0 +1,38 @@
+use Rattle.std.proofs.Common.{ℕ, ◌+◌, ◌∷◌, [], ap, append-nil, arith, refl, sym, ◌∙◌, None, Some}
+use Rattle.starlark_grammar.specs.Margins.{open_widths}
+use Rattle.starlark_grammar.specs.Pieces as grammar
+use Rattle.starlark_grammar.specs.Pieces.{Piece}
+use Rattle.starlark_grammar.specs.Tokens.{Token}
+use Rattle.starlark_reader.specs.declared.reader.Reader.{Reader}
+use Rattle.starlark_reader.proofs.Pieces.Here.{less_onward, piece_here, shown_here}
+use Rattle.starlark_reader.proofs.Pieces.Taken.{took}
+use Rattle.starlark_reader.proofs.Pieces.Waiting.{hands_one}
+use Rattle.starlark_reader.proofs.reader.Reader.pass_token.Goals as goal
+
+abbrev one : ℕ → Token → Piece
+one len node = record { len = len; lexemes = record { begin = 0; node = node; end = len } ∷ []; width = None; sort = grammar.Other }
+
+pub step_over-requires-clause-fits : goal.step_over-requires-clause-fits
+step_over-requires-clause-fits c =
+    let stands = c.requires.stands in
+    let here = piece_here c.args.text.now stands.0 c.args.self.now (one c.args.len stands.2.0) stands.1 stands.2.3 in
+    omega (arith, here.1, c.requires.fits)
+
+pub returns-clause-read : goal.returns-clause-read
+returns-clause-read c = λ history kept stands.
+    let here = piece_here c.args.text.now history c.args.self.now (one c.args.len stands.0) kept stands.3 in
+    rw c.step_over.ensures (took c.args.text.now history c.args.self.now (Some (c.args.self.now.at, c.args.token.now, c.args.self.now.at + c.args.len)) _ (one c.args.len stands.0) c.utf8.text kept stands.3
+    (c.pass.ensures.passes history.tokens stands.0 stands.1 stands.2 kept.nesting)
+    (kept.levels ∙ ap open_widths (sym (append-nil history.widths)))
+    refl
+    refl
+    (omega (arith, c.pass.ensures.count, kept.few, here.0))
+    refl
+    (hands_one c.args.text.now c.args.self.now.pending (c.args.self.now.at, c.args.token.now, c.args.self.now.at + c.args.len) _ c.requires.idle (shown_here c.args.self.now.at c.args.len c.args.token.now stands.0 stands.1 stands.2)))
+
+pub returns-clause-less : goal.returns-clause-less
+returns-clause-less c =
+    let stands = c.requires.stands in
+    let here = piece_here c.args.text.now stands.0 c.args.self.now (one c.args.len stands.2.0) stands.1 stands.2.3 in
+    let is = c.step_over.ensures in
+    less_onward c.args.text.now c.args.self.now c.step_over.new.self c.args.len (ap (λ (reader : Reader). reader.stage) is) (ap (λ (reader : Reader). reader.at) is) here.0 here.1

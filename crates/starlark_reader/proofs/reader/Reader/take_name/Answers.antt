@@ -1,0 +1,31 @@
+use Rattle.std.proofs.Common.{◌≡◌, ◌+◌, ap, drop, sym, take, ◌∙◌, Some}
+use Rattle.std.proofs.Math.Nat.{sub-zero}
+use Rattle.std.specs.Prelude.{string_bytes}
+use Rattle.starlark_grammar.specs.Front.{language_front}
+use Rattle.starlark_grammar.specs.declared.class.Class.TheVariants as class
+use Rattle.starlark_token.specs.declared.tokens.Token.TheVariants as token
+use Rattle.starlark_reader.proofs.Pieces.CodePlaces.{word_cut}
+use Rattle.starlark_reader.proofs.Pieces.NextLexeme.{onward_something}
+use Rattle.starlark_reader.proofs.Pieces.PieceTaken.{left_onward, name_step, onward_ahead}
+use Rattle.starlark_reader.proofs.Pieces.Waiting.{after_error}
+use Rattle.starlark_reader.proofs.reader.Reader.take_name.Goals as goal
+
+pub range-requires-clause-end_boundary : goal.range-requires-clause-end_boundary
+range-requires-clause-end_boundary c =
+    word_cut c.range_from-rest.result.now class.Identifier c.args.len c.range_from-rest.utf8 (ap language_front c.range_from-rest.ensures.value ∙ sym c.requires.stands.front)
+
+pub returns-in_err-from_str-clause-memory : goal.returns-in_err-from_str-clause-memory
+returns-in_err-from_str-clause-memory c = after_error c.from_residual.result _ (λ lexemes fault ahead. onward_something c.args.text.now c.args.self.now lexemes fault c.requires.stands.idle c.requires.stands.stage ahead)
+
+pub pass_token-requires-clause-stands : goal.pass_token-requires-clause-stands
+pass_token-requires-clause-stands c =
+    let left = (left_onward c.args.text.now c.args.self.now c.requires.ready.0 c.requires.ready.1 c.requires.stands.stage c.requires.ready.2).is_left in
+    let name : string_bytes c.in_ok-from_str.field-0 ≡ take c.args.len (drop c.args.self.now.at c.args.text.now) = c.in_ok-from_str.ensures.ok ∙ c.range.ensures.value ∙ ap (λ n. take n c.range_from-rest.result.now) (sub-zero _) ∙ ap (take c.args.len) c.range_from-rest.ensures.value in
+    (left.0, left.1, name_step c.args.text.now left.0 c.args.self.now c.args.len c.in_ok-from_str.field-0 left.1 c.requires.stands name)
+
+pub returns-clause-ahead : goal.returns-clause-ahead
+returns-clause-ahead c = λ lexemes fault ahead.
+    let name : string_bytes c.in_ok-from_str.field-0 ≡ take c.args.len (drop c.args.self.now.at c.args.text.now) = c.in_ok-from_str.ensures.ok ∙ c.range.ensures.value ∙ ap (λ n. take n c.range_from-rest.result.now) (sub-zero _) ∙ ap (take c.args.len) c.range_from-rest.ensures.value in
+    onward_ahead c.args.text.now c.args.self.now (Some (c.args.self.now.at, token.Identifier c.in_ok-from_str.field-0, c.args.self.now.at + c.args.len)) c.pass_token.new.self lexemes fault
+    (λ history kept. c.pass_token.ensures.read history kept (name_step c.args.text.now history c.args.self.now c.args.len c.in_ok-from_str.field-0 kept c.requires.stands name))
+    c.requires.stands.idle (left_onward c.args.text.now c.args.self.now lexemes fault c.requires.stands.stage ahead)

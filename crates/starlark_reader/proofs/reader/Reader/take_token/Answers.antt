@@ -1,0 +1,16 @@
+use Rattle.std.proofs.Common.{ℕ, ◌+◌, ◌≤◌, ◌∷◌, [], length, rules, None}
+use Rattle.starlark_grammar.specs.Pieces as grammar
+use Rattle.starlark_grammar.specs.Pieces.{Piece}
+use Rattle.starlark_grammar.specs.Tokens.{Token}
+use Rattle.starlark_reader.proofs.Pieces.Here.{piece_here}
+use Rattle.starlark_reader.proofs.reader.Reader.take_token.Goals as goal
+
+abbrev one : ℕ → Token → Piece
+one len node = record { len = len; lexemes = record { begin = 0; node = node; end = len } ∷ []; width = None; sort = grammar.Other }
+
+pub overflow_add-result : goal.overflow_add-result
+overflow_add-result c =
+    let stands = c.requires.stands in
+    let here = piece_here c.args.text.now stands.0 c.args.self.now (one c.args.len stands.2.0) stands.1 stands.2.3 in
+    let inside : c.args.self.now.at + c.args.len ≤ length c.args.text.now = here.1 in
+    search (rules, inside)

@@ -1,0 +1,45 @@
+use Rattle.std.proofs.Common.{◌≡◌, ℕ, Some, ap, sym, ◌∙◌, ◌+◌, ◌≤◌, length, take, drop, arith}
+use Rattle.std.specs.Str.{IsUtf8, IsCharBoundary}
+use Rattle.starlark_grammar.specs.Front.{language_front}
+use Rattle.starlark_grammar.specs.Words.{Text, class_in, language}
+use Rattle.starlark_grammar.specs.declared.class.Class.{Class}
+use Rattle.starlark_grammar.proofs.Order.WholeTexts.{word_edge}
+use Rattle.starlark_grammar.proofs.Words.Fronts.{front_sound}
+use Rattle.starlark_scanner.specs.Joints.Reads.{AreReads}
+use Rattle.starlark_reader.proofs.Literals.Pieces.{if_ok}
+use Rattle.starlark_reader.proofs.Pieces.PieceReads.{none_reads, piece_reads}
+use Rattle.starlark_reader.proofs.reading.code_piece.Goals as goal
+
+edge : (text : Text) (class : Class) (len : ℕ) → IsUtf8 text → Some (class, len) ≡ language_front text → IsCharBoundary text len
+unfolding language_front
+edge text class len utf8 found = word_edge text class len utf8 (sym found)
+
+known : (text : Text) (class : Class) (len : ℕ) → Some (class, len) ≡ language_front text → class_in language (take len text) ≡ Some class
+unfolding language_front
+known text class len found = (front_sound (class_in language) text class len (sym found)).2
+
+pub split_at-requires : goal.split_at-requires
+split_at-requires c = edge c.args.text.now c.in-Some.word.class c.in-Some.word.len c.utf8.text c.in-Some.ensures.word
+
+pub word_piece-requires-clause-known : goal.word_piece-requires-clause-known
+word_piece-requires-clause-known c = rw c.split_at.ensures.front (known c.args.text.now c.in-Some.word.class c.in-Some.word.len c.in-Some.ensures.word)
+
+pub returns-in-Some-clause-piece : goal.returns-in-Some-clause-piece
+returns-in-Some-clause-piece c =
+    let cut = ap (λ n. drop n c.args.text.now) c.split_at.ensures.front_len ∙ sym c.split_at.ensures.back in
+    let at : IsCharBoundary c.args.text.now (length c.split_at.result.0.now) = rw c.split_at.ensures.front_len (edge c.args.text.now c.in-Some.word.class c.in-Some.word.len c.utf8.text c.in-Some.ensures.word) in
+    if_ok _ _ c.word_piece.result (λ piece is s place balanced. rw (← c.in-Some.ensures.word, ← c.split_at.ensures.front, ← c.split_at.ensures.back) (is s c.args.text.now place balanced cut at)) c.word_piece.ensures.piece
+
+fits : (text : Text) (class : Class) (len : ℕ) → Some (class, len) ≡ language_front text → (1 ≤ len) × (len ≤ length text)
+unfolding language_front
+fits text class len found = let sound = front_sound (class_in language) text class len (sym found) in (sound.0, sound.1)
+
+pub returns-in-Some-clause-reads : goal.returns-in-Some-clause-reads
+returns-in-Some-clause-reads c =
+    let word = fits c.args.text.now c.in-Some.word.class c.in-Some.word.len c.in-Some.ensures.word in
+    let whole : length c.args.text.now ≡ length c.split_at.result.0.now + length c.split_at.result.1.now = omega (arith, c.split_at.ensures.front_len, c.split_at.ensures.back_len, word.1) in
+    let read : AreReads (length c.split_at.result.0.now) (length c.split_at.result.0.now + 11) c.args.reads.now c.first_word.new.reads = rw c.split_at.ensures.front_len c.in-Some.ensures.reads in
+    if_ok _ _ c.word_piece.result (λ piece is. piece_reads (length c.split_at.result.0.now) (length c.split_at.result.1.now) (length c.args.text.now) piece _ _ _ (omega (arith, word.0, c.split_at.ensures.front_len)) whole read is) c.word_piece.ensures.reads
+
+pub returns-in_ok-invalid_input-in-None-clause-reads : goal.returns-in_ok-invalid_input-in-None-clause-reads
+returns-in_ok-invalid_input-in-None-clause-reads c = none_reads (length c.args.text.now) c.in_ok-invalid_input-in-None.field-0 _ _ _ c.requires.some c.in-None.ensures.reads c.in_ok-invalid_input-in-None.ensures.reads

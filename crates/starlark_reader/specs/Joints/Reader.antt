@@ -1,0 +1,141 @@
+-- What the reader of a text has in front of it, as the grammar sees it.
+use Rattle.std.specs.Prelude.{◌≡◌, Bool, true, false, ℕ, ◌+◌, ◌-◌, ◌≤◌, List, [], ◌∷◌, ◌++◌, map, length, drop, Option, Some, None, option_to_list, ⊤}
+use Rattle.std.specs.Str.{IsCharBoundary}
+use Rattle.starlark_grammar.specs.Words.{Text, language}
+use Rattle.starlark_grammar.specs.Tokens as grammar
+use Rattle.starlark_grammar.specs.Margins.{open_widths}
+use Rattle.starlark_grammar.specs.Depths.{mode_after}
+use Rattle.starlark_grammar.specs.Front.{language_front}
+use Rattle.starlark_grammar.specs.Pieces.{Before, Gap, Layout, Other, Step, Piece, Fails, is_bang}
+use Rattle.starlark_scanner.specs.Joints.Words.{word_view}
+use Rattle.starlark_scanner.specs.declared.scanner.word.Word.{Word}
+use Rattle.starlark_grammar.specs.Reading.{History, Reading, after_all, nothing, pieces_len, lexemes_along, closing, next_step, read, read_from, outcome}
+use Rattle.starlark_reader.specs.Lexemes.{fault_view, lexeme_view, shown_lexeme}
+use Rattle.starlark_reader.specs.Joints.Pending.{IsIdle, IsPending, pending_lexemes}
+use Rattle.starlark_reader.specs.Joints.Nesting.{Represents, bracket_count}
+use Rattle.starlark_reader.specs.Joints.Pieces.{is_code}
+use Rattle.starlark_token.specs.TokenViews.{TokenView}
+use Rattle.starlark_token.specs.declared.tokens.Token.{Token}
+use Rattle.starlark_reader.specs.declared.reader.Reader.{Reader}
+use Rattle.starlark_reader.specs.declared.reader.Before as code
+use Rattle.starlark_reader.specs.declared.reader.Before.TheVariants as before
+use Rattle.starlark_reader.specs.declared.reader.Next.{Next}
+use Rattle.starlark_reader.specs.declared.reader.Next.TheVariants as next
+use Rattle.starlark_reader.specs.declared.reader.Stage.{Stage}
+use Rattle.starlark_reader.specs.declared.reader.Stage.TheVariants as stage
+
+-- what pieces come to that are read from a place on, behind a history, and what stands behind them
+abbrev pub outcome_along : History → ℕ → List Piece → Step → grammar.Outcome
+outcome_along history at pieces (Fails fault) = record { lexemes = lexemes_along at pieces; fault = Some (grammar.moved (at + pieces_len pieces) fault) }
+outcome_along history at pieces step = record { lexemes = lexemes_along at pieces ++ closing (at + pieces_len pieces) (after_all history pieces); fault = None }
+
+-- What the rest of a text comes to, from a place on and behind a history.
+unfoldable pub remaining_outcome : History → ℕ → Text → grammar.Outcome
+remaining_outcome history at text = go (read_from language history 0 text)
+  where
+    go : Reading → grammar.Outcome
+    go reading = outcome_along history at reading.pieces reading.last
+
+-- the history at a text's end, behind all that is read of it
+unfoldable pub history_of : Text → History
+history_of text = after_all nothing (read language text).pieces
+
+-- the history behind all that is read of the rest of a text, from one before it
+unfoldable pub history_from : History → Text → History
+history_from history text = after_all history (read_from language history 0 text).pieces
+
+-- what the last piece was
+abbrev pub before_view : code.Before → Before
+before_view before.Layout = Layout
+before_view before.Gap = Gap
+before_view before.Other = Other
+
+-- what a piece is that gives nothing
+abbrev pub silent_sort : Bool → code.Before
+silent_sort true = before.Gap
+silent_sort false = before.Other
+
+-- What is kept of a history before a place is what its tokens, widths and last piece say, and what is read from there on
+-- leads to the history at the text's end.
+pub record IsStateAfter (text : Text) (history : History) (reader : Reader) : Type 0 where
+  pub nesting : Represents history.tokens reader.nesting
+  pub levels : reader.levels ≡ open_widths history.widths
+  pub before : before_view reader.before ≡ history.before
+  pub inside : reader.at ≤ length text
+  pub boundary : IsCharBoundary text reader.at
+  pub few : bracket_count reader.nesting ≤ reader.at
+  pub onward : history_from history (drop reader.at text) ≡ history_of text
+
+-- What is still to be read at a stage: the whole text, the rest from a place on, a fault, or nothing.
+abbrev pub IsLeft : Text → Reader → Stage → grammar.Outcome → Type 0
+IsLeft text reader stage.Begin left = (left ≡ outcome text) × (reader.at ≡ 0) × (Represents [] reader.nesting) × (reader.levels ≡ []) × (bracket_count reader.nesting ≡ 0)
+IsLeft text reader stage.Onward left = (history : History) × IsStateAfter text history reader × (left ≡ remaining_outcome history reader.at (drop reader.at text))
+IsLeft text reader (stage.Fault begin fault end) left = (node : grammar.Fault) × (fault_view fault ≡ Some node) × (left ≡ record { lexemes = []; fault = Some (record { begin = begin; node = node; end = end }) })
+IsLeft text reader stage.Closed left = (left ≡ record { lexemes = []; fault = None }) × IsStateAfter text (history_of text) reader
+
+-- What is still to be handed out of a text: the lexemes that were read, those still to be read, and the fault behind
+-- them.
+pub record IsAhead (text : Text) (reader : Reader) (stage : Stage) (lexemes : List (grammar.Spanned TokenView)) (fault : Option (grammar.Spanned grammar.Fault)) : Type 0 where
+  pub left : grammar.Outcome
+  pub is_left : IsLeft text reader stage left
+  pub is_pending : IsPending text reader.pending
+  pub ahead : lexemes ≡ map shown_lexeme (pending_lexemes text reader.pending) ++ map shown_lexeme left.lexemes
+  pub behind_them : fault ≡ left.fault
+
+-- Something is still to be handed out, if only the end.
+abbrev pub IsReady : Text → Reader → Stage → Type 0
+IsReady text reader stage = (lexemes : List (grammar.Spanned TokenView)) × (fault : Option (grammar.Spanned grammar.Fault)) × IsAhead text reader stage lexemes fault
+
+-- the same behind a lexeme, where one was handed out
+abbrev pub IsAheadBehind : Text → Option (ℕ × Token × ℕ) → Reader → List (grammar.Spanned TokenView) → Option (grammar.Spanned grammar.Fault) → Type 0
+IsAheadBehind text None reader lexemes fault = IsAhead text reader reader.stage lexemes fault
+IsAheadBehind text (Some lexeme) reader lexemes fault = (more : List (grammar.Spanned TokenView)) × (lexemes ≡ lexeme_view lexeme ∷ more) × IsAhead text reader reader.stage more fault
+
+-- Some lexemes of an outcome were read, of which the first may be handed out, and the rest of it is still to be read.
+pub record IsRead (text : Text) (whole : grammar.Outcome) (given : Option (ℕ × Token × ℕ)) (new : Reader) : Type 0 where
+  pub lexemes : List grammar.Lexeme
+  pub left : grammar.Outcome
+  pub is_left : IsLeft text new new.stage left
+  pub parts : whole.lexemes ≡ lexemes ++ left.lexemes
+  pub fault : whole.fault ≡ left.fault
+  pub is_pending : IsPending text new.pending
+  pub handed_out : map shown_lexeme lexemes ≡ map lexeme_view (option_to_list given) ++ map shown_lexeme (pending_lexemes text new.pending)
+
+-- the step that stands where a reader is, behind a history
+abbrev pub step_here : Text → History → Reader → Step
+step_here text history reader = next_step language history (drop reader.at text)
+
+-- what is left of a text from where a reader is, behind a history
+abbrev pub left_here : Text → History → Reader → grammar.Outcome
+left_here text history reader = remaining_outcome history reader.at (drop reader.at text)
+
+-- A number that is less after each piece.
+abbrev pub left_to_read : Text → Reader → Stage → ℕ
+left_to_read text reader stage.Begin = length text + 3
+left_to_read text reader stage.Onward = length text - reader.at + 2
+left_to_read text reader (stage.Fault begin fault end) = 1
+left_to_read text reader stage.Closed = 0
+
+-- all pieces of a text are read
+abbrev pub IsOver : Stage → Type 0
+IsOver (stage.Fault begin fault end) = ⊤
+IsOver stage.Closed = ⊤
+IsOver now = ⊥
+
+-- a lexeme is ahead, or the fault
+abbrev pub IsSomething : List (grammar.Spanned TokenView) → Option (grammar.Spanned grammar.Fault) → Type 0
+IsSomething lexemes fault = lexemes ≡ [] → fault ≡ None → ⊥
+
+-- What comes next, and what is ahead behind it: the first lexeme that is ahead, the fault where none is, or neither.
+abbrev pub IsNext : Text → List (grammar.Spanned TokenView) → Option (grammar.Spanned grammar.Fault) → Next → Reader → Type 0
+IsNext text lexemes fault (next.Lexeme lexeme) reader = IsAheadBehind text (Some lexeme) reader lexemes fault
+IsNext text lexemes fault (next.Fault begin error end) reader = (node : grammar.Fault) × (fault_view error ≡ Some node) × (lexemes ≡ []) × (fault ≡ Some (record { begin = begin; node = node; end = end }))
+IsNext text lexemes fault next.Nothing reader = (lexemes ≡ []) × (fault ≡ None) × IsAhead text reader reader.stage [] None × IsStateAfter text (history_of text) reader
+
+-- A word stands where a reader is, at a place of code, and nothing else is to be handed out before it.
+pub record IsWordHere (text : Text) (reader : Reader) (word : Word) : Type 0 where
+  pub stage : reader.stage ≡ stage.Onward
+  pub idle : IsIdle text reader.pending
+  pub code : (before : List grammar.Token) → Represents before reader.nesting → is_code (mode_after before) ≡ true
+  pub front : Some (word_view word) ≡ language_front (drop reader.at text)
+  pub bang : is_bang (drop reader.at text) ≡ false

@@ -1,0 +1,26 @@
+-- What was read at a place of a text, and what stands there.
+use Rattle.std.specs.Prelude.{◌≡◌, ◌+◌, ◌++◌, ◌∷◌, [], Bool, true, false, Some, string_bytes}
+use Rattle.starlark_grammar.specs.Tokens as grammar
+use Rattle.starlark_grammar.specs.Pieces as pieces
+use Rattle.starlark_token.specs.TokenViews.{Whole, token_view}
+use Rattle.starlark_reader.specs.Lexemes.{fault_view}
+use Rattle.starlark_reader.specs.declared.literal.pieces.Step.{Step}
+use Rattle.starlark_reader.specs.declared.literal.pieces.Step.TheVariants as step
+use Rattle.starlark_reader.specs.declared.literal.pieces.TextEnd.{TextEnd}
+use Rattle.starlark_reader.specs.declared.literal.pieces.TextEnd.TheVariants as stop
+
+-- whether a token is the start of an f-string
+abbrev pub is_fstring_start : grammar.Token → Bool
+is_fstring_start (grammar.FStringStart opening) = true
+is_fstring_start token = false
+
+-- what ends a text of an f-string
+abbrev pub text_end_node : TextEnd → grammar.Token
+text_end_node stop.Expression = grammar.FStringExprStart
+text_end_node stop.FString = grammar.FStringEnd
+
+-- A token, which begins no f-string, or a fault that was read stands at the place.
+abbrev pub IsStep : pieces.Step → Step → Type 0
+IsStep stands (step.Token token len) = (node : grammar.Token) × (token_view token ≡ Whole node) × (is_fstring_start node ≡ false) × (stands ≡ pieces.token len node)
+IsStep stands (step.Text text text_len stop len) = stands ≡ pieces.piece (text_len + len) (pieces.chunk_text text_len (string_bytes text) ++ record { begin = text_len; node = text_end_node stop; end = text_len + len } ∷ [])
+IsStep stands (step.Fault begin fault end) = (node : grammar.Fault) × (fault_view fault ≡ Some node) × (stands ≡ pieces.fault begin node end)

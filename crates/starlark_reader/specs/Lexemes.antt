@@ -1,0 +1,34 @@
+-- What stands at a place of a text, as the code and as the grammar say it.
+use Rattle.std.specs.Prelude.{ℕ, false, Option, Some, None, string_bytes}
+use Rattle.starlark_grammar.specs.Tokens as grammar
+use Rattle.starlark_token.specs.declared.lexeme_error.LexemeError.{LexemeError}
+use Rattle.starlark_token.specs.declared.lexeme_error.LexemeError.TheVariants as fault
+use Rattle.starlark_token.specs.TokenViews.{TokenView, Whole, token_view}
+use Rattle.starlark_token.specs.declared.tokens.Token.{Token}
+
+-- The fault that an error is, if it is one of a text.
+abbrev pub fault_view : LexemeError → Option grammar.Fault
+fault_view fault.Indentation = Some grammar.Indentation
+fault_view (fault.InvalidInput text) = Some (grammar.InvalidInput (string_bytes text))
+fault_view fault.InvalidTab = Some grammar.InvalidTab
+fault_view fault.UnfinishedStringLiteral = Some grammar.UnfinishedStringLiteral
+fault_view (fault.InvalidEscapeSequence text) = Some (grammar.InvalidEscapeSequence (string_bytes text))
+fault_view fault.EmptyEscapeSequence = Some grammar.EmptyEscapeSequence
+fault_view (fault.ReservedKeyword word) = Some (grammar.ReservedKeyword (string_bytes word))
+fault_view (fault.StartsZero word) = Some (grammar.StartsZero (string_bytes word))
+fault_view (fault.IntParse text) = None
+fault_view fault.CommentSpanComputedIncorrectly = None
+fault_view (fault.CannotParse text base) = None
+fault_view fault.UnfinishedFStringExpression = Some grammar.UnfinishedFStringExpression
+
+-- A token as the code shows it: how an f-string begins is told without whether it is raw.
+abbrev pub shown : grammar.Token → grammar.Token
+shown (grammar.FStringStart opening) = grammar.FStringStart (record { is_raw = false; quote = opening.quote; is_triple = opening.is_triple })
+shown token = token
+
+-- a lexeme of the grammar, and one of the code, by its begin, token and end, as both can be compared
+abbrev pub shown_lexeme : grammar.Lexeme → grammar.Spanned TokenView
+shown_lexeme lexeme = record { begin = lexeme.begin; node = Whole (shown lexeme.node); end = lexeme.end }
+
+abbrev pub lexeme_view : ℕ × Token × ℕ → grammar.Spanned TokenView
+lexeme_view lexeme = record { begin = lexeme.0; node = token_view lexeme.1; end = lexeme.2 }

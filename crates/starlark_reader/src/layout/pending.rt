@@ -1,0 +1,124 @@
+//! Lexemes that were read, and are made when they are asked for.
+
+ghost use Rattle.std.specs.Prelude.{◌≡◌, ◌≤◌, ◌+◌, ◌*◌, [], true, OnErr, IfOk};
+ghost use Rattle.starlark_reader.specs.Joints.Pending.{IsFirst, IsFirstBehind, IsPending, behind_lexemes, owed, pending_lexemes};
+ghost use Rattle.starlark_grammar.specs.Words.{Text};
+ghost use Rattle.starlark_scanner.specs.Joints.Reads.{more_reads};
+
+use super::PlacedToken;
+use super::comments::first_comment;
+use crate::literal::TextEnd;
+use starlark_scanner::reads::Reads;
+use starlark_token::tokens::Token;
+use std::alloc::{AllocError, Global};
+
+/// What is still to be handed out behind the comments: so many `Dedent`s at a place, an `Indent`, or what ends a text
+/// of an f-string.
+#[derive(Clone, Copy, Debug, PartialEq, Eq)]
+pub enum Behind {
+    Dedents {
+        at: usize,
+        count: usize,
+    },
+    Indent {
+        begin: usize,
+        end: usize,
+    },
+    TextEnd {
+        begin: usize,
+        stop: TextEnd,
+        end: usize,
+    },
+}
+
+/// What was read of a text and is still to be handed out: the comments of the comment-only lines from one place to
+/// another, and what stands behind them. Places are in bytes.
+#[derive(Clone, Copy, Debug, PartialEq, Eq)]
+pub struct Pending {
+    pub from: usize,
+    pub to: usize,
+    pub behind: Behind,
+}
+
+impl Behind {
+    /// Nothing.
+    pub const fn nothing() -> Self
+        ensures { behind_lexemes result ≡ [] }
+    {
+        Behind::Dedents { at: 0, count: 0 }
+    }
+
+    /// The first lexeme, which is then no longer to be handed out; `None` where there is none.
+    #[tactic(auto, unfolding(starlark_token::specs::TokenViews::token_view))]
+    fn next(&mut self) -> Option<PlacedToken>
+        ensures { IsFirstBehind self.old self.new result }
+    {
+        match *self {
+            Behind::Dedents { at, count } => {
+                let left = count.checked_sub(1)?;
+                *self = Behind::Dedents { at, count: left };
+                Some((at, Token::Dedent, at))
+            }
+            Behind::Indent { begin, end } => {
+                *self = Behind::nothing();
+                Some((begin, Token::Indent, end))
+            }
+            Behind::TextEnd { begin, stop, end } => {
+                *self = Behind::nothing();
+                Some((begin, stop.token(), end))
+            }
+        }
+    }
+}
+
+impl Pending {
+    /// Nothing.
+    pub fn nothing() -> Self
+        ensures { (text : Text) → (pending_lexemes text result ≡ []) × IsPending text result }
+    {
+        Pending::only(Behind::nothing())
+    }
+
+    /// What stands behind no comments.
+    pub fn only(behind: Behind) -> Self
+        ensures { (text : Text) → (pending_lexemes text result ≡ behind_lexemes behind) × IsPending text result }
+    {
+        Pending {
+            from: 0,
+            to: 0,
+            behind,
+        }
+    }
+
+    /// Whether nothing is to be handed out.
+    #[inline(always)]
+    pub fn is_nothing(&self) -> bool
+        ensures { result ≡ true → (text : Text) → pending_lexemes text self.now ≡ [] }
+    {
+        match self.behind {
+            Behind::Dedents { count, .. } if count == 0 => self.from >= self.to,
+            _ => false,
+        }
+    }
+
+    /// The first lexeme, which is then no longer to be handed out; `None` where there is none. A refused call changes
+    /// nothing.
+    pub fn next(
+        &mut self,
+        reads: &mut Reads,
+        alloc: Global,
+        text: &str,
+    ) -> Result<Option<PlacedToken>, AllocError>
+        requires { IsPending text.now self.old }
+        ensures next { IfOk result (λ first. IsFirst text.now self.old self.new first) }
+        ensures memory { OnErr result (pending_lexemes text.now self.old ≡ [] → ⊥) }
+        ensures reads { IfOk result (λ first. (more_reads reads.old 0 ≤ reads.new) × (reads.new + 6 * owed self.new ≤ reads.old + 6 * owed self.old)) }
+    {
+        if self.from < self.to {
+            let (comment, len) = first_comment(reads, alloc, text, self.from, self.to)?;
+            self.from += len;
+            return Ok(Some(comment));
+        }
+        Ok(self.behind.next())
+    }
+}

@@ -1,0 +1,74 @@
+//! Texts of f-strings, up to an expression or the closing quotes.
+
+ghost use Rattle.std.specs.Prelude.{IfOk, length};
+ghost use Rattle.starlark_reader.specs.Joints.Reads.{AreStepReads};
+ghost use Rattle.starlark_reader.specs.Joints.Steps.{IsStep};
+ghost use Rattle.starlark_scanner.specs.Joints.Literals.{opening_view};
+ghost use Rattle.starlark_grammar.specs.Pieces as grammar;
+
+use super::pieces::{Step, TextEnd};
+use starlark_scanner::literal::{
+    Body, Literal, LiteralValue, Opening, Stop, closing_len, read_body,
+};
+use starlark_scanner::reads::Reads;
+use starlark_scanner::scanner::LiteralKind;
+use starlark_token::lexeme_error::LexemeError;
+use std::alloc::{AllocError, Global};
+
+/// The text of an f-string up to its first stop.
+pub fn chunk_from(
+    reads: &mut Reads,
+    alloc: Global,
+    opening: Opening,
+    text: &str,
+) -> Result<Step, AllocError>
+    ensures step { IfOk result (IsStep (grammar.chunk (opening_view opening) text.now)) }
+    ensures reads { IfOk result (λ step. AreStepReads 0 8 (length text.now) 6 step reads.old reads.new) }
+{
+    let literal = Literal {
+        kind: LiteralKind::FString,
+        opening,
+    };
+    let Body {
+        len: text_len,
+        value,
+        stop,
+    } = read_body(reads, alloc, literal, text)?;
+    let LiteralValue::Text(value) = value else {
+        unreachable!()
+    };
+    match stop {
+        Stop::OpeningBrace => Ok(Step::Text {
+            text: value,
+            text_len,
+            stop: TextEnd::Expression,
+            len: 1,
+        }),
+        Stop::Closing => Ok(Step::Text {
+            text: value,
+            text_len,
+            stop: TextEnd::FString,
+            len: closing_len(opening),
+        }),
+        Stop::ClosingBrace => Ok(Step::Fault {
+            begin: text_len,
+            fault: LexemeError::InvalidInput(String::from_str(alloc, "}")?),
+            end: text_len + 1,
+        }),
+        Stop::BadEscape { len, last } => Ok(Step::Fault {
+            begin: text_len + (len - last),
+            fault: LexemeError::InvalidEscapeSequence(String::from_str(alloc, "\\")?),
+            end: text_len + len,
+        }),
+        Stop::Line => Ok(Step::Fault {
+            begin: 0,
+            fault: LexemeError::UnfinishedStringLiteral,
+            end: text_len + 1,
+        }),
+        Stop::Ended => Ok(Step::Fault {
+            begin: 0,
+            fault: LexemeError::UnfinishedStringLiteral,
+            end: text.len(),
+        }),
+    }
+}

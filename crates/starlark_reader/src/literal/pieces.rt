@@ -1,0 +1,230 @@
+//! String and bytes literals as lexemes.
+
+ghost use Rattle.std.specs.Prelude.{◌≡◌, ◌≢◌, ◌+◌, ◌<◌, ◌^◌, Some, false, length, not, IfOk};
+ghost use Rattle.starlark_grammar.specs.Depths.{Mode};
+ghost use Rattle.starlark_grammar.specs.Items as items;
+ghost use Rattle.starlark_reader.specs.Joints.Steps.{IsStep, is_fstring_start, text_end_node};
+ghost use Rattle.starlark_reader.specs.Joints.Reads.{AreWordReads, IsFault};
+ghost use Rattle.starlark_scanner.specs.Joints.Reads.{AreReads, more_reads};
+ghost use Rattle.starlark_reader.specs.Lexemes.{fault_view};
+ghost use Rattle.starlark_grammar.specs.Cuts.{is_outside};
+ghost use Rattle.starlark_scanner.specs.Joints.Literals.{bytes_of, holds_text, opening_view};
+ghost use Rattle.starlark_grammar.specs.Pieces as grammar;
+ghost use Rattle.starlark_token.specs.TokenViews.{Whole, fstring_quote_view, token_view};
+ghost use Rattle.starlark_grammar.specs.declared.class.LiteralKind.{LiteralKind as Kind};
+ghost use Rattle.starlark_grammar.specs.declared.class.LiteralKind.TheVariants.{FString as OfFString};
+
+use starlark_scanner::literal::{Literal, LiteralValue, Opening, Stop, closing_len, read_body};
+use starlark_scanner::reads::Reads;
+use starlark_scanner::scanner::{LiteralKind, Quote};
+use starlark_token::fstring_style::FStringQuote;
+use starlark_token::lexeme_error::LexemeError;
+use starlark_token::tokens::Token;
+use std::alloc::{AllocError, Global};
+
+/// What ends a text of an f-string: the start of an expression, or the end of the f-string.
+#[derive(Clone, Copy, Debug, PartialEq, Eq)]
+pub enum TextEnd {
+    Expression,
+    FString,
+}
+
+impl TextEnd {
+    /// As a token.
+    #[tactic(auto, unfolding(starlark_token::specs::TokenViews::token_view))]
+    pub fn token(self) -> Token
+        ensures { token_view result ≡ Whole (text_end_node self) }
+    {
+        match self {
+            TextEnd::Expression => Token::FStringExprStart,
+            TextEnd::FString => Token::FStringEnd,
+        }
+    }
+}
+
+/// What stands at a place: a token of so many bytes; a text of an f-string, of `text_len` bytes, which is no lexeme
+/// where it denotes nothing, and what ends it; or a fault, from one place to another. Places are in bytes from
+/// there on.
+#[derive(Debug, Drop)]
+pub enum Step {
+    Token {
+        token: Token,
+        len: usize,
+    },
+    Text {
+        text: String,
+        text_len: usize,
+        stop: TextEnd,
+        len: usize,
+    },
+    Fault {
+        begin: usize,
+        fault: LexemeError,
+        end: usize,
+    },
+}
+
+/// Whether a text has no backslash and no CR, and no LF where the literal may not have one.
+fn is_plain(opening: Opening, text: &[u8]) -> bool
+    ensures { result ≡ grammar.is_plain (opening_view opening) text.now }
+{
+    text.iter().all(|byte| {
+        !(*byte == b'\\' || *byte == b'\r' || (*byte == b'\n' && !opening.is_triple))
+    })
+}
+
+/// The fault of a literal that isn't closed, by the text behind its opening.
+fn unfinished(reads: &mut Reads, outside: bool, literal: Literal, behind: &str) -> LexemeError
+    ensures fault { (place : Mode) → is_outside place ≡ outside → fault_view result ≡ Some (grammar.unfinished place literal.kind (opening_view literal.opening) behind.now) }
+    ensures reads { AreReads 0 (length behind.now) reads.old reads.new }
+{
+    if !outside
+        && literal.kind == LiteralKind::Text
+        && is_plain(
+            literal.opening,
+            reads.front(behind.as_bytes(), behind.len()),
+        )
+    {
+        LexemeError::UnfinishedFStringExpression
+    } else {
+        LexemeError::UnfinishedStringLiteral
+    }
+}
+
+fn literal_token(value: LiteralValue) -> Token
+    ensures token { (kind : Kind) → holds_text value ≡ not (items.is_of_bytes kind) → token_view result ≡ Whole (grammar.literal_token kind (bytes_of value)) }
+    ensures own { (kind : Kind) → is_fstring_start (grammar.literal_token kind (bytes_of value)) ≡ false }
+{
+    match value {
+        LiteralValue::Text(text) => Token::String(text),
+        LiteralValue::Bytes(bytes) => Token::Bytes(bytes),
+    }
+}
+
+/// The fault of a bad escape, by the text that was read behind its backslash.
+fn escape_fault(alloc: Global, begin: usize, read: &str) -> Result<Step, AllocError>
+    requires { begin + 1 + length read.now < 2 ^ 64 }
+    ensures step { IfOk result (IsStep (grammar.escape_fault begin read.now)) }
+    ensures fault { IfOk result IsFault }
+{
+    if read.is_empty() {
+        return Ok(Step::Fault {
+            begin,
+            fault: LexemeError::EmptyEscapeSequence,
+            end: begin + 1,
+        });
+    }
+    let text = String::from_str(alloc, read)?;
+    Ok(Step::Fault {
+        begin,
+        fault: LexemeError::InvalidEscapeSequence(text),
+        end: begin + 1 + read.len(),
+    })
+}
+
+/// A string or bytes literal, by the bytes of its opening and the text behind them.
+fn literal_from(
+    reads: &mut Reads,
+    alloc: Global,
+    outside: bool,
+    literal: Literal,
+    len: usize,
+    behind: &str,
+) -> Result<Step, AllocError>
+    requires { len + length behind.now < 2 ^ 64 }
+    ensures step { IfOk result (λ step. (place : Mode) → is_outside place ≡ outside → IsStep (grammar.literal place literal.kind (opening_view literal.opening) len behind.now) step) }
+    ensures reads { IfOk result (λ step. AreWordReads len 9 0 (length behind.now) 6 step reads.old reads.new) }
+{
+    let body = read_body(reads, alloc, literal, behind)?;
+    match body.stop {
+        Stop::Closing => Ok(Step::Token {
+            token: literal_token(body.value),
+            len: len + body.len + closing_len(literal.opening),
+        }),
+        Stop::BadEscape { len: read, .. } => {
+            escape_fault(
+                alloc,
+                len + body.len,
+                &behind[body.len + 1..body.len + read],
+            )
+        }
+        Stop::Line => Ok(Step::Fault {
+            begin: 0,
+            fault: unfinished(reads, outside, literal, behind),
+            end: len + body.len,
+        }),
+        _ => Ok(Step::Fault {
+            begin: 0,
+            fault: unfinished(reads, outside, literal, behind),
+            end: len + behind.len(),
+        }),
+    }
+}
+
+/// The quotes of an opening, which a token tells.
+pub fn quotes_of(opening: Opening) -> FStringQuote
+    ensures { fstring_quote_view result ≡ record { is_raw = false; quote = opening.quote; is_triple = opening.is_triple } }
+{
+    match (opening.quote, opening.is_triple) {
+        (Quote::Single, false) => FStringQuote::Single,
+        (Quote::Single, true) => FStringQuote::TripleSingle,
+        (Quote::Double, false) => FStringQuote::Double,
+        (Quote::Double, true) => FStringQuote::TripleDouble,
+    }
+}
+
+/// Whether two more of its quotes stand behind an opener.
+fn is_triple(reads: &mut Reads, quote: Quote, behind: &str) -> bool
+    ensures value { result ≡ (grammar.opening_of false quote behind.now).is_triple }
+    ensures reads { reads.new ≡ more_reads reads.old 2 }
+{
+    let quotes = match quote {
+        Quote::Single => "''",
+        Quote::Double => "\"\"",
+    };
+    reads
+        .front(behind.as_bytes(), 2)
+        .starts_with(quotes.as_bytes())
+}
+
+/// How a literal begins, by its opener and the text behind that.
+pub fn opening_of(reads: &mut Reads, is_raw: bool, quote: Quote, behind: &str) -> Opening
+    ensures reads { reads.new ≡ more_reads reads.old 2 }
+    ensures opening { opening_view result ≡ grammar.opening_of is_raw quote behind.now }
+{
+    Opening {
+        is_raw,
+        quote,
+        is_triple: is_triple(reads, quote, behind),
+    }
+}
+
+/// The string or bytes literal of an opener of so many bytes, by the text behind that.
+pub fn literal_piece(
+    reads: &mut Reads,
+    alloc: Global,
+    outside: bool,
+    kind: LiteralKind,
+    is_raw: bool,
+    quote: Quote,
+    len: usize,
+    behind: &str,
+) -> Result<Step, AllocError>
+    requires kind { kind ≢ OfFString }
+    requires fits { len + length behind.now < 2 ^ 64 }
+    ensures reads { IfOk result (λ step. AreWordReads len 9 2 (length behind.now) 9 step reads.old reads.new) }
+    ensures step { IfOk result (λ step. (place : Mode) → is_outside place ≡ outside →
+        IsStep (grammar.opener place kind (grammar.opening_of is_raw quote behind.now) len behind.now) step) }
+{
+    let opening = Opening {
+        is_raw,
+        quote,
+        is_triple: is_triple(reads, quote, behind),
+    };
+    let literal = Literal { kind, opening };
+    if opening.is_triple {
+        literal_from(reads, alloc, outside, literal, len + 2, &behind[2..])
+    } else {
+        literal_from(reads, alloc, outside, literal, len, behind)
+    }
+}

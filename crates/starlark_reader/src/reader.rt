@@ -1,0 +1,498 @@
+//! Reads a text piece by piece, and keeps what later pieces depend on.
+
+ghost use Rattle.std.specs.Prelude.{◌≡◌, true, ◌<◌, ◌≤◌, ◌+◌, ◌^◌, [], ℕ, None, Some, List, Option, drop, length, map, OnErr, OnOk, IfOk, IfSome};
+ghost use Rattle.std.specs.Str.{IsCharBoundary};
+ghost use Rattle.starlark_reader.specs.Joints.Steps.{IsStep};
+ghost use Rattle.starlark_reader.specs.Lexemes.{shown_lexeme};
+ghost use Rattle.starlark_scanner.specs.Joints.Literals.{opening_view};
+ghost use Rattle.starlark_grammar.specs.Margins.{open_widths};
+ghost use Rattle.starlark_grammar.specs.Pieces as grammar;
+ghost use Rattle.starlark_grammar.specs.declared.class.Class.TheVariants as class;
+ghost use Rattle.starlark_reader.specs.Joints.Pending.{IsIdle, IsPending};
+ghost use Rattle.starlark_reader.specs.Joints.Reads.{HasRead, HasReadAt, HasReadNext, IsMarginRead, IsPassed, IsPassedBy};
+ghost use Rattle.starlark_reader.specs.Joints.Reader.{IsAhead, IsAheadBehind, IsStateAfter, IsNext, IsOver, IsRead, IsReady, IsSomething, IsWordHere, before_view, left_here, left_to_read, silent_sort, step_here};
+ghost use Rattle.starlark_reader.specs.Joints.Pieces.{IsBehind};
+ghost use Rattle.starlark_grammar.specs.Cuts.{is_layout, is_settled};
+ghost use Rattle.starlark_grammar.specs.Reading.{History, outcome};
+ghost use Rattle.starlark_token.specs.TokenViews.{TokenView};
+ghost use Rattle.starlark_grammar.specs.Depths.{mode_after};
+ghost use Rattle.starlark_grammar.specs.Tokens.{FStringStart, Fault, Spanned};
+ghost use Rattle.starlark_grammar.specs.Tokens as tokens;
+ghost use Rattle.starlark_reader.specs.Joints.Nesting.{Represents, mode_view};
+ghost use Rattle.starlark_reader.specs.Joints.Pieces.{is_code};
+ghost use Rattle.starlark_grammar.specs.Words.{Text};
+
+use crate::layout::{
+    Behind, IndentStack, Laid, Pending, PlacedToken, first_margin, line_end,
+};
+use crate::literal::{Opening, Step, TextEnd, quotes_of};
+use crate::nesting::{LexerMode, Nesting};
+use crate::reading::code::{gap_len, is_code};
+use crate::reading::terminals::terminal_token;
+use crate::reading::{Piece, is_outside, piece_at};
+use starlark_scanner::reads::Reads;
+use starlark_scanner::scanner::{Terminal, Word, common_word};
+use starlark_token::lexeme_error::LexemeError;
+use starlark_token::tokens::Token;
+use std::alloc::{AllocError, Global};
+use std::mem;
+
+/// How far a text is read: not at all, up to a place, up to its fault, or to its end.
+#[derive(Debug, Drop)]
+enum Stage {
+    Begin,
+    Onward,
+    Fault {
+        begin: usize,
+        fault: LexemeError,
+        end: usize,
+    },
+    Closed,
+}
+
+/// What the piece right before a place is: a margin, a skipped piece, or another.
+#[derive(Clone, Copy, Debug, PartialEq, Eq)]
+enum Before {
+    Layout,
+    Gap,
+    Other,
+}
+
+impl Before {
+    /// What a piece is that gives nothing: a skipped piece, or a line end that doesn't count.
+    fn silent(is_gap: bool) -> Self
+        ensures { result ≡ silent_sort is_gap }
+    {
+        if is_gap { Before::Gap } else { Before::Other }
+    }
+}
+
+/// What was read of a text up to a place: the brackets, f-strings and widths that are open there, what the piece right
+/// before it is, and what is still to be handed out.
+#[derive(Debug, Drop)]
+pub struct Reader {
+    alloc: Global,
+    at: usize,
+    nesting: Nesting,
+    levels: IndentStack,
+    before: Before,
+    pending: Pending,
+    stage: Stage,
+    reads: Reads,
+}
+
+/// What comes next of a text: a lexeme, or its fault with the places where that begins and ends.
+#[derive(Debug, Drop)]
+pub enum Next {
+    Lexeme(PlacedToken),
+    Fault {
+        begin: usize,
+        fault: LexemeError,
+        end: usize,
+    },
+    Nothing,
+}
+
+impl Reader {
+    /// A reader at a text's begin. Takes no memory.
+    pub fn new(alloc: Global) -> Self
+        ensures ahead { (text : Text) → IsAhead text result result.stage (map shown_lexeme (outcome text).lexemes) (outcome text).fault }
+        ensures reads { (text : Text) → HasRead text result }
+    {
+        Reader {
+            alloc,
+            at: 0,
+            nesting: Nesting::new(alloc),
+            levels: IndentStack::new(alloc),
+            before: Before::Other,
+            pending: Pending::nothing(),
+            stage: Stage::Begin,
+            reads: Reads::new(),
+        }
+    }
+
+    /// How often the bytes of the text were read.
+    pub fn reads(&self) -> u64
+        ensures { result ≡ self.now.reads }
+    {
+        self.reads.count()
+    }
+
+    /// Stops at a fault, from one place to another, in bytes from here on.
+    fn refuse(&mut self, begin: usize, fault: LexemeError, end: usize)
+        requires begin { self.old.at + begin < 2 ^ 64 }
+        requires end { self.old.at + end < 2 ^ 64 }
+        ensures { self.new ≡ record self.old { stage = Stage.Fault (self.old.at + begin) fault (self.old.at + end) } }
+    {
+        self.stage = Stage::Fault {
+            begin: self.at + begin,
+            fault,
+            end: self.at + end,
+        };
+    }
+
+    /// Goes on behind a piece of so many bytes, of this sort.
+    #[inline(always)]
+    fn step_over(&mut self, len: usize, before: Before)
+        requires fits { self.old.at + len < 2 ^ 64 }
+        requires stage { self.old.stage ≡ Stage.Onward }
+        ensures { self.new ≡ record self.old { at = self.old.at + len; before = before; stage = Stage.Onward } }
+    {
+        self.at += len;
+        self.before = before;
+    }
+
+    /// Reads the margin at the text's begin.
+    fn read_first_margin(&mut self, text: &str) -> Result<(), AllocError>
+        requires fits { length text.now < 2 ^ 32 }
+        requires ready { IsReady text.now self.old Stage.Begin }
+        requires idle { IsIdle text.now self.old.pending }
+        ensures ahead { OnOk result ((lexemes : List (Spanned TokenView)) (fault : Option (Spanned Fault)) → IsAhead text.now self.old Stage.Begin lexemes fault → IsAhead text.now self.new self.new.stage lexemes fault) }
+        ensures less { OnOk result (left_to_read text.now self.new self.new.stage < left_to_read text.now self.old Stage.Begin) }
+        ensures reads { OnOk result (HasReadAt text.now self.old Stage.Begin → HasRead text.now self.new) }
+    {
+        let laid = first_margin(&mut self.levels, &mut self.reads, text)?;
+        match laid {
+            Laid::Taken { pending, len } => {
+                self.pending = pending;
+                self.stage = Stage::Onward;
+                self.step_over(len, Before::Layout);
+            }
+            Laid::Fault {
+                pending,
+                fault,
+                end,
+            } => {
+                self.pending = pending;
+                self.refuse(0, fault, end);
+            }
+        }
+        Ok(())
+    }
+
+    /// Reads a line end that counts, and the margin behind it.
+    fn read_line_end(&mut self, text: &str, len: usize) -> Result<Option<PlacedToken>, AllocError>
+        requires fits { length text.now < 2 ^ 32 }
+        requires stage { self.old.stage ≡ Stage.Onward }
+        requires stands { (history : History) × IsStateAfter text.now history self.old × (step_here text.now history self.old ≡ grammar.line_end len (open_widths history.widths) (drop len (drop self.old.at text.now))) }
+        requires cut { IsCharBoundary text.now (self.old.at + len) }
+        ensures read { IfOk result (λ given. (history : History) → IsStateAfter text.now history self.old → step_here text.now history self.old ≡ grammar.line_end len (open_widths history.widths) (drop len (drop self.old.at text.now)) →
+            IsRead text.now (left_here text.now history self.old) given self.new) }
+        ensures less { OnOk result (left_to_read text.now self.new self.new.stage < left_to_read text.now self.old Stage.Onward) }
+        ensures reads { OnOk result (IsMarginRead text.now len self.old self.new self.new.stage) }
+    {
+        let begin = self.at;
+        let laid = line_end(&mut self.levels, &mut self.reads, begin, len, text)?;
+        match laid {
+            Laid::Taken {
+                pending,
+                len: whole,
+            } => {
+                self.pending = pending;
+                self.step_over(whole, Before::Layout);
+                Ok(Some((begin, Token::Newline, begin + len)))
+            }
+            Laid::Fault {
+                pending,
+                fault,
+                end: fault_end,
+            } => {
+                self.pending = pending;
+                self.refuse(0, fault, fault_end);
+                Ok(None)
+            }
+        }
+    }
+
+    /// Takes the start of an f-string.
+    fn begin_fstring(
+        &mut self,
+        opening: Opening,
+        len: usize,
+        text: &str,
+    ) -> Result<PlacedToken, AllocError>
+        requires fits { length text.now < 2 ^ 32 }
+        requires stage { self.old.stage ≡ Stage.Onward }
+        requires stands { (history : History) × IsStateAfter text.now history self.old × (step_here text.now history self.old ≡ grammar.token len (FStringStart (opening_view opening))) }
+        requires idle { IsIdle text.now self.old.pending }
+        ensures read { IfOk result (λ given. (history : History) → IsStateAfter text.now history self.old → step_here text.now history self.old ≡ grammar.token len (FStringStart (opening_view opening)) →
+            IsRead text.now (left_here text.now history self.old) (Some given) self.new) }
+        ensures less { OnOk result (left_to_read text.now self.new self.new.stage < left_to_read text.now self.old Stage.Onward) }
+        ensures passed { OnOk result (IsPassedBy (self.old.at + len) self.old self.new × (self.new.stage ≡ Stage.Onward)) }
+    {
+        let begin = self.at;
+        self.nesting.begin_fstring(opening)?;
+        self.step_over(len, Before::Other);
+        Ok((begin, Token::FStringStart(quotes_of(opening)), begin + len))
+    }
+
+    /// Goes on behind a token that was read here, of so many bytes.
+    #[inline(always)]
+    fn pass_token(&mut self, token: &Token, len: usize, text: &str)
+        requires fits { length text.now < 2 ^ 32 }
+        requires stage { self.old.stage ≡ Stage.Onward }
+        requires stands { (history : History) × IsStateAfter text.now history self.old × IsStep (step_here text.now history self.old) (Step.Token token.now len) }
+        requires idle { IsIdle text.now self.old.pending }
+        ensures read { (history : History) → IsStateAfter text.now history self.old → IsStep (step_here text.now history self.old) (Step.Token token.now len) →
+            IsRead text.now (left_here text.now history self.old) (Some (self.old.at, token.now, self.old.at + len)) self.new }
+        ensures less { left_to_read text.now self.new self.new.stage < left_to_read text.now self.old Stage.Onward }
+        ensures passed { IsPassedBy (self.old.at + len) self.old self.new × (self.new.stage ≡ Stage.Onward) }
+    {
+        self.nesting.pass(token);
+        self.step_over(len, Before::Other);
+    }
+
+    /// Takes a token that was read here.
+    fn take_token(&mut self, token: Token, len: usize, text: &str) -> PlacedToken
+        requires fits { length text.now < 2 ^ 32 }
+        requires stage { self.old.stage ≡ Stage.Onward }
+        requires stands { (history : History) × IsStateAfter text.now history self.old × IsStep (step_here text.now history self.old) (Step.Token token len) }
+        requires idle { IsIdle text.now self.old.pending }
+        ensures read { (history : History) → IsStateAfter text.now history self.old → IsStep (step_here text.now history self.old) (Step.Token token len) →
+            IsRead text.now (left_here text.now history self.old) (Some result) self.new }
+        ensures less { left_to_read text.now self.new self.new.stage < left_to_read text.now self.old Stage.Onward }
+        ensures passed { IsPassedBy (self.old.at + len) self.old self.new × (self.new.stage ≡ Stage.Onward) }
+    {
+        let begin = self.at;
+        self.pass_token(&token, len, text);
+        (begin, token, begin + len)
+    }
+
+    /// Takes a text of an f-string that was read here, and what ends it. A text that denotes nothing is no lexeme.
+    fn take_chunk(
+        &mut self,
+        chunk: String,
+        chunk_len: usize,
+        stop: TextEnd,
+        len: usize,
+        text: &str,
+    ) -> PlacedToken
+        requires fits { length text.now < 2 ^ 32 }
+        requires stage { self.old.stage ≡ Stage.Onward }
+        requires stands { (history : History) × IsStateAfter text.now history self.old × IsStep (step_here text.now history self.old) (Step.Text chunk chunk_len stop len) }
+        requires idle { IsIdle text.now self.old.pending }
+        ensures read { (history : History) → IsStateAfter text.now history self.old → IsStep (step_here text.now history self.old) (Step.Text chunk chunk_len stop len) →
+            IsRead text.now (left_here text.now history self.old) (Some result) self.new }
+        ensures less { left_to_read text.now self.new self.new.stage < left_to_read text.now self.old Stage.Onward }
+        ensures passed { IsPassedBy (self.old.at + (chunk_len + len)) self.old self.new × (self.new.stage ≡ Stage.Onward) }
+    {
+        let begin = self.at;
+        let between = begin + chunk_len;
+        let end = between + len;
+        self.nesting.pass(&stop.token());
+        self.step_over(chunk_len + len, Before::Other);
+        if chunk.is_empty() {
+            return (between, stop.token(), end);
+        }
+        self.pending = Pending::only(Behind::TextEnd {
+            begin: between,
+            stop,
+            end,
+        });
+        (begin, Token::FStringText(chunk), between)
+    }
+
+    /// Takes a token or a fault that was read here.
+    #[inline(always)]
+    fn take(&mut self, step: Step, text: &str) -> Option<PlacedToken>
+        requires fits { length text.now < 2 ^ 32 }
+        requires stage { self.old.stage ≡ Stage.Onward }
+        requires stands { (history : History) × IsStateAfter text.now history self.old × IsStep (step_here text.now history self.old) step }
+        requires idle { IsIdle text.now self.old.pending }
+        ensures read { (history : History) → IsStateAfter text.now history self.old → IsStep (step_here text.now history self.old) step →
+            IsRead text.now (left_here text.now history self.old) result self.new }
+        ensures less { left_to_read text.now self.new self.new.stage < left_to_read text.now self.old Stage.Onward }
+        ensures passed { IsPassed self.old step self.new }
+    {
+        match step {
+            Step::Token { token, len } => Some(self.take_token(token, len, text)),
+            Step::Text {
+                text: chunk,
+                text_len,
+                stop,
+                len,
+            } => Some(self.take_chunk(chunk, text_len, stop, len, text)),
+            Step::Fault { begin, fault, end } => {
+                self.refuse(begin, fault, end);
+                None
+            }
+        }
+    }
+
+    /// Whether a skipped piece stands right before the place.
+    fn follows_gap(&self) -> bool
+        ensures { (before : grammar.Before) → before_view self.now.before ≡ before → IsBehind result before }
+    {
+        matches!(self.before, Before::Gap)
+    }
+
+    /// Whether a margin stands right before the place.
+    fn follows_margin(&self) -> bool
+        ensures { result ≡ is_layout (before_view self.now.before) }
+    {
+        matches!(self.before, Before::Layout)
+    }
+
+    /// Whether the place is behind a margin, with no bracket, f-string or width open.
+    #[tactic(auto, unfolding(starlark_grammar::specs::Cuts::is_settled))]
+    pub fn is_settled(&self) -> bool
+        ensures { (text : Text) (history : History) → IsStateAfter text history self.now → result ≡ is_settled history }
+    {
+        self.follows_margin()
+            && is_outside(self.nesting.place())
+            && self.nesting.is_balanced()
+            && self.levels.len() == 0
+    }
+
+    /// Closes a text without fault at its end: with a `Newline` of no bytes, and a `Dedent` for each open width.
+    fn close(&mut self, text: &str) -> PlacedToken
+        ensures read { (history : History) → IsStateAfter text.now history self.old → step_here text.now history self.old ≡ grammar.Ends → IsRead text.now (left_here text.now history self.old) (Some result) self.new }
+        ensures less { left_to_read text.now self.new self.new.stage < left_to_read text.now self.old Stage.Onward }
+        ensures passed { IsPassedBy self.old.at self.old self.new × (self.new.stage ≡ Stage.Closed) }
+    {
+        self.pending = Pending::only(Behind::Dedents {
+            at: self.at,
+            count: self.levels.len(),
+        });
+        self.stage = Stage::Closed;
+        (self.at, Token::Newline, self.at)
+    }
+
+    /// Reads the piece here, where nothing else is to be handed out. Answers its first lexeme, if it has one.
+    fn read_piece(&mut self, text: &str) -> Result<Option<PlacedToken>, AllocError>
+        requires fits { length text.now < 2 ^ 32 }
+        requires stage { self.old.stage ≡ Stage.Onward }
+        requires ready { IsReady text.now self.old Stage.Onward }
+        requires idle { IsIdle text.now self.old.pending }
+        ensures ahead { IfOk result (λ given. (lexemes : List (Spanned TokenView)) (fault : Option (Spanned Fault)) → IsAhead text.now self.old Stage.Onward lexemes fault → IsAheadBehind text.now given self.new lexemes fault) }
+        ensures less { OnOk result (left_to_read text.now self.new self.new.stage < left_to_read text.now self.old Stage.Onward) }
+        ensures reads { OnOk result (HasReadAt text.now self.old Stage.Onward → HasRead text.now self.new) }
+    {
+        let place = self.nesting.place();
+        let is_balanced = self.nesting.is_balanced();
+        let rest = &text[self.at..];
+        let follows_gap = self.follows_gap();
+        let reads = &mut self.reads;
+        let piece = piece_at(reads, self.alloc, place, is_balanced, follows_gap, rest)?;
+        match piece {
+            Piece::Nothing { len, is_gap } => {
+                self.step_over(len, Before::silent(is_gap));
+                Ok(None)
+            }
+            Piece::LineEnd { len } => self.read_line_end(text, len),
+            Piece::FString { opening, len } => Ok(Some(self.begin_fstring(opening, len, text)?)),
+            Piece::Lexed(step) => Ok(self.take(step, text)),
+            Piece::End => Ok(Some(self.close(text))),
+        }
+    }
+
+    /// What stands behind the last lexeme of a text that is read: its fault, which isn't answered again, or nothing.
+    fn last(&mut self) -> Next
+        ensures next { (text : Text) (lexemes : List (Spanned TokenView)) (fault : Option (Spanned Fault)) → IsIdle text self.old.pending → IsOver self.old.stage → IsAhead text self.old self.old.stage lexemes fault → IsNext text lexemes fault result self.new }
+        ensures reads { (text : Text) → IsOver self.old.stage → HasReadAt text self.old self.old.stage → HasReadNext text result self.new }
+    {
+        match mem::replace(&mut self.stage, Stage::Closed) {
+            Stage::Fault { begin, fault, end } => Next::Fault { begin, fault, end },
+            _ => Next::Nothing,
+        }
+    }
+
+    /// Whether the text is to be read on, and nothing else is to be handed out before.
+    #[inline(always)]
+    fn reads_on(&self) -> bool
+        ensures stage { result ≡ true → self.now.stage ≡ Stage.Onward }
+        ensures idle { result ≡ true → (text : Text) → IsPending text self.now.pending → IsIdle text self.now.pending }
+    {
+        matches!(self.stage, Stage::Onward) && self.pending.is_nothing()
+    }
+
+    /// Passes the spaces here, at a place of code.
+    #[inline(always)]
+    fn pass_spaces(&mut self, place: LexerMode, text: &str)
+        requires fits { length text.now < 2 ^ 32 }
+        requires code { is_code (mode_view place) ≡ true }
+        requires here { (before : List tokens.Token) → Represents before self.old.nesting → mode_view place ≡ mode_after before }
+        requires stage { self.old.stage ≡ Stage.Onward }
+        requires ready { IsReady text.now self.old Stage.Onward }
+        requires idle { IsIdle text.now self.old.pending }
+        ensures ahead { (lexemes : List (Spanned TokenView)) (fault : Option (Spanned Fault)) → IsAhead text.now self.old Stage.Onward lexemes fault → IsAhead text.now self.new Stage.Onward lexemes fault }
+        ensures same { (self.new.nesting ≡ self.old.nesting) × (self.new.pending ≡ self.old.pending) × (self.new.stage ≡ Stage.Onward) }
+    {
+        let len = gap_len(&mut self.reads, place, &text[self.at..]);
+        if len > 0 {
+            self.step_over(len, Before::Gap);
+        }
+    }
+
+    /// The word that comes next, where its first two bytes tell which it is: a name, or a symbol of one byte. The
+    /// spaces before it are passed. `None` where something else comes.
+    #[inline(always)]
+    pub fn common_word(&mut self, text: &str) -> Option<Word>
+        requires fits { length text.now < 2 ^ 32 }
+        requires ready { IsReady text.now self.old self.old.stage }
+        ensures ahead { (lexemes : List (Spanned TokenView)) (fault : Option (Spanned Fault)) → IsAhead text.now self.old self.old.stage lexemes fault → IsAhead text.now self.new self.new.stage lexemes fault }
+        ensures stands { IfSome result (λ word. IsWordHere text.now self.new word) }
+    {
+        let place = self.nesting.place();
+        if !self.reads_on() || !is_code(place) {
+            return None;
+        }
+        self.pass_spaces(place, text);
+        common_word(&mut self.reads, &text[self.at..])
+    }
+
+    /// Takes the name here, of so many bytes. After an error the reader isn't to be asked again.
+    #[inline(always)]
+    pub fn take_name(&mut self, len: usize, text: &str) -> Result<PlacedToken, AllocError>
+        requires fits { length text.now < 2 ^ 32 }
+        requires ready { IsReady text.now self.old self.old.stage }
+        requires stands { IsWordHere text.now self.old (record { class = class.Identifier; len = len }) }
+        ensures ahead { IfOk result (λ given. (lexemes : List (Spanned TokenView)) (fault : Option (Spanned Fault)) → IsAhead text.now self.old self.old.stage lexemes fault → IsAheadBehind text.now (Some given) self.new lexemes fault) }
+        ensures memory { OnErr result ((lexemes : List (Spanned TokenView)) (fault : Option (Spanned Fault)) → IsAhead text.now self.old self.old.stage lexemes fault → IsSomething lexemes fault) }
+    {
+        let begin = self.at;
+        let rest = &text[begin..];
+        let token = Token::Identifier(String::from_str(self.alloc, &rest[..len])?);
+        self.pass_token(&token, len, text);
+        Ok((begin, token, begin + len))
+    }
+
+    /// Takes the keyword or the symbol here, of so many bytes.
+    #[inline(always)]
+    pub fn take_terminal(&mut self, terminal: Terminal, len: usize, text: &str) -> PlacedToken
+        requires fits { length text.now < 2 ^ 32 }
+        requires ready { IsReady text.now self.old self.old.stage }
+        requires stands { IsWordHere text.now self.old (record { class = class.Fixed terminal; len = len }) }
+        ensures ahead { (lexemes : List (Spanned TokenView)) (fault : Option (Spanned Fault)) → IsAhead text.now self.old self.old.stage lexemes fault → IsAheadBehind text.now (Some result) self.new lexemes fault }
+    {
+        let begin = self.at;
+        let token = terminal_token(self.nesting.place(), terminal);
+        self.pass_token(&token, len, text);
+        (begin, token, begin + len)
+    }
+
+    /// What comes next of the text: a lexeme, its fault behind them, or nothing. After an error the reader isn't to be
+    /// asked again.
+    pub fn next(&mut self, text: &str) -> Result<Next, AllocError>
+        requires fits { length text.now < 2 ^ 32 }
+        requires ready { IsReady text.now self.old self.old.stage }
+        ensures next { IfOk result (λ next. (lexemes : List (Spanned TokenView)) (fault : Option (Spanned Fault)) → IsAhead text.now self.old self.old.stage lexemes fault → IsNext text.now lexemes fault next self.new) }
+        ensures memory { OnErr result ((lexemes : List (Spanned TokenView)) (fault : Option (Spanned Fault)) → IsAhead text.now self.old self.old.stage lexemes fault → IsSomething lexemes fault) }
+        ensures reads { IfOk result (λ next. HasReadAt text.now self.old self.old.stage → HasReadNext text.now next self.new) }
+    {
+        loop {
+            if let Some(lexeme) = self.pending.next(&mut self.reads, self.alloc, text)? {
+                return Ok(Next::Lexeme(lexeme));
+            }
+            match self.stage {
+                Stage::Begin => self.read_first_margin(text)?,
+                Stage::Onward => {
+                    if let Some(lexeme) = self.read_piece(text)? {
+                        return Ok(Next::Lexeme(lexeme));
+                    }
+                }
+                Stage::Fault { .. } | Stage::Closed => return Ok(self.last()),
+            }
+        }
+    }
+}

@@ -1,0 +1,242 @@
+//! Reads the one piece that stands at a place behind the text's first margin, or the fault there.
+
+ghost use Rattle.std.specs.Prelude.{◌≡◌, ℕ, ◌+◌, ◌<◌, ◌^◌, ◌&&◌, if◌then◌else◌, Some, drop, length, IfOk};
+ghost use Rattle.std.specs.Str.{IsCharBoundary};
+ghost use Rattle.starlark_grammar.specs.Front.{language_front};
+ghost use Rattle.starlark_scanner.specs.Joints.Reads.{AreReads, more_reads};
+ghost use Rattle.starlark_reader.specs.Joints.Reads.{ArePieceReads, AreReadsBehind, AreStepReads};
+ghost use Rattle.starlark_reader.specs.Joints.Steps.{IsStep};
+ghost use Rattle.starlark_grammar.specs.Cuts.{is_outside};
+ghost use Rattle.starlark_reader.specs.Joints.Nesting.{mode_view};
+ghost use Rattle.starlark_grammar.specs.Pieces as grammar;
+ghost use Rattle.starlark_reader.specs.Joints.Pieces.{IsBehind, IsPiece};
+ghost use Rattle.starlark_grammar.specs.Tokens.{InvalidInput};
+ghost use Rattle.starlark_grammar.specs.Characters.{first_character};
+ghost use Rattle.starlark_grammar.specs.Words as word;
+ghost use Rattle.starlark_grammar.specs.declared.class.Class.TheVariants as class;
+ghost use Rattle.starlark_grammar.specs.declared.class.LiteralKind.TheVariants as kind;
+ghost use Rattle.starlark_grammar.specs.Words.{class_in, language};
+
+pub mod code;
+pub mod terminals;
+mod words;
+
+use crate::literal::{Opening, Step, chunk_from, literal_piece, opening_of};
+use crate::nesting::LexerMode;
+use starlark_scanner::reads::Reads;
+use starlark_scanner::scanner::{Class, LiteralKind, Quote, first_word};
+use starlark_token::lexeme_error::LexemeError;
+use starlark_token::tokens::Token;
+use std::alloc::{AllocError, Global};
+use terminals::terminal_token;
+
+/// What stands at a place. Lengths are in bytes.
+#[derive(Debug, Drop)]
+pub enum Piece {
+    /// Bytes that give nothing: a skipped piece, which is a gap, or a line end that doesn't count.
+    Nothing { len: usize, is_gap: bool },
+    /// A line end that counts. The margin behind it belongs to the piece.
+    LineEnd { len: usize },
+    /// The start of an f-string.
+    FString { opening: Opening, len: usize },
+    /// Tokens, or a fault.
+    Lexed(Step),
+    /// The text's end.
+    End,
+}
+
+/// Whether a place is outside of f-strings.
+pub fn is_outside(place: LexerMode) -> bool
+    ensures { result ≡ is_outside (mode_view place) }
+{
+    matches!(place, LexerMode::Outside)
+}
+
+/// Whether line ends count: where all brackets are closed and no f-string is open.
+fn counts(place: LexerMode, is_balanced: bool) -> bool
+    ensures { result ≡ grammar.counts (mode_view place) is_balanced }
+{
+    is_outside(place) && is_balanced
+}
+
+/// Whether a bang may stand at a place: at the top of an expression, and not right behind a skipped piece.
+fn takes_bang(place: LexerMode, follows_gap: bool) -> bool
+    ensures { (before : grammar.Before) → IsBehind follows_gap before → result ≡ grammar.takes_bang (mode_view place) before }
+{
+    matches!(place, LexerMode::AtTop) && !follows_gap
+}
+
+/// A line end of so many bytes.
+fn line_end(place: LexerMode, is_balanced: bool, len: usize) -> Piece
+    ensures reads { (rest reads : ℕ) → AreReadsBehind len 9 rest 9 result reads reads }
+    ensures piece { (s : grammar.Situation) (front behind text : word.Text) → s.place ≡ mode_view place → s.is_balanced ≡ is_balanced → length front ≡ len → drop len text ≡ behind → IsCharBoundary text len →
+        IsPiece s.levels text (grammar.word_step s class.LineEnd front behind) result }
+{
+    if counts(place, is_balanced) {
+        Piece::LineEnd { len }
+    } else {
+        Piece::Nothing { len, is_gap: false }
+    }
+}
+
+/// The start of an f-string, by its opener's length and the text behind that.
+fn fstring(reads: &mut Reads, is_raw: bool, quote: Quote, len: usize, behind: &str) -> Piece
+    requires { len + length behind.now < 2 ^ 64 }
+    ensures reads { AreReadsBehind len 9 (length behind.now) 9 result reads.old reads.new }
+    ensures piece { (s : grammar.Situation) (front text : word.Text) → length front ≡ len →
+        IsPiece s.levels text (grammar.word_step s (class.Opener kind.FString is_raw quote) front behind.now) result }
+{
+    let opening = opening_of(reads, is_raw, quote, behind);
+    let len = if opening.is_triple { len + 2 } else { len };
+    Piece::FString { opening, len }
+}
+
+/// A literal, or the start of an f-string, by its opener's length and the text behind that.
+fn opener(
+    reads: &mut Reads,
+    alloc: Global,
+    place: LexerMode,
+    kind: LiteralKind,
+    is_raw: bool,
+    quote: Quote,
+    len: usize,
+    behind: &str,
+) -> Result<Piece, AllocError>
+    requires { len + length behind.now < 2 ^ 64 }
+    ensures reads { IfOk result (λ piece. AreReadsBehind len 9 (length behind.now) 9 piece reads.old reads.new) }
+    ensures piece { IfOk result (λ piece. (s : grammar.Situation) (front text : word.Text) → s.place ≡ mode_view place → length front ≡ len →
+        IsPiece s.levels text (grammar.word_step s (class.Opener kind is_raw quote) front behind.now) piece) }
+{
+    match kind {
+        LiteralKind::FString => Ok(fstring(reads, is_raw, quote, len, behind)),
+        _ => {
+            let outside = is_outside(place);
+            let step = literal_piece(reads, alloc, outside, kind, is_raw, quote, len, behind)?;
+            Ok(Piece::Lexed(step))
+        }
+    }
+}
+
+/// The piece of a word at the front of a text, cut there.
+fn word_piece(
+    reads: &mut Reads,
+    alloc: Global,
+    place: LexerMode,
+    is_balanced: bool,
+    class: Class,
+    front: &str,
+    behind: &str,
+) -> Result<Piece, AllocError>
+    requires known { class_in language front.now ≡ Some class }
+    requires fits { length front.now + length behind.now < 2 ^ 64 }
+    ensures reads { IfOk result (λ piece. AreReadsBehind (length front.now) 9 (length behind.now) 9 piece reads.old reads.new) }
+    ensures piece { IfOk result (λ piece. (s : grammar.Situation) (text : word.Text) → s.place ≡ mode_view place → s.is_balanced ≡ is_balanced → drop (length front.now) text ≡ behind.now → IsCharBoundary text (length front.now) →
+        IsPiece s.levels text (grammar.word_step s class front.now behind.now) piece) }
+{
+    let len = front.len();
+    match class {
+        Class::Skipped => Ok(Piece::Nothing { len, is_gap: true }),
+        Class::LineEnd => Ok(line_end(place, is_balanced, len)),
+        Class::Opener {
+            kind,
+            is_raw,
+            quote,
+        } => opener(reads, alloc, place, kind, is_raw, quote, len, behind),
+        Class::Comment => Ok(Piece::Lexed(words::comment(alloc, front)?)),
+        Class::Tabs => Ok(Piece::Lexed(words::tabs())),
+        Class::Reserved => Ok(Piece::Lexed(words::reserved(alloc, front)?)),
+        Class::Identifier => Ok(Piece::Lexed(words::identifier(alloc, front)?)),
+        Class::Decimal => Ok(Piece::Lexed(words::decimal(reads, alloc, front)?)),
+        Class::Hexadecimal => Ok(Piece::Lexed(words::hexadecimal(alloc, front)?)),
+        Class::Octal => Ok(Piece::Lexed(words::octal(alloc, front)?)),
+        Class::Binary => Ok(Piece::Lexed(words::binary(alloc, front)?)),
+        Class::Float => Ok(Piece::Lexed(words::float(alloc, front)?)),
+        Class::Fixed(terminal) => Ok(Piece::Lexed(Step::Token {
+            token: terminal_token(place, terminal),
+            len,
+        })),
+    }
+}
+
+/// The fault of a text at whose front no word stands: its first character.
+fn invalid_input(reads: &mut Reads, alloc: Global, text: &str) -> Result<Step, AllocError>
+    ensures reads { IfOk result (λ step. AreStepReads 0 1 (length text.now) 0 step reads.old reads.new) }
+    ensures step { IfOk result (IsStep (grammar.fault 0 (InvalidInput (first_character text.now)) (length (first_character text.now)))) }
+{
+    let end = reads.character_len(text);
+    Ok(Step::Fault {
+        begin: 0,
+        fault: LexemeError::InvalidInput(String::from_str(alloc, &text[..end])?),
+        end,
+    })
+}
+
+/// Whether an exclamation mark stands at the front of a text, and no `=` behind it.
+fn is_bang(text: &[u8]) -> bool
+    ensures { result ≡ grammar.is_bang text.now }
+{
+    match text {
+        [b'!', second, ..] => *second != b'=',
+        [b'!'] => true,
+        _ => false,
+    }
+}
+
+/// Whether a bang stands at the front of a text, by where that is and what stands before.
+fn bang_stands(reads: &mut Reads, place: LexerMode, follows_gap: bool, text: &str) -> bool
+    ensures reads { AreReads (if result then 1 else 0) 2 reads.old reads.new }
+    ensures value { (before : grammar.Before) → IsBehind follows_gap before → result ≡ (grammar.takes_bang (mode_view place) before && grammar.is_bang text.now) }
+{
+    takes_bang(place, follows_gap) && is_bang(reads.front(text.as_bytes(), 2))
+}
+
+/// The piece at the front of a text that is no text of an f-string.
+fn code_piece(
+    reads: &mut Reads,
+    alloc: Global,
+    place: LexerMode,
+    is_balanced: bool,
+    text: &str,
+) -> Result<Piece, AllocError>
+    requires some { 0 < length text.now }
+    ensures reads { IfOk result (λ piece. ArePieceReads 14 (length text.now) 7 piece reads.old reads.new) }
+    ensures piece { IfOk result (λ piece. (s : grammar.Situation) → s.place ≡ mode_view place → s.is_balanced ≡ is_balanced →
+        IsPiece s.levels text.now (grammar.front_step s text.now (language_front text.now)) piece) }
+{
+    match first_word(reads, text) {
+        None => Ok(Piece::Lexed(invalid_input(reads, alloc, text)?)),
+        Some(word) => {
+            let (front, behind) = text.split_at(word.len);
+            word_piece(reads, alloc, place, is_balanced, word.class, front, behind)
+        }
+    }
+}
+
+/// The piece at the front of a text, by where that is, whether brackets are balanced there, and whether a skipped piece
+/// stands right before it.
+pub fn piece_at(
+    reads: &mut Reads,
+    alloc: Global,
+    place: LexerMode,
+    is_balanced: bool,
+    follows_gap: bool,
+    text: &str,
+) -> Result<Piece, AllocError>
+    ensures reads { IfOk result (λ piece. ArePieceReads 16 (length text.now) 8 piece reads.old reads.new) }
+    ensures piece { IfOk result (λ piece. (s : grammar.Situation) → s.place ≡ mode_view place → s.is_balanced ≡ is_balanced → IsBehind follows_gap s.before →
+        IsPiece s.levels text.now (grammar.step_at language s text.now) piece) }
+{
+    if let LexerMode::InText(opening) = place {
+        return Ok(Piece::Lexed(chunk_from(reads, alloc, opening, text)?));
+    }
+    if text.is_empty() {
+        return Ok(Piece::End);
+    }
+    if bang_stands(reads, place, follows_gap, text) {
+        return Ok(Piece::Lexed(Step::Token {
+            token: Token::FStringBang,
+            len: 1,
+        }));
+    }
+    code_piece(reads, alloc, place, is_balanced, text)
+}

@@ -1,0 +1,28 @@
+//! Places of code, and the spaces there.
+
+ghost use Rattle.std.specs.Prelude.{◌≡◌, ◌<◌, Bool, true};
+ghost use Rattle.starlark_grammar.specs.Pieces as grammar;
+ghost use Rattle.starlark_grammar.specs.Words.{language};
+ghost use Rattle.starlark_reader.specs.Joints.Nesting.{mode_view};
+ghost use Rattle.starlark_reader.specs.Joints.Pieces.{IsBehind, is_code};
+
+use crate::nesting::LexerMode;
+use starlark_scanner::reads::Reads;
+use starlark_scanner::scanner::spaces_len;
+
+/// Whether a place is one of code, and not in the text of an f-string.
+#[inline(always)]
+pub fn is_code(place: LexerMode) -> bool
+    ensures { result ≡ is_code (mode_view place) }
+{
+    !matches!(place, LexerMode::InText(_))
+}
+
+/// The length of the run of spaces at a place of code, by the text from there on.
+#[inline(always)]
+pub fn gap_len(reads: &mut Reads, place: LexerMode, text: &str) -> usize
+    requires { is_code (mode_view place) ≡ true }
+    ensures { 0 < result → (s : grammar.Situation) (follows_gap : Bool) → s.place ≡ mode_view place → IsBehind follows_gap s.before → grammar.step_at language s text.now ≡ grammar.gap result }
+{
+    spaces_len(reads, text)
+}

@@ -1,0 +1,96 @@
+//! Keywords and symbols as tokens.
+
+ghost use Rattle.std.specs.Prelude.{◌≡◌, false};
+ghost use Rattle.starlark_reader.specs.Joints.Steps.{is_fstring_start};
+ghost use Rattle.starlark_reader.specs.Joints.Nesting.{mode_view};
+ghost use Rattle.starlark_grammar.specs.Pieces as grammar;
+ghost use Rattle.starlark_token.specs.TokenViews.{Whole, token_view};
+ghost use Rattle.starlark_grammar.specs.Tokens.{Word};
+
+use crate::nesting::LexerMode;
+use starlark_scanner::scanner::Terminal;
+use starlark_token::tokens::Token;
+
+#[tactic(auto, unfolding(starlark_token::specs::TokenViews::token_view))]
+/// The token of a word that is one of its own.
+#[inline(always)]
+fn own_token(terminal: Terminal) -> Token
+    ensures { token_view result ≡ Whole (Word terminal) }
+{
+    match terminal {
+        Terminal::And => Token::And,
+        Terminal::Break => Token::Break,
+        Terminal::Continue => Token::Continue,
+        Terminal::Def => Token::Def,
+        Terminal::Elif => Token::Elif,
+        Terminal::Else => Token::Else,
+        Terminal::For => Token::For,
+        Terminal::If => Token::If,
+        Terminal::In => Token::In,
+        Terminal::Lambda => Token::Lambda,
+        Terminal::Load => Token::Load,
+        Terminal::Not => Token::Not,
+        Terminal::Or => Token::Or,
+        Terminal::Pass => Token::Pass,
+        Terminal::Return => Token::Return,
+        Terminal::Comma => Token::Comma,
+        Terminal::Semicolon => Token::Semicolon,
+        Terminal::Colon => Token::Colon,
+        Terminal::PlusEqual => Token::PlusEqual,
+        Terminal::MinusEqual => Token::MinusEqual,
+        Terminal::StarEqual => Token::StarEqual,
+        Terminal::SlashEqual => Token::SlashEqual,
+        Terminal::SlashSlashEqual => Token::SlashSlashEqual,
+        Terminal::PercentEqual => Token::PercentEqual,
+        Terminal::EqualEqual => Token::EqualEqual,
+        Terminal::BangEqual => Token::BangEqual,
+        Terminal::LessEqual => Token::LessEqual,
+        Terminal::GreaterEqual => Token::GreaterEqual,
+        Terminal::StarStar => Token::StarStar,
+        Terminal::MinusGreater => Token::MinusGreater,
+        Terminal::Equal => Token::Equal,
+        Terminal::LessThan => Token::LessThan,
+        Terminal::GreaterThan => Token::GreaterThan,
+        Terminal::Minus => Token::Minus,
+        Terminal::Plus => Token::Plus,
+        Terminal::Star => Token::Star,
+        Terminal::Percent => Token::Percent,
+        Terminal::Slash => Token::Slash,
+        Terminal::SlashSlash => Token::SlashSlash,
+        Terminal::Dot => Token::Dot,
+        Terminal::Ampersand => Token::Ampersand,
+        Terminal::Pipe => Token::Pipe,
+        Terminal::Caret => Token::Caret,
+        Terminal::LessLess => Token::LessLess,
+        Terminal::GreaterGreater => Token::GreaterGreater,
+        Terminal::Tilde => Token::Tilde,
+        Terminal::AmpersandEqual => Token::AmpersandEqual,
+        Terminal::PipeEqual => Token::PipeEqual,
+        Terminal::CaretEqual => Token::CaretEqual,
+        Terminal::LessLessEqual => Token::LessLessEqual,
+        Terminal::GreaterGreaterEqual => Token::GreaterGreaterEqual,
+        Terminal::Ellipsis => Token::Ellipsis,
+        Terminal::OpeningSquare => Token::OpeningSquare,
+        Terminal::OpeningCurly => Token::OpeningCurly,
+        Terminal::OpeningRound => Token::OpeningRound,
+        Terminal::ClosingSquare => Token::ClosingSquare,
+        Terminal::ClosingCurly => Token::ClosingCurly,
+        Terminal::ClosingRound => Token::ClosingRound,
+    }
+}
+
+#[tactic(auto, unfolding(starlark_token::specs::TokenViews::token_view))]
+/// The token of such a word at a place. At the top of an expression of an f-string a closing brace ends the expression.
+#[inline(always)]
+pub fn terminal_token(place: LexerMode, terminal: Terminal) -> Token
+    ensures token { token_view result ≡ Whole (grammar.terminal_token (mode_view place) terminal) }
+    ensures own { is_fstring_start (grammar.terminal_token (mode_view place) terminal) ≡ false }
+{
+    match place {
+        LexerMode::AtTop => match terminal {
+            Terminal::ClosingCurly => Token::FStringExprEnd,
+            other => own_token(other),
+        },
+        _ => own_token(terminal),
+    }
+}

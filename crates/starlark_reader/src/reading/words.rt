@@ -1,0 +1,146 @@
+//! Words of many texts as tokens, or their faults. Each is read by its whole text.
+
+ghost use Rattle.std.specs.Prelude.{◌≡◌, ◌≤◌, Some, drop, length, true, IfOk};
+ghost use Rattle.std.specs.Char.{is_digit};
+ghost use Rattle.starlark_scanner.specs.Joints.Reads.{more_reads};
+ghost use Rattle.starlark_reader.specs.Joints.Reads.{IsOfWord};
+ghost use Rattle.starlark_reader.specs.Joints.Steps.{IsStep};
+ghost use Rattle.starlark_grammar.specs.Numbers.{integer_of};
+ghost use Rattle.starlark_grammar.specs.Pieces as grammar;
+ghost use Rattle.starlark_grammar.specs.Tokens as tokens;
+ghost use Rattle.starlark_grammar.specs.declared.class.Class.TheVariants as class;
+ghost use Rattle.starlark_grammar.specs.Words.{Text, class_in, is_run, language};
+
+use crate::literal::Step;
+use starlark_scanner::reads::Reads;
+use starlark_token::lexeme_error::LexemeError;
+use starlark_token::number_text::number_in;
+use starlark_token::tokens::Token;
+use std::alloc::{AllocError, Global};
+
+/// A comment, whose value leaves out the `#`.
+pub fn comment(alloc: Global, word: &str) -> Result<Step, AllocError>
+    requires { class_in language word.now ≡ Some class.Comment }
+    ensures step { IfOk result (IsStep (grammar.token (length word.now) (tokens.Comment (drop 1 word.now)))) }
+    ensures word { IfOk result (IsOfWord (length word.now)) }
+{
+    Ok(Step::Token {
+        token: Token::Comment(String::from_str(alloc, &word[1..])?),
+        len: word.len(),
+    })
+}
+
+/// Tabs outside of a margin. The fault is where they begin.
+pub fn tabs() -> Step
+    ensures step { IsStep (grammar.fault 0 tokens.InvalidTab 0) result }
+    ensures word { IsOfWord 1 result }
+{
+    Step::Fault {
+        begin: 0,
+        fault: LexemeError::InvalidTab,
+        end: 0,
+    }
+}
+
+/// A reserved word, which is a fault.
+pub fn reserved(alloc: Global, word: &str) -> Result<Step, AllocError>
+    ensures step { IfOk result (IsStep (grammar.fault 0 (tokens.ReservedKeyword word.now) (length word.now))) }
+    ensures word { IfOk result (IsOfWord (length word.now)) }
+{
+    Ok(Step::Fault {
+        begin: 0,
+        fault: LexemeError::ReservedKeyword(String::from_str(alloc, word)?),
+        end: word.len(),
+    })
+}
+
+/// An identifier, with its name.
+#[inline(always)]
+pub fn identifier(alloc: Global, word: &str) -> Result<Step, AllocError>
+    ensures step { IfOk result (IsStep (grammar.token (length word.now) (tokens.Identifier word.now))) }
+    ensures word { IfOk result (IsOfWord (length word.now)) }
+{
+    Ok(Step::Token {
+        token: Token::Identifier(String::from_str(alloc, word)?),
+        len: word.len(),
+    })
+}
+
+/// A float, whose value is its text.
+pub fn float(alloc: Global, word: &str) -> Result<Step, AllocError>
+    ensures step { IfOk result (IsStep (grammar.token (length word.now) (tokens.Float word.now))) }
+    ensures word { IfOk result (IsOfWord (length word.now)) }
+{
+    Ok(Step::Token {
+        token: Token::Float(String::from_str(alloc, word)?),
+        len: word.len(),
+    })
+}
+
+/// The integer of digits of a base, as a token of `len` bytes.
+fn integer(alloc: Global, digits: &str, base: u32, len: usize) -> Result<Step, AllocError>
+    requires least { 2 ≤ base }
+    requires most { base ≤ 36 }
+    requires digits { is_run (λ b. is_digit b base) digits.now ≡ true }
+    ensures step { IfOk result (IsStep (grammar.token len (tokens.Int (integer_of base digits.now)))) }
+    ensures word { IfOk result (IsOfWord (len)) }
+{
+    match number_in(alloc, digits, base)? {
+        Some(number) => Ok(Step::Token {
+            token: Token::Int(number),
+            len,
+        }),
+        None => unreachable!(),
+    }
+}
+
+/// Whether a number has more than one digit and the first is 0.
+fn starts_zero(word: &[u8]) -> bool
+    ensures { result ≡ grammar.starts_zero word.now }
+{
+    matches!(word, [b'0', _, ..])
+}
+
+/// A decimal integer. One that begins with a 0 too many is a fault.
+pub fn decimal(reads: &mut Reads, alloc: Global, word: &str) -> Result<Step, AllocError>
+    requires { class_in language word.now ≡ Some class.Decimal }
+    ensures reads { reads.new ≡ more_reads reads.old 2 }
+    ensures step { IfOk result (λ step. (s : grammar.Situation) (behind : Text) → IsStep (grammar.word_step s class.Decimal word.now behind) step) }
+    ensures word { IfOk result (IsOfWord (length word.now)) }
+{
+    if starts_zero(reads.front(word.as_bytes(), 2)) {
+        return Ok(Step::Fault {
+            begin: 0,
+            fault: LexemeError::StartsZero(String::from_str(alloc, word)?),
+            end: word.len(),
+        });
+    }
+    integer(alloc, word, 10, word.len())
+}
+
+/// A hexadecimal integer.
+pub fn hexadecimal(alloc: Global, word: &str) -> Result<Step, AllocError>
+    requires { class_in language word.now ≡ Some class.Hexadecimal }
+    ensures step { IfOk result (IsStep (grammar.token (length word.now) (tokens.Int (integer_of 16 (drop 2 word.now))))) }
+    ensures word { IfOk result (IsOfWord (length word.now)) }
+{
+    integer(alloc, &word[2..], 16, word.len())
+}
+
+/// An octal integer.
+pub fn octal(alloc: Global, word: &str) -> Result<Step, AllocError>
+    requires { class_in language word.now ≡ Some class.Octal }
+    ensures step { IfOk result (IsStep (grammar.token (length word.now) (tokens.Int (integer_of 8 (drop 2 word.now))))) }
+    ensures word { IfOk result (IsOfWord (length word.now)) }
+{
+    integer(alloc, &word[2..], 8, word.len())
+}
+
+/// A binary integer.
+pub fn binary(alloc: Global, word: &str) -> Result<Step, AllocError>
+    requires { class_in language word.now ≡ Some class.Binary }
+    ensures step { IfOk result (IsStep (grammar.token (length word.now) (tokens.Int (integer_of 2 (drop 2 word.now))))) }
+    ensures word { IfOk result (IsOfWord (length word.now)) }
+{
+    integer(alloc, &word[2..], 2, word.len())
+}

@@ -1,0 +1,94 @@
+-- The items of a text, one by one.
+use Rattle.std.proofs.Common.{◌≡◌, ℕ, zero, suc, ◌+◌, ◌<◌, ◌≤◌, ◌^◌, List, [], ◌∷◌, ◌++◌, map, length, drop, refl, ap, subst, ◌∙◌, arith, None, Some, slice_get, IfSome, option_to_list}
+use Rattle.std.specs.Prelude.{Option}
+use Rattle.starlark_grammar.specs.Words.{Text, language}
+use Rattle.starlark_grammar.specs.Tokens.{Fault, Lexeme, Spanned}
+use Rattle.std.specs.List.{AllByRecursion}
+use Rattle.starlark_grammar.specs.Cuts.{InOrder}
+use Rattle.starlark_grammar.specs.Reading.{outcome}
+use Rattle.starlark_reader.specs.Lexemes.{shown_lexeme}
+use Rattle.starlark_syntax.specs.Lexer.{IsWithin, LexerItem, Given, Refused, items}
+use Rattle.starlark_reader.specs.Joints.Reader.{IsSomething}
+use Rattle.starlark_token.specs.TokenViews.{TokenView}
+use Rattle.starlark_grammar.proofs.Order.Lexemes.{outcome_order}
+use Rattle.starlark_grammar.proofs.Reading.Faults.{outcome_fault}
+use Rattle.starlark_grammar.proofs.Indentation.Totals.{outcome_balances}
+
+abbrev given : Lexeme → LexerItem
+given lexeme = Given (shown_lexeme lexeme)
+
+given_at : (ls : List Lexeme) (h : ℕ) (x : Spanned TokenView) (more : List (Spanned TokenView)) (rest : List LexerItem) → drop h (map shown_lexeme ls) ≡ x ∷ more → slice_get (map given ls ++ rest) h ≡ Some (Given x)
+given_at [] zero x more rest e = cc
+given_at [] (suc h) x more rest e = cc
+given_at (l ∷ ls) zero x more rest e = let same : shown_lexeme l ≡ x = cc in ap (λ v. Some (Given v)) same
+given_at (l ∷ ls) (suc h) x more rest e = given_at ls h x more rest e
+
+behind_all : (ls : List Lexeme) (h : ℕ) (rest : List LexerItem) → h ≤ length ls → drop h (map shown_lexeme ls) ≡ [] → slice_get (map given ls ++ rest) h ≡ slice_get rest 0
+behind_all [] zero rest inside e = refl
+behind_all [] (suc h) rest inside e = absurd (omega (arith, inside))
+behind_all (l ∷ ls) zero rest inside e = cc
+behind_all (l ∷ ls) (suc h) rest inside e = behind_all ls h rest (omega (arith, inside)) e
+
+pub one_more : {A : Type 0} (xs : List A) (h : ℕ) (x : A) (more : List A) → drop h xs ≡ x ∷ more → (h + 1 ≤ length xs) × (drop (h + 1) xs ≡ more)
+one_more [] zero x more e = cc
+one_more [] (suc h) x more e = cc
+one_more (y ∷ ys) zero x more e = (omega arith, let same : ys ≡ more = cc in same)
+one_more (y ∷ ys) (suc h) x more e =
+    let further = one_more ys h x more e in
+    let next : suc h + 1 ≡ suc (h + 1) = omega arith in
+    (omega (arith, further.0), ap (λ n. drop n (y ∷ ys)) next ∙ further.1)
+
+pub lexeme_item : (text : Text) (h : ℕ) (x : Spanned TokenView) (more : List (Spanned TokenView)) → drop h (map shown_lexeme (outcome text).lexemes) ≡ x ∷ more → slice_get (items text) h ≡ Some (Given x)
+unfolding items
+lexeme_item text h x more e = given_at (outcome text).lexemes h x more _ e
+
+pub fault_item : (text : Text) (h : ℕ) (fault : Spanned Fault) → h ≤ length (outcome text).lexemes → drop h (map shown_lexeme (outcome text).lexemes) ≡ [] → (outcome text).fault ≡ Some fault → slice_get (items text) h ≡ Some (Refused fault)
+unfolding items
+fault_item text h fault inside e has = behind_all (outcome text).lexemes h _ inside e ∙ ap (λ f. slice_get (map Refused (option_to_list f)) 0) has
+
+pub nothing_item : (text : Text) (h : ℕ) → h ≤ length (outcome text).lexemes → drop h (map shown_lexeme (outcome text).lexemes) ≡ [] → (outcome text).fault ≡ None → slice_get (items text) h ≡ None
+unfolding items
+nothing_item text h inside e has = behind_all (outcome text).lexemes h _ inside e ∙ ap (λ f. slice_get (map Refused (option_to_list f)) 0) has
+
+pub some_item : (text : Text) (h : ℕ) → h ≤ length (outcome text).lexemes → IsSomething (drop h (map shown_lexeme (outcome text).lexemes)) (outcome text).fault → (item : LexerItem) × (slice_get (items text) h ≡ Some item)
+some_item text h inside some = by_rest (drop h (map shown_lexeme (outcome text).lexemes)) refl (outcome text).fault refl
+  where
+    by_rest : (rest : List (Spanned TokenView)) → drop h (map shown_lexeme (outcome text).lexemes) ≡ rest → (fault : Option (Spanned Fault)) → (outcome text).fault ≡ fault → (item : LexerItem) × (slice_get (items text) h ≡ Some item)
+    by_rest (x ∷ more) e fault has = (Given x, lexeme_item text h x more e)
+    by_rest [] e (Some fault) has = (Refused fault, fault_item text h fault inside e has)
+    by_rest [] e None has = absurd (some e has)
+
+-- lexemes lie inside, up to a place
+order_reach : (text : Text) (from : ℕ) (lexemes : List Lexeme) (to : ℕ) → InOrder text from lexemes to → from ≤ to
+order_reach text from [] to h = h.0
+order_reach text from (l ∷ ls) to h = omega (arith, h.0, h.1, order_reach text l.end ls to h.3)
+
+order_within : (text : Text) (from : ℕ) (lexemes : List Lexeme) (to : ℕ) → InOrder text from lexemes to → to ≤ length text → AllByRecursion (λ (l : Lexeme). (l.begin ≤ l.end) × (l.end ≤ length text)) lexemes
+order_within text from [] to h inside = tt
+order_within text from (l ∷ ls) to h inside =
+    let reach = order_reach text l.end ls to h.3 in
+    ((h.1, omega (arith, reach, inside)), order_within text l.end ls to h.3 inside)
+
+pub all_within : (text : Text) → AllByRecursion (λ (l : Lexeme). (l.begin ≤ l.end) × (l.end ≤ length text)) (outcome text).lexemes
+all_within text = let order = (outcome_order text).0 in order_within text 0 (outcome text).lexemes order.0 order.2 order.1
+
+one_within : (P : ℕ → ℕ → Type 0) (ls : List Lexeme) (h : ℕ) (x : Spanned TokenView) (more : List (Spanned TokenView)) → AllByRecursion (λ (l : Lexeme). P l.begin l.end) ls → drop h (map shown_lexeme ls) ≡ x ∷ more → P x.begin x.end
+one_within P [] zero x more all e = cc
+one_within P [] (suc h) x more all e = cc
+one_within P (l ∷ ls) zero x more all e = let same : shown_lexeme l ≡ x = cc in subst (λ (s : Spanned TokenView). P s.begin s.end) same all.0
+one_within P (l ∷ ls) (suc h) x more all e = one_within P ls h x more all.1 e
+
+pub lexeme_within : (text : Text) (h : ℕ) (x : Spanned TokenView) (more : List (Spanned TokenView)) → length text < 2 ^ 32 → drop h (map shown_lexeme (outcome text).lexemes) ≡ x ∷ more → IsWithin text x.begin x.end
+lexeme_within text h x more short e =
+    let both = one_within (λ begin end. (begin ≤ end) × (end ≤ length text)) (outcome text).lexemes h x more (all_within text) e in
+    (both.0, both.1, short)
+
+-- the fault lies inside
+pub fault_within : (text : Text) (fault : Spanned Fault) → (outcome text).fault ≡ Some fault → (fault.begin ≤ fault.end) × (fault.end ≤ length text)
+unfolding outcome
+fault_within text fault has = subst (λ f. IfSome f (λ (fault : Spanned Fault). (fault.begin ≤ fault.end) × (fault.end ≤ length text))) has (outcome_fault language text)
+
+-- the lexemes of a text that isn't too long can be counted
+pub lexemes_few : (text : Text) → length text < 2 ^ 32 → length (outcome text).lexemes < 2 ^ 34
+unfolding outcome
+lexemes_few text short = let few = (outcome_balances language text).2 in omega (arith, few, short)
