@@ -6,3 +6,5 @@ mod literal;
 mod nesting;
 pub mod reader;
 mod reading;
+
+pub use layout::{PlacedToken, begins_with_tab};

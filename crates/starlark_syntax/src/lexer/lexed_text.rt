@@ -15,7 +15,7 @@ mod cuts;
 mod parts;
 mod tails;
 
-use starlark_reader::layout::{PlacedToken, begins_with_tab};
+use starlark_reader::{PlacedToken, begins_with_tab};
 use cuts::{Cut, append_cuts, begin_of, is_cut_behind};
 use parts::{exception_of, read_part};
 use starlark_base::codemap::{CodeMap, OrMemory, SourceTooLong};

@@ -8,7 +8,7 @@ ghost use Rattle.starlark_syntax.specs.Joints.LexedTexts.{IsPart, IsPlacedFault,
 ghost use Rattle.starlark_syntax.specs.LexedTexts.{IsFaultIn};
 
 use super::cuts::Cut;
-use starlark_reader::layout::PlacedToken;
+use starlark_reader::PlacedToken;
 use crate::lexer::lexemes::exception;
 use starlark_reader::reader::{Next, Reader};
 use starlark_base::codemap::CodeMap;

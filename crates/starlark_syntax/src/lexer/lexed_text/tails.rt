@@ -6,7 +6,7 @@ ghost use Rattle.starlark_reader.specs.Lexemes.{lexeme_view};
 ghost use Rattle.starlark_token.specs.TokenViews.{token_view};
 
 use super::cuts::{Begin, Cut, cuts_up_to};
-use starlark_reader::layout::PlacedToken;
+use starlark_reader::PlacedToken;
 use starlark_token::tokens::Token;
 use std::alloc::AllocError;
 
