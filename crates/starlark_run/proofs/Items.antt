@@ -31,7 +31,7 @@ use Rattle.starlark_token.specs.declared.tokens.Token.{Token}
 use Rattle.starlark_grammar.proofs.Order.WholeTexts.{outcome_edges, fault_edges}
 use Rattle.starlark_grammar.proofs.Reading.Faults.{outcome_fault}
 use Rattle.starlark_grammar.specs.Words.{language}
-use Rattle.starlark_syntax.proofs.Reader.LexerItems.{one_more}
+use Rattle.starlark_syntax.proofs.LexerItems.{one_more}
 use Rattle.starlark_run.specs.Output as output
 use Rattle.starlark_run.specs.Output.{item_line, lines_of, message_of, place_text}
 
