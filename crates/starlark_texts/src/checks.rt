@@ -85,6 +85,14 @@ fn are_few(lexed: &LexedText<'_>) -> bool {
     item_count(lexed) <= lexed.text().len().saturating_mul(2).saturating_add(1)
 }
 
+/// Whether bytes were read as often as promised: at most sixteen times as often as there are bytes and one, and, where the
+/// text has no fault, at least once each.
+fn are_reads_bounded(lexed: &LexedText<'_>) -> bool {
+    let bytes = lexed.text().len() as u64;
+    let most = bytes.saturating_add(1).saturating_mul(16);
+    lexed.reads() <= most && (lexed.fault().is_some() || bytes <= lexed.reads())
+}
+
 /// Whether a lexer handed out this lexeme.
 fn is_lexeme(next: &Option<Lexeme>, wanted: &(usize, Token, usize)) -> bool {
     match next {
@@ -150,6 +158,9 @@ fn wrong_with_lexemes(lexed: &LexedText<'_>) -> Option<&'static str> {
     }
     if !are_few(lexed) {
         return Some("more than two lexemes a byte and one");
+    }
+    if !are_reads_bounded(lexed) {
+        return Some("bytes read too often or too seldom");
     }
     if lexed
         .lexemes()
