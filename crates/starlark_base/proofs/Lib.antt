@@ -1,3 +1,4 @@
+pub mod CharacterCounts
 pub mod LineFeeds
 pub mod LineEnds
 pub mod HeldSpans

@@ -12,3 +12,4 @@ pub mod SourceFiles
 pub mod Refusals
 pub mod Starts
 pub mod Diagnostics
+pub mod Joints

@@ -1,5 +1,6 @@
 //! Positions and spans in a source text, and what they are there: lines, columns, texts.
 
+mod character_counts;
 mod code_map;
 mod code_maps;
 mod file_span;

@@ -2,13 +2,19 @@
 //! time: the text's bytes, its lexemes, its faults (0 or 1) and a checksum over their places. With `--bench` the
 //! line also has the nanoseconds from making the lexer to letting go of the last lexeme.
 //!
+//! `starlark_bench --places N` resolves N spans that lie spread over the text, but for those with an end inside of a
+//! character, and prints one line: the text's bytes, its lines, the spans that were resolved, a checksum over their
+//! places, and nanoseconds.
+//!
 //! Reading the text, checking that it is UTF-8 and making its code map are not measured.
 //!
 //! The exit status is 2 where the arguments are wrong or the run gave up: then standard error says why.
 #![tactic(auto)]
 
+mod places;
 mod tally;
 
+use crate::places::tally_of_places;
 use crate::tally::{BenchFault, tally_of};
 use starlark_base::codemap::{CodeMap, CodeMapId};
 use std::process::ExitCode;
@@ -19,11 +25,12 @@ use std::{env, io};
 /// The exit status for wrong arguments, and where a run gave up.
 const TROUBLE: u8 = 2;
 
-/// What a call asks for: one line without a time, or so many lines with theirs.
+/// What a call asks for: to lex once, without a time, or so many times, or to resolve so many spans.
 #[derive(Clone, Copy)]
 enum Request {
     Once,
     Timed(u32),
+    Places(u32),
 }
 
 /// What the arguments ask for; `None` where they are wrong.
@@ -33,11 +40,15 @@ fn read_request<R: Env + AllocGlobal>(rt: &R) -> Option<Request> {
     let Some(flag) = arguments.next() else {
         return Some(Request::Once);
     };
-    let count = arguments.next()?;
-    if flag.as_str() != "--bench" || arguments.next().is_some() {
+    let count = arguments.next()?.as_str().parse().ok()?;
+    if arguments.next().is_some() {
         return None;
     }
-    Some(Request::Timed(count.as_str().parse().ok()?))
+    match flag.as_str() {
+        "--bench" => Some(Request::Timed(count)),
+        "--places" => Some(Request::Places(count)),
+        _ => None,
+    }
 }
 
 /// Reads the text on standard input, and makes its code map.
@@ -65,17 +76,27 @@ fn print_timed(rt: &HostRuntime, file: &CodeMap, count: u32) -> Result<(), Bench
     Ok(())
 }
 
+/// Resolves so many spans of a code map, and prints a line.
+fn print_places(rt: &HostRuntime, file: &CodeMap, count: u32) -> Result<(), BenchFault> {
+    let start = Instant::now(rt)?;
+    let tally = tally_of_places(file, count);
+    let elapsed = start.elapsed(rt)?;
+    let (bytes, lines) = (file.source().len(), file.line_count());
+    Ok(println!(rt; "{bytes} {lines} {tally} {}", elapsed.as_nanos())?)
+}
+
 fn bench(rt: &HostRuntime, request: Request) -> Result<(), BenchFault> {
     let file = read_code_map(rt)?;
     match request {
         Request::Once => print_once(rt, &file),
         Request::Timed(count) => print_timed(rt, &file, count),
+        Request::Places(count) => print_places(rt, &file, count),
     }
 }
 
 fn main(rt: HostRuntime) -> ExitCode {
     let Some(request) = read_request(&rt) else {
-        let _ = eprintln!(rt; "usage: starlark_bench [--bench N]");
+        let _ = eprintln!(rt; "usage: starlark_bench [--bench N | --places N]");
         return ExitCode::from(TROUBLE);
     };
     match bench(&rt, request) {

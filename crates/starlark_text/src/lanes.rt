@@ -35,8 +35,9 @@ fn short_count_begun(bytes: &[u8]) -> usize
     bytes.iter().filter(|byte| begins_character(**byte)).count()
 }
 
-/// The same, with many bytes looked at together.
-pub(crate) fn count_begun(bytes: &[u8]) -> usize
+/// How many characters begin among some bytes, which may be cut inside of a character. Many bytes are looked at
+/// together.
+pub fn count_begun(bytes: &[u8]) -> usize
     ensures { result ≡ count_by spec.begins_character bytes.now }
 {
     let mut count = 0;

@@ -7,6 +7,6 @@ pub mod cursors;
 pub mod dialect;
 pub mod dot_format_parser;
 pub mod fast_string;
-mod lanes;
+pub mod lanes;
 pub mod laws;
 pub mod refusals;

@@ -3,14 +3,16 @@
 ghost use Rattle.std.specs.Prelude.{◌≡◌, ◌+◌, ◌<◌, ◌≤◌, ◌^◌, ◌↔◌, IsTrue, IfOk, OnOk, length, take, string_bytes, slice_index, SomeIff, IfSome};
 ghost use Rattle.std.specs.List.{suffix_len};
 ghost use Rattle.std.specs.Str.{IsCharBoundary, IsUtf8};
+ghost use Rattle.starlark_base.specs.Joints.CharacterCounts.{AreCounts};
 ghost use Rattle.starlark_base.specs.Lines.{is_line_end, line_begin, line_count, line_span, line_text, text_of, trimmed_line_span, without_last, without_line_ends};
 ghost use Rattle.starlark_base.specs.Places.{place_at, resolved};
 ghost use Rattle.starlark_base.specs.Refusals.{IsRefused};
 ghost use Rattle.starlark_base.specs.Sources.{holds, Holds};
 ghost use Rattle.starlark_base.specs.Starts.{line_starts};
+ghost use Rattle.starlark_base.specs.declared.codemap.character_counts.TheConstants.{STEP};
 
+use crate::codemap::character_counts::{characters_between, counts_of};
 use crate::codemap::{FileSpan, OrMemory, Pos, ResolvedPos, ResolvedSpan, SourceTooLong, Span};
-use crate::fast_string;
 use std::alloc::{AllocError, Global};
 use std::fmt;
 use std::hash::{Hash, Hasher};
@@ -50,21 +52,23 @@ impl CodeMapId {
     }
 }
 
-/// A source text, its number and name, and where its lines begin.
+/// A source text, its number and name, where its lines begin, and its characters counted in steps.
 #[derive(Drop)]
 struct CodeMapData {
     id: CodeMapId,
     filename: String,
     source: String,
     starts: Vec<Pos>,
+    counts: Vec<u32>,
     ghost fits: { length (string_bytes source) < 2 ^ 32 },
     ghost indexed: { starts.items ≡ line_starts (string_bytes source) },
+    ghost counted: { AreCounts STEP (string_bytes source) counts.items },
 }
 
 /// A source text with its file's name and a number that tells it from others. In a contract it is these
 /// three. Copies share the text.
 ///
-/// It takes eight bytes a line or less besides its texts.
+/// Besides its texts it takes eight bytes a line or less, and one byte for 64 of a source that isn't all ASCII.
 #[derive(Drop)]
 pub struct CodeMap {
     data: Rc<CodeMapData>,
@@ -128,6 +132,7 @@ impl CodeMap {
             return Err(OrMemory::Error(SourceTooLong));
         }
         let starts = starts_of_lines(alloc, source.as_str())?;
+        let counts = counts_of(alloc, source.as_str())?;
         let data = Rc::new(
             alloc,
             CodeMapData {
@@ -135,6 +140,7 @@ impl CodeMap {
                 filename,
                 source,
                 starts,
+                counts,
             },
         )
         .map_err(|_| OrMemory::Memory)?;
@@ -178,6 +184,13 @@ impl CodeMap {
         ensures utf8 { IsUtf8 self.now.source }
     {
         self.data.starts.as_slice()
+    }
+
+    /// The characters, counted in steps.
+    fn counts(&self) -> &[u32]
+        ensures { AreCounts STEP self.now.source result.now }
+    {
+        self.data.counts.as_slice()
     }
 
     /// Where a line begins.
@@ -257,10 +270,10 @@ impl CodeMap {
     {
         let line = self.find_line(pos);
         let begin = self.line_start(line).get() as usize;
-        let front = &self.source()[begin..pos.get() as usize];
+        let at = pos.get() as usize;
         ResolvedPos {
             line,
-            column: fast_string::len(front).0,
+            column: characters_between(self.source(), self.counts(), begin, at),
         }
     }
 
@@ -272,7 +285,8 @@ impl CodeMap {
         &self.source()[span.begin().get() as usize..span.end().get() as usize]
     }
 
-    /// The lines and columns of a span, which the source has to hold, as `holds` tests.
+    /// The lines and columns of a span, which the source has to hold, as `holds` tests. Of a line of any length fewer
+    /// than 512 bytes are looked at for each end.
     pub fn resolve_span(&self, span: Span) -> ResolvedSpan
         requires { Holds self.now.source span }
         ensures { result ≡ resolved self.now.source span }

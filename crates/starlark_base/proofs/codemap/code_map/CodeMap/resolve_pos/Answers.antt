@@ -4,9 +4,9 @@ use Rattle.starlark_base.specs.Places.{place_after}
 use Rattle.starlark_base.proofs.LineFeeds.{line_before_place, front_of_line}
 use Rattle.starlark_base.proofs.codemap.code_map.CodeMap.resolve_pos.Goals as goal
 
-pub range-front-requires-clause-start_le_end : goal.range-front-requires-clause-start_le_end
+pub characters_between-requires-clause-order : goal.characters_between-requires-clause-order
 unfolding place_after
-range-front-requires-clause-start_le_end c =
+characters_between-requires-clause-order c =
     omega (arith, line_before_place c.args.self.now.source c.find_line-line.result c.line_start.result c.args.pos c.find_line-line.ensures.line c.line_start.ensures.start)
 
 pub returns : goal.returns
@@ -15,6 +15,6 @@ returns c =
     let text = c.args.self.now.source in
     let line = c.find_line-line.ensures.line in
     let front = front_of_line text c.find_line-line.result c.line_start.result c.args.pos c.requires.0 line c.line_start.ensures.start in
-    let same : slice_range c.source.result.now c.get-begin.result c.get.result ≡ take (c.args.pos - c.line_start.result) (drop c.line_start.result text) = rw (c.source.ensures.source, c.get.ensures, c.get-begin.ensures) refl in
-    let column = c.len.ensures.count ∙ ap (λ t. length (chars t)) (c.range-front.ensures.value ∙ same ∙ front) in
+    let same : slice_range c.source.result.now c.get-begin.result c.get-at.result ≡ take (c.args.pos - c.line_start.result) (drop c.line_start.result text) = rw (c.source.ensures.source, c.get-at.ensures, c.get-begin.ensures) refl in
+    let column = c.characters_between.ensures ∙ ap (λ t. length (chars t)) (same ∙ front) in
     cc (line, column)

@@ -1,0 +1,2 @@
+-- What only contracts of private functions, and proofs, speak of.
+pub mod CharacterCounts

@@ -1,0 +1,69 @@
+//! Characters of a text, counted in steps, so that those before any byte are known from a look at a few.
+
+ghost use Rattle.std.specs.Prelude.{◌≡◌, ◌<◌, ◌≤◌, ◌^◌, IfOk, length, slice_range};
+ghost use Rattle.std.specs.Str.{IsCharBoundary};
+ghost use Rattle.starlark_base.specs.Joints.CharacterCounts.{AreCounts, begun_before};
+ghost use Rattle.starlark_text.specs.Characters.{char_count};
+
+use starlark_text::fast_string;
+use starlark_text::lanes::count_begun;
+use std::alloc::{AllocError, Global};
+
+/// How many bytes a step has.
+pub(crate) const STEP: usize = 256;
+
+/// How many characters begin before each step of some bytes, up to their end.
+fn counts_of_steps(alloc: Global, bytes: &[u8]) -> Result<Vec<u32>, AllocError>
+    requires { length bytes.now < 2 ^ 32 }
+    ensures { IfOk result (λ counts. AreCounts STEP bytes.now counts.items) }
+{
+    let mut counts = Vec::with_capacity(alloc, bytes.len() / STEP + 1)?;
+    let mut count = 0;
+    counts.push(count)?;
+    for step in bytes.chunks_exact(STEP) {
+        count += count_begun(step) as u32;
+        counts.push(count)?;
+    }
+    Ok(counts)
+}
+
+/// How many characters begin before each step of a text, up to its end; nothing for a text that is all ASCII, for
+/// which no memory is asked.
+pub(crate) fn counts_of(alloc: Global, text: &str) -> Result<Vec<u32>, AllocError>
+    requires { length text.now < 2 ^ 32 }
+    ensures { IfOk result (λ counts. AreCounts STEP text.now counts.items) }
+{
+    if text.is_ascii() {
+        Ok(Vec::new(alloc))
+    } else {
+        counts_of_steps(alloc, text.as_bytes())
+    }
+}
+
+/// How many characters begin before a byte of a text. At most a step of it is looked at.
+fn characters_before(text: &str, counts: &[u32], at: usize) -> usize
+    requires counted { AreCounts STEP text.now counts.now }
+    requires within { at ≤ length text.now }
+    ensures { result ≡ begun_before text.now at }
+{
+    if counts.is_empty() {
+        return at;
+    }
+    let step = at / STEP;
+    counts[step] as usize + count_begun(&text.as_bytes()[step * STEP..at])
+}
+
+/// How many characters stand between two places of a text. At most two steps of it are looked at.
+pub(crate) fn characters_between(text: &str, counts: &[u32], begin: usize, end: usize) -> usize
+    requires counted { AreCounts STEP text.now counts.now }
+    requires order { begin ≤ end }
+    requires begin { IsCharBoundary text.now begin }
+    requires end { IsCharBoundary text.now end }
+    ensures { result ≡ char_count (slice_range text.now begin end) }
+{
+    if end - begin <= STEP {
+        fast_string::len(&text[begin..end]).0
+    } else {
+        characters_before(text, counts, end) - characters_before(text, counts, begin)
+    }
+}
