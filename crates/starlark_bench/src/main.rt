@@ -1,19 +1,24 @@
-//! `starlark_bench [--bench N]` lexes the Starlark text on standard input N times, or once, and prints a line each
-//! time: the text's bytes, its lexemes, its faults (0 or 1) and a checksum over their places. With `--bench` the
+//! `starlark_bench [--bench N | --relex N]` lexes the Starlark text on standard input N times, or once, and prints a line
+//! each time: the text's bytes, its lexemes, its faults (0 or 1) and a checksum over their places. With `--bench` the
 //! line also has the nanoseconds from making the lexer to letting go of the last lexeme.
 //!
 //! `starlark_bench --places N` resolves N spans that lie spread over the text, but for those with an end inside of a
 //! character, and prints one line: the text's bytes, its lines, the spans that were resolved, a checksum over their
 //! places, and nanoseconds.
 //!
-//! Reading the text, checking that it is UTF-8 and making its code map are not measured.
+//! With `--relex` a line has the text's bytes, and then twice how often bytes were read and the nanoseconds: of lexing
+//! the text with all its lexemes kept, and of lexing it again with an empty line more in its middle.
+//!
+//! Reading the text, checking that it is UTF-8, editing it and making its code map are not measured.
 //!
 //! The exit status is 2 where the arguments are wrong or the run gave up: then standard error says why.
 #![tactic(auto)]
 
+mod edited;
 mod places;
 mod tally;
 
+use crate::edited::{edited_in_the_middle, middle, print_relexed};
 use crate::places::tally_of_places;
 use crate::tally::{BenchFault, tally_of};
 use starlark_base::codemap::{CodeMap, CodeMapId};
@@ -25,12 +30,14 @@ use std::{env, io};
 /// The exit status for wrong arguments, and where a run gave up.
 const TROUBLE: u8 = 2;
 
-/// What a call asks for: to lex once, without a time, or so many times, or to resolve so many spans.
+/// What a call asks for: to lex once, without a time, or so many times, the text alone or also behind an edit in its middle;
+/// or to resolve so many spans.
 #[derive(Clone, Copy)]
 enum Request {
     Once,
     Timed(u32),
     Places(u32),
+    Relexed(u32),
 }
 
 /// What the arguments ask for; `None` where they are wrong.
@@ -47,6 +54,7 @@ fn read_request<R: Env + AllocGlobal>(rt: &R) -> Option<Request> {
     match flag.as_str() {
         "--bench" => Some(Request::Timed(count)),
         "--places" => Some(Request::Places(count)),
+        "--relex" => Some(Request::Relexed(count)),
         _ => None,
     }
 }
@@ -85,18 +93,29 @@ fn print_places(rt: &HostRuntime, file: &CodeMap, count: u32) -> Result<(), Benc
     Ok(println!(rt; "{bytes} {lines} {tally} {}", elapsed.as_nanos())?)
 }
 
+/// Lexes the source of a code map so many times, and again behind an edit, and prints a line each time.
+fn print_edited(rt: &HostRuntime, file: &CodeMap, count: u32) -> Result<(), BenchFault> {
+    let from = middle(file.source());
+    let edited = edited_in_the_middle(rt.alloc(), file.source(), from)?;
+    for _ in 0..count {
+        print_relexed(rt, file, from, edited.as_str())?;
+    }
+    Ok(())
+}
+
 fn bench(rt: &HostRuntime, request: Request) -> Result<(), BenchFault> {
     let file = read_code_map(rt)?;
     match request {
         Request::Once => print_once(rt, &file),
         Request::Timed(count) => print_timed(rt, &file, count),
         Request::Places(count) => print_places(rt, &file, count),
+        Request::Relexed(count) => print_edited(rt, &file, count),
     }
 }
 
 fn main(rt: HostRuntime) -> ExitCode {
     let Some(request) = read_request(&rt) else {
-        let _ = eprintln!(rt; "usage: starlark_bench [--bench N | --places N]");
+        let _ = eprintln!(rt; "usage: starlark_bench [--bench N | --places N | --relex N]");
         return ExitCode::from(TROUBLE);
     };
     match bench(&rt, request) {

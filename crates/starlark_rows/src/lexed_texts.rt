@@ -24,7 +24,7 @@ fn lexed<'a>(alloc: Global, text: &'a str) -> Result<LexedText<'a>, AllocError>
 }
 
 /// One text behind another.
-fn both_texts(alloc: Global, first: &str, second: &str) -> Result<String, AllocError>
+pub fn both_texts(alloc: Global, first: &str, second: &str) -> Result<String, AllocError>
     ensures { IfOk result (λ text. string_bytes text ≡ first.now ++ second.now) }
 {
     let mut text = String::from_str(alloc, first)?;

@@ -2,6 +2,7 @@
 //! of memory handed on. `scripts/refused_memory.py` refuses each request of each of these rows in turn.
 
 use crate::code_maps::code_map;
+use crate::edits;
 use crate::errors::{first, forms, kind, one_call, placed, shown_error, tab};
 use crate::lexed_texts;
 use crate::rows::{Answer, Row, given, unknown};
@@ -252,6 +253,7 @@ pub fn answer(alloc: Global, row: &Row) -> Answer {
         "lex" => lexed_texts::lex(alloc, row.text(2)),
         "join" => lexed_texts::join(alloc, row.text(2), row.text(3)),
         "relex" => lexed_texts::relex(alloc, row.text(2), row.count(3), row.text(4)),
+        "run_edits" => edits::refused(alloc, row),
         _ => of_file(alloc, row),
     }
 }

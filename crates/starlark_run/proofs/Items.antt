@@ -1,5 +1,5 @@
 -- The items of a text one after another, and their lines.
-use Rattle.std.proofs.Common.{◌≡◌, ℕ, zero, suc, ◌+◌, ◌≤◌, List, [], ◌∷◌, ◌++◌, map, length, drop, refl, ap, sym, subst, ◌∙◌, arith, None, Some, Ok, Err, slice_get, option_to_list, length-append}
+use Rattle.std.proofs.Common.{◌≡◌, ℕ, zero, suc, ◌+◌, ◌<◌, ◌≤◌, List, [], ◌∷◌, ◌++◌, map, length, drop, refl, ap, sym, subst, ◌∙◌, arith, None, Some, Ok, Err, slice_get, slice_index_or, option_to_list, length-append, append-nil}
 use Rattle.std.specs.Prelude.{Option, IfSome}
 use Rattle.std.specs.List.{AllByRecursion}
 use Rattle.std.proofs.lemmas.List.{length-map}
@@ -25,6 +25,7 @@ use Rattle.starlark_grammar.specs.Reading.{outcome}
 use Rattle.starlark_grammar.specs.Tokens as token
 use Rattle.starlark_grammar.specs.Tokens.{Fault, Lexeme, Spanned}
 use Rattle.starlark_token.specs.TokenViews.{TokenView}
+use Rattle.starlark_syntax.specs.LexedTexts.{IsFaultIn}
 use Rattle.starlark_reader.specs.Lexemes.{fault_view, lexeme_view, shown_lexeme}
 use Rattle.starlark_syntax.specs.Lexer.{AnswersNext, Given, IsException, LexerItem, Refused, items}
 use Rattle.starlark_token.specs.declared.tokens.Token.{Token}
@@ -32,8 +33,11 @@ use Rattle.starlark_grammar.proofs.Order.WholeTexts.{outcome_edges, fault_edges}
 use Rattle.starlark_grammar.proofs.Reading.Faults.{outcome_fault}
 use Rattle.starlark_grammar.specs.Words.{language}
 use Rattle.starlark_syntax.proofs.LexerItems.{one_more}
+use Rattle.starlark_run.specs.Joints.Lines.{fault_items, fault_lines}
 use Rattle.starlark_run.specs.Output as output
 use Rattle.starlark_run.specs.Output.{item_line, lines_of, message_of, place_text}
+use Rattle.starlark_run.specs.Runs.{status_of}
+use Rattle.starlark_run.specs.declared.runs.RunStatus.TheVariants as status
 
 abbrev given : Lexeme → LexerItem
 given lexeme = Given (shown_lexeme lexeme)
@@ -104,12 +108,10 @@ next_lexeme file text h found answers = by_item (slice_get (items text) h) refl 
           items = left_at (items text) h (Given x) is ∙ ap (λ v. Given v ∷ drop (h + 1) (items text)) (sym answers);
         }
 
--- A fault that is answered is the text's, and the last item.
+-- An exception that is answered is that of the text's fault, which is the last item.
 pub record IsNextFault (file : SourceFile) (text : Text) (h : ℕ) (exception : Diagnosed ErrorKind) : Type 0 where
-  pub fault : Spanned Fault
-  pub is : (outcome text).fault ≡ Some fault
-  pub thrown : IsException file fault exception
-  pub items : drop h (items text) ≡ Refused fault ∷ []
+  pub thrown : IsFaultIn file (outcome text).fault (Some exception)
+  pub items : drop h (items text) ≡ fault_items text
 
 pub next_fault : (file : SourceFile) (text : Text) (h : ℕ) (exception : Diagnosed ErrorKind) → AnswersNext file (slice_get (items text) h) (Some (Err (refusal.Error exception))) → IsNextFault file text h exception
 unfolding items
@@ -121,11 +123,28 @@ next_fault file text h exception answers = by_item (slice_get (items text) h) re
     by_item (Some (Refused fault)) is answers =
         let at = fault_at (outcome text).lexemes (outcome text).fault h fault is in
         record {
-          fault = fault;
-          is = at.0;
-          thrown = answers;
-          items = left_at (items text) h (Refused fault) is ∙ ap (λ more. Refused fault ∷ more) at.1;
+          thrown = subst (λ f. IsFaultIn file f (Some exception)) (sym at.0) answers;
+          items = left_at (items text) h (Refused fault) is ∙ ap (λ more. Refused fault ∷ more) at.1 ∙ ap (λ f. map Refused (option_to_list f)) (sym at.0);
         }
+
+-- The fault of which there is an exception.
+record IsThrown (file : SourceFile) (found : Option (Spanned Fault)) (exception : Diagnosed ErrorKind) : Type 0 where
+  pub fault : Spanned Fault
+  pub is : found ≡ Some fault
+  pub thrown : IsException file fault exception
+
+thrown_fault : (file : SourceFile) (found : Option (Spanned Fault)) (exception : Diagnosed ErrorKind) → IsFaultIn file found (Some exception) → IsThrown file found exception
+thrown_fault file None exception thrown = absurd thrown
+thrown_fault file (Some fault) exception thrown = record { fault = fault; is = refl; thrown = thrown }
+
+-- a text of which there is an exception has a fault, and one of which there is none has none
+pub thrown_status : (file : SourceFile) (found : Option (Spanned Fault)) (exception : Diagnosed ErrorKind) → IsFaultIn file found (Some exception) → status.Fault ≡ status_of found
+thrown_status file None exception thrown = absurd thrown
+thrown_status file (Some fault) exception thrown = refl
+
+pub unthrown : (file : SourceFile) (found : Option (Spanned Fault)) → IsFaultIn file found None → found ≡ None
+unthrown file None none = refl
+unthrown file (Some fault) none = absurd none
 
 -- Where nothing is answered all items are handed out; a text of which no fault was has none.
 pub all_given : (file : SourceFile) (text : Text) (h : ℕ) → AnswersNext file (slice_get (items text) h) None → h ≤ length (outcome text).lexemes → (drop h (items text) ≡ []) × ((outcome text).fault ≡ None)
@@ -142,6 +161,32 @@ all_given file text h answers few = by_item (slice_get (items text) h) refl answ
     by_item None is answers =
         let rest = nothing_left (items text) h is in
         (rest.1, no_fault (outcome text).fault rest.0)
+
+-- the item that a lexeme of a listed text is
+listed_item : (ls : List Lexeme) (fs : List LexerItem) (lexemes : List (ℕ × Token × ℕ)) (k : ℕ) (none : ℕ × Token × ℕ) → map lexeme_view lexemes ≡ map shown_lexeme ls → k < length lexemes → slice_get (map given ls ++ fs) k ≡ Some (Given (lexeme_view (slice_index_or lexemes k none)))
+listed_item [] fs [] k none e inside = absurd (omega (arith, inside))
+listed_item [] fs (x ∷ xs) k none e inside = cc
+listed_item (l ∷ ls) fs [] k none e inside = cc
+listed_item (l ∷ ls) fs (x ∷ xs) zero none e inside = let same : lexeme_view x ≡ shown_lexeme l = cc in ap (λ v. Some (Given v)) (sym same)
+listed_item (l ∷ ls) fs (x ∷ xs) (suc k) none e inside = let rest : map lexeme_view xs ≡ map shown_lexeme ls = cc in listed_item ls fs xs k none rest (omega (arith, inside))
+
+-- Each lexeme of a list that has those of a text is the next one of the grammar.
+pub next_listed : (file : SourceFile) (text : Text) (lexemes : List (ℕ × Token × ℕ)) (k : ℕ) (found : ℕ × Token × ℕ) → map lexeme_view lexemes ≡ map shown_lexeme (outcome text).lexemes → k < length lexemes → found ≡ slice_index_or lexemes k found → IsNextLexeme text k found
+unfolding items
+next_listed file text lexemes k found same inside is =
+    let item : slice_get (items text) k ≡ Some (Given (lexeme_view found)) = listed_item (outcome text).lexemes (fault_items text) lexemes k found same inside ∙ ap (λ x. Some (Given (lexeme_view x))) (sym is) in
+    next_lexeme file text k found (subst (λ o. AnswersNext file o (Some (Ok found))) (sym item) refl)
+
+behind_given : (ls : List Lexeme) (fs : List LexerItem) (k : ℕ) → k ≡ length ls → drop k (map given ls ++ fs) ≡ fs
+behind_given [] fs k is = rw is refl
+behind_given (l ∷ ls) fs zero is = cc
+behind_given (l ∷ ls) fs (suc k) is = behind_given ls fs k (omega (arith, is))
+
+-- behind all lexemes of such a list stands the fault
+pub listed_fault : (text : Text) (lexemes : List (ℕ × Token × ℕ)) (k : ℕ) → map lexeme_view lexemes ≡ map shown_lexeme (outcome text).lexemes → k ≡ length lexemes → drop k (items text) ≡ fault_items text
+unfolding items
+listed_fault text lexemes k same all =
+    behind_given (outcome text).lexemes (fault_items text) k (omega (arith, all, ap length same, length-map lexemes lexeme_view, length-map (outcome text).lexemes shown_lexeme))
 
 -- The lines of items, one by one.
 pub lines_cons : (name text : Text) (item : LexerItem) (more : List LexerItem) → lines_of name text (item ∷ more) ≡ item_line name text item ++ lines_of name text more
@@ -200,9 +245,10 @@ pub record IsPlaced (text : Text) (span : ByteSpan) : Type 0 where
   pub begin : IsCharBoundary text span.begin
   pub end : IsCharBoundary text span.end
 
-pub fault_placed : (file : SourceFile) (text : Text) (h : ℕ) (exception : Diagnosed ErrorKind) (place : FileSpan) → IsUtf8 text → IsNextFault file text h exception → exception.span ≡ Some place → IsPlaced text place.span
+pub fault_placed : (file : SourceFile) (text : Text) (exception : Diagnosed ErrorKind) (place : FileSpan) → IsUtf8 text → IsFaultIn file (outcome text).fault (Some exception) → exception.span ≡ Some place → IsPlaced text place.span
 unfolding outcome
-fault_placed file text h exception place utf8 next known =
+fault_placed file text exception place utf8 is known =
+    let next = thrown_fault file (outcome text).fault exception is in
     let fault = next.fault in
     let span : ByteSpan = record { begin = fault.begin; end = fault.end } in
     let there : Some place ≡ Some (place_in file span) = sym known ∙ ap (λ (d : Diagnosed ErrorKind). d.span) next.thrown.2 in
@@ -211,10 +257,14 @@ fault_placed file text h exception place utf8 next known =
     let edges = subst (λ (f : Option (Spanned Fault)). IfSome f (AtBoundaries text)) next.is (fault_edges text utf8) in
     rw at (record { order = inside.0; begin = edges.0; end = edges.1 })
 
-pub exception_line : (file : SourceFile) (name text : Text) (fault : Spanned Fault) (exception : Diagnosed ErrorKind) (place : FileSpan) (kind : ErrorKind) → IsException file fault exception → exception.span ≡ Some place → kind ≡ exception.value → output.fault_text place.span.begin place.span.end name (place_text text place.span.begin place.span.end) (kind_text kind) ≡ item_line name text (Refused fault)
-exception_line file name text fault exception place kind is known valued =
+-- the line of an exception of a text's fault
+pub exception_line : (file : SourceFile) (name text : Text) (exception : Diagnosed ErrorKind) (place : FileSpan) (kind : ErrorKind) → IsFaultIn file (outcome text).fault (Some exception) → exception.span ≡ Some place → kind ≡ exception.value → output.fault_text place.span.begin place.span.end name (place_text text place.span.begin place.span.end) (kind_text kind) ≡ fault_lines name text
+exception_line file name text exception place kind is known valued =
+    let next = thrown_fault file (outcome text).fault exception is in
+    let fault = next.fault in
     let span : ByteSpan = record { begin = fault.begin; end = fault.end } in
-    let there : Some place ≡ Some (place_in file span) = sym known ∙ ap (λ (d : Diagnosed ErrorKind). d.span) is.2 in
+    let there : Some place ≡ Some (place_in file span) = sym known ∙ ap (λ (d : Diagnosed ErrorKind). d.span) next.thrown.2 in
     let at : place ≡ place_in file span = cc in
-    let said : kind_text kind ≡ message_of fault.node = ap kind_text (valued ∙ ap (λ (d : Diagnosed ErrorKind). d.value) is.2) ∙ message_is is.0 fault.node is.1 in
-    rw (at, said) refl
+    let said : kind_text kind ≡ message_of fault.node = ap kind_text (valued ∙ ap (λ (d : Diagnosed ErrorKind). d.value) next.thrown.2) ∙ message_is next.thrown.0 fault.node next.thrown.1 in
+    let line : fault_lines name text ≡ item_line name text (Refused fault) = ap (λ f. lines_of name text (map Refused (option_to_list f))) next.is ∙ lines_cons name text (Refused fault) [] ∙ ap (λ t. item_line name text (Refused fault) ++ t) (lines_nil name text) ∙ append-nil (item_line name text (Refused fault)) in
+    rw (at, said, line) refl

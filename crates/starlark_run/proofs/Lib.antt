@@ -3,3 +3,4 @@ pub mod Items
 pub mod Places
 pub mod Endings
 pub mod Writing
+pub mod Edited

@@ -6,7 +6,7 @@ use Rattle.starlark_base.specs.Places.{Text}
 use Rattle.starlark_run.specs.Watch.{Watch, is_nothing}
 use Rattle.starlark_run.specs.Writing.{Takes, TakesBeginning, Writes}
 use Rattle.starlark_run.specs.declared.runs.RunFault.{RunFault}
-use Rattle.starlark_run.specs.declared.runs.RunFault.TheVariants.{NotUtf8, TooLong, Read, Write, Memory}
+use Rattle.starlark_run.specs.declared.runs.RunFault.TheVariants.{NotUtf8, TooLong, BadEdit, Read, Write, Memory}
 
 -- what holds anyhow holds where there is a value
 pub on_ok : {T E : Type 0} {P : Type 0} (r : Result T E) → P → OnOk r P
@@ -49,6 +49,7 @@ module _ {W : Type 0} (contents : W → Option Text) where
   writes_more a b c x y waiting left u (Err NotUtf8) first next = next
   writes_more a b c x y waiting left u (Err TooLong) first next = next
   writes_more a b c x y waiting left u (Err Read) first next = next
+  writes_more a b c x y waiting left u (Err (BadEdit at)) first next = next
 
   pub writes_sound : {T : Type 0} (a b : Watch W) (x waiting : Text) (t : T) → Writes contents a b x waiting (Ok t) → b.failed ≡ false
   unfolding Writes
@@ -88,6 +89,7 @@ module _ {W : Type 0} (contents : W → Option Text) where
   writes_on_stopped T V a b c whole waiting line rest left end u NotUtf8 before step = step
   writes_on_stopped T V a b c whole waiting line rest left end u TooLong before step = step
   writes_on_stopped T V a b c whole waiting line rest left end u Read before step = step
+  writes_on_stopped T V a b c whole waiting line rest left end u (BadEdit at) before step = step
 
   -- all of the text waits
   pub writes_waiting : {T : Type 0} (a : Watch W) (text : Text) (t : T) → a.failed ≡ false → Writes contents a a text text (Ok t)
@@ -106,6 +108,7 @@ module _ {W : Type 0} (contents : W → Option Text) where
   writes_then_stopped T V a b c x waiting left end u NotUtf8 first next = next
   writes_then_stopped T V a b c x waiting left end u TooLong first next = next
   writes_then_stopped T V a b c x waiting left end u Read first next = next
+  writes_then_stopped T V a b c x waiting left end u (BadEdit at) first next = next
 
   -- a failure says nothing of what waits
   pub writes_failed : (T V : Type 0) (a b : Watch W) (x waiting end : Text) (fault : RunFault) → Writes {T = V} contents a b x waiting (Err fault) → Writes {T = T} contents a b x end (Err fault)
@@ -115,6 +118,7 @@ module _ {W : Type 0} (contents : W → Option Text) where
   writes_failed T V a b x waiting end NotUtf8 h = h
   writes_failed T V a b x waiting end TooLong h = h
   writes_failed T V a b x waiting end Read h = h
+  writes_failed T V a b x waiting end (BadEdit at) h = h
 
   -- what a step answers makes no difference
   pub writes_told : {U : Type 0} (T : Type 0) (a b : Watch W) (x waiting : Text) (u : U) (t : T) → Writes {T = U} contents a b x waiting (Ok u) → Writes {T = T} contents a b x waiting (Ok t)
@@ -134,6 +138,7 @@ module _ {W : Type 0} (contents : W → Option Text) where
   writes_stopped T U a b x y waiting left NotUtf8 h = h
   writes_stopped T U a b x y waiting left TooLong h = h
   writes_stopped T U a b x y waiting left Read h = h
+  writes_stopped T U a b x y waiting left (BadEdit at) h = h
 
   -- what waits may be taken as text that was written
   pub writes_memory : (T U : Type 0) (a b : Watch W) (x y waiting left : Text) (u : U) → Writes {T = U} contents a b x waiting (Ok u) → Writes {T = T} contents a b (x ++ y) left (Err Memory)

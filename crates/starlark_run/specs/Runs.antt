@@ -1,5 +1,5 @@
 -- What a run read and wrote, by how it ended.
-use Rattle.std.specs.Prelude.{◌≡◌, ◌≤◌, ◌<◌, ℕ, true, false, ◌⊎◌, [], length, Option, Some, None, Result, Ok, Err}
+use Rattle.std.specs.Prelude.{◌≡◌, ◌≤◌, ◌<◌, true, false, ◌⊎◌, [], length, Option, Some, None, Result, Ok, Err}
 use Rattle.std.specs.Io.KnownBytes.{Appends}
 use Rattle.std.specs.Str.{IsUtf8}
 use Rattle.starlark_base.specs.Places.{Text}
@@ -10,7 +10,7 @@ use Rattle.starlark_run.specs.Watch.{Watch}
 use Rattle.starlark_run.specs.Writing.{TakesBeginning}
 use Rattle.starlark_run.specs.declared.runs.TheConstants.{GREATEST_LEN}
 use Rattle.starlark_run.specs.declared.runs.RunFault.{RunFault}
-use Rattle.starlark_run.specs.declared.runs.RunFault.TheVariants.{NotUtf8, TooLong, Read, Write, Memory}
+use Rattle.starlark_run.specs.declared.runs.RunFault.TheVariants.{NotUtf8, TooLong, BadEdit, Read, Write, Memory}
 use Rattle.starlark_run.specs.declared.runs.RunStatus.{RunStatus}
 use Rattle.starlark_run.specs.declared.runs.RunStatus.TheVariants.{Clean, Fault}
 
@@ -45,7 +45,7 @@ IsRead bytes_of came reader (Err NotUtf8) = IsWhole reader came × (¬ IsUtf8 ca
 IsRead bytes_of came reader (Err TooLong) = IsTooLong reader came
 IsRead bytes_of came reader (Err Read) = IsBroken reader came
 IsRead bytes_of came reader (Err Memory) = IsStopped reader came
-IsRead bytes_of came reader (Err Write) = ⊥
+IsRead bytes_of came reader (Err fault) = ⊥
 
 -- the writer took all of the text and nothing else, and didn't fail
 pub record TookAll {W : Type 0} (contents : W → Option Text) (old new : Watch W) (text : Text) : Type 0 where
@@ -57,15 +57,25 @@ abbrev pub status_of : Option (grammar.Spanned grammar.Fault) → RunStatus
 status_of None = Clean
 status_of (Some fault) = Fault
 
--- What came from the reader, and what the writer took, by how the run ended. `name` is printed before the place of a fault.
-abbrev pub IsRun : {R W : Type 0} → (W → Option Text) → (name came : Text) → Watch R → (old new : Watch W) → Result RunStatus RunFault → Type 0
-IsRun contents name came reader old new (Ok status) =
-    IsWhole reader came × IsUtf8 came × TookAll contents old new (output name came) × (status ≡ status_of (outcome came).fault)
-IsRun contents name came reader old new (Err NotUtf8) = IsWhole reader came × (¬ IsUtf8 came) × TookAll contents old new []
-IsRun contents name came reader old new (Err TooLong) = IsTooLong reader came × TookAll contents old new []
-IsRun contents name came reader old new (Err Read) = IsBroken reader came × TookAll contents old new []
-IsRun contents name came reader old new (Err Write) =
-    IsWhole reader came × IsUtf8 came × TakesBeginning contents old new (output name came) × (new.failed ≡ true)
-IsRun contents name came reader old new (Err Memory) =
+-- What the writer took, by how printing ended. `last` is the text that is printed, or the fault for which there is none: then
+-- nothing is written. `name` is printed before the place of a fault.
+abbrev pub IsPrinted : {W : Type 0} → (W → Option Text) → (name : Text) → (last : Result Text RunFault) → (old new : Watch W) → Result RunStatus RunFault → Type 0
+IsPrinted contents name (Ok text) old new (Ok status) = TookAll contents old new (output name text) × (status ≡ status_of (outcome text).fault)
+IsPrinted contents name (Ok text) old new (Err Write) = TakesBeginning contents old new (output name text) × (new.failed ≡ true)
+IsPrinted contents name (Ok text) old new (Err Memory) = TakesBeginning contents old new (output name text) × (new.failed ≡ false)
+IsPrinted contents name (Err TooLong) old new (Err TooLong) = TookAll contents old new []
+IsPrinted contents name (Err (BadEdit at)) old new (Err (BadEdit told)) = TookAll contents old new [] × (told ≡ at)
+IsPrinted contents name (Err fault) old new (Err Memory) = TookAll contents old new []
+IsPrinted contents name last old new result = ⊥
+
+-- What came from the reader, and what the writer took, by how the run ended. `last` is what is made of the text that came.
+abbrev pub IsRun : {R W : Type 0} → (W → Option Text) → (name came : Text) → (last : Result Text RunFault) → Watch R → (old new : Watch W) → Result RunStatus RunFault → Type 0
+IsRun contents name came last reader old new (Err NotUtf8) = IsWhole reader came × (¬ IsUtf8 came) × TookAll contents old new []
+IsRun contents name came last reader old new (Err Read) = IsBroken reader came × TookAll contents old new []
+IsRun contents name came last reader old new (Err TooLong) =
+    (IsTooLong reader came × TookAll contents old new [])
+    ⊎ (IsWhole reader came × IsUtf8 came × IsPrinted contents name last old new (Err TooLong))
+IsRun contents name came last reader old new (Err Memory) =
     (IsStopped reader came × TookAll contents old new [])
-    ⊎ (IsWhole reader came × IsUtf8 came × TakesBeginning contents old new (output name came) × (new.failed ≡ false))
+    ⊎ (IsWhole reader came × IsUtf8 came × IsPrinted contents name last old new (Err Memory))
+IsRun contents name came last reader old new result = IsWhole reader came × IsUtf8 came × IsPrinted contents name last old new result

@@ -4,7 +4,7 @@ use Rattle.std.specs.Io.KnownBytes.{Appends}
 use Rattle.starlark_base.specs.Places.{Text}
 use Rattle.starlark_run.specs.Watch.{Watch}
 use Rattle.starlark_run.specs.declared.runs.RunFault.{RunFault}
-use Rattle.starlark_run.specs.declared.runs.RunFault.TheVariants.{NotUtf8, TooLong, Read, Write, Memory}
+use Rattle.starlark_run.specs.declared.runs.RunFault.TheVariants.{Write, Memory}
 
 -- the writer took the text up to what is left of it, and nothing else
 abbrev pub Takes : {W : Type 0} → (W → Option Text) → Watch W → Watch W → Text → Text → Type 0
@@ -20,6 +20,4 @@ unfoldable pub Writes : {W T : Type 0} → (W → Option Text) → Watch W → W
 Writes contents old new text waiting (Ok x) = Takes contents old new text waiting × (new.failed ≡ false)
 Writes contents old new text waiting (Err Write) = TakesBeginning contents old new text × (new.failed ≡ true)
 Writes contents old new text waiting (Err Memory) = TakesBeginning contents old new text × (new.failed ≡ false)
-Writes contents old new text waiting (Err NotUtf8) = ⊥
-Writes contents old new text waiting (Err TooLong) = ⊥
-Writes contents old new text waiting (Err Read) = ⊥
+Writes contents old new text waiting (Err fault) = ⊥

@@ -56,15 +56,15 @@ fn quotes_of(quote: FStringQuote) -> &'static str
 }
 
 /// Puts a space and the value of a token, where it has one.
-fn push_value(line: &mut String, token: Token) -> Result<(), AllocError>
-    ensures { OnOk result (string_bytes line.new ≡ string_bytes line.old ++ value_text (token_view token)) }
+fn push_value(line: &mut String, token: &Token) -> Result<(), AllocError>
+    ensures { OnOk result (string_bytes line.new ≡ string_bytes line.old ++ value_text (token_view token.now)) }
 {
     match token {
         Token::Comment(text) => write!(line, " {text}"),
         Token::Identifier(name) => write!(line, " {name}"),
         Token::Float(text) => write!(line, " {text}"),
         Token::Int(number) => write!(line, " {number}"),
-        Token::FStringStart(quote) => write!(line, " {}", quotes_of(quote)),
+        Token::FStringStart(quote) => write!(line, " {}", quotes_of(*quote)),
         Token::String(text) => push_literal(line, text.as_bytes()),
         Token::FStringText(text) => push_literal(line, text.as_bytes()),
         Token::Bytes(bytes) => push_literal(line, bytes.as_slice()),
@@ -77,10 +77,10 @@ fn push_value(line: &mut String, token: Token) -> Result<(), AllocError>
 pub fn lexeme_line(
     line: &mut String,
     begin: Place,
-    token: Token,
+    token: &Token,
     end: Place,
 ) -> Result<(), AllocError>
-    ensures { OnOk result (string_bytes line.new ≡ lexeme_text begin.at end.at (span_text begin.position end.position) (token_view token)) }
+    ensures { OnOk result (string_bytes line.new ≡ lexeme_text begin.at end.at (span_text begin.position end.position) (token_view token.now)) }
 {
     let place = ResolvedSpan {
         begin: begin.position,

@@ -1,13 +1,16 @@
-//! Reads a text, and prints its lexemes.
+//! Reads a text, edits it where that is asked for, and prints its lexemes.
 
-ghost use Rattle.std.specs.Prelude.{◌≡◌, ◌+◌, ◌<◌, ◌≤◌, ◌||◌, ◌↔◌, ℕ, List, length, take, drop, string_bytes, true, false, is_err, IfOk, IfErr, OnOk, IsErrOf};
+ghost use Rattle.std.specs.Prelude.{◌≡◌, ◌+◌, ◌<◌, ◌≤◌, ◌||◌, ◌↔◌, ℕ, List, length, take, drop, string_bytes, true, false, is_err, IfOk, IfErr, OnOk, Ok, IsErrOf};
 ghost use Rattle.std.specs.Io.KnownBytes.{Consumes, ReadConsumes};
+ghost use Rattle.starlark_run.specs.Edits.{text_after};
 ghost use Rattle.starlark_run.specs.Runs.{IsRead, IsRun};
 ghost use Rattle.starlark_run.specs.Watch.{reads_end};
 ghost use Rattle.starlark_run.specs.declared.runs.RunFault.TheVariants.{Memory};
 ghost use Rattle.starlark_run.specs.declared.runs.TheConstants.{GREATEST_LEN};
 
-use crate::printer::print;
+use crate::edits::Edit;
+use crate::printer::{print, print_lexed};
+use crate::versions::{relexed, versions_of};
 use crate::watched::Watched;
 use std::alloc::{AllocError, Global};
 use std::io;
@@ -27,13 +30,16 @@ pub enum RunStatus {
     Fault,
 }
 
-/// Why there is no output, or not all of it.
+/// Why there is no output, or not all of it. The first of some edits that doesn't fit is told by its place among them,
+/// counted from 0.
 #[derive(Debug, Drop, Error, PartialEq)]
 pub enum RunFault {
     #[error("input is not UTF-8")]
     NotUtf8,
     #[error("input is longer than 4294967295 bytes")]
     TooLong,
+    #[error("edit {0} does not fit the text")]
+    BadEdit(usize),
     #[error("cannot read the input")]
     Read,
     #[error("cannot write the output")]
@@ -136,7 +142,7 @@ pub fn run<R: Read, W: Write>(
 
     // What was read and what was written, by how the run ended.
     ensures run { (came : List ℕ) × Consumes (R.remaining reader.old.device) (R.remaining reader.new.device) came
-        × IsRun W.contents name.now came reader.new writer.old writer.new result }
+        × IsRun W.contents name.now came (Ok came) reader.new writer.old writer.new result }
 
     // The faults of the devices are told, and no others are.
     ensures read { IsErrOf result RunFault.Read ↔ (reader.new.failed ≡ true) }
@@ -145,4 +151,37 @@ pub fn run<R: Read, W: Write>(
 {
     let text = read_text(alloc, reader)?;
     print(alloc, name, text.as_str(), writer)
+}
+
+/// Reads a text to its end as `run` does, edits it, and prints what `run` prints of the text that the edits leave. Each
+/// edit is one of the text that those before it leave.
+///
+/// An edit that doesn't fit is refused, and one that leaves more than 4294967295 bytes is `RunFault::TooLong`; the first
+/// that is refused is told, and nothing is written then. All edits are tried before anything is lexed. Behind them only
+/// what stands behind the last place before an edit at which the text may be cut is lexed again. The texts that the edits
+/// leave are all held until then.
+pub fn run_edits<R: Read, W: Write>(
+    alloc: Global,
+    name: &str,
+    reader: &mut Watched<R>,
+    edits: &[Edit<'_>],
+    writer: &mut Watched<W>,
+) -> Result<RunStatus, RunFault>
+    requires reader_sound { reader.old.failed ≡ false }
+    requires reader_not_ended { reader.old.ended ≡ false }
+    requires writer_sound { writer.old.failed ≡ false }
+
+    // What was read and what was written, by how the run ended.
+    ensures run { (came : List ℕ) × Consumes (R.remaining reader.old.device) (R.remaining reader.new.device) came
+        × IsRun W.contents name.now came (text_after 0 came edits.now) reader.new writer.old writer.new result }
+
+    // The faults of the devices are told, and no others are.
+    ensures read { IsErrOf result RunFault.Read ↔ (reader.new.failed ≡ true) }
+    ensures write { IsErrOf result RunFault.Write ↔ (writer.new.failed ≡ true) }
+    ensures ended { OnOk result (reader.new.ended ≡ true) }
+{
+    let first = read_text(alloc, reader)?;
+    let versions = versions_of(alloc, first.as_str(), edits)?;
+    let lexed = relexed(alloc, first.as_str(), &versions)?;
+    print_lexed(alloc, name, &lexed, writer)
 }

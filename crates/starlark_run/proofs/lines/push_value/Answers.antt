@@ -52,5 +52,5 @@ returns-in-Bytes c = rw c.in-Bytes.is (rw c.as_slice.ensures.value at c.push_lit
 pub returns-in_default : goal.returns-in_default
 returns-in_default c =
     let d = c.in_default in
-    let none = no_value c.args.token d.not-Comment d.not-Bytes d.not-Identifier d.not-Int d.not-Float d.not-String d.not-FStringStart d.not-FStringText in
+    let none = no_value c.args.token.now d.not-Comment d.not-Bytes d.not-Identifier d.not-Int d.not-Float d.not-String d.not-FStringStart d.not-FStringText in
     sym (append-nil (string_bytes c.args.line.now)) ∙ ap (λ t. string_bytes c.args.line.now ++ t) (sym none)

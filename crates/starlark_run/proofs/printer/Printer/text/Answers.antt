@@ -1,21 +1,17 @@
-use Rattle.std.proofs.Common.{◌≡◌, ◌+◌, ◌≤◌, ◌++◌, [], Ok, append-nil, ap, arith, drop, false, length, refl, subst, sym, ◌∙◌}
+use Rattle.std.proofs.Common.{◌≡◌, ◌+◌, ◌≤◌, ◌++◌, Ok, append-nil, ap, arith, drop, false, length, refl, subst, sym, ◌∙◌}
 use Rattle.std.proofs.lemmas.Result.{err_from_is_err_and}
-use Rattle.starlark_base.specs.Diagnostics.{Diagnosed}
-use Rattle.starlark_base.specs.Sources.{SourceFile}
-use Rattle.starlark_error.specs.Errors.{kind_text}
-use Rattle.starlark_error.specs.declared.error.kinds.ErrorKind.{ErrorKind}
 use Rattle.starlark_grammar.specs.Cuts.{InOrder}
 use Rattle.starlark_reader.specs.Lexemes.{lexeme_view}
-use Rattle.starlark_syntax.specs.Lexer.{Given, LexerView, Refused, items}
+use Rattle.starlark_syntax.specs.Lexer.{Given, LexerView, items}
 use Rattle.starlark_grammar.specs.Reading.{outcome}
 use Rattle.starlark_grammar.proofs.Order.Lexemes.{outcome_order}
-use Rattle.starlark_run.specs.Output.{fault_text, item_line, lines_of, output, place_text}
+use Rattle.starlark_run.specs.Output.{item_line, lines_of, output}
 use Rattle.starlark_run.specs.Runs.{status_of}
 use Rattle.starlark_run.specs.Writing.{Writes}
 use Rattle.starlark_run.specs.declared.runs.RunStatus.TheVariants as RunStatus
-use Rattle.starlark_run.proofs.Items.{all_given, exception_line, fault_placed, lines_cons, lines_nil, next_edges, next_fault, next_few, next_lexeme, next_order}
+use Rattle.starlark_run.proofs.Items.{all_given, lines_cons, lines_nil, next_edges, next_fault, next_few, next_lexeme, next_order, thrown_status}
 use Rattle.starlark_run.proofs.Places.{place_start}
-use Rattle.starlark_run.proofs.Writing.{writes_given_up, writes_on, writes_on_stopped, writes_sound, writes_told, writes_waiting}
+use Rattle.starlark_run.proofs.Writing.{writes_given_up, writes_on, writes_on_stopped, writes_sound, writes_then, writes_then_stopped, writes_told, writes_waiting}
 use Rattle.starlark_run.proofs.printer.Printer.text.Goals as goal
 
 pub loop-item-init : goal.loop-item-init
@@ -108,66 +104,33 @@ loop-item-preserved g c =
       written = on;
     })
 
-pub fault-requires-clause-sound : goal.fault-requires-clause-sound
-fault-requires-clause-sound g c = writes_sound _ _ _ _ _ _ c.loop-item.invariant.written
+pub exception-requires-clause-sound : goal.exception-requires-clause-sound
+exception-requires-clause-sound g c = writes_sound _ _ _ _ _ _ c.loop-item.invariant.written
 
-pub fault-requires-clause-order : goal.fault-requires-clause-order
-fault-requires-clause-order g c =
+pub exception-requires-clause-thrown : goal.exception-requires-clause-thrown
+exception-requires-clause-thrown g c =
     let inv = c.loop-item.invariant in
     let next = next_fault c.loop-item.lexer.code_map c.args.text.now c.loop-item.lexer.handed_out c.in-Err-Error.exception (rw (c.in-Err-Error.is, c.in-Err-Error.field-0-is, inv.text) at (c.in-Some.ensures.item inv.going)) in
-    (fault_placed c.loop-item.lexer.code_map c.args.text.now c.loop-item.lexer.handed_out c.in-Err-Error.exception c.place_of.result.now c.utf8.text next c.place_of.ensures).order
-
-pub fault-requires-clause-begin : goal.fault-requires-clause-begin
-fault-requires-clause-begin g c =
-    let inv = c.loop-item.invariant in
-    let next = next_fault c.loop-item.lexer.code_map c.args.text.now c.loop-item.lexer.handed_out c.in-Err-Error.exception (rw (c.in-Err-Error.is, c.in-Err-Error.field-0-is, inv.text) at (c.in-Some.ensures.item inv.going)) in
-    (fault_placed c.loop-item.lexer.code_map c.args.text.now c.loop-item.lexer.handed_out c.in-Err-Error.exception c.place_of.result.now c.utf8.text next c.place_of.ensures).begin
-
-pub fault-requires-clause-end : goal.fault-requires-clause-end
-fault-requires-clause-end g c =
-    let inv = c.loop-item.invariant in
-    let next = next_fault c.loop-item.lexer.code_map c.args.text.now c.loop-item.lexer.handed_out c.in-Err-Error.exception (rw (c.in-Err-Error.is, c.in-Err-Error.field-0-is, inv.text) at (c.in-Some.ensures.item inv.going)) in
-    (fault_placed c.loop-item.lexer.code_map c.args.text.now c.loop-item.lexer.handed_out c.in-Err-Error.exception c.place_of.result.now c.utf8.text next c.place_of.ensures).end
+    (c.loop-item.lexer.code_map, next.thrown)
 
 pub returns-in-Err-Error-clause-writes : goal.returns-in-Err-Error-clause-writes
 returns-in-Err-Error-clause-writes g c =
     let inv = c.loop-item.invariant in
-    let text = c.args.text.now in
-    let name = c.args.name.now in
-    let file = c.loop-item.lexer.code_map in
-    let exception = c.in-Err-Error.exception in
-    let place = c.place_of.result.now in
-    let next = next_fault file text c.loop-item.lexer.handed_out exception (rw (c.in-Err-Error.is, c.in-Err-Error.field-0-is, inv.text) at (c.in-Some.ensures.item inv.going)) in
-    let item = Refused next.fault in
-    let kind : c.kind.result.now ≡ exception.value = c.kind.ensures ∙ ap (λ (d : Diagnosed ErrorKind). d.value) c.error.ensures in
-    let line : fault_text place.span.begin place.span.end name (place_text text place.span.begin place.span.end) (kind_text c.kind.result.now) ≡ item_line name text item = exception_line file name text next.fault exception place c.kind.result.now next.thrown c.place_of.ensures kind in
-    let before = rw (next.items, lines_cons name text item [], lines_nil name text) at inv.written in
-    let step = rw line at c.in_ok-fault-in-Err-Error.ensures in
-    let on = writes_on _ _ _ _ _ _ c.loop-item.self.buffer (item_line name text item) [] c.fault.new.self.buffer _ _ RunStatus.Fault before step in
-    rw (append-nil c.fault.new.self.buffer) at on
+    let next = next_fault c.loop-item.lexer.code_map c.args.text.now c.loop-item.lexer.handed_out c.in-Err-Error.exception (rw (c.in-Err-Error.is, c.in-Err-Error.field-0-is, inv.text) at (c.in-Some.ensures.item inv.going)) in
+    writes_then _ _ _ _ _ _ _ _ _ _ RunStatus.Fault (rw next.items at inv.written) c.in_ok-exception-in-Err-Error.ensures
 
-pub returns-in_err-fault-in-Err-Error-clause-writes : goal.returns-in_err-fault-in-Err-Error-clause-writes
-returns-in_err-fault-in-Err-Error-clause-writes g c =
-    let p = err_from_is_err_and c.from_residual-in_err-fault-in-Err-Error.result c.from_residual-in_err-fault-in-Err-Error.ensures.1 in
+pub returns-in_err-exception-in-Err-Error-clause-writes : goal.returns-in_err-exception-in-Err-Error-clause-writes
+returns-in_err-exception-in-Err-Error-clause-writes g c =
+    let p = err_from_is_err_and c.from_residual-in_err-exception-in-Err-Error.result c.from_residual-in_err-exception-in-Err-Error.ensures.1 in
     let inv = c.loop-item.invariant in
-    let text = c.args.text.now in
-    let name = c.args.name.now in
-    let file = c.loop-item.lexer.code_map in
-    let exception = c.in-Err-Error.exception in
-    let place = c.place_of.result.now in
-    let next = next_fault file text c.loop-item.lexer.handed_out exception (rw (c.in-Err-Error.is, c.in-Err-Error.field-0-is, inv.text) at (c.in-Some.ensures.item inv.going)) in
-    let item = Refused next.fault in
-    let kind : c.kind.result.now ≡ exception.value = c.kind.ensures ∙ ap (λ (d : Diagnosed ErrorKind). d.value) c.error.ensures in
-    let line : fault_text place.span.begin place.span.end name (place_text text place.span.begin place.span.end) (kind_text c.kind.result.now) ≡ item_line name text item = exception_line file name text next.fault exception place c.kind.result.now next.thrown c.place_of.ensures kind in
-    let before = rw (next.items, lines_cons name text item [], lines_nil name text) at inv.written in
-    let step = rw line at c.in_err-fault-in-Err-Error.ensures in
-    rw (p.1, p.2) (writes_on_stopped _ _ _ _ _ _ _ c.loop-item.self.buffer (item_line name text item) [] c.fault.new.self.buffer _ _ _ before step)
+    let next = next_fault c.loop-item.lexer.code_map c.args.text.now c.loop-item.lexer.handed_out c.in-Err-Error.exception (rw (c.in-Err-Error.is, c.in-Err-Error.field-0-is, inv.text) at (c.in-Some.ensures.item inv.going)) in
+    rw (p.1, p.2) (writes_then_stopped _ _ _ _ _ _ _ _ _ _ _ _ (rw next.items at inv.written) c.in_err-exception-in-Err-Error.ensures)
 
 pub returns-in-Err-Error-clause-status : goal.returns-in-Err-Error-clause-status
 returns-in-Err-Error-clause-status g c =
     let inv = c.loop-item.invariant in
     let next = next_fault c.loop-item.lexer.code_map c.args.text.now c.loop-item.lexer.handed_out c.in-Err-Error.exception (rw (c.in-Err-Error.is, c.in-Err-Error.field-0-is, inv.text) at (c.in-Some.ensures.item inv.going)) in
-    sym (ap status_of next.is)
+    thrown_status c.loop-item.lexer.code_map (outcome c.args.text.now).fault c.in-Err-Error.exception next.thrown
 
 pub returns-in-Err-Memory-clause-writes : goal.returns-in-Err-Memory-clause-writes
 returns-in-Err-Memory-clause-writes g c = writes_given_up _ _ _ _ _ _ _ _ c.loop-item.invariant.written

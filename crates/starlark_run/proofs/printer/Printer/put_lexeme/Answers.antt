@@ -2,7 +2,7 @@ use Rattle.std.proofs.Common.{◌∙◌, ap}
 use Rattle.std.proofs.lemmas.Result.{err_from_is_err_and}
 use Rattle.starlark_base.specs.Places.{place_at}
 use Rattle.starlark_run.proofs.Writing.{writes_refused, writes_failed, writes_told}
-use Rattle.starlark_run.proofs.printer.Printer.lexeme.Goals as goal
+use Rattle.starlark_run.proofs.printer.Printer.put_lexeme.Goals as goal
 
 pub returns-in_err-lexeme_line-clause-writes : goal.returns-in_err-lexeme_line-clause-writes
 returns-in_err-lexeme_line-clause-writes g c =

@@ -1,0 +1,66 @@
+//! Lexes a text again behind an edit in its middle.
+
+ghost use Rattle.std.specs.Prelude.{◌≡◌, take, true};
+ghost use Rattle.std.specs.Str.{IsCharBoundary};
+
+use crate::tally::BenchFault;
+use starlark_base::codemap::CodeMap;
+use starlark_syntax::lexer::LexedText;
+use starlark_text::dialect::Dialect;
+use std::alloc::{AllocError, Global};
+use std::time::Instant;
+
+/// The place behind the first line feed in the second half of a text; its begin where there is none.
+pub fn middle(text: &str) -> usize {
+    let half = text.len() / 2;
+    for (at, byte) in text.as_bytes().iter().enumerate() {
+        if at >= half && *byte == b'\n' {
+            return at.saturating_add(1);
+        }
+    }
+    0
+}
+
+/// A text with a line feed more at a place.
+pub fn edited_in_the_middle(alloc: Global, text: &str, from: usize) -> Result<String, AllocError> {
+    let mut edited = String::new(alloc);
+    if let Some((front, back)) = text.split_at_checked(from) {
+        edited.push_str(front)?;
+        edited.push('\n')?;
+        edited.push_str(back)?;
+    }
+    Ok(edited)
+}
+
+/// Whether two texts have the same bytes up to a place between characters of both.
+fn agree(first: &str, second: &str, from: usize) -> bool
+    ensures { result ≡ true → IsCharBoundary first.now from × IsCharBoundary second.now from × (take from first.now ≡ take from second.now) }
+{
+    first.is_char_boundary(from) && second.is_char_boundary(from) && first[..from] == second[..from]
+}
+
+/// Lexes the source of a code map, and again where it has become another text from a place on, and prints a line.
+pub fn print_relexed(
+    rt: &HostRuntime,
+    file: &CodeMap,
+    from: usize,
+    edited: &str,
+) -> Result<(), BenchFault> {
+    let text = file.source();
+    if !agree(text, edited, from) || edited.len() > u32::MAX as usize {
+        return Err(BenchFault::TooLong);
+    }
+    let code_map = file.dupe()?;
+    let start = Instant::now(rt)?;
+    let lexed = LexedText::lex(rt.alloc(), text, &Dialect::Extended, code_map)?;
+    let first = start.elapsed(rt)?.as_nanos();
+    let first_reads = lexed.reads();
+    let start = Instant::now(rt)?;
+    let Ok(lexed) = lexed.relex(from, edited, file) else {
+        return Err(BenchFault::Memory);
+    };
+    let again = start.elapsed(rt)?.as_nanos();
+    let len = text.len();
+    println!(rt; "{len} {first_reads} {first} {} {again}", lexed.reads())?;
+    Ok(())
+}
