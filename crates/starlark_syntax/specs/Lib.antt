@@ -1,6 +1,7 @@
 pub mod Lexer
 pub mod LexedTexts
 pub mod Held
+pub mod SourceErrors
 pub mod Joints
 pub use Rattle.starlark_reader.specs.Lexemes
 pub use Rattle.starlark_grammar.specs.Words

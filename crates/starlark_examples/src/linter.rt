@@ -1,0 +1,75 @@
+//! A linter: one rule about the layout of a file, and one about its strings.
+
+use starlark_syntax::codemap::{CodeMap, FileSpanRef, Pos, Span};
+use starlark_syntax::dialect::Dialect;
+use starlark_syntax::lexer::{Lexer, SourceError, Token};
+use std::alloc::{AllocError, Global};
+use std::fmt;
+
+/// How many spaces a block is to be indented by.
+const STEP: usize = 4;
+
+/// What a file should do.
+#[derive(Clone, Copy)]
+pub enum Rule {
+    /// Indent each block by so many spaces.
+    Indentation,
+    /// Have no address that is read in the clear.
+    Address,
+}
+
+impl fmt::Display for Rule {
+    fn fmt<W: fmt::Write>(&self, f: &mut fmt::Formatter<W>) -> fmt::Result {
+        match self {
+            Rule::Indentation => write!(f, "a block is indented by {STEP} spaces"),
+            Rule::Address => write!(f, "this address is better read by https"),
+        }
+    }
+}
+
+/// The rule that is broken at a place.
+#[derive(Clone, Copy)]
+pub struct Finding {
+    pub rule: Rule,
+    pub place: Pos,
+}
+
+/// A finding as it is printed: `file:line:column: text`.
+pub fn line_of(alloc: Global, file: &CodeMap, finding: Finding) -> Result<String, AllocError> {
+    let span = Span::new(finding.place, finding.place);
+    let place = FileSpanRef { file, span };
+    format!(in alloc; "{place}: {}", finding.rule)
+}
+
+/// The rule that a token breaks. Of an indent the width is given, and that of the block round it.
+fn broken_rule(token: &Token, width: usize, outer: usize) -> Option<Rule> {
+    match token {
+        Token::Indent => (width != outer.saturating_add(STEP)).then_some(Rule::Indentation),
+        Token::String(text) => text
+            .as_str()
+            .starts_with("http://")
+            .then_some(Rule::Address),
+        _ => None,
+    }
+}
+
+/// All that the rules find in a file, in its order.
+pub fn findings(alloc: Global, file: &CodeMap) -> Result<Vec<Finding>, SourceError> {
+    let mut found = Vec::new(alloc);
+    let mut widths = Vec::new(alloc);
+    for lexeme in Lexer::new(alloc, file.source(), &Dialect::Standard, file.dupe()?)? {
+        let (begin, token, end) = lexeme?;
+        let width = end - begin;
+        let outer = widths.last().copied().unwrap_or(0);
+        if let Some(rule) = broken_rule(&token, width, outer) {
+            let place = Pos::new(begin as u32);
+            found.push(Finding { rule, place })?;
+        }
+        match token {
+            Token::Indent => widths.push(width)?,
+            Token::Dedent => drop(widths.pop()),
+            _ => {}
+        }
+    }
+    Ok(found)
+}

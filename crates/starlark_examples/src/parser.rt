@@ -1,0 +1,223 @@
+//! A parser of expressions: names, integers, strings, lists, calls, indexing and sums.
+
+use starlark_syntax::codemap::{CodeMap, Span, Spanned};
+use starlark_syntax::error::{Error, ErrorKind, ParserMessage};
+use starlark_syntax::eval_exception::EvalException;
+use starlark_syntax::lexer::{SourceError, Token, TokenInt};
+use std::alloc::{AllocError, Global};
+use std::fmt;
+use std::fmt::Write;
+
+/// How deep expressions may nest, so that no text takes more stack than the program has.
+const DEPTH: u32 = 100;
+
+/// An expression. Its names and values lie in the lexemes that it was read from.
+#[derive(Drop)]
+pub enum Expression<'t> {
+    Name(&'t str),
+    Integer(&'t TokenInt),
+    Text(&'t str),
+    List(Vec<Expression<'t>>),
+    Sum(Vec<Expression<'t>>),
+    Call(Box<Expression<'t>>, Vec<Expression<'t>>),
+    Index(Box<Expression<'t>>, Box<Expression<'t>>),
+}
+
+/// Writes expressions between an opening and a closing bracket, with a mark between each two.
+#[cycle(printing)]
+fn write_group<W: fmt::Write>(
+    f: &mut fmt::Formatter<W>,
+    brackets: (char, char),
+    mark: &str,
+    expressions: &[Expression<'_>],
+) -> fmt::Result {
+    f.write_char(brackets.0)?;
+    for (index, expression) in expressions.iter().enumerate() {
+        if index > 0 {
+            f.write_str(mark)?;
+        }
+        write!(f, "{expression}")?;
+    }
+    f.write_char(brackets.1)
+}
+
+/// An expression prints as it is written, with a pair of brackets round each sum.
+impl fmt::Display for Expression<'_> {
+    #[cycle(printing)]
+    fn fmt<W: fmt::Write>(&self, f: &mut fmt::Formatter<W>) -> fmt::Result {
+        match self {
+            Expression::Name(name) => write!(f, "{name}"),
+            Expression::Integer(value) => write!(f, "{value}"),
+            Expression::Text(text) => write!(f, "{text:?}"),
+            Expression::List(items) => write_group(f, ('[', ']'), ", ", items),
+            Expression::Sum(terms) => write_group(f, ('(', ')'), " + ", terms),
+            Expression::Call(function, arguments) => {
+                write!(f, "{function}")?;
+                write_group(f, ('(', ')'), ", ", arguments)
+            }
+            Expression::Index(value, index) => write!(f, "{value}[{index}]"),
+        }
+    }
+}
+
+/// A fault at a place of a file: something is missing there.
+fn missing_at<D: fmt::Display>(
+    alloc: Global,
+    file: &CodeMap,
+    span: Span,
+    wanted: &D,
+) -> Result<EvalException, AllocError> {
+    let message = ParserMessage::Text(format!(in alloc; "Parse error: {wanted} is missing")?);
+    let Ok(error) = Error::new_kind(alloc, ErrorKind::Parser(message)) else {
+        return Err(AllocError);
+    };
+    EvalException::new(error, span, file).map_err(|_| AllocError)
+}
+
+/// A parser: the lexemes that it hasn't taken yet.
+#[derive(Drop)]
+struct Parser<'t> {
+    alloc: Global,
+    file: &'t CodeMap,
+    rest: &'t [Spanned<Token>],
+}
+
+impl<'t> Parser<'t> {
+    /// Takes the next lexeme if it is this token.
+    fn takes(&mut self, wanted: &Token) -> bool {
+        match self.rest {
+            [first, rest @ ..] if first.node == *wanted => {
+                self.rest = rest;
+                true
+            }
+            _ => false,
+        }
+    }
+
+    /// The fault that something is missing before the next lexeme.
+    fn missing<D: fmt::Display>(&self, wanted: &D) -> SourceError {
+        let span = match self.rest {
+            [first, ..] => first.span,
+            [] => self.file.full_span().end_span(),
+        };
+        match missing_at(self.alloc, self.file, span, wanted) {
+            Ok(fault) => SourceError::Fault(fault),
+            Err(_) => SourceError::Memory,
+        }
+    }
+
+    /// Takes the next lexeme, which has to be this token.
+    fn needs(&mut self, wanted: &Token) -> Result<(), SourceError> {
+        if self.takes(wanted) {
+            Ok(())
+        } else {
+            Err(self.missing(wanted))
+        }
+    }
+
+    /// A sum of operands, or one alone.
+    #[cycle(expression)]
+    fn sum(&mut self, depth: u32) -> Result<Expression<'t>, SourceError> {
+        let first = self.operand(depth)?;
+        if !self.takes(&Token::Plus) {
+            return Ok(first);
+        }
+        let mut terms = vec![in self.alloc; first, self.operand(depth)?]?;
+        for _ in self.rest {
+            if !self.takes(&Token::Plus) {
+                break;
+            }
+            terms.push(self.operand(depth)?)?;
+        }
+        Ok(Expression::Sum(terms))
+    }
+
+    /// A value, and the calls and indices behind it, each of which nests it once more.
+    #[cycle(expression)]
+    fn operand(&mut self, depth: u32) -> Result<Expression<'t>, SourceError> {
+        let mut value = self.value(depth)?;
+        for depth in (0..depth).rev() {
+            if self.takes(&Token::OpeningRound) {
+                let arguments = self.items(depth, &Token::ClosingRound)?;
+                value = Expression::Call(Box::new(self.alloc, value)?, arguments);
+            } else if self.takes(&Token::OpeningSquare) {
+                let index = Box::new(self.alloc, self.sum(depth)?)?;
+                self.needs(&Token::ClosingSquare)?;
+                value = Expression::Index(Box::new(self.alloc, value)?, index);
+            } else {
+                return Ok(value);
+            }
+        }
+        Err(self.missing(&"an end of the nesting"))
+    }
+
+    /// A name, an integer, a string, a list, or an expression in brackets.
+    #[cycle(expression)]
+    fn value(&mut self, depth: u32) -> Result<Expression<'t>, SourceError> {
+        let [first, rest @ ..] = self.rest else {
+            return Err(self.missing(&"an expression"));
+        };
+        let Some(depth) = depth.checked_sub(1) else {
+            return Err(self.missing(&"an end of the nesting"));
+        };
+        let value = match &first.node {
+            Token::Identifier(name) => Expression::Name(name.as_str()),
+            Token::Int(value) => Expression::Integer(value),
+            Token::String(text) => Expression::Text(text.as_str()),
+            Token::OpeningSquare => {
+                self.rest = rest;
+                return Ok(Expression::List(self.items(depth, &Token::ClosingSquare)?));
+            }
+            Token::OpeningRound => {
+                self.rest = rest;
+                let inner = self.sum(depth)?;
+                self.needs(&Token::ClosingRound)?;
+                return Ok(inner);
+            }
+            _ => return Err(self.missing(&"an expression")),
+        };
+        self.rest = rest;
+        Ok(value)
+    }
+
+    /// Expressions with commas between them, up to a closing bracket.
+    #[cycle(expression)]
+    fn items(&mut self, depth: u32, closing: &Token) -> Result<Vec<Expression<'t>>, SourceError> {
+        let mut items = Vec::new(self.alloc);
+        for _ in self.rest {
+            if self.takes(closing) {
+                return Ok(items);
+            }
+            items.push(self.sum(depth)?)?;
+            if !self.takes(&Token::Comma) {
+                break;
+            }
+        }
+        self.needs(closing)?;
+        Ok(items)
+    }
+}
+
+/// The expressions of a file, one a line.
+pub fn expressions<'t>(
+    alloc: Global,
+    file: &'t CodeMap,
+    lexemes: &'t [Spanned<Token>],
+) -> Result<Vec<Expression<'t>>, SourceError> {
+    let mut parser = Parser {
+        alloc,
+        file,
+        rest: lexemes,
+    };
+    let mut expressions = Vec::new(alloc);
+    for _ in lexemes {
+        if parser.rest.is_empty() {
+            break;
+        }
+        if !parser.takes(&Token::Newline) {
+            expressions.push(parser.sum(DEPTH)?)?;
+            parser.needs(&Token::Newline)?;
+        }
+    }
+    Ok(expressions)
+}

@@ -1,0 +1,23 @@
+-- Which error of a whole source a refusal of one call is, and what is printed of it.
+use Rattle.std.specs.Prelude.{ℕ, List, Option, Some, codes}
+use Rattle.starlark_base.specs.Diagnostics.{Diagnosed}
+use Rattle.starlark_base.specs.declared.codemap.refusals.SourceTooLong.{SourceTooLong}
+use Rattle.starlark_error.specs.declared.error.kinds.ErrorKind.{ErrorKind}
+use Rattle.starlark_error.specs.Errors.{error_text}
+use Rattle.starlark_syntax.specs.declared.lexer.source_error.SourceError.{SourceError}
+use Rattle.starlark_syntax.specs.declared.lexer.source_error.SourceError.TheVariants as source
+use Rattle.starlark_text.specs.declared.refusals.OrMemory.{OrMemory}
+use Rattle.starlark_text.specs.declared.refusals.OrMemory.TheVariants.{Error, Memory}
+
+abbrev pub error_of_length : OrMemory SourceTooLong → SourceError
+error_of_length (Error refusal) = source.TooLong
+error_of_length Memory = source.Memory
+
+abbrev pub error_of_fault : OrMemory (Diagnosed ErrorKind) → SourceError
+error_of_fault (Error exception) = source.Fault exception
+error_of_fault Memory = source.Memory
+
+abbrev pub source_error_text : SourceError → Option (List ℕ)
+source_error_text source.TooLong = Some (codes "source is longer than 4294967295 bytes")
+source_error_text (source.Fault exception) = error_text exception
+source_error_text source.Memory = Some (codes "out of memory")

@@ -1,0 +1,96 @@
+//! Why a source isn't read to its end.
+
+use starlark_base::codemap::{OrMemory, SourceTooLong};
+use starlark_error::eval_exception::EvalException;
+use std::alloc::{AllocError, AllocFailed};
+use std::error::Error;
+use std::fmt;
+
+/// Why a source isn't read to its end, whichever call says so: the refusals of code maps, lexers and lexed texts, and the
+/// fault of the source. `?` makes it of each of them, and of want of memory.
+#[derive(Debug, Drop)]
+pub enum SourceError {
+    /// The source has more bytes than a position can count.
+    TooLong,
+    /// The source has a fault.
+    Fault(EvalException),
+    /// Memory was wanting.
+    Memory,
+}
+
+impl From<SourceTooLong> for SourceError {
+    ghost use Rattle.std.specs.Prelude.{◌≡◌};
+    ghost use Rattle.starlark_syntax.specs.declared.lexer.source_error.SourceError.TheVariants.{TooLong};
+
+    ghost from_gives = { λ _ error. error ≡ TooLong };
+
+    fn from(_refusal: SourceTooLong) -> SourceError {
+        SourceError::TooLong
+    }
+}
+
+impl From<OrMemory<SourceTooLong>> for SourceError {
+    ghost use Rattle.std.specs.Prelude.{◌≡◌};
+    ghost use Rattle.starlark_syntax.specs.SourceErrors.{error_of_length};
+
+    ghost from_gives = { λ refusal error. error ≡ error_of_length refusal };
+
+    fn from(refusal: OrMemory<SourceTooLong>) -> SourceError {
+        match refusal {
+            OrMemory::Error(SourceTooLong) => SourceError::TooLong,
+            OrMemory::Memory => SourceError::Memory,
+        }
+    }
+}
+
+impl From<OrMemory<EvalException>> for SourceError {
+    ghost use Rattle.std.specs.Prelude.{◌≡◌};
+    ghost use Rattle.starlark_syntax.specs.SourceErrors.{error_of_fault};
+
+    ghost from_gives = { λ refusal error. error ≡ error_of_fault refusal };
+
+    fn from(refusal: OrMemory<EvalException>) -> SourceError {
+        match refusal {
+            OrMemory::Error(exception) => SourceError::Fault(exception),
+            OrMemory::Memory => SourceError::Memory,
+        }
+    }
+}
+
+impl From<AllocError> for SourceError {
+    ghost use Rattle.std.specs.Prelude.{◌≡◌};
+    ghost use Rattle.starlark_syntax.specs.declared.lexer.source_error.SourceError.TheVariants.{Memory};
+
+    ghost from_gives = { λ _ error. error ≡ Memory };
+
+    fn from(_error: AllocError) -> SourceError {
+        SourceError::Memory
+    }
+}
+
+impl<T: Drop> From<AllocFailed<T>> for SourceError {
+    ghost use Rattle.std.specs.Prelude.{◌≡◌};
+    ghost use Rattle.starlark_syntax.specs.declared.lexer.source_error.SourceError.TheVariants.{Memory};
+
+    ghost from_gives = { λ _ error. error ≡ Memory };
+
+    fn from(_error: AllocFailed<T>) -> SourceError {
+        SourceError::Memory
+    }
+}
+
+impl fmt::Display for SourceError {
+    ghost use Rattle.starlark_syntax.specs.SourceErrors.{source_error_text};
+
+    ghost output = { source_error_text };
+
+    fn fmt<W: fmt::Write>(&self, f: &mut fmt::Formatter<W>) -> fmt::Result {
+        match self {
+            SourceError::TooLong => write!(f, "source is longer than 4294967295 bytes"),
+            SourceError::Fault(exception) => write!(f, "{exception}"),
+            SourceError::Memory => write!(f, "out of memory"),
+        }
+    }
+}
+
+impl Error for SourceError {}

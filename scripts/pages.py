@@ -1,0 +1,71 @@
+#!/usr/bin/env python3
+"""Compares what the pages of docs/use and the README show with the repository.
+
+    scripts/pages.py            says where they differ
+    scripts/pages.py --write    writes what the repository has into the pages
+
+Two things are compared. Behind a line `<!-- PATH -->` stands a block of code: the file of that path, but for the comment
+that it begins with. A line `    $ printf 'TEXT' | ./starlark_lex NAME` shows a run: the indented lines behind it are what the
+program prints. Runs are left out where the program isn't built; it isn't built here.
+"""
+
+import re
+import subprocess
+import sys
+from pathlib import Path
+
+TOP = Path(__file__).resolve().parent.parent
+PROGRAM = TOP / "crates/starlark_lex/out/starlark_lex"
+FILE = re.compile(r"<!-- (crates/\S+) -->\n```(\w*)\n(.*?)```\n", re.DOTALL)
+RUN = re.compile(r"^    \$ printf ('[^']*') \| \./starlark_lex( \w+)?\n((?:    (?!\$).*\n)*)", re.MULTILINE)
+
+
+def code_of(path):
+    """The text of a file without the comment that it begins with."""
+    lines = (TOP / path).read_text().splitlines(keepends=True)
+    while lines and (lines[0].startswith("//!") or not lines[0].strip()):
+        lines.pop(0)
+    return "".join(lines)
+
+
+def with_file(match):
+    """A block of code as the file has it."""
+    path, language, _ = match.groups()
+    return f"<!-- {path} -->\n```{language}\n{code_of(path)}```\n"
+
+
+def with_run(match):
+    """A run as the program prints it."""
+    text, name, _ = match.groups()
+    command = f"printf {text} | {PROGRAM}{name or ''}"
+    answer = subprocess.run(["sh", "-c", command], capture_output=True, text=True, check=False)
+    lines = "".join(f"    {line}\n" for line in answer.stdout.splitlines())
+    return f"    $ printf {text} | ./starlark_lex{name or ''}\n{lines}"
+
+
+def as_it_is(page):
+    """A page with the code and the runs that the repository has."""
+    page = FILE.sub(with_file, page)
+    return RUN.sub(with_run, page) if PROGRAM.exists() else page
+
+
+def main():
+    """Compares or writes all pages."""
+    differing = 0
+    for path in [TOP / "README.md", *sorted((TOP / "docs/use").glob("*.md"))]:
+        page = path.read_text()
+        wanted = as_it_is(page)
+        if page == wanted:
+            continue
+        if "--write" in sys.argv[1:]:
+            path.write_text(wanted)
+        else:
+            differing += 1
+            print(f"{path.relative_to(TOP)} shows something else than the repository has")
+    if not PROGRAM.exists():
+        print("the runs were left out: the program isn't built")
+    return 1 if differing else 0
+
+
+if __name__ == "__main__":
+    sys.exit(main())
