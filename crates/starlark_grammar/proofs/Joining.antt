@@ -11,3 +11,4 @@ pub mod Laws
 pub mod ShortenedBodies
 pub mod ShortenedPieces
 pub mod LaidCuts
+pub mod LineCuts

@@ -5,6 +5,7 @@ pub mod CodePlaces
 pub mod Waiting
 pub mod Here
 pub mod Onward
+pub mod MarginCuts
 pub mod Taken
 pub mod ChunksTaken
 pub mod PieceTaken

@@ -5,4 +5,5 @@ pub mod Pieces
 pub mod Pending
 pub mod Reads
 pub mod Layout
+pub mod MarginCuts
 pub mod Reader

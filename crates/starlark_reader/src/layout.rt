@@ -4,10 +4,10 @@ ghost use Rattle.std.specs.Prelude.{◌≡◌, ◌&&◌, ◌+◌, ◌-◌, ◌<�
 ghost use Rattle.std.specs.Str.{IsCharBoundary, IsUtf8};
 ghost use Rattle.starlark_reader.specs.Joints.Layout.{IsDecided, IsLaid, IsMargin, margin_lexemes, margin_piece, margin_width};
 ghost use Rattle.starlark_reader.specs.Joints.Pending.{IsPending, owed, pending_lexemes};
+ghost use Rattle.starlark_reader.specs.Joints.MarginCuts.{IsLaidOut, IsOfMargin};
 ghost use Rattle.starlark_reader.specs.Joints.Reads.{AreMarginReads};
 ghost use Rattle.starlark_grammar.specs.Words.{Text};
 ghost use Rattle.starlark_grammar.specs.Margins as grammar;
-ghost use Rattle.starlark_grammar.specs.Margins.{has_tab, is_content};
 ghost use Rattle.starlark_grammar.specs.Pieces as pieces;
 ghost use Rattle.starlark_grammar.specs.Tokens as tokens;
 
@@ -75,10 +75,12 @@ fn take_margin(
     ensures owed { IfOk result (λ pending. owed pending ≡ margin.at) }
     ensures lexemes { IfOk result (λ pending. (text : Text) → IsUtf8 text → IsCharBoundary text begin → IsMargin (grammar.margin_of (drop begin text)) margin →
         IsPending text pending × (map (tokens.moved begin) (margin_lexemes levels.old (grammar.margin_of (drop begin text))) ≡ pending_lexemes text pending)) }
+    ensures place { IfOk result (IsOfMargin begin margin.at levels.old) }
     ensures widths { OnOk result ((widths : List ℕ) (seen : grammar.Margin) → IsMargin seen margin → levels.old ≡ grammar.open_widths widths →
         levels.new ≡ grammar.open_widths (widths ++ option_to_list (margin_width seen))) }
 {
     let behind = indentation(levels, begin, margin);
+    let is_flat = levels.len() == 0;
     if margin.is_content {
         levels.push_line(margin.blanks.width)?;
     }
@@ -86,15 +88,8 @@ fn take_margin(
         from: begin,
         to: begin + margin.at,
         behind,
+        is_flat,
     })
-}
-
-/// Whether the margin at the front of a text has a tab before content.
-pub fn begins_with_tab(reads: &mut Reads, text: &str) -> bool
-    ensures { result ≡ (is_content (grammar.margin_of text.now).behind && has_tab (grammar.margin_of text.now)) }
-{
-    let margin = margin_of(reads, text);
-    margin.is_content && margin.blanks.has_tab
 }
 
 /// Reads the margin at a text's begin, where no width is open. Before a fault its comments are handed out. After an
@@ -106,6 +101,7 @@ pub fn first_margin(
 ) -> Result<Laid, AllocError>
     requires { levels.old ≡ [] }
     ensures laid { IfOk result (IsLaid text.now 0 (pieces.first_margin text.now) [] (grammar.margin_of text.now).comments [] levels.new) }
+    ensures place { IfOk result (IsLaidOut text.now 0 levels.old) }
     ensures reads { IfOk result (λ laid. AreMarginReads 0 (length text.now) laid reads.old reads.new) }
 {
     let margin = margin_of(reads, text);
@@ -119,6 +115,7 @@ pub fn first_margin(
                 from: 0,
                 to: margin.at,
                 behind: Behind::nothing(),
+                is_flat: false,
             },
             fault,
             end,
@@ -138,6 +135,7 @@ pub fn line_end(
     requires { IsCharBoundary text.now (at + len) }
     ensures laid { IfOk result (λ laid. (widths : List ℕ) → levels.old ≡ grammar.open_widths widths →
         IsLaid text.now at (pieces.line_end len (grammar.open_widths widths) (drop (at + len) text.now)) (record { begin = at; node = tokens.Newline; end = at + len } ∷ []) [] widths levels.new laid) }
+    ensures place { IfOk result (IsLaidOut text.now (at + len) levels.old) }
     ensures reads { IfOk result (λ laid. AreMarginReads len (length text.now - (at + len)) laid reads.old reads.new) }
 {
     let begin = at + len;

@@ -9,8 +9,9 @@ ghost use Rattle.starlark_grammar.specs.Margins.{open_widths};
 ghost use Rattle.starlark_grammar.specs.Pieces as grammar;
 ghost use Rattle.starlark_grammar.specs.declared.class.Class.TheVariants as class;
 ghost use Rattle.starlark_reader.specs.Joints.Pending.{IsIdle, IsPending};
+ghost use Rattle.starlark_reader.specs.Joints.MarginCuts.{IsCutBefore};
 ghost use Rattle.starlark_reader.specs.Joints.Reads.{HasRead, HasReadAt, HasReadNext, IsMarginRead, IsPassed, IsPassedBy};
-ghost use Rattle.starlark_reader.specs.Joints.Reader.{IsAhead, IsAheadBehind, IsStateAfter, IsNext, IsOver, IsRead, IsReady, IsSomething, IsWordHere, before_view, left_here, left_to_read, silent_sort, step_here};
+ghost use Rattle.starlark_reader.specs.Joints.Reader.{has_read_none, IsAhead, IsAheadBehind, IsStateAfter, IsNext, IsOver, IsRead, IsReady, IsSomething, IsWordHere, before_view, left_here, left_to_read, silent_sort, step_here};
 ghost use Rattle.starlark_reader.specs.Joints.Pieces.{IsBehind};
 ghost use Rattle.starlark_grammar.specs.Cuts.{is_layout, is_settled};
 ghost use Rattle.starlark_grammar.specs.Reading.{History, outcome};
@@ -342,6 +343,38 @@ impl Reader {
             && is_outside(self.nesting.place())
             && self.nesting.is_balanced()
             && self.levels.len() == 0
+    }
+
+    /// Whether no piece of the text was read. Where the text has a fault, that is its first margin's, which has a tab.
+    pub fn has_read_none(&self) -> bool
+        ensures { result ≡ has_read_none self.now }
+    {
+        self.at == 0 && !self.follows_margin()
+    }
+
+    /// Whether the place is behind a margin before which no width is open, and nothing behind the margin's comments was
+    /// handed out.
+    fn is_in_flat_margin(&self) -> bool
+        ensures stage { result ≡ true → self.now.stage ≡ Stage.Onward }
+        ensures before { result ≡ true → self.now.before ≡ Before.Layout }
+        ensures flat { result ≡ true → self.now.pending.is_flat ≡ true }
+    {
+        matches!(self.stage, Stage::Onward)
+            && matches!(self.before, Before::Layout)
+            && self.pending.is_flat
+    }
+
+    /// The place before the text's end where it may be cut, if the lexemes that were handed out so far are those before
+    /// one: behind a line end, or behind a comment-only line, in a margin before which no width is open.
+    pub fn cut(&self, text: &str) -> Option<usize>
+        ensures { IfSome result (λ at. (lexemes : List (Spanned TokenView)) (fault : Option (Spanned Fault)) → IsAhead text.now self.now self.now.stage lexemes fault → IsCutBefore text.now at (length lexemes)) }
+    {
+        let at = self.pending.from;
+        if self.is_in_flat_margin() && 0 < at && at < text.len() {
+            Some(at)
+        } else {
+            None
+        }
     }
 
     /// Closes a text without fault at its end: with a `Newline` of no bytes, and a `Dedent` for each open width.

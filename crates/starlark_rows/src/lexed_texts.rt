@@ -123,6 +123,19 @@ pub fn relex(alloc: Global, text: &str, from: u32, edited: &str) -> Answer {
     relexed(alloc, lexed(alloc, text)?, from as usize, edited)
 }
 
+/// How often bytes were read to lex a text again behind an edit.
+fn relex_reads(alloc: Global, text: &str, from: usize, edited: &str) -> Answer {
+    let old = lexed(alloc, text)?;
+    if !agree(old.text(), edited, from) || edited.len() > u32::MAX as usize {
+        return String::from_str(alloc, "no edit");
+    }
+    let map = code_map(alloc, "f", edited)?;
+    match old.relex(from, edited, &map) {
+        Ok(new) => shown(alloc, &new.reads()),
+        Err(_) => Err(AllocError),
+    }
+}
+
 /// Two texts joined, and lexed again behind an edit, as they print.
 pub fn relex_joined(alloc: Global, first: &str, second: &str, from: u32, edited: &str) -> Answer {
     let both = both_texts(alloc, first, second)?;
@@ -184,6 +197,7 @@ pub fn answer(alloc: Global, row: &Row) -> Answer {
         "join_reads" => join_reads(alloc, text, row.text(3)),
         "join" => join(alloc, text, row.text(3)),
         "join_each" => marks(alloc, row),
+        "relex_reads" => relex_reads(alloc, text, row.count(3) as usize, row.text(4)),
         "relex" => relex(alloc, text, row.count(3), row.text(4)),
         "relex_joined" => relex_joined(alloc, text, row.text(3), row.count(4), row.text(5)),
         _ => unknown(alloc, row),

@@ -1,11 +1,12 @@
 -- What a lexed text is to its user.
-use Rattle.std.specs.Prelude.{◌≡◌, ◌-◌, ℕ, List, ◌++◌, map, take, length, Option, Some, None, ⊤}
+use Rattle.std.specs.Prelude.{◌≡◌, ◌≤◌, ◌+◌, ◌*◌, ◌-◌, ◌⊎◌, true, ℕ, List, ◌++◌, map, take, length, Option, Some, None, ⊤}
 use Rattle.starlark_base.specs.Sources.{SourceFile}
 use Rattle.starlark_base.specs.Diagnostics.{Diagnosed}
 use Rattle.starlark_error.specs.declared.error.kinds.ErrorKind.{ErrorKind}
 use Rattle.starlark_grammar.specs.Words.{Text}
 use Rattle.starlark_grammar.specs.Tokens as grammar
 use Rattle.starlark_grammar.specs.Reading.{outcome}
+use Rattle.starlark_grammar.specs.Cuts.{is_kept_cut}
 use Rattle.starlark_reader.specs.Lexemes.{shown_lexeme}
 use Rattle.starlark_syntax.specs.Lexer.{IsException}
 use Rattle.starlark_token.specs.TokenViews.{TokenView}
@@ -36,3 +37,12 @@ joined first second = record {
   fault = None;
   reads = 0;
 }
+
+-- A text behind an edit was read from one of the kept cuts of the text before it on, at or before a place, or from its
+-- begin: each byte behind once at least where it has no fault, and some sixteen times at most.
+pub record IsReadFrom (old edited : Text) (from : ℕ) (lexed : LexedView) : Type 0 where
+  pub at : ℕ
+  pub before : at ≤ from
+  pub is_kept : (at ≡ 0) ⊎ (is_kept_cut old at ≡ true)
+  pub most : lexed.reads ≤ 16 * (length edited - at + 1)
+  pub least : lexed.fault ≡ None → length edited - at ≤ lexed.reads

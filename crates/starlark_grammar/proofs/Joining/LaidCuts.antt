@@ -1,11 +1,11 @@
 -- Where a text may be cut inside of its layout: behind a line end that counts and whole comment-only lines behind it.
-use Rattle.std.proofs.Common.{◌≡◌, ℕ, ◌+◌, ◌≤◌, ◌<◌, Bool, true, false, List, [], ◌∷◌, ◌++◌, length, take, drop, map, refl, ap, ◌∙◌, sym, subst, Option, Some, None, arith, append-nil}
+use Rattle.std.proofs.Common.{◌≡◌, ℕ, ◌+◌, ◌≤◌, ◌<◌, Bool, true, false, List, [], ◌∷◌, ◌++◌, length, take, drop, map, refl, ap, ◌∙◌, sym, subst, Option, Some, None, arith, append-nil, length-append}
 use Rattle.std.proofs.Common.{drop_of_length-le, eq-eqb}
 use Rattle.std.proofs.Math.Seq.{drop-length}
 use Rattle.std.proofs.lemmas.Bool.{and_parts, eqb-true}
 use Rattle.std.specs.Prelude.{option_map, ◌==◌, nat_eq, codes, count_by, take_while, option_to_list}
 use Rattle.std.specs.List.{ends_with, list_all}
-use Rattle.std.proofs.lemmas.List.{take-append-drop, length-drop, length-take-le, drop-append-le}
+use Rattle.std.proofs.lemmas.List.{take-append-drop, length-drop, length-map, length-take-le, drop-append-le}
 use Rattle.std.proofs.lemmas.List.Sums.{sum_by-cons}
 use Rattle.starlark_grammar.specs.Words as word
 use Rattle.starlark_grammar.specs.Words.{Text, class_in, language}
@@ -14,13 +14,13 @@ use Rattle.starlark_grammar.specs.Tokens.{Token, Lexeme, Newline, moved}
 use Rattle.starlark_grammar.specs.Depths.{Mode, is_any_closing, is_any_opening, is_balanced, mode_after, open_fstring}
 use Rattle.starlark_grammar.specs.Margins.{margin_len, Margin, comment_lines, comments_from, is_comment_only, lines, margin_of, open_widths}
 use Rattle.starlark_grammar.specs.Pieces.{Ends, Layout, Piece, Stands, Step, counts, line_end, margin_step, step_at}
-use Rattle.starlark_grammar.specs.Reading.{History, IsReading, after, after_all, next_step, nothing, pieces_len, read, situation, tokens_onto}
-use Rattle.starlark_grammar.specs.Cuts.{is_clean_cut_in, is_clean_cut, is_layout, is_outside, is_settled}
+use Rattle.starlark_grammar.specs.Reading.{History, IsLongestReading, IsReading, after, after_all, lexemes_along, next_step, nothing, outcome, pieces_len, read, situation, tokens_onto}
+use Rattle.starlark_grammar.specs.Cuts.{is_clean_cut_in, is_clean_cut, is_layout, is_outside, is_settled, without_closing}
 use Rattle.starlark_grammar.proofs.Lists.{drop-sum}
 use Rattle.starlark_grammar.proofs.Words.Fronts.{front_sound}
 use Rattle.starlark_grammar.proofs.Reading.Steps.{is_nothing, lines_len}
-use Rattle.starlark_grammar.proofs.Reading.Readings.{one_least, piece_fits, started, longest_onward, stops_here}
-use Rattle.starlark_grammar.proofs.Joining.CleanCuts.{Cut, cut, longest_both, past_both, pieces_both}
+use Rattle.starlark_grammar.proofs.Reading.Readings.{one_least, one_longest, piece_fits, read_is, started, longest_onward, stops_here}
+use Rattle.starlark_grammar.proofs.Joining.CleanCuts.{Cut, along_both, but_last, cut, longest_both, past_both, pieces_both}
 use Rattle.starlark_grammar.proofs.Joining.Laws.{clean_by}
 use Rattle.starlark_grammar.proofs.Joining.Tabs.{first_step}
 use Rattle.starlark_grammar.proofs.Joining.Followed.{longest_followed, ends_line, ends_line_drop, ends_line_of}
@@ -121,21 +121,62 @@ flat_settled : (history : History) → IsFlat history → history.before ≡ Lay
 unfolding is_settled mode_after
 flat_settled history flat laid = rw (laid, flat.none_open, flat.balanced, flat.no_width) refl
 
--- Where nothing is open and only comment-only lines stand behind the last line end, a text is a clean cut.
-pub laid_cut : (text : Text) (pieces : List Piece) (n : ℕ) (line : List Lexeme) → ends_with nat_eq text (codes "\n") ≡ true → IsReading language nothing text pieces → IsFlat (after_all nothing pieces)
-    → LaysOut (after_all nothing pieces) (drop (pieces_len pieces) text) n line → list_all is_comment_only (lines (drop n (drop (pieces_len pieces) text))) ≡ true → is_clean_cut text ≡ true
-unfolding after
-laid_cut text pieces n line ends reads flat laid h =
-    let history = after_all nothing pieces in
-    let rest = drop (pieces_len pieces) text in
-    let last = comments_piece n line (drop n rest) in
-    let stands = comments_stand history rest n line laid h in
-    let now = flat_behind history rest (drop n rest) n line laid flat in
-    let reach : length rest ≤ last.len = omega (arith, laid.inside, length-drop n rest) in
-    let none : drop last.len rest ≡ [] = drop_of_length-le rest reach in
-    let over = stops_here language (after history last) (drop last.len rest) Ends (ap (next_step language (after history last)) none ∙ flat_ends (after history last) now refl) (λ piece e. cc) in
-    let whole = longest_both language nothing text pieces (last ∷ []) Ends reads (longest_onward language history rest last [] Ends stands over) in
-    clean_by text (pieces ++ last ∷ []) Ends whole ∙ rw (past_both nothing pieces (last ∷ []), flat_settled (after history last) now refl, ends) refl
+-- as many comments as lines
+comments_count : (at : ℕ) (ls : List Text) → length (comments_from at ls) ≡ length ls
+comments_count at [] = refl
+comments_count at (line ∷ ls) = omega (arith, comments_count (at + length line) ls)
+
+-- Where nothing is open and only comment-only lines stand behind the last line end, these are a text's last piece, …
+module _ (text : Text) (pieces : List Piece) (n : ℕ) (line : List Lexeme) (ends : ends_with nat_eq text (codes "\n") ≡ true) (reads : IsReading language nothing text pieces) (flat : IsFlat (after_all nothing pieces))
+    (laid : LaysOut (after_all nothing pieces) (drop (pieces_len pieces) text) n line) (h : list_all is_comment_only (lines (drop n (drop (pieces_len pieces) text))) ≡ true) where
+  abbrev before_lines : History
+  before_lines = after_all nothing pieces
+
+  abbrev lines_text : Text
+  lines_text = drop (pieces_len pieces) text
+
+  abbrev lines_piece : Piece
+  lines_piece = comments_piece n line (drop n lines_text)
+
+  flat_now : IsFlat (after before_lines lines_piece)
+  flat_now = flat_behind before_lines lines_text (drop n lines_text) n line laid flat
+
+  settled_now : is_settled (after before_lines lines_piece) ≡ true
+  unfolding after
+  settled_now = flat_settled (after before_lines lines_piece) flat_now refl
+
+  whole_reading : IsLongestReading language nothing text (pieces ++ lines_piece ∷ []) Ends
+  unfolding after
+  whole_reading =
+      let stands = comments_stand before_lines lines_text n line laid h in
+      let reach : length lines_text ≤ lines_piece.len = omega (arith, laid.inside, length-drop n lines_text) in
+      let none : drop lines_piece.len lines_text ≡ [] = drop_of_length-le lines_text reach in
+      let over = stops_here language (after before_lines lines_piece) (drop lines_piece.len lines_text) Ends (ap (next_step language (after before_lines lines_piece)) none ∙ flat_ends (after before_lines lines_piece) flat_now refl) (λ piece e. cc) in
+      longest_both language nothing text pieces (lines_piece ∷ []) Ends reads (longest_onward language before_lines lines_text lines_piece [] Ends stands over)
+
+  -- … and the text is a clean cut, …
+  pub laid_cut : is_clean_cut text ≡ true
+  laid_cut = clean_by text (pieces ++ lines_piece ∷ []) Ends whole_reading ∙ rw (past_both nothing pieces (lines_piece ∷ []), settled_now, ends) refl
+
+  -- … of so many lexemes.
+  pub laid_count : length (without_closing (outcome text).lexemes) ≡ length (lexemes_along 0 pieces) + (length line + length (lines (drop n lines_text)))
+  laid_count =
+      let all = (cut text laid_cut).lexemes in
+      let same = (one_longest language nothing text _ _ _ _ (read_is language text) whole_reading).0 in
+      let kept : without_closing (outcome text).lexemes ≡ lexemes_along 0 (pieces ++ lines_piece ∷ []) =
+      ap without_closing all ∙ but_last (lexemes_along 0 (read language text).pieces) (record { begin = length text; node = Newline; end = length text }) ∙ ap (lexemes_along 0) same in
+      let parts = ap length (kept ∙ along_both 0 pieces (lines_piece ∷ [])) ∙ length-append (lexemes_along 0 pieces) (lexemes_along (0 + pieces_len pieces) (lines_piece ∷ [])) in
+      let one = length-append (map (moved (0 + pieces_len pieces)) lines_piece.lexemes) [] in
+      omega (
+        arith,
+        parts,
+        one,
+        length-map lines_piece.lexemes (moved (0 + pieces_len pieces)),
+        length-append line (map (moved n) (comments_from 0 (lines (drop n lines_text)) ++ [])),
+        length-map (comments_from 0 (lines (drop n lines_text)) ++ []) (moved n),
+        length-append (comments_from 0 (lines (drop n lines_text))) [],
+        comments_count 0 (lines (drop n lines_text)),
+      )
 
 -- The other way round: how a clean cut ends.
 
@@ -214,9 +255,22 @@ pub record IsLaid (text : Text) (at : ℕ) : Type 0 where
   pub ends : ends_with nat_eq (take at text) (codes "\n") ≡ true
   pub comments : list_all is_comment_only (lines (drop n (drop (pieces_len pieces) (take at text)))) ≡ true
 
--- There the text in front is a clean cut, …
-pub laid_clean : (text : Text) (at : ℕ) → IsLaid text at → is_clean_cut (take at text) ≡ true
-laid_clean text at laid = go laid.margin
+-- how many lexemes its line end is
+abbrev pub line_count : {text : Text} {pieces : List Piece} {n : ℕ} → MarginAt text pieces n → ℕ
+line_count (First none zero_len) = 0
+line_count (Behind begun counted found) = 1
+
+-- The text in front of such a place, as it is read.
+record Front (text : Text) (at : ℕ) (laid : IsLaid text at) : Type 0 where
+  line : List Lexeme
+  count : length line ≡ line_count laid.margin
+  reads : IsReading language nothing (take at text) laid.pieces
+  lays : LaysOut (after_all nothing laid.pieces) (drop (pieces_len laid.pieces) (take at text)) laid.n line
+
+front_of : (text : Text) (at : ℕ) (laid : IsLaid text at) → Front text at laid
+front_of text at laid =
+    let found = go laid.margin in
+    record { line = found.0; count = found.1; reads = reads; lays = found.2 }
   where
     front : Text
     front = take at text
@@ -245,14 +299,24 @@ laid_clean text at laid = go laid.margin
     left : drop (pieces_len pieces) text ≡ drop (pieces_len pieces) front ++ behind
     left = ap (drop (pieces_len pieces)) (sym whole) ∙ drop-append-le (pieces_len pieces) front behind (omega (arith, before))
 
-    done : {line : List Lexeme} → LaysOut (after_all nothing pieces) (drop (pieces_len pieces) front) laid.n line → is_clean_cut front ≡ true
-    done {line} at_margin = laid_cut front pieces laid.n line laid.ends reads laid.flat at_margin laid.comments
-
-    go : MarginAt text pieces laid.n → is_clean_cut front ≡ true
-    go (First none zero_len) = done (subst (λ (ps : List Piece). LaysOut (after_all nothing ps) (drop (pieces_len ps) front) laid.n []) (sym none) (subst (λ k. LaysOut nothing front k []) (sym zero_len) (first_laid front)))
+    go : (margin : MarginAt text pieces laid.n) → (line : List Lexeme) × (length line ≡ line_count margin) × LaysOut (after_all nothing pieces) (drop (pieces_len pieces) front) laid.n line
+    go (First none zero_len) = ([], refl, subst (λ (ps : List Piece). LaysOut (after_all nothing ps) (drop (pieces_len ps) front) laid.n []) (sym none) (subst (λ k. LaysOut nothing front k []) (sym zero_len) (first_laid front)))
     go (Behind begun counted found) =
         let again = sym (longest_followed (drop (pieces_len pieces) front) behind (ends_line_drop (pieces_len pieces) front before ends)) ∙ ap (longest_front (class_in language)) (sym left) ∙ found in
-        done (line_laid (after_all nothing pieces) (drop (pieces_len pieces) front) laid.n begun counted again)
+        (line_of laid.n, refl, line_laid (after_all nothing pieces) (drop (pieces_len pieces) front) laid.n begun counted again)
+
+-- There the text in front is a clean cut, …
+pub laid_clean : (text : Text) (at : ℕ) → IsLaid text at → is_clean_cut (take at text) ≡ true
+laid_clean text at laid = let front = front_of text at laid in laid_cut (take at text) laid.pieces laid.n front.line laid.ends front.reads laid.flat front.lays laid.comments
+
+-- … of so many lexemes.
+pub laid_lexemes : (text : Text) (at : ℕ) (laid : IsLaid text at)
+    → length (without_closing (outcome (take at text)).lexemes) ≡ length (lexemes_along 0 laid.pieces) + (line_count laid.margin + length (lines (drop laid.n (drop (pieces_len laid.pieces) (take at text)))))
+laid_lexemes text at laid =
+    let front = front_of text at laid in
+    let all = laid_count (take at text) laid.pieces laid.n front.line laid.ends front.reads laid.flat front.lays laid.comments in
+    let count = front.count in
+    omega (arith, all, count)
 
 -- … and it is nowhere else.
 

@@ -58,7 +58,7 @@ unfolding is_settled situation
 settled_behind earlier history h =
     ap (λ (s : Situation). is_layout s.before && is_outside s.place && s.is_balanced && length s.levels == 0) (situation_behind earlier history h)
 
-ends_behind : (first second : Text) → 0 < length second → ends_with nat_eq (first ++ second) (codes "\n") ≡ ends_with nat_eq second (codes "\n")
+pub ends_behind : (first second : Text) → 0 < length second → ends_with nat_eq (first ++ second) (codes "\n") ≡ ends_with nat_eq second (codes "\n")
 ends_behind first second some =
     let at : length (first ++ second) - 1 ≡ length first + (length second - 1) = omega (arith, length-append first second) in
     ap (λ n. pointwise nat_eq (codes "\n") (drop n (first ++ second))) at ∙ ap (pointwise nat_eq (codes "\n")) (drop-append-add first second (length second - 1))

@@ -1,5 +1,5 @@
 -- What a margin comes to, and what was done about it.
-use Rattle.std.proofs.Common.{◌≡◌, ℕ, ◌+◌, true, false, List, [], ◌∷◌, ◌++◌, ap, ◌∙◌, sym, subst, refl, arith, add_assoc, map, zero-add, drop, Some, None, append_assoc}
+use Rattle.std.proofs.Common.{◌≡◌, ℕ, ◌+◌, Bool, true, false, List, [], ◌∷◌, ◌++◌, ap, ◌∙◌, sym, subst, refl, arith, add_assoc, map, zero-add, drop, Some, None, append_assoc}
 use Rattle.std.specs.Prelude.{option_to_list}
 use Rattle.std.specs.Str.{IsUtf8, IsCharBoundary}
 use Rattle.std.proofs.lemmas.List.{map-append}
@@ -56,32 +56,32 @@ moved_none (lexeme ∷ lexemes) = rw (zero-add lexeme.begin, zero-add lexeme.end
 -- What is still to be handed out
 
 -- of a margin that begins somewhere
-abbrev margin_pending : ℕ → ℕ → Behind → Pending
-margin_pending begin at behind = record { from = begin; to = begin + at; behind = behind }
+abbrev margin_pending : ℕ → ℕ → Behind → Bool → Pending
+margin_pending begin at behind flat = record { from = begin; to = begin + at; behind = behind; is_flat = flat }
 
 module _ (text : Text) (begin : ℕ) (margin : Measured) (utf8 : IsUtf8 text) (here : IsCharBoundary text begin) (same : IsMargin (margin_of (drop begin text)) margin) where
-  pub margin_waits : (levels : List ℕ) (behind : Behind) → behind_lexemes behind ≡ map (moved begin) (margin_indentation levels (margin_of (drop begin text)))
-      → IsPending text (margin_pending begin margin.at behind) × (map (moved begin) (margin_lexemes levels (margin_of (drop begin text))) ≡ pending_lexemes text (margin_pending begin margin.at behind))
+  pub margin_waits : (levels : List ℕ) (behind : Behind) (flat : Bool) → behind_lexemes behind ≡ map (moved begin) (margin_indentation levels (margin_of (drop begin text)))
+      → IsPending text (margin_pending begin margin.at behind flat) × (map (moved begin) (margin_lexemes levels (margin_of (drop begin text))) ≡ pending_lexemes text (margin_pending begin margin.at behind flat))
   unfolding pending_lexemes
-  margin_waits levels behind e =
+  margin_waits levels behind flat e =
       let both = margin_between text begin margin.at utf8 here same.at in (
         are_comments text begin margin.at utf8 here same.at,
         map-append (moved begin) (margin_of (drop begin text)).comments (margin_indentation levels (margin_of (drop begin text))) ∙ rw (both, e) refl,
       )
 
   -- the comments alone
-  pub comments_wait : (behind : Behind) → behind_lexemes behind ≡ [] → IsPending text (margin_pending begin margin.at behind) × (map (moved begin) (margin_of (drop begin text)).comments ≡ pending_lexemes text (margin_pending begin margin.at behind))
+  pub comments_wait : (behind : Behind) (flat : Bool) → behind_lexemes behind ≡ [] → IsPending text (margin_pending begin margin.at behind flat) × (map (moved begin) (margin_of (drop begin text)).comments ≡ pending_lexemes text (margin_pending begin margin.at behind flat))
   unfolding pending_lexemes
-  comments_wait behind none = (
+  comments_wait behind flat none = (
     are_comments text begin margin.at utf8 here same.at,
     rw (margin_between text begin margin.at utf8 here same.at, none) (sym (Rattle.std.proofs.Common.append-nil _)),
   )
 
-pub comments_wait_first : (text : Text) (margin : Measured) → IsUtf8 text → IsMargin (margin_of text) margin → (behind : Behind) → behind_lexemes behind ≡ []
-    → IsPending text (record { from = 0; to = margin.at; behind = behind }) × (map (moved 0) (margin_of text).comments ≡ pending_lexemes text (record { from = 0; to = margin.at; behind = behind }))
-comments_wait_first text margin utf8 same behind none =
-    subst (λ n. IsPending text (record { from = 0; to = n; behind = behind }) × (map (moved 0) (margin_of text).comments ≡ pending_lexemes text (record { from = 0; to = n; behind = behind }))) (zero-add margin.at)
-    (comments_wait text 0 margin utf8 (IsCharBoundary-start text utf8) same behind none)
+pub comments_wait_first : (text : Text) (margin : Measured) → IsUtf8 text → IsMargin (margin_of text) margin → (behind : Behind) (flat : Bool) → behind_lexemes behind ≡ []
+    → IsPending text (record { from = 0; to = margin.at; behind = behind; is_flat = flat }) × (map (moved 0) (margin_of text).comments ≡ pending_lexemes text (record { from = 0; to = margin.at; behind = behind; is_flat = flat }))
+comments_wait_first text margin utf8 same behind flat none =
+    subst (λ n. IsPending text (record { from = 0; to = n; behind = behind; is_flat = flat }) × (map (moved 0) (margin_of text).comments ≡ pending_lexemes text (record { from = 0; to = n; behind = behind; is_flat = flat }))) (zero-add margin.at)
+    (comments_wait text 0 margin utf8 (IsCharBoundary-start text utf8) same behind flat none)
 
 -- What was done
 

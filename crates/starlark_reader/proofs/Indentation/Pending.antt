@@ -232,19 +232,20 @@ comments_later n at (line ∷ ls) =
     let ends : n + at + length (comment_part line) ≡ n + (at + length (comment_part line)) = omega arith in
     rw (begins, ends, next, comments_later n (at + length line) ls) refl
 
+-- the comment-only lines of a margin that begins at a place of a text
+pub margin_lines : (text : Text) (begin at : ℕ) → at ≡ (margin_of (drop begin text)).at → lines_between text begin (begin + at) ≡ comment_lines (drop begin text)
+unfolding margin_of
+margin_lines text begin at same =
+    let len : begin + at - begin ≡ lines_sum (comment_lines (drop begin text)) = omega (arith, same) in
+    ap (λ n. lines (take n (drop begin text))) len ∙ front_lines (lines (drop begin text)) (drop begin text) refl
+
 -- a margin that begins at a place of a text
 module _ (text : Text) (begin at : ℕ) (utf8 : IsUtf8 text) (here : IsCharBoundary text begin) (same : at ≡ (margin_of (drop begin text)).at) where
-  margin_lines : lines_between text begin (begin + at) ≡ comment_lines (drop begin text)
-  unfolding margin_of
-  margin_lines =
-      let len : begin + at - begin ≡ lines_sum (comment_lines (drop begin text)) = omega (arith, same) in
-      ap (λ n. lines (take n (drop begin text))) len ∙ front_lines (lines (drop begin text)) (drop begin text) refl
-
   -- its comments
   pub margin_between : map (moved begin) (margin_of (drop begin text)).comments ≡ comments_from begin (lines_between text begin (begin + at))
   margin_between =
       let start : begin + 0 ≡ begin = omega arith in
-      ap (map (moved begin)) (margin_comments (drop begin text)) ∙ sym (comments_later begin 0 (comment_lines (drop begin text))) ∙ ap (λ n. comments_from n (comment_lines (drop begin text))) start ∙ ap (comments_from begin) (sym margin_lines)
+      ap (map (moved begin)) (margin_comments (drop begin text)) ∙ sym (comments_later begin 0 (comment_lines (drop begin text))) ∙ ap (λ n. comments_from n (comment_lines (drop begin text))) start ∙ ap (comments_from begin) (sym (margin_lines text begin at same))
 
   pub are_comments : IsComments text begin (begin + at)
   are_comments =
@@ -253,6 +254,6 @@ module _ (text : Text) (begin at : ℕ) (utf8 : IsUtf8 text) (here : IsCharBound
       record {
         order = omega arith;
         inside = (boundary_shift text begin at here last).0;
-        comments = subst (AllByRecursion (λ (line : Text). is_comment_only line ≡ true)) (sym margin_lines) (all_pass (lines (drop begin text)));
+        comments = subst (AllByRecursion (λ (line : Text). is_comment_only line ≡ true)) (sym (margin_lines text begin at same)) (all_pass (lines (drop begin text)));
         edges = subst (AllByRecursion (AtBoundaries text)) margin_between (edges_shift text begin (margin_of (drop begin text)).comments here edges.comments);
       }

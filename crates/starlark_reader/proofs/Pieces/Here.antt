@@ -49,6 +49,7 @@ kept_here text history old new here kept = record {
   boundary = rw here.at kept.boundary;
   few = rw (here.nesting, here.at) kept.few;
   onward = ap (λ at. history_from history (drop at text)) here.at ∙ kept.onward;
+  read = rw here.at kept.read;
 }
 
 -- a piece here has some bytes, and all of them lie inside

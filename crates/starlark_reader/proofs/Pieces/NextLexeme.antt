@@ -1,14 +1,15 @@
 -- What a reader hands out next.
-use Rattle.std.proofs.Common.{◌≡◌, ℕ, List, [], ◌∷◌, ◌++◌, map, drop, refl, sym, ap, subst, ◌∙◌, None, Some, ◌⊎◌, inl, inr}
+use Rattle.std.proofs.Common.{◌≡◌, ℕ, ◌<◌, length, arith, List, [], ◌∷◌, ◌++◌, map, drop, refl, sym, ap, subst, ◌∙◌, None, Some, ◌⊎◌, inl, inr}
 use Rattle.std.specs.Prelude.{Option}
 use Rattle.starlark_grammar.specs.Words.{Text, language}
 use Rattle.starlark_grammar.specs.Tokens.{Fault, Lexeme, Outcome, Spanned}
 use Rattle.starlark_grammar.specs.Pieces.{Piece, Step, Stands, Fails, Ends}
 use Rattle.starlark_grammar.specs.Reading.{History, lexemes_along, outcome, outcome_in, outcome_of, read, read_from}
 use Rattle.starlark_reader.specs.Lexemes.{fault_view, shown_lexeme}
+use Rattle.starlark_reader.specs.Joints.MarginCuts.{IsLinePassed, IsMarginAhead}
 use Rattle.starlark_reader.specs.Joints.Nesting.{bracket_count}
 use Rattle.starlark_reader.specs.Joints.Pending.{IsFirst, IsIdle, pending_lexemes}
-use Rattle.starlark_reader.specs.Joints.Reader.{IsAhead, IsAheadBehind, IsStateAfter, IsLeft, IsOver, IsReady, IsSomething, history_of, outcome_along, remaining_outcome}
+use Rattle.starlark_reader.specs.Joints.Reader.{begins_with_tab, has_read_none, IsAhead, IsAheadBehind, IsStateAfter, IsLeft, IsOver, IsReady, IsSomething, history_of, outcome_along, remaining_outcome}
 use Rattle.starlark_token.specs.TokenViews.{TokenView}
 use Rattle.starlark_token.specs.declared.lexeme_error.LexemeError.{LexemeError}
 use Rattle.starlark_token.specs.declared.tokens.Token.{Token}
@@ -17,12 +18,13 @@ use Rattle.starlark_reader.specs.declared.reader.Stage.{Stage}
 use Rattle.starlark_reader.specs.declared.reader.Stage.TheVariants as stage
 use Rattle.starlark_reader.specs.declared.layout.pending.Pending.{Pending}
 use Rattle.starlark_reader.proofs.Pieces.Here.{IsHere, kept_here}
+use Rattle.starlark_reader.proofs.Pieces.MarginCuts.{passed_cut}
 use Rattle.starlark_reader.proofs.Pieces.Taken.{none_before}
 
 pub same_left : (text : Text) (old new : Reader) (stage : Stage) (left : Outcome) → IsHere old new → IsLeft text old stage left → IsLeft text new stage left
-same_left text old new stage.Begin left here h = (h.0, here.at ∙ h.1, rw here.nesting h.2, here.levels ∙ h.3, ap bracket_count here.nesting ∙ h.4)
+same_left text old new stage.Begin left here h = (h.0, here.at ∙ h.1, rw here.nesting h.2, here.levels ∙ h.3, ap bracket_count here.nesting ∙ h.4, here.before ∙ h.5)
 same_left text old new stage.Onward left here h = (h.0, kept_here text h.0 old new here h.1, h.2 ∙ ap (λ at. remaining_outcome h.0 at (drop at text)) (sym here.at))
-same_left text old new (stage.Fault begin fault end) left here h = h
+same_left text old new (stage.Fault begin fault end) left here h = (h.0, h.1, h.2, rw (here.at, here.before) h.3)
 same_left text old new stage.Closed left here h = (h.0, kept_here text (history_of text) old new here h.1)
 
 -- what is ahead of a reader is ahead of one that stands where it does
@@ -33,12 +35,15 @@ ahead_here text old new lexemes fault here same pending ahead = record {
   is_pending = rw pending ahead.is_pending;
   ahead = ahead.ahead ∙ ap (λ (p : Pending). map shown_lexeme (pending_lexemes text p) ++ map shown_lexeme ahead.left.lexemes) (sym pending);
   behind_them = ahead.behind_them;
+  cut = λ on layout flat inside.
+      subst (λ (p : Pending). IsMarginAhead text p (length lexemes)) (sym pending)
+      (ahead.cut (sym same ∙ on) (sym here.before ∙ layout) (ap (λ (p : Pending). p.is_flat) (sym pending) ∙ flat) (subst (λ (p : Pending). p.from < length text) pending inside));
 }
 
 -- the first lexeme that was read and is to be handed out
-pub lexeme_next : (text : Text) (old new : Reader) (x : ℕ × Token × ℕ) (lexemes : List (Spanned TokenView)) (fault : Option (Spanned Fault)) → IsHere old new → new.stage ≡ old.stage → IsFirst text old.pending new.pending (Some x)
+pub lexeme_next : (text : Text) (old new : Reader) (x : ℕ × Token × ℕ) (lexemes : List (Spanned TokenView)) (fault : Option (Spanned Fault)) → IsHere old new → new.stage ≡ old.stage → IsFirst text old.pending new.pending (Some x) → IsLinePassed text old.pending new.pending (Some x)
     → IsAhead text old old.stage lexemes fault → IsAheadBehind text (Some x) new lexemes fault
-lexeme_next text old new x lexemes fault here same first ahead = (
+lexeme_next text old new x lexemes fault here same first lines ahead = (
   map shown_lexeme (pending_lexemes text new.pending) ++ map shown_lexeme ahead.left.lexemes,
   ahead.ahead ∙ ap (λ vs. vs ++ map shown_lexeme ahead.left.lexemes) first.1,
   record {
@@ -47,16 +52,20 @@ lexeme_next text old new x lexemes fault here same first ahead = (
     is_pending = first.0;
     ahead = refl;
     behind_them = ahead.behind_them;
+    cut = λ on layout flat inside.
+        let passed = lines flat in
+        passed_cut text old.pending new.pending (length (map shown_lexeme (pending_lexemes text new.pending) ++ map shown_lexeme ahead.left.lexemes)) ahead.is_pending passed inside
+        (subst (IsMarginAhead text old.pending) (ap length (ahead.ahead ∙ ap (λ vs. vs ++ map shown_lexeme ahead.left.lexemes) first.1)) (ahead.cut (sym same ∙ on) (sym here.before ∙ layout) passed.flat (omega (arith, passed.from, inside))));
   },
 )
 
 -- what comes behind the last lexeme
 pub fault_next : (text : Text) (reader : Reader) (lexemes : List (Spanned TokenView)) (fault : Option (Spanned Fault)) (begin : ℕ) (error : LexemeError) (end : ℕ) → IsIdle text reader.pending → reader.stage ≡ stage.Fault begin error end → IsAhead text reader reader.stage lexemes fault
-    → (node : Fault) × (fault_view error ≡ Some node) × (lexemes ≡ []) × (fault ≡ Some (record { begin = begin; node = node; end = end }))
+    → (node : Fault) × (fault_view error ≡ Some node) × (lexemes ≡ []) × (fault ≡ Some (record { begin = begin; node = node; end = end })) × (has_read_none reader ≡ begins_with_tab text)
 fault_next text reader lexemes fault begin error end idle e ahead =
     let is = subst (λ (s : Stage). IsLeft text reader s ahead.left) e ahead.is_left in
     let both = none_before text reader reader.stage lexemes fault _ idle ahead is.2 in
-    (is.0, is.1, both.0, both.1)
+    (is.0, is.1, both.0, both.1, is.3)
 
 pub nothing_next : (text : Text) (old new : Reader) (lexemes : List (Spanned TokenView)) (fault : Option (Spanned Fault)) → IsHere old new → IsIdle text old.pending → new.pending ≡ old.pending → old.stage ≡ stage.Closed → new.stage ≡ stage.Closed
     → IsAhead text old old.stage lexemes fault → (lexemes ≡ []) × (fault ≡ None) × IsAhead text new new.stage [] None × IsStateAfter text (history_of text) new
@@ -72,6 +81,7 @@ nothing_next text old new lexemes fault here idle same e e_now ahead =
         is_pending = rw same idle.0;
         ahead = ap (λ ls. map shown_lexeme ls ++ []) (sym (ap (pending_lexemes text) same ∙ idle.1));
         behind_them = refl;
+        cut = λ on. let over_now : stage.Closed ≡ stage.Onward = sym e_now ∙ on in cc;
       },
       kept,
     )

@@ -132,7 +132,7 @@ pub nothing_taken : (text : Text) (history : History) (old new : Reader) (len : 
     → new ≡ record old { at = old.at + len; before = silent_sort is_gap; stage = stage.Onward } → IsRead text (left_here text history old) None new
 nothing_taken text history old new len true utf8 kept stands idle is =
     let here = piece_here text history old (nothing_piece len true) kept stands in
-    rw is (took text history old None _ (nothing_piece len true) utf8 kept stands kept.nesting (kept.levels ∙ ap open_widths (sym (append-nil history.widths))) refl refl (omega (arith, kept.few, here.0)) refl (hands_none text old.pending idle))
+    rw is (took text history old None _ (nothing_piece len true) utf8 kept stands refl kept.nesting (kept.levels ∙ ap open_widths (sym (append-nil history.widths))) refl refl (omega (arith, kept.few, here.0)) refl (hands_none text old.pending idle))
 nothing_taken text history old new len false utf8 kept stands idle is =
     let here = piece_here text history old (nothing_piece len false) kept stands in
-    rw is (took text history old None _ (nothing_piece len false) utf8 kept stands kept.nesting (kept.levels ∙ ap open_widths (sym (append-nil history.widths))) refl refl (omega (arith, kept.few, here.0)) refl (hands_none text old.pending idle))
+    rw is (took text history old None _ (nothing_piece len false) utf8 kept stands refl kept.nesting (kept.levels ∙ ap open_widths (sym (append-nil history.widths))) refl refl (omega (arith, kept.few, here.0)) refl (hands_none text old.pending idle))

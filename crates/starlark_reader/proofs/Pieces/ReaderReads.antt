@@ -83,12 +83,12 @@ first_failed_reads text after owes old new begin fault end has stage reads owing
 -- what is kept of a history doesn't speak of reads
 pub state_reads : (text : Text) (history : History) (reader : Reader) (reads : ℕ) → IsStateAfter text history reader → IsStateAfter text history (record reader { reads = reads })
 state_reads text history reader reads state =
-    record { nesting = state.nesting; levels = state.levels; before = state.before; inside = state.inside; boundary = state.boundary; few = state.few; onward = state.onward }
+    record { nesting = state.nesting; levels = state.levels; before = state.before; inside = state.inside; boundary = state.boundary; few = state.few; onward = state.onward; read = state.read }
 
 pub reads_ahead : (text : Text) (reader : Reader) (reads : ℕ) (stage : Stage) (lexemes : List (Spanned TokenView)) (fault : Option (Spanned Fault)) → IsAhead text reader stage lexemes fault
     → IsAhead text (record reader { reads = reads }) stage lexemes fault
 reads_ahead text reader reads stage lexemes fault ahead =
-    record { left = ahead.left; is_left = by_stage stage ahead.is_left; is_pending = ahead.is_pending; ahead = ahead.ahead; behind_them = ahead.behind_them }
+    record { left = ahead.left; is_left = by_stage stage ahead.is_left; is_pending = ahead.is_pending; ahead = ahead.ahead; behind_them = ahead.behind_them; cut = ahead.cut }
   where
     by_stage : (stage : Stage) → IsLeft text reader stage ahead.left → IsLeft text (record reader { reads = reads }) stage ahead.left
     by_stage stages.Begin left = left

@@ -1,9 +1,11 @@
 -- A reader before and after a piece.
-use Rattle.std.proofs.Common.{◌≡◌, ℕ, zero, suc, ◌+◌, ◌≤◌, ◌<◌, Bool, true, false, not, List, [], ◌∷◌, ◌++◌, length, drop, map, refl, ap, ◌∙◌, sym, subst, Option, Some, None, arith, append-nil, nat_lt}
-use Rattle.std.specs.Prelude.{⊤, ◌&&◌, if◌then◌else◌, count_by, option_map, option_to_list, replicate}
+use Rattle.std.proofs.Common.{◌≡◌, ℕ, zero, suc, ◌+◌, ◌≤◌, ◌<◌, Bool, true, false, not, List, [], ◌∷◌, ◌++◌, length, drop, map, refl, ap, ◌∙◌, sym, subst, Option, Some, None, arith, append-nil, length-append, nat_lt}
+use Rattle.std.specs.Prelude.{⊤, ◌==◌, ◌&&◌, if◌then◌else◌, count_by, option_map, option_to_list, replicate}
 use Rattle.std.specs.List.{AllByRecursion}
 use Rattle.std.specs.Str.{IsCharBoundary, IsUtf8}
-use Rattle.std.proofs.lemmas.List.{length-drop, map-append}
+use Rattle.std.proofs.lemmas.Bool.{and_parts, eqb-true}
+use Rattle.std.proofs.lemmas.List.Sums.{sum_by-cons}
+use Rattle.std.proofs.lemmas.List.{length-drop, length-map, map-append}
 use Rattle.std.proofs.lemmas.Str.{IsCharBoundary-start, IsUtf8-drop}
 use Rattle.starlark_grammar.specs.Words.{Text, language}
 use Rattle.starlark_grammar.specs.Tokens.{Lexeme, Outcome, Spanned, moved}
@@ -11,12 +13,14 @@ use Rattle.starlark_grammar.specs.Tokens as grammar
 use Rattle.starlark_grammar.specs.Depths.{is_any_closing, is_any_opening, open_fstring}
 use Rattle.starlark_grammar.specs.Margins.{Margin, comment_lines, comments_from, fits, has_tab, indentation, is_content, is_widest, margin_len, margin_of, open_widths, width_of}
 use Rattle.starlark_grammar.specs.Pieces.{Ends, Fails, Layout, Piece, Stands, first_margin, line_end, margin_step}
-use Rattle.starlark_grammar.specs.Reading.{History, after, closing, next_step, nothing, outcome, tokens_onto}
+use Rattle.starlark_grammar.specs.Cuts.{is_layout}
+use Rattle.starlark_grammar.specs.Reading.{History, IsReading, after, after_all, closing, next_step, pieces_len, nothing, outcome, tokens_onto}
 use Rattle.starlark_reader.specs.Lexemes.{fault_view, lexeme_view, shown_lexeme}
 use Rattle.starlark_reader.specs.Joints.Layout.{IsRefused, IsTaken}
 use Rattle.starlark_reader.specs.Joints.Pending.{IsIdle, IsPending, pending_lexemes}
 use Rattle.starlark_reader.specs.Joints.Nesting.{Represents, bracket_count, change_by, closes, fstring_of, opens}
-use Rattle.starlark_reader.specs.Joints.Reader.{IsAhead, IsAheadBehind, IsStateAfter, IsLeft, IsRead, before_view, history_from, history_of, left_here, left_to_read, remaining_outcome, step_here}
+use Rattle.starlark_reader.specs.Joints.MarginCuts.{IsOfMargin}
+use Rattle.starlark_reader.specs.Joints.Reader.{begins_with_tab, has_read_none, IsAhead, IsAheadBehind, IsCutAhead, IsReadTo, IsStateAfter, IsLeft, IsRead, before_view, history_from, history_of, left_here, left_to_read, remaining_outcome, step_here}
 use Rattle.starlark_token.specs.TokenViews.{TokenView, Whole, token_view}
 use Rattle.starlark_token.specs.declared.lexeme_error.LexemeError.{LexemeError}
 use Rattle.starlark_reader.specs.declared.nesting.Nesting.{Nesting}
@@ -34,10 +38,12 @@ use Rattle.starlark_grammar.proofs.Lists.{drop-sum}
 use Rattle.starlark_reader.proofs.OpenBrackets.Counts.{closed_onward, fstring_onward, opened_onward}
 use Rattle.starlark_reader.proofs.Pieces.Here.{IsHere, behind_some, kept_here}
 use Rattle.starlark_reader.proofs.Pieces.Onward.{GoesOn, first_fails, first_stands, history_ends, history_first, history_onward, margin_first, onward_ends, onward_fails, onward_stands}
-use Rattle.starlark_grammar.proofs.Reading.Readings.{fault_fits, one_least, piece_fits}
+use Rattle.starlark_grammar.proofs.Reading.Readings.{fault_fits, one_least, piece_fits, started}
+use Rattle.starlark_grammar.proofs.Joining.Tabs.{margin_tab, tab, tab_of}
 use Rattle.starlark_reader.proofs.OpenBrackets.FStrings.{innermost_onward, keeps, outer_onward}
 use Rattle.starlark_grammar.proofs.Reading.Steps.{Each, is_nothing}
 use Rattle.starlark_grammar.proofs.Choices.{either}
+use Rattle.starlark_reader.proofs.Pieces.MarginCuts.{first_ahead_cut, line_ahead_cut, read_first, read_more}
 use Rattle.starlark_reader.proofs.Pieces.Waiting.{Hands, hands_first, hands_later}
 
 -- What is kept is kept behind the text's first margin.
@@ -154,9 +160,9 @@ first_is_quiet text piece e = subst (Each IsLayout (λ fault. ⊤)) e (margin_is
 -- what is kept behind one piece more
 kept_behind : (text : Text) (history : History) (at : ℕ) (new : Reader) (piece : Piece) → IsUtf8 text → IsCharBoundary text at → next_step language history (drop at text) ≡ Stands piece
     → Represents (tokens_onto history.tokens piece.lexemes) new.nesting → new.levels ≡ open_widths (history.widths ++ option_to_list piece.width) → before_view new.before ≡ piece.sort → new.at ≡ at + piece.len → bracket_count new.nesting ≤ new.at
-    → history_from (after history piece) (drop piece.len (drop at text)) ≡ history_of text → IsStateAfter text (after history piece) new
+    → history_from (after history piece) (drop piece.len (drop at text)) ≡ history_of text → IsReadTo text (after history piece) new.at → IsStateAfter text (after history piece) new
 unfolding after
-kept_behind text history at new piece utf8 here stands nesting levels before is_at few onward =
+kept_behind text history at new piece utf8 here stands nesting levels before is_at few onward read =
     let found = piece_bounded history (drop at text) piece (IsUtf8-drop text at utf8 here) stands in
     let end : IsCharBoundary text (at + piece.len) = boundary_shift text at piece.len here found.1 in
     let last : at + piece.len ≤ length text = end.0 in
@@ -168,12 +174,17 @@ kept_behind text history at new piece utf8 here stands nesting levels before is_
       boundary = subst (IsCharBoundary text) (sym is_at) end;
       few = few;
       onward = ap (history_from (after history piece)) (ap (λ n. drop n text) is_at ∙ drop-sum at piece.len text) ∙ onward;
+      read = read;
     }
+
+-- what is known of the cuts of a piece that was read
+abbrev pub IsCutBehind : Text → History → ℕ → Piece → Reader → Type 0
+IsCutBehind text history at piece new = IsCutAhead text new stage.Onward (length (pending_lexemes text new.pending) + length (remaining_outcome (after history piece) (at + piece.len) (drop piece.len (drop at text))).lexemes)
 
 -- a piece was read, by what is left behind it
 read_piece : (text : Text) (whole : Outcome) (history : History) (at : ℕ) (given : Option (ℕ × Token × ℕ)) (new : Reader) (piece : Piece) → GoesOn at piece whole (remaining_outcome (after history piece) (at + piece.len) (drop piece.len (drop at text)))
-    → IsStateAfter text (after history piece) new → new.at ≡ at + piece.len → new.stage ≡ stage.Onward → Hands text given new.pending (map (moved at) piece.lexemes) → IsRead text whole given new
-read_piece text whole history at given new piece goes kept is_at is_onward hands =
+    → IsStateAfter text (after history piece) new → new.at ≡ at + piece.len → new.stage ≡ stage.Onward → Hands text given new.pending (map (moved at) piece.lexemes) → IsCutBehind text history at piece new → IsRead text whole given new
+read_piece text whole history at given new piece goes kept is_at is_onward hands cut =
     let behind : drop piece.len (drop at text) ≡ drop new.at text = sym (drop-sum at piece.len text) ∙ ap (λ n. drop n text) (sym is_at) in
     let rest = remaining_outcome (after history piece) (at + piece.len) (drop piece.len (drop at text)) in
     let left : rest ≡ remaining_outcome (after history piece) new.at (drop new.at text) = ap (λ n. remaining_outcome (after history piece) n (drop piece.len (drop at text))) (sym is_at) ∙ ap (remaining_outcome (after history piece) new.at) behind in
@@ -185,21 +196,29 @@ read_piece text whole history at given new piece goes kept is_at is_onward hands
       fault = goes.fault;
       is_pending = hands.0;
       handed_out = hands.1;
+      cut = subst (λ now. IsCutAhead text new now (length (pending_lexemes text new.pending) + length rest.lexemes)) (sym is_onward) cut;
     }
 
-pub took : (text : Text) (history : History) (old : Reader) (given : Option (ℕ × Token × ℕ)) (new : Reader) (piece : Piece) → IsUtf8 text → IsStateAfter text history old → step_here text history old ≡ Stands piece
+took_by : (text : Text) (history : History) (old : Reader) (given : Option (ℕ × Token × ℕ)) (new : Reader) (piece : Piece) → IsUtf8 text → IsStateAfter text history old → step_here text history old ≡ Stands piece → IsCutBehind text history old.at piece new
     → Represents (tokens_onto history.tokens piece.lexemes) new.nesting → new.levels ≡ open_widths (history.widths ++ option_to_list piece.width) → before_view new.before ≡ piece.sort → new.at ≡ old.at + piece.len → bracket_count new.nesting ≤ new.at
     → new.stage ≡ stage.Onward → Hands text given new.pending (map (moved old.at) piece.lexemes) → IsRead text (left_here text history old) given new
-took text history old given new piece utf8 kept stands nesting levels before is_at few is_onward hands =
+took_by text history old given new piece utf8 kept stands cut nesting levels before is_at few is_onward hands =
     read_piece text (left_here text history old) history old.at given new piece (onward_stands history old.at (drop old.at text) piece (begun text history old kept) stands)
-    (kept_behind text history old.at new piece utf8 kept.boundary stands nesting levels before is_at few (sym (history_onward history (drop old.at text) piece (begun text history old kept) stands) ∙ kept.onward)) is_at is_onward hands
+    (kept_behind text history old.at new piece utf8 kept.boundary stands nesting levels before is_at few (sym (history_onward history (drop old.at text) piece (begun text history old kept) stands) ∙ kept.onward) (read_more text history old.at new.at piece kept.read stands is_at)) is_at is_onward hands cut
 
-pub took_first : (text : Text) (new : Reader) (piece : Piece) → IsUtf8 text → first_margin text ≡ Stands piece
+-- a piece that is no margin
+pub took : (text : Text) (history : History) (old : Reader) (given : Option (ℕ × Token × ℕ)) (new : Reader) (piece : Piece) → IsUtf8 text → IsStateAfter text history old → step_here text history old ≡ Stands piece → is_layout piece.sort ≡ false
+    → Represents (tokens_onto history.tokens piece.lexemes) new.nesting → new.levels ≡ open_widths (history.widths ++ option_to_list piece.width) → before_view new.before ≡ piece.sort → new.at ≡ old.at + piece.len → bracket_count new.nesting ≤ new.at
+    → new.stage ≡ stage.Onward → Hands text given new.pending (map (moved old.at) piece.lexemes) → IsRead text (left_here text history old) given new
+took text history old given new piece utf8 kept stands other nesting levels before =
+    took_by text history old given new piece utf8 kept stands (λ on layout flat inside. let both : true ≡ false = ap is_layout (sym (ap before_view layout) ∙ before) ∙ other in cc) nesting levels before
+
+took_first : (text : Text) (new : Reader) (piece : Piece) → IsUtf8 text → first_margin text ≡ Stands piece → IsCutBehind text nothing 0 piece new
     → Represents (tokens_onto [] piece.lexemes) new.nesting → new.levels ≡ open_widths ([] ++ option_to_list piece.width) → before_view new.before ≡ piece.sort → new.at ≡ 0 + piece.len → bracket_count new.nesting ≤ new.at
     → new.stage ≡ stage.Onward → Hands text None new.pending (map (moved 0) piece.lexemes) → IsRead text (outcome text) None new
-took_first text new piece utf8 stands nesting levels before is_at few is_onward hands =
+took_first text new piece utf8 stands cut nesting levels before is_at few is_onward hands =
     read_piece text (outcome text) nothing 0 None new piece (first_stands text piece stands)
-    (kept_behind text nothing 0 new piece utf8 (IsCharBoundary-start text utf8) (margin_first text ∙ stands) nesting levels before is_at few (sym (history_first text piece stands))) is_at is_onward hands
+    (kept_behind text nothing 0 new piece utf8 (IsCharBoundary-start text utf8) (margin_first text ∙ stands) nesting levels before is_at few (sym (history_first text piece stands)) (read_first text new.at piece stands is_at)) is_at is_onward hands cut
 
 pub piece_inside : (text : Text) (history : History) (old : Reader) (piece : Piece) → IsStateAfter text history old → step_here text history old ≡ Stands piece → (old.at < old.at + piece.len) × (old.at + piece.len ≤ length text)
 piece_inside text history old piece kept stands =
@@ -210,29 +229,82 @@ piece_inside text history old piece kept stands =
     let here = kept.inside in
     (omega (arith, least, some), omega (arith, inside, here, length-drop old.at text))
 
+-- The text's first margin
+
+and_false : (b : Bool) → (b && false) ≡ false
+and_false true = refl
+and_false false = refl
+
+not_zero : (n : ℕ) → 0 < n → (n == 0) ≡ false
+not_zero zero some = absurd (omega (arith, some))
+not_zero (suc n) some = go (suc n == 0) refl
+  where
+    go : (b : Bool) → (suc n == 0) ≡ b → b ≡ false
+    go true e = absurd (omega (arith, eqb-true (suc n) 0 e))
+    go false e = refl
+
+-- one that stands has no tab before content
+pub no_tab : (text : Text) (piece : Piece) → first_margin text ≡ Stands piece → begins_with_tab text ≡ false
+no_tab text piece stands = go (begins_with_tab text) refl
+  where
+    go : (tabbed : Bool) → begins_with_tab text ≡ tabbed → tabbed ≡ false
+    go false e = refl
+    go true e =
+        let parts = and_parts (is_content (margin_of text).behind) (has_tab (margin_of text)) e in
+        let both : Stands piece ≡ Fails tab = sym stands ∙ margin_tab 0 [] [] (margin_of text) (record { content = parts.0; is = parts.1 }) in
+        cc
+
+-- it stands where something was read
+state_begun : (text : Text) (history : History) (reader : Reader) → IsStateAfter text history reader → has_read_none reader ≡ begins_with_tab text
+unfolding after
+state_begun text history reader kept = go kept.read.pieces kept.read.reads kept.read.is_history kept.read.reach
+  where
+    unread : (piece : Piece) (pieces : List Piece) → IsReading language nothing text (piece ∷ pieces) → after_all nothing (piece ∷ pieces) ≡ history → pieces_len (piece ∷ pieces) ≡ reader.at → has_read_none reader ≡ false
+    unread piece [] reads same reach =
+        let layout : before_view reader.before ≡ Layout = kept.before ∙ ap (λ (h : History). h.before) (sym same) ∙ (first_is_quiet text piece (sym (margin_first text) ∙ reads.0)).sort in
+        ap (λ b. reader.at == 0 && not (is_layout b)) layout ∙ and_false (reader.at == 0)
+    unread piece (next ∷ pieces) reads same reach =
+        let first = piece_fits language nothing text piece reads.0 in
+        let least = one_least (after nothing piece).before (started nothing piece first.sort) in
+        let some = (piece_fits language (after nothing piece) (drop piece.len text) next reads.1.0).some in
+        ap (λ b. b && not (is_layout (before_view reader.before))) (not_zero reader.at (omega (arith, reach, sum_by-cons (λ (piece : Piece). piece.len) piece (next ∷ pieces), sum_by-cons (λ (piece : Piece). piece.len) next pieces, least, some)))
+
+    go : (pieces : List Piece) → IsReading language nothing text pieces → after_all nothing pieces ≡ history → pieces_len pieces ≡ reader.at → has_read_none reader ≡ begins_with_tab text
+    go [] reads same reach = let both : true ≡ false = ap (λ (h : History). is_nothing h.before) same ∙ begun text history reader kept in cc
+    go (piece ∷ pieces) reads same reach = unread piece pieces reads same reach ∙ sym (no_tab text piece (sym (margin_first text) ∙ reads.0))
+
+-- a reader that stands where another does
+same_place : (old new : Reader) → new.at ≡ old.at → new.before ≡ old.before → has_read_none new ≡ has_read_none old
+same_place old new at before = ap (λ n. n == 0 && not (is_layout (before_view new.before))) at ∙ ap (λ b. old.at == 0 && not (is_layout (before_view b))) before
+
 -- A fault
 
 -- a fault was read, by the lexemes before it
 read_fault : (text : Text) (whole : Outcome) (at : ℕ) (lexemes : List Lexeme) (new : Reader) (fault : Spanned grammar.Fault) (error : LexemeError) → whole ≡ record { lexemes = lexemes; fault = Some (moved at fault) }
-    → fault_view error ≡ Some fault.node → new.stage ≡ stage.Fault (at + fault.begin) error (at + fault.end) → Hands text None new.pending lexemes → IsRead text whole None new
-read_fault text whole at lexemes new fault error left view is hands = record {
+    → fault_view error ≡ Some fault.node → new.stage ≡ stage.Fault (at + fault.begin) error (at + fault.end) → Hands text None new.pending lexemes → has_read_none new ≡ begins_with_tab text → IsRead text whole None new
+read_fault text whole at lexemes new fault error left view is hands place = record {
   lexemes = lexemes;
   left = record { lexemes = []; fault = Some (moved at fault) };
-  is_left = subst (λ now. IsLeft text new now (record { lexemes = []; fault = Some (moved at fault) })) (sym is) (fault.node, view, refl);
+  is_left = subst (λ now. IsLeft text new now (record { lexemes = []; fault = Some (moved at fault) })) (sym is) (fault.node, view, refl, place);
   parts = ap (λ (o : Outcome). o.lexemes) left ∙ sym (append-nil lexemes);
   fault = ap (λ (o : Outcome). o.fault) left;
   is_pending = hands.0;
   handed_out = hands.1;
+  cut = λ on. let over : stage.Fault (at + fault.begin) error (at + fault.end) ≡ stage.Onward = sym is ∙ on in cc;
 }
 
 pub failed : (text : Text) (history : History) (old new : Reader) (fault : Spanned grammar.Fault) (error : LexemeError) → IsStateAfter text history old → step_here text history old ≡ Fails fault → fault_view error ≡ Some fault.node
-    → new.stage ≡ stage.Fault (old.at + fault.begin) error (old.at + fault.end) → Hands text None new.pending [] → IsRead text (left_here text history old) None new
-failed text history old new fault error kept fails view is hands =
-    read_fault text (left_here text history old) old.at [] new fault error (onward_fails history old.at (drop old.at text) fault (begun text history old kept) fails) view is hands
+    → new.stage ≡ stage.Fault (old.at + fault.begin) error (old.at + fault.end) → Hands text None new.pending [] → new.at ≡ old.at → new.before ≡ old.before → IsRead text (left_here text history old) None new
+failed text history old new fault error kept fails view is hands at before =
+    read_fault text (left_here text history old) old.at [] new fault error (onward_fails history old.at (drop old.at text) fault (begun text history old kept) fails) view is hands (same_place old new at before ∙ state_begun text history old kept)
 
 pub failed_first : (text : Text) (new : Reader) (fault : Spanned grammar.Fault) (error : LexemeError) → first_margin text ≡ Fails fault → fault_view error ≡ Some fault.node
-    → new.stage ≡ stage.Fault (0 + fault.begin) error (0 + fault.end) → Hands text None new.pending (margin_of text).comments → IsRead text (outcome text) None new
-failed_first text new fault error fails view is hands = read_fault text (outcome text) 0 (margin_of text).comments new fault error (first_fails text fault fails) view is hands
+    → new.stage ≡ stage.Fault (0 + fault.begin) error (0 + fault.end) → Hands text None new.pending (margin_of text).comments → new.at ≡ 0 → new.before ≡ sort.Other → IsRead text (outcome text) None new
+failed_first text new fault error fails view is hands at before =
+    let has = tab_of (margin_of text) fault fails in
+    let tabbed : begins_with_tab text ≡ true = rw (has.content, has.is) refl in
+    let none : has_read_none new ≡ true = rw (at, before) refl in
+    read_fault text (outcome text) 0 (margin_of text).comments new fault error (first_fails text fault fails) view is hands (none ∙ sym tabbed)
 
 pub fault_inside : (text : Text) (history : History) (old : Reader) (fault : Spanned grammar.Fault) → IsStateAfter text history old → step_here text history old ≡ Fails fault → (old.at + fault.begin ≤ length text) × (old.at + fault.end ≤ length text)
 fault_inside text history old fault kept fails =
@@ -256,6 +328,7 @@ closed text history old given new here kept ends hands is =
       fault = ap (λ (o : Outcome). o.fault) left;
       is_pending = hands.0;
       handed_out = hands.1;
+      cut = λ on. let over : stage.Closed ≡ stage.Onward = sym is ∙ on in cc;
     }
 
 -- what closes a text
@@ -267,6 +340,9 @@ closing_hands text history at count levels pending found is open_now counted wai
     (ap (λ view. record { begin = at; node = view; end = at }) is) (sym (waits.0 ∙ ap (λ n. replicate n (record { begin = at; node = grammar.Dedent; end = at })) total))
 
 -- What is ahead, where something was read
+
+both_count : (one other : List Lexeme) → length one + length other ≡ length (map shown_lexeme one ++ map shown_lexeme other)
+both_count one other = omega (arith, length-append (map shown_lexeme one) (map shown_lexeme other), length-map one shown_lexeme, length-map other shown_lexeme)
 
 pub read_ahead : (text : Text) (whole : Outcome) (given : Option (ℕ × Token × ℕ)) (new : Reader) (lexemes : List (Spanned TokenView)) (fault : Option (Spanned grammar.Fault)) → IsRead text whole given new
     → lexemes ≡ map shown_lexeme whole.lexemes → fault ≡ whole.fault → IsAheadBehind text given new lexemes fault
@@ -282,6 +358,7 @@ read_ahead text whole given new lexemes fault read ahead behind = by given read.
       is_pending = read.is_pending;
       ahead = parts ∙ ap (λ vs. vs ++ map shown_lexeme read.left.lexemes) e;
       behind_them = behind ∙ read.fault;
+      cut = subst (IsCutAhead text new new.stage) (both_count (pending_lexemes text new.pending) read.left.lexemes ∙ ap length (sym (parts ∙ ap (λ vs. vs ++ map shown_lexeme read.left.lexemes) e))) read.cut;
     }
     by (Some x) e = (
       map shown_lexeme (pending_lexemes text new.pending) ++ map shown_lexeme read.left.lexemes,
@@ -292,6 +369,7 @@ read_ahead text whole given new lexemes fault read ahead behind = by given read.
         is_pending = read.is_pending;
         ahead = refl;
         behind_them = behind ∙ read.fault;
+        cut = subst (IsCutAhead text new new.stage) (both_count (pending_lexemes text new.pending) read.left.lexemes) read.cut;
       },
     )
 
@@ -314,6 +392,10 @@ less_closed text old new is =
     subst (λ now. left_to_read text new now < left_to_read text old stage.Onward) (sym is) none
 
 -- Margins, as they were read
+
+none_open : (levels : List ℕ) → (length levels == 0) ≡ true → levels ≡ []
+none_open [] h = refl
+none_open (level ∷ levels) h = absurd (omega (arith, eqb-true (length (level ∷ levels)) 0 h))
 
 module _ (text : Text) (history : History) (old : Reader) (len : ℕ) (kept : IsStateAfter text history old)
     (here : step_here text history old ≡ line_end len (open_widths history.widths) (drop len (drop old.at text))) where
@@ -339,21 +421,23 @@ module _ (text : Text) (history : History) (old : Reader) (len : ℕ) (kept : Is
   line_less new taken is is_at = less_taken text history old new taken.piece kept (line_here ∙ taken.stands) is (is_at ∙ ap (λ n. old.at + n) (sym taken.whole))
 
   pub line_taken : (new : Reader) (whole : ℕ) (found : Token) → token_view found ≡ Whole grammar.Newline → IsUtf8 text → IsTaken text old.at (line_end len (open_widths history.widths) (drop (old.at + len) text)) given_line history.widths new.levels new.pending whole
-      → new.nesting ≡ old.nesting → new.before ≡ sort.Layout → new.at ≡ old.at + whole → new.stage ≡ stage.Onward → IsRead text (left_here text history old) (Some (old.at, found, old.at + len)) new
-  line_taken new whole found is utf8 taken nesting before is_at is_onward =
+      → IsOfMargin (old.at + len) (margin_of (drop (old.at + len) text)).at old.levels new.pending → new.nesting ≡ old.nesting → new.before ≡ sort.Layout → new.at ≡ old.at + whole → new.stage ≡ stage.Onward → IsRead text (left_here text history old) (Some (old.at, found, old.at + len)) new
+  line_taken new whole found is utf8 taken of nesting before is_at is_onward =
       let stands : step_here text history old ≡ Stands taken.piece = line_here ∙ taken.stands in
       let layout = line_is_quiet len (open_widths history.widths) (drop (old.at + len) text) taken.piece taken.stands in
       let few : bracket_count old.nesting ≤ new.at = omega (arith, kept.few, is_at) in
       let hands : Hands text (Some (old.at, found, old.at + len)) new.pending (map (moved old.at) taken.piece.lexemes) =
       rw taken.lexemes (hands_first text new.pending (old.at, found, old.at + len) (record { begin = old.at; node = grammar.Newline; end = old.at + len }) (pending_lexemes text new.pending) taken.is_pending
       (ap (λ view. record { begin = old.at; node = view; end = old.at + len }) is) refl) in
-      took text history old (Some (old.at, found, old.at + len)) new taken.piece utf8 kept stands
+      let cut : IsCutBehind text history old.at taken.piece new = λ on layout_now flat inside.
+      line_ahead_cut text history old.at len taken.piece kept.read (begun text history old kept) stands taken.stands (ap is_layout layout.sort) (sym kept.levels ∙ none_open old.levels (sym of.flat ∙ flat)) old.levels (record { begin = old.at; node = grammar.Newline; end = old.at + len }) new.pending of taken.lexemes in
+      took_by text history old (Some (old.at, found, old.at + len)) new taken.piece utf8 kept stands cut
       (rw nesting (quiet_kept taken.piece.lexemes history.tokens old.nesting layout.tokens kept.nesting)) taken.open_now (ap before_view before ∙ sym layout.sort) (is_at ∙ ap (λ n. old.at + n) (sym taken.whole)) (rw nesting few) is_onward hands
 
   pub line_refused : (new : Reader) (error : LexemeError) (end : ℕ) → IsRefused text (line_end len (open_widths history.widths) (drop (old.at + len) text)) [] history.widths new.levels new.pending error end
-      → new.stage ≡ stage.Fault (old.at + 0) error (old.at + end) → IsRead text (left_here text history old) None new
-  line_refused new error end refused is =
-      failed text history old new (record { begin = 0; node = refused.node; end = end }) error kept (line_here ∙ refused.stands) refused.is is (hands_later text new.pending [] refused.is_pending refused.lexemes)
+      → new.stage ≡ stage.Fault (old.at + 0) error (old.at + end) → new.at ≡ old.at → new.before ≡ old.before → IsRead text (left_here text history old) None new
+  line_refused new error end refused is at before =
+      failed text history old new (record { begin = 0; node = refused.node; end = end }) error kept (line_here ∙ refused.stands) refused.is is (hands_later text new.pending [] refused.is_pending refused.lexemes) at before
 
 -- Nothing is kept yet.
 pub record IsNew (reader : Reader) : Type 0 where
@@ -361,21 +445,23 @@ pub record IsNew (reader : Reader) : Type 0 where
   pub nesting : Represents [] reader.nesting
   pub levels : reader.levels ≡ []
   pub few : bracket_count reader.nesting ≡ 0
+  pub before : reader.before ≡ sort.Other
 
 module _ (text : Text) (old new : Reader) (is_new : IsNew old) where
   pub margin_taken : (whole : ℕ) → IsUtf8 text → IsTaken text 0 (first_margin text) [] [] new.levels new.pending whole
-      → new.nesting ≡ old.nesting → new.before ≡ sort.Layout → new.at ≡ old.at + whole → new.stage ≡ stage.Onward → IsRead text (outcome text) None new
-  margin_taken whole utf8 taken nesting before is_at is_onward =
+      → IsOfMargin 0 (margin_of (drop 0 text)).at old.levels new.pending → new.nesting ≡ old.nesting → new.before ≡ sort.Layout → new.at ≡ old.at + whole → new.stage ≡ stage.Onward → IsRead text (outcome text) None new
+  margin_taken whole utf8 taken of nesting before is_at is_onward =
       let layout = first_is_quiet text taken.piece taken.stands in
       let few : bracket_count old.nesting ≤ new.at = omega (arith, is_new.few) in
       let end : new.at ≡ 0 + taken.piece.len = omega (arith, is_at, is_new.at, taken.whole) in
-      took_first text new taken.piece utf8 taken.stands
+      let cut : IsCutBehind text nothing 0 taken.piece new = λ on layout_now flat inside. first_ahead_cut text old.levels taken.piece new.pending taken.stands of taken.lexemes in
+      took_first text new taken.piece utf8 taken.stands cut
       (rw nesting (quiet_kept taken.piece.lexemes [] old.nesting layout.tokens is_new.nesting)) taken.open_now (ap before_view before ∙ sym layout.sort) end (rw nesting few) is_onward (hands_later text new.pending _ taken.is_pending taken.lexemes)
 
   pub margin_refused : (error : LexemeError) (end : ℕ) → IsRefused text (first_margin text) (margin_of text).comments [] new.levels new.pending error end
-      → new.stage ≡ stage.Fault (old.at + 0) error (old.at + end) → IsRead text (outcome text) None new
-  margin_refused error end refused is =
-      failed_first text new (record { begin = 0; node = refused.node; end = end }) error refused.stands refused.is (is ∙ ap (λ n. stage.Fault (n + 0) error (n + end)) is_new.at) (hands_later text new.pending _ refused.is_pending refused.lexemes)
+      → new.stage ≡ stage.Fault (old.at + 0) error (old.at + end) → new.at ≡ old.at → new.before ≡ old.before → IsRead text (outcome text) None new
+  margin_refused error end refused is at before =
+      failed_first text new (record { begin = 0; node = refused.node; end = end }) error refused.stands refused.is (is ∙ ap (λ n. stage.Fault (n + 0) error (n + end)) is_new.at) (hands_later text new.pending _ refused.is_pending refused.lexemes) (at ∙ is_new.at) (before ∙ is_new.before)
 
 -- what is ahead where nothing is to be handed out before it
 pub none_before : (text : Text) (reader : Reader) (now : Stage) (lexemes : List (Spanned TokenView)) (fault : Option (Spanned grammar.Fault)) (left : Outcome) → IsIdle text reader.pending → (ahead : IsAhead text reader now lexemes fault) → ahead.left ≡ left
@@ -392,4 +478,4 @@ first_ahead text old new lexemes fault read idle ahead =
     read_ahead text (outcome text) None new lexemes fault read both.0 both.1
 
 pub new_ahead : (text : Text) (old : Reader) (lexemes : List (Spanned TokenView)) (fault : Option (Spanned grammar.Fault)) → IsAhead text old stage.Begin lexemes fault → IsNew old
-new_ahead text old lexemes fault ahead = record { at = ahead.is_left.1; nesting = ahead.is_left.2; levels = ahead.is_left.3; few = ahead.is_left.4 }
+new_ahead text old lexemes fault ahead = record { at = ahead.is_left.1; nesting = ahead.is_left.2; levels = ahead.is_left.3; few = ahead.is_left.4; before = ahead.is_left.5 }

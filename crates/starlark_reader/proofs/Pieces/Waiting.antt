@@ -1,5 +1,5 @@
 -- Lexemes that are still to be handed out.
-use Rattle.std.proofs.Common.{arith, ◌≡◌, ℕ, ◌+◌, ◌<◌, ◌≤◌, List, [], ◌∷◌, ◌++◌, ap, sym, ◌∙◌, map, refl, Some, None}
+use Rattle.std.proofs.Common.{arith, ◌≡◌, Bool, false, ℕ, ◌+◌, ◌<◌, ◌≤◌, List, [], ◌∷◌, ◌++◌, ap, sym, ◌∙◌, map, refl, Some, None}
 use Rattle.std.specs.Prelude.{Option, Result, Ok, Err, OnErr, option_to_list}
 use Rattle.starlark_grammar.specs.Words.{Text}
 use Rattle.starlark_grammar.specs.Margins.{comment_of, comments_from}
@@ -12,7 +12,7 @@ use Rattle.starlark_token.specs.declared.tokens.Token.{Token}
 use Rattle.starlark_reader.proofs.Indentation.Pending.{no_comments, no_lines_between, some_lines}
 
 -- the first of the comments
-pub comment_first : (text : Text) (old : Pending) (found : ℕ × Token × ℕ) (len : ℕ) → IsFirstComment text old.from old.to found len → IsFirst text old (record { from = old.from + len; to = old.to; behind = old.behind }) (Some found)
+pub comment_first : (text : Text) (old : Pending) (found : ℕ × Token × ℕ) (len : ℕ) → IsFirstComment text old.from old.to found len → IsFirst text old (record { from = old.from + len; to = old.to; behind = old.behind; is_flat = old.is_flat }) (Some found)
 unfolding pending_lexemes
 comment_first text old found len is =
     let later = comments_from (old.from + len) (lines_between text (old.from + len) old.to) in
@@ -32,10 +32,11 @@ comments_left text old is some none = go (lines_between text old.from old.to) re
     go (l ∷ ls) e h = cc
 
 -- where no comments are, what stands behind them
-pub behind_first : (text : Text) (old : Pending) (new : Behind) (found : Option (ℕ × Token × ℕ)) → IsPending text old → old.to ≤ old.from → IsFirstBehind old.behind new found → IsFirst text old (record { from = old.from; to = old.to; behind = new }) found
+pub behind_first : (text : Text) (old : Pending) (new : Behind) (flat : Bool) (found : Option (ℕ × Token × ℕ)) → IsPending text old → old.to ≤ old.from → IsFirstBehind old.behind new found → (found ≡ None → flat ≡ old.is_flat)
+    → IsFirst text old (record { from = old.from; to = old.to; behind = new; is_flat = flat }) found
 unfolding pending_lexemes
-behind_first text old new None is none h = (rw (no_lines_between text old.from old.to none) h.0, rw h.1 refl)
-behind_first text old new (Some found) is none h = (is, rw (no_lines_between text old.from old.to none) h)
+behind_first text old new flat None is none h same = (rw (no_lines_between text old.from old.to none) h.0, rw (h.1, same refl) refl)
+behind_first text old new flat (Some found) is none h same = (is, rw (no_lines_between text old.from old.to none) h)
 
 -- nothing is left where no comments are and nothing stands behind them
 pub nothing_left : (text : Text) (pending : Pending) → pending.to ≤ pending.from → behind_lexemes pending.behind ≡ [] → pending_lexemes text pending ≡ []
@@ -65,6 +66,6 @@ pub hands_later : (text : Text) (pending : Pending) (lexemes : List Lexeme) → 
 hands_later text pending lexemes is e = (is, ap (map shown_lexeme) e)
 
 -- what stands behind no comments
-pub only_behind : (text : Text) (behind : Behind) → (pending_lexemes text (record { from = 0; to = 0; behind = behind }) ≡ behind_lexemes behind) × IsPending text (record { from = 0; to = 0; behind = behind })
+pub only_behind : (text : Text) (behind : Behind) → (pending_lexemes text (record { from = 0; to = 0; behind = behind; is_flat = false }) ≡ behind_lexemes behind) × IsPending text (record { from = 0; to = 0; behind = behind; is_flat = false })
 unfolding pending_lexemes
 only_behind text behind = (rw (no_lines_between text 0 0 (omega arith)) refl, no_comments text 0 (omega arith))

@@ -1,16 +1,18 @@
 -- What the reader of a text has in front of it, as the grammar sees it.
-use Rattle.std.specs.Prelude.{◌≡◌, Bool, true, false, ℕ, ◌+◌, ◌-◌, ◌≤◌, List, [], ◌∷◌, ◌++◌, map, length, drop, Option, Some, None, option_to_list, ⊤}
+use Rattle.std.specs.Prelude.{◌≡◌, ◌==◌, ◌&&◌, not, Bool, true, false, ℕ, ◌+◌, ◌-◌, ◌≤◌, ◌<◌, List, [], ◌∷◌, ◌++◌, map, length, drop, Option, Some, None, option_to_list, ⊤}
 use Rattle.std.specs.Str.{IsCharBoundary}
 use Rattle.starlark_grammar.specs.Words.{Text, language}
 use Rattle.starlark_grammar.specs.Tokens as grammar
-use Rattle.starlark_grammar.specs.Margins.{open_widths}
+use Rattle.starlark_grammar.specs.Margins.{has_tab, is_content, margin_of, open_widths}
+use Rattle.starlark_grammar.specs.Cuts.{is_layout}
 use Rattle.starlark_grammar.specs.Depths.{mode_after}
 use Rattle.starlark_grammar.specs.Front.{language_front}
 use Rattle.starlark_grammar.specs.Pieces.{Before, Gap, Layout, Other, Step, Piece, Fails, is_bang}
 use Rattle.starlark_scanner.specs.Joints.Words.{word_view}
 use Rattle.starlark_scanner.specs.declared.scanner.word.Word.{Word}
-use Rattle.starlark_grammar.specs.Reading.{History, Reading, after_all, nothing, pieces_len, lexemes_along, closing, next_step, read, read_from, outcome}
+use Rattle.starlark_grammar.specs.Reading.{History, IsReading, Reading, after_all, nothing, pieces_len, lexemes_along, closing, next_step, read, read_from, outcome}
 use Rattle.starlark_reader.specs.Lexemes.{fault_view, lexeme_view, shown_lexeme}
+use Rattle.starlark_reader.specs.Joints.MarginCuts.{IsMarginAhead}
 use Rattle.starlark_reader.specs.Joints.Pending.{IsIdle, IsPending, pending_lexemes}
 use Rattle.starlark_reader.specs.Joints.Nesting.{Represents, bracket_count}
 use Rattle.starlark_reader.specs.Joints.Pieces.{is_code}
@@ -55,6 +57,13 @@ abbrev pub silent_sort : Bool → code.Before
 silent_sort true = before.Gap
 silent_sort false = before.Other
 
+-- Pieces of a text up to a place, behind which a history is that of the text.
+pub record IsReadTo (text : Text) (history : History) (at : ℕ) : Type 0 where
+  pub pieces : List Piece
+  pub reads : IsReading language nothing text pieces
+  pub is_history : after_all nothing pieces ≡ history
+  pub reach : pieces_len pieces ≡ at
+
 -- What is kept of a history before a place is what its tokens, widths and last piece say, and what is read from there on
 -- leads to the history at the text's end.
 pub record IsStateAfter (text : Text) (history : History) (reader : Reader) : Type 0 where
@@ -65,13 +74,27 @@ pub record IsStateAfter (text : Text) (history : History) (reader : Reader) : Ty
   pub boundary : IsCharBoundary text reader.at
   pub few : bracket_count reader.nesting ≤ reader.at
   pub onward : history_from history (drop reader.at text) ≡ history_of text
+  pub read : IsReadTo text history reader.at
+
+-- whether a text's first margin has a tab before content, so that it is a fault
+abbrev pub begins_with_tab : Text → Bool
+begins_with_tab text = is_content (margin_of text).behind && has_tab (margin_of text)
+
+-- whether no piece of a text was read
+abbrev pub has_read_none : Reader → Bool
+has_read_none reader = reader.at == 0 && not (is_layout (before_view reader.before))
 
 -- What is still to be read at a stage: the whole text, the rest from a place on, a fault, or nothing.
 abbrev pub IsLeft : Text → Reader → Stage → grammar.Outcome → Type 0
-IsLeft text reader stage.Begin left = (left ≡ outcome text) × (reader.at ≡ 0) × (Represents [] reader.nesting) × (reader.levels ≡ []) × (bracket_count reader.nesting ≡ 0)
+IsLeft text reader stage.Begin left = (left ≡ outcome text) × (reader.at ≡ 0) × (Represents [] reader.nesting) × (reader.levels ≡ []) × (bracket_count reader.nesting ≡ 0) × (reader.before ≡ before.Other)
 IsLeft text reader stage.Onward left = (history : History) × IsStateAfter text history reader × (left ≡ remaining_outcome history reader.at (drop reader.at text))
-IsLeft text reader (stage.Fault begin fault end) left = (node : grammar.Fault) × (fault_view fault ≡ Some node) × (left ≡ record { lexemes = []; fault = Some (record { begin = begin; node = node; end = end }) })
+IsLeft text reader (stage.Fault begin fault end) left = (node : grammar.Fault) × (fault_view fault ≡ Some node) × (left ≡ record { lexemes = []; fault = Some (record { begin = begin; node = node; end = end }) }) × (has_read_none reader ≡ begins_with_tab text)
 IsLeft text reader stage.Closed left = (left ≡ record { lexemes = []; fault = None }) × IsStateAfter text (history_of text) reader
+
+-- Whether the place that is reached in a margin is one where the text may be cut, where so many lexemes are ahead.
+abbrev pub IsCutAhead : Text → Reader → Stage → ℕ → Type 0
+IsCutAhead text reader now ahead =
+    now ≡ stage.Onward → reader.before ≡ before.Layout → reader.pending.is_flat ≡ true → reader.pending.from < length text → IsMarginAhead text reader.pending ahead
 
 -- What is still to be handed out of a text: the lexemes that were read, those still to be read, and the fault behind
 -- them.
@@ -81,6 +104,7 @@ pub record IsAhead (text : Text) (reader : Reader) (stage : Stage) (lexemes : Li
   pub is_pending : IsPending text reader.pending
   pub ahead : lexemes ≡ map shown_lexeme (pending_lexemes text reader.pending) ++ map shown_lexeme left.lexemes
   pub behind_them : fault ≡ left.fault
+  pub cut : IsCutAhead text reader stage (length lexemes)
 
 -- Something is still to be handed out, if only the end.
 abbrev pub IsReady : Text → Reader → Stage → Type 0
@@ -100,6 +124,7 @@ pub record IsRead (text : Text) (whole : grammar.Outcome) (given : Option (ℕ �
   pub fault : whole.fault ≡ left.fault
   pub is_pending : IsPending text new.pending
   pub handed_out : map shown_lexeme lexemes ≡ map lexeme_view (option_to_list given) ++ map shown_lexeme (pending_lexemes text new.pending)
+  pub cut : IsCutAhead text new new.stage (length (pending_lexemes text new.pending) + length left.lexemes)
 
 -- the step that stands where a reader is, behind a history
 abbrev pub step_here : Text → History → Reader → Step
@@ -129,7 +154,7 @@ IsSomething lexemes fault = lexemes ≡ [] → fault ≡ None → ⊥
 -- What comes next, and what is ahead behind it: the first lexeme that is ahead, the fault where none is, or neither.
 abbrev pub IsNext : Text → List (grammar.Spanned TokenView) → Option (grammar.Spanned grammar.Fault) → Next → Reader → Type 0
 IsNext text lexemes fault (next.Lexeme lexeme) reader = IsAheadBehind text (Some lexeme) reader lexemes fault
-IsNext text lexemes fault (next.Fault begin error end) reader = (node : grammar.Fault) × (fault_view error ≡ Some node) × (lexemes ≡ []) × (fault ≡ Some (record { begin = begin; node = node; end = end }))
+IsNext text lexemes fault (next.Fault begin error end) reader = (node : grammar.Fault) × (fault_view error ≡ Some node) × (lexemes ≡ []) × (fault ≡ Some (record { begin = begin; node = node; end = end })) × (has_read_none reader ≡ begins_with_tab text)
 IsNext text lexemes fault next.Nothing reader = (lexemes ≡ []) × (fault ≡ None) × IsAhead text reader reader.stage [] None × IsStateAfter text (history_of text) reader
 
 -- A word stands where a reader is, at a place of code, and nothing else is to be handed out before it.

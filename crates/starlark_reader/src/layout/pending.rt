@@ -2,6 +2,7 @@
 
 ghost use Rattle.std.specs.Prelude.{◌≡◌, ◌≤◌, ◌+◌, ◌*◌, [], true, OnErr, IfOk};
 ghost use Rattle.starlark_reader.specs.Joints.Pending.{IsFirst, IsFirstBehind, IsPending, behind_lexemes, owed, pending_lexemes};
+ghost use Rattle.starlark_reader.specs.Joints.MarginCuts.{IsLinePassed};
 ghost use Rattle.starlark_grammar.specs.Words.{Text};
 ghost use Rattle.starlark_scanner.specs.Joints.Reads.{more_reads};
 
@@ -38,6 +39,8 @@ pub struct Pending {
     pub from: usize,
     pub to: usize,
     pub behind: Behind,
+    /// Whether no width is open before the margin of the comments, and nothing behind them was handed out yet.
+    pub is_flat: bool,
 }
 
 impl Behind {
@@ -87,6 +90,7 @@ impl Pending {
             from: 0,
             to: 0,
             behind,
+            is_flat: false,
         }
     }
 
@@ -112,6 +116,7 @@ impl Pending {
         requires { IsPending text.now self.old }
         ensures next { IfOk result (λ first. IsFirst text.now self.old self.new first) }
         ensures memory { OnErr result (pending_lexemes text.now self.old ≡ [] → ⊥) }
+        ensures lines { IfOk result (λ first. IsLinePassed text.now self.old self.new first) }
         ensures reads { IfOk result (λ first. (more_reads reads.old 0 ≤ reads.new) × (reads.new + 6 * owed self.new ≤ reads.old + 6 * owed self.old)) }
     {
         if self.from < self.to {
@@ -119,6 +124,10 @@ impl Pending {
             self.from += len;
             return Ok(Some(comment));
         }
-        Ok(self.behind.next())
+        let Some(first) = self.behind.next() else {
+            return Ok(None);
+        };
+        self.is_flat = false;
+        Ok(Some(first))
     }
 }

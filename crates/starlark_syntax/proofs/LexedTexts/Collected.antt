@@ -1,16 +1,25 @@
 -- The lexemes of a text that were handed out so far, in a list.
-use Rattle.std.proofs.Common.{◌≡◌, Bool, true, false, ℕ, ◌+◌, ◌-◌, ◌<◌, List, [], ◌∷◌, ◌++◌, map, length, ap, sym, subst, ◌∙◌, arith, append-nil, append_assoc, length-append, None, Some}
+use Rattle.std.proofs.Common.{◌≡◌, Bool, true, false, ℕ, ◌+◌, ◌-◌, ◌<◌, ◌≤◌, List, [], ◌∷◌, ◌++◌, map, length, refl, ap, sym, subst, ◌∙◌, arith, append-nil, append_assoc, length-append, None, Some}
+use Rattle.std.specs.Prelude.{IfSome, Option, nat_lt}
+use Rattle.std.specs.List.{AllByRecursion}
+use Rattle.std.proofs.lemmas.Bool.{ltb-false, ltb-true}
 use Rattle.std.proofs.lemmas.List.{length-map, map-append}
 use Rattle.starlark_grammar.specs.Words.{Text}
 use Rattle.starlark_grammar.specs.Tokens.{Fault, Spanned}
 use Rattle.starlark_grammar.specs.Reading.{outcome}
 use Rattle.starlark_reader.specs.Lexemes.{lexeme_view, shown_lexeme}
 use Rattle.starlark_grammar.specs.Cuts.{is_clean_cut}
-use Rattle.starlark_syntax.specs.Joints.LexedTexts.{AreCuts, IsCutOf, IsPart, IsPlacedFault, end_cuts}
+use Rattle.starlark_syntax.specs.Joints.LexedTexts.{AreCuts, IsCutOf, IsPart, IsPlacedFault, IsRising, cuts_at, end_cuts}
+use Rattle.starlark_reader.specs.Joints.MarginCuts.{IsCutBefore, lexemes_before}
+use Rattle.starlark_syntax.specs.declared.lexer.lexed_text.cuts.Cut.{Cut}
 use Rattle.starlark_syntax.specs.declared.lexer.lexed_text.parts.Part.{Part}
 use Rattle.starlark_syntax.proofs.LexedTexts.CleanCuts.{faulty_cut}
-use Rattle.starlark_syntax.proofs.LexedTexts.KeptCuts.{some_lexemes, whole_kept}
-use Rattle.starlark_reader.specs.Joints.Reader.{IsAhead, IsAheadBehind}
+use Rattle.starlark_syntax.proofs.LexedTexts.KeptCuts.{in_order, some_lexemes, whole_kept}
+use Rattle.starlark_syntax.proofs.LexedTexts.Relexed.{all_both}
+use Rattle.starlark_syntax.proofs.LexedTexts.Joined.{begun}
+use Rattle.starlark_reader.proofs.Pieces.Onward.{margin_first}
+use Rattle.starlark_reader.proofs.Pieces.Taken.{no_tab}
+use Rattle.starlark_reader.specs.Joints.Reader.{begins_with_tab, IsAhead, IsAheadBehind}
 use Rattle.starlark_token.specs.TokenViews.{TokenView}
 use Rattle.starlark_reader.specs.declared.reader.Reader.{Reader}
 use Rattle.starlark_token.specs.declared.tokens.Token.{Token}
@@ -45,33 +54,95 @@ collected_none text reader found none ahead = record { rest = map shown_lexeme (
 none_ahead : (text : Text) (reader : Reader) (found : List (ℕ × Token × ℕ)) (is : IsCollected text reader found) → is.rest ≡ [] → map lexeme_view found ≡ map shown_lexeme (outcome text).lexemes
 none_ahead text reader found is none = sym (is.all ∙ ap (λ vs. map lexeme_view found ++ vs) none ∙ append-nil (map lexeme_view found))
 
+-- The cuts that were found so far, before a text's end and before so many lexemes or fewer.
+pub record AreCutsSoFar (text : Text) (count : ℕ) (cuts : List Cut) : Type 0 where
+  pub are : AreCuts text cuts
+  pub inside : AllByRecursion (λ (cut : Cut). cut.at < length text) cuts
+  pub few : AllByRecursion (λ (cut : Cut). cut.lexemes ≤ count) cuts
+
+pub no_cuts_yet : (text : Text) (cuts : List Cut) → cuts ≡ [] → AreCutsSoFar text 0 cuts
+no_cuts_yet text cuts none = subst (AreCutsSoFar text 0) (sym none) (record { are = record { each = tt; order = tt }; inside = tt; few = tt })
+
+all_weaker : {A : Type 0} (P Q : A → Type 0) (xs : List A) → ((x : A) → P x → Q x) → AllByRecursion P xs → AllByRecursion Q xs
+all_weaker P Q [] more all = tt
+all_weaker P Q (x ∷ xs) more all = (more x all.0, all_weaker P Q xs more all.1)
+
+-- one more behind them
+rising_last : (cuts : List Cut) (last : Cut) → IsRising cuts → AllByRecursion (λ (cut : Cut). cut.at < last.at) cuts → IsRising (cuts ++ last ∷ [])
+rising_last [] last rising before = (tt, tt)
+rising_last (cut ∷ cuts) last rising before = (all_both (λ (behind : Cut). cut.at < behind.at) cuts (last ∷ []) rising.0 (before.0, tt), rising_last cuts last rising.1 before.1)
+
+before_last : (text : Text) (cuts : List Cut) (count : ℕ) (last : Cut) → AllByRecursion (IsCutOf text) cuts → AllByRecursion (λ (cut : Cut). cut.lexemes ≤ count) cuts → IsCutOf text last → count < last.lexemes → AllByRecursion (λ (cut : Cut). cut.at < last.at) cuts
+before_last text [] count last each few is more = tt
+before_last text (cut ∷ cuts) count last each few is more = (less (nat_lt cut.at last.at) refl, before_last text cuts count last each.1 few.1 is more)
+  where
+    less : (b : Bool) → nat_lt cut.at last.at ≡ b → cut.at < last.at
+    less true e = ltb-true cut.at last.at e
+    less false e =
+        let beyond : last.at ≤ cut.at = ltb-false cut.at last.at e in
+        let order : cut.at ≤ last.at = in_order text cut last each.0 is (omega (arith, few.0, more)) in
+        let same : cut.at ≡ last.at = omega (arith, beyond, order) in
+        absurd (omega (arith, few.0, more, each.0.lexemes, is.lexemes, ap (lexemes_before text) same))
+
+pub some_weaker : {A : Type 0} (x : Option A) (P Q : A → Type 0) → ((a : A) → P a → Q a) → IfSome x P → IfSome x Q
+some_weaker None P Q more h = tt
+some_weaker (Some a) P Q more h = more a h
+
+-- behind one lexeme more, where there may be a cut
+pub cuts_more : (text : Text) (count : ℕ) (rest : List (Spanned TokenView)) (cuts : List Cut) (place : Option ℕ) → AreCutsSoFar text count cuts → (count + 1) + length rest ≡ length (outcome text).lexemes → IfSome place (λ at. IsCutBefore text at (length rest))
+    → AreCutsSoFar text (count + 1) (cuts ++ cuts_at place (count + 1))
+cuts_more text count rest cuts None so whole none = subst (AreCutsSoFar text (count + 1)) (sym (append-nil cuts)) (record {
+  are = so.are;
+  inside = so.inside;
+  few = all_weaker (λ (cut : Cut). cut.lexemes ≤ count) (λ (cut : Cut). cut.lexemes ≤ count + 1) cuts (λ cut few. omega (arith, few)) so.few;
+})
+cuts_more text count rest cuts (Some at) so whole cut =
+    let last : Cut = record { at = at; lexemes = count + 1 } in
+    let is : IsCutOf text last = record { inside = omega (arith, cut.inside); is_kept = cut.is_kept; lexemes = omega (arith, cut.count, whole) } in
+    record {
+      are = record {
+        each = all_both (IsCutOf text) cuts (last ∷ []) so.are.each (is, tt);
+        order = rising_last cuts last so.are.order (before_last text cuts count last so.are.each so.few is (omega arith));
+      };
+      inside = all_both (λ (cut : Cut). cut.at < length text) cuts (last ∷ []) so.inside (cut.inside, tt);
+      few = all_both (λ (cut : Cut). cut.lexemes ≤ count + 1) cuts (last ∷ []) (all_weaker (λ (cut : Cut). cut.lexemes ≤ count) (λ (cut : Cut). cut.lexemes ≤ count + 1) cuts (λ cut few. omega (arith, few)) so.few) (omega arith, tt);
+    }
+
 -- with the text's fault behind them
 pub fault_given : (text : Text) (reader : Reader) (part : Part) (is : IsCollected text reader part.lexemes.items) (fault : Spanned Fault) → is.rest ≡ [] → (outcome text).fault ≡ Some fault → IsPlacedFault (Some fault) part.fault
-    → part.cuts.items ≡ [] → part.is_cut ≡ false → IsPart text part
-fault_given text reader part is fault none at placed no_cuts no_cut = record {
+    → AreCuts text part.cuts.items → part.is_cut ≡ false → part.has_tab ≡ begins_with_tab text → IsPart text part
+fault_given text reader part is fault none at placed cuts no_cut tab = record {
   lexemes = none_ahead text reader part.lexemes.items is none;
   fault = subst (λ f. IsPlacedFault f part.fault) (sym at) placed;
-  cuts = subst (AreCuts text) (sym no_cuts) (record { each = tt; order = tt });
+  cuts = cuts;
   is_cut = no_cut ∙ sym (faulty_cut text fault at);
+  tab = tab;
 }
 
--- the cut at a text's end, where it is one
-end_is : (text : Text) (count : ℕ) (is_cut : Bool) → is_cut ≡ is_clean_cut text → count ≡ length (outcome text).lexemes → AreCuts text (end_cuts text count is_cut)
-end_is text count true is same = record { each = (subst (λ n. IsCutOf text (record { at = length text; lexemes = n - 1 })) (sym same) (whole_kept text (sym is)), tt); order = (tt, tt) }
-end_is text count false is same = record { each = tt; order = tt }
+-- the cut at a text's end, where it is one, behind others
+end_is : (text : Text) (cuts : List Cut) (count : ℕ) (is_cut : Bool) → AreCuts text cuts → AllByRecursion (λ (cut : Cut). cut.at < length text) cuts → is_cut ≡ is_clean_cut text → count ≡ length (outcome text).lexemes → AreCuts text (cuts ++ end_cuts text count is_cut)
+end_is text cuts count true are inside is same =
+    let last : IsCutOf text (record { at = length text; lexemes = count - 1 }) = subst (λ n. IsCutOf text (record { at = length text; lexemes = n - 1 })) (sym same) (whole_kept text (sym is)) in
+    record { each = all_both (IsCutOf text) cuts (record { at = length text; lexemes = count - 1 } ∷ []) are.each (last, tt); order = rising_last cuts (record { at = length text; lexemes = count - 1 }) are.order inside }
+end_is text cuts count false are inside is same = subst (AreCuts text) (sym (append-nil cuts)) are
 
 -- where the text has none
-pub all_given : (text : Text) (reader : Reader) (part : Part) (is : IsCollected text reader part.lexemes.items) → is.rest ≡ [] → (outcome text).fault ≡ None → part.fault ≡ None
-    → part.cuts.items ≡ end_cuts text (length part.lexemes.items) part.is_cut → part.is_cut ≡ is_clean_cut text → IsPart text part
-all_given text reader part is none at no_fault cuts is_cut =
+pub all_given : (text : Text) (reader : Reader) (part : Part) (cuts : List Cut) (count : ℕ) (is : IsCollected text reader part.lexemes.items) → is.rest ≡ [] → (outcome text).fault ≡ None → part.fault ≡ None → AreCutsSoFar text count cuts
+    → part.cuts.items ≡ cuts ++ end_cuts text (length part.lexemes.items) part.is_cut → part.is_cut ≡ is_clean_cut text → part.has_tab ≡ false → IsPart text part
+all_given text reader part cuts count is none at no_fault so same is_cut no_tabs =
     let all = none_ahead text reader part.lexemes.items is none in
-    let count : length part.lexemes.items ≡ length (outcome text).lexemes = sym (length-map part.lexemes.items lexeme_view) ∙ ap length all ∙ length-map (outcome text).lexemes shown_lexeme in
+    let total : length part.lexemes.items ≡ length (outcome text).lexemes = sym (length-map part.lexemes.items lexeme_view) ∙ ap length all ∙ length-map (outcome text).lexemes shown_lexeme in
     record {
       lexemes = all;
       fault = subst (λ f. IsPlacedFault f part.fault) (sym at) (subst (IsPlacedFault None) (sym no_fault) tt);
-      cuts = subst (AreCuts text) (sym cuts) (end_is text (length part.lexemes.items) part.is_cut is_cut count);
+      cuts = subst (AreCuts text) (sym same) (end_is text cuts (length part.lexemes.items) part.is_cut so.are so.inside is_cut total);
       is_cut = is_cut;
+      tab = let margin = begun text at in no_tabs ∙ sym (no_tab text margin.0 (sym (margin_first text) ∙ margin.1));
     }
+
+-- how many are found and how many are ahead
+pub all_counted : (text : Text) (reader : Reader) (found : List (ℕ × Token × ℕ)) (is : IsCollected text reader found) → length found + length is.rest ≡ length (outcome text).lexemes
+all_counted text reader found is = omega (arith, ap length is.all, length-append (map lexeme_view found) is.rest, length-map found lexeme_view, length-map (outcome text).lexemes shown_lexeme)
 
 -- Nothing is ahead of a text without fault only where it has a lexeme at least.
 pub some_given : (text : Text) (reader : Reader) (found : List (ℕ × Token × ℕ)) (is : IsCollected text reader found) → is.rest ≡ [] → (outcome text).fault ≡ None → 0 < length found

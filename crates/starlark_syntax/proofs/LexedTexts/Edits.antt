@@ -13,7 +13,7 @@ use Rattle.starlark_grammar.specs.Tokens.{Fault, InvalidTab, Lexeme, Newline, Ou
 use Rattle.starlark_grammar.specs.Margins.{has_tab, is_content, margin_of}
 use Rattle.starlark_grammar.specs.Pieces.{Fails}
 use Rattle.starlark_grammar.specs.Reading.{nothing, outcome, pieces_len, read}
-use Rattle.starlark_grammar.specs.Cuts.{is_clean_cut, tabbed, without_closing}
+use Rattle.starlark_grammar.specs.Cuts.{is_clean_cut, is_kept_cut, tabbed, without_closing}
 use Rattle.starlark_grammar.specs.Laws.{HasFirstMargin}
 use Rattle.starlark_grammar.proofs.Joining.CleanCuts.{cuts_join}
 use Rattle.starlark_grammar.proofs.Joining.Laws.{kept_cuts_keep}
@@ -326,3 +326,10 @@ begin_clean old edited cuts from begin is same = by is.stands
     by (inr cut) =
         let front : take begin.at old ≡ take begin.at edited = sym (take_within begin.at from old is.before) ∙ ap (take begin.at) same ∙ take_within begin.at from edited is.before in
         inr (ap is_clean_cut (sym front) ∙ (kept_parts old begin.at cut.is_kept).1)
+
+pub begin_kept : (old : Text) (cuts : List Cut) (from : ℕ) (begin : Begin) → IsBegin old cuts from begin → (begin.at ≡ 0) ⊎ (is_kept_cut old begin.at ≡ true)
+begin_kept old cuts from begin is = by is.stands
+  where
+    by : ((begin.at ≡ 0) × (begin.lexemes ≡ 0)) ⊎ IsCutOf old (record { at = begin.at; lexemes = begin.lexemes }) → (begin.at ≡ 0) ⊎ (is_kept_cut old begin.at ≡ true)
+    by (inl start) = inl start.0
+    by (inr cut) = inr cut.is_kept

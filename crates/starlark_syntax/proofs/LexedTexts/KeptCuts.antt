@@ -1,5 +1,5 @@
 -- Kept cuts, and how many lexemes stand before them.
-use Rattle.std.proofs.Common.{◌≡◌, ℕ, suc, zero, ◌+◌, ◌-◌, ◌<◌, ◌≤◌, Bool, true, false, List, [], ◌∷◌, ◌++◌, map, take, drop, length, refl, ap, sym, ◌∙◌, arith, None, length-append, le-leb}
+use Rattle.std.proofs.Common.{◌≡◌, ℕ, suc, zero, ◌+◌, ◌-◌, ◌<◌, ◌≤◌, Bool, true, false, List, [], ◌∷◌, ◌++◌, map, take, drop, length, refl, ap, sym, ◌∙◌, arith, None, length-append}
 use Rattle.std.specs.Prelude.{nat_le, ◌&&◌}
 use Rattle.std.proofs.lemmas.Bool.{and_parts, leb-false, leb-true}
 use Rattle.std.proofs.lemmas.List.{length-map, length-take-le, take-append-drop}
@@ -11,8 +11,10 @@ use Rattle.starlark_grammar.specs.Cuts.{is_clean_cut, is_clean_cut_in, is_faultl
 use Rattle.starlark_grammar.specs.Laws.{HasFirstMargin}
 use Rattle.starlark_grammar.proofs.Joining.CleanCuts.{both, begun, cut, longest, pieces_both}
 use Rattle.starlark_grammar.proofs.Joining.Laws.{faults_join}
+use Rattle.starlark_grammar.proofs.Joining.LineCuts.{kept_by}
 use Rattle.starlark_grammar.proofs.Reading.Readings.{longest_onward, one_longest, read_is}
-use Rattle.starlark_syntax.specs.Joints.LexedTexts.{IsCutOf, lexemes_before}
+use Rattle.starlark_syntax.specs.Joints.LexedTexts.{IsCutOf}
+use Rattle.starlark_reader.specs.Joints.MarginCuts.{lexemes_before}
 use Rattle.starlark_syntax.specs.declared.lexer.lexed_text.cuts.Cut.{Cut}
 use Rattle.starlark_syntax.proofs.LexedTexts.Joined.{outcome_joined}
 use Rattle.std.proofs.lemmas.List.Sums.{sum_by-cons}
@@ -53,10 +55,6 @@ count_joined first second clean none =
 pub kept_parts : (text : Text) (at : ℕ) → is_kept_cut text at ≡ true → (at ≤ pieces_len (read language text).pieces) × (is_clean_cut (take at text) ≡ true)
 unfolding is_kept_cut
 kept_parts text at h = let parts = and_parts (nat_le at (pieces_len (read language text).pieces)) (is_clean_cut (take at text)) h in (leb-true at _ parts.0, parts.1)
-
-pub kept_by : (text : Text) (at : ℕ) → at ≤ pieces_len (read language text).pieces → is_clean_cut (take at text) ≡ true → is_kept_cut text at ≡ true
-unfolding is_kept_cut
-kept_by text at reach clean = ap (λ (b : Bool). b && is_clean_cut (take at text)) (le-leb at (pieces_len (read language text).pieces) reach) ∙ clean
 
 -- the end of a clean cut is a kept one
 pub take_all : (text : Text) → take (length text) text ≡ text

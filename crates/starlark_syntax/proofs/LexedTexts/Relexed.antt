@@ -14,10 +14,11 @@ use Rattle.starlark_grammar.specs.Laws.{HasFirstMargin}
 use Rattle.starlark_grammar.proofs.Joining.CleanCuts.{cut}
 use Rattle.starlark_grammar.proofs.Joining.Followed.{ends_line}
 use Rattle.starlark_grammar.proofs.Joining.Laws.{cuts_of_joined}
+use Rattle.starlark_grammar.proofs.Joining.LineCuts.{kept_by}
 use Rattle.starlark_grammar.proofs.Indentation.Totals.{outcome_balances}
 use Rattle.starlark_syntax.specs.Joints.LexedTexts.{AllNearCuts, AreCuts, IsCutOf, IsRising, later_cut}
 use Rattle.starlark_syntax.specs.declared.lexer.lexed_text.cuts.Cut.{Cut}
-use Rattle.starlark_syntax.proofs.LexedTexts.KeptCuts.{clean_faultless, count_is, count_joined, kept_by, kept_parts, reach_joined, take_all}
+use Rattle.starlark_syntax.proofs.LexedTexts.KeptCuts.{clean_faultless, count_is, count_joined, kept_parts, reach_joined, take_all}
 
 -- Cuts
 

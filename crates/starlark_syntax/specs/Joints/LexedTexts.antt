@@ -5,10 +5,12 @@ use Rattle.starlark_token.specs.declared.lexeme_error.LexemeError.{LexemeError}
 use Rattle.starlark_grammar.specs.Words.{Text}
 use Rattle.starlark_grammar.specs.Tokens as grammar
 use Rattle.starlark_grammar.specs.Reading.{outcome}
-use Rattle.starlark_grammar.specs.Cuts.{is_clean_cut, is_kept_cut, without_closing}
+use Rattle.starlark_grammar.specs.Cuts.{is_clean_cut, is_kept_cut}
 use Rattle.starlark_token.specs.TokenViews.{TokenView, Whole}
 use Rattle.starlark_token.specs.declared.tokens.Token.{Token}
 use Rattle.starlark_reader.specs.Lexemes.{fault_view, lexeme_view, shown_lexeme}
+use Rattle.starlark_reader.specs.Joints.MarginCuts.{lexemes_before}
+use Rattle.starlark_reader.specs.Joints.Reader.{begins_with_tab}
 use Rattle.starlark_syntax.specs.declared.lexer.lexed_text.cuts.Begin.{Begin}
 use Rattle.starlark_syntax.specs.declared.lexer.lexed_text.cuts.Cut.{Cut}
 use Rattle.starlark_syntax.specs.declared.lexer.lexed_text.parts.Part.{Part}
@@ -29,10 +31,6 @@ later_cut len count cut = record { at = len + cut.at; lexemes = count + cut.lexe
 -- cuts of a text that isn't too long
 abbrev pub AllNearCuts : List Cut → Type 0
 AllNearCuts cuts = AllByRecursion (λ (cut : Cut). (cut.at < 2 ^ 32) × (cut.lexemes < 2 ^ 34)) cuts
-
--- how many lexemes of a text stand before a kept cut
-abbrev pub lexemes_before : Text → ℕ → ℕ
-lexemes_before text at = length (without_closing (outcome (take at text)).lexemes)
 
 -- A kept cut of a text, with the number of lexemes before it.
 pub record IsCutOf (text : Text) (cut : Cut) : Type 0 where
@@ -61,6 +59,11 @@ pub record IsBegin (text : Text) (cuts : List Cut) (from : ℕ) (begin : Begin) 
   pub few : begin.cuts ≤ length cuts
   pub up_to : AllByRecursion (λ (cut : Cut). cut.at ≤ begin.at) (take begin.cuts cuts)
 
+-- the one cut at a place, if it is one
+abbrev pub cuts_at : Option ℕ → ℕ → List Cut
+cuts_at None count = []
+cuts_at (Some at) count = record { at = at; lexemes = count } ∷ []
+
 -- the one cut at a text's end, where it is one
 abbrev pub end_cuts : Text → ℕ → Bool → List Cut
 end_cuts text count true = record { at = length text; lexemes = count - 1 } ∷ []
@@ -86,6 +89,7 @@ pub record IsPart (text : Text) (part : Part) : Type 0 where
   pub fault : IsPlacedFault (outcome text).fault part.fault
   pub cuts : AreCuts text part.cuts.items
   pub is_cut : part.is_cut ≡ is_clean_cut text
+  pub tab : part.has_tab ≡ begins_with_tab text
 
 -- the place in a list of the last `Newline`
 abbrev pub is_newline_view : TokenView → Bool

@@ -6,7 +6,7 @@ ghost use Rattle.std.specs.Str.{IsCharBoundary};
 ghost use Rattle.starlark_base.specs.Refusals.{IsRefused};
 ghost use Rattle.starlark_base.specs.Sources.{SourceFile};
 ghost use Rattle.starlark_grammar.specs.Cuts.{is_clean_cut};
-ghost use Rattle.starlark_syntax.specs.LexedTexts.{IsLexed};
+ghost use Rattle.starlark_syntax.specs.LexedTexts.{IsLexed, IsReadFrom};
 ghost use Rattle.starlark_syntax.specs.LexedTexts as texts;
 ghost use Rattle.starlark_reader.specs.Lexemes.{lexeme_view};
 ghost use Rattle.starlark_syntax.specs.Lexer.{IsWithin};
@@ -15,13 +15,12 @@ mod cuts;
 mod parts;
 mod tails;
 
-use starlark_reader::{PlacedToken, begins_with_tab};
+use starlark_reader::PlacedToken;
 use cuts::{Cut, append_cuts, begin_of, is_cut_behind};
 use parts::{exception_of, read_part};
 use starlark_base::codemap::{CodeMap, OrMemory, SourceTooLong};
 use starlark_base::dialect::Dialect;
 use starlark_error::eval_exception::EvalException;
-use starlark_scanner::reads::Reads;
 use starlark_token::tokens::Token;
 use std::alloc::Global;
 use std::marker::Model;
@@ -187,6 +186,7 @@ impl<'a> LexedText<'a> {
         requires fits { length edited.now < 2 ^ 32 }
         ensures text { IfOk result (λ lexed. lexed.text ≡ edited.now) }
         ensures lexed { IfOk result (λ lexed. IsLexed code_map.now lexed) }
+        ensures reads { IfOk result (IsReadFrom self.entry.text edited.now from) }
         ensures refused { IfErr result (λ lexed. lexed ≡ self.entry) }
     {
         let mut old = self;
@@ -196,9 +196,7 @@ impl<'a> LexedText<'a> {
         let Ok(part) = read_part(alloc, rest) else {
             return Err(old);
         };
-        let mut reads = Reads::new();
-        let has_tab = begins_with_tab(&mut reads, rest);
-        let kept = kept_of(&old.lexemes, &old.cuts, begin, has_tab);
+        let kept = kept_of(&old.lexemes, &old.cuts, begin, part.has_tab);
         let Ok(fault) = exception_of(alloc, part.fault, kept.fault_at, code_map) else {
             return Err(old);
         };
@@ -217,7 +215,7 @@ impl<'a> LexedText<'a> {
             fault,
             cuts: old.cuts,
             is_cut,
-            reads: part.reads.saturating_add(reads.count()),
+            reads: part.reads,
         })
     }
 }

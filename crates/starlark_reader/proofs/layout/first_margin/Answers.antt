@@ -14,4 +14,4 @@ pub returns-in-Some-clause-laid : goal.returns-in-Some-clause-laid
 returns-in-Some-clause-laid c =
     let margin = c.margin_of-margin.ensures.margin in
     first_refused c.args.text.now c.args.levels.now c.margin_of-margin.result c.requires margin c.in-Some.fault c.in-Some.end _ (c.in-Some.ensures [] (margin_of c.args.text.now) margin)
-    (comments_wait_first c.args.text.now c.margin_of-margin.result c.utf8.text margin c.nothing.result c.nothing.ensures)
+    (comments_wait_first c.args.text.now c.margin_of-margin.result c.utf8.text margin c.nothing.result _ c.nothing.ensures)

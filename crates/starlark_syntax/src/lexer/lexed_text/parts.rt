@@ -1,10 +1,10 @@
 //! Reads all lexemes of a text.
 
-ghost use Rattle.std.specs.Prelude.{◌≡◌, ◌<◌, ◌≤◌, ◌+◌, ◌*◌, ◌^◌, Option, None, IfOk, IfSome, codes, length, nat_eq, option_map};
+ghost use Rattle.std.specs.Prelude.{◌≡◌, ◌<◌, ◌≤◌, ◌+◌, ◌*◌, ◌^◌, ◌++◌, Option, None, IfOk, IfSome, OnOk, codes, length, nat_eq, option_map};
 ghost use Rattle.std.specs.List.{ends_with};
 ghost use Rattle.starlark_scanner.specs.Joints.Reads.{more_reads};
 ghost use Rattle.starlark_grammar.specs.Tokens.{Fault, Spanned, moved};
-ghost use Rattle.starlark_syntax.specs.Joints.LexedTexts.{IsPart, IsPlacedFault, end_cuts};
+ghost use Rattle.starlark_syntax.specs.Joints.LexedTexts.{IsPart, IsPlacedFault, cuts_at, end_cuts};
 ghost use Rattle.starlark_syntax.specs.LexedTexts.{IsFaultIn};
 
 use super::cuts::Cut;
@@ -20,14 +20,15 @@ use std::alloc::{AllocError, Global};
 /// A fault with the places, in bytes, where it begins and ends.
 pub type PlacedFault = (usize, LexemeError, usize);
 
-/// What a text comes to: its lexemes, its fault behind them, places where it may be cut, whether its end is one, and how
-/// often its bytes were read.
+/// What a text comes to: its lexemes, its fault behind them, places where it may be cut, whether its end is one,
+/// whether its first margin has a tab before content, and how often its bytes were read.
 #[derive(Debug, Drop)]
 pub struct Part {
     pub lexemes: Vec<PlacedToken>,
     pub fault: Option<PlacedFault>,
     pub cuts: Vec<Cut>,
     pub is_cut: bool,
+    pub has_tab: bool,
     pub reads: u64,
 }
 
@@ -40,24 +41,34 @@ fn ends_with_feed(reads: &mut Reads, text: &str) -> bool
     text.as_bytes().ends_with(b"\n")
 }
 
-/// The cut at a text's end, where it is one.
-fn end_cut(
-    alloc: Global,
+/// Puts a place behind some cuts, if it is one, before which so many lexemes stand.
+fn push_cut(cuts: &mut Vec<Cut>, place: Option<usize>, lexemes: usize) -> Result<(), AllocError>
+    ensures { OnOk result (cuts.new.items ≡ cuts.old.items ++ cuts_at place lexemes) }
+{
+    if let Some(at) = place {
+        cuts.push(Cut { at, lexemes })?;
+    }
+    Ok(())
+}
+
+/// Some cuts of a text, and the one at its end behind them, where that is one.
+fn with_end_cut(
+    cuts: Vec<Cut>,
     text: &str,
     lexemes: &[PlacedToken],
     is_cut: bool,
 ) -> Result<Vec<Cut>, AllocError>
     requires { 0 < length lexemes.now }
-    ensures { IfOk result (λ cuts. cuts.items ≡ end_cuts text.now (length lexemes.now) is_cut) }
+    ensures { IfOk result (λ all. all.items ≡ cuts.items ++ end_cuts text.now (length lexemes.now) is_cut) }
 {
-    let mut cuts = Vec::new(alloc);
+    let mut all = cuts;
     if is_cut {
-        cuts.push(Cut {
+        all.push(Cut {
             at: text.len(),
             lexemes: lexemes.len() - 1,
         })?;
     }
-    Ok(cuts)
+    Ok(all)
 }
 
 /// Reads a text to its end or to its fault.
@@ -68,28 +79,34 @@ pub fn read_part(alloc: Global, text: &str) -> Result<Part, AllocError>
     ensures least { IfOk result (λ part. part.fault ≡ None → length text.now ≤ part.reads) }
 {
     let mut reader = Reader::new(alloc);
+    let mut cuts = Vec::new(alloc);
     let mut lexemes = Vec::new(alloc);
     loop {
         match reader.next(text)? {
-            Next::Lexeme(lexeme) => lexemes.push(lexeme)?,
+            Next::Lexeme(lexeme) => {
+                lexemes.push(lexeme)?;
+                push_cut(&mut cuts, reader.cut(text), lexemes.len())?;
+            }
             Next::Fault { begin, fault, end } => {
                 return Ok(Part {
                     lexemes,
                     fault: Some((begin, fault, end)),
-                    cuts: Vec::new(alloc),
+                    cuts,
                     is_cut: false,
+                    has_tab: reader.has_read_none(),
                     reads: reader.reads(),
                 });
             }
             Next::Nothing => {
                 let mut reads = Reads::new();
                 let is_cut = reader.is_settled() && ends_with_feed(&mut reads, text);
-                let cuts = end_cut(alloc, text, &lexemes, is_cut)?;
+                let cuts = with_end_cut(cuts, text, &lexemes, is_cut)?;
                 return Ok(Part {
                     lexemes,
                     fault: None,
                     cuts,
                     is_cut,
+                    has_tab: false,
                     reads: reader.reads().saturating_add(reads.count()),
                 });
             }

@@ -38,7 +38,7 @@ returns-clause-read c = λ history kept stands.
     let opening = opening_view c.args.opening in
     let nesting = c.in_ok-begin_fstring.ensures.begins history.tokens kept.nesting in
     let few : bracket_count c.begin_fstring.new.self ≤ c.args.self.now.at + c.args.len = omega (arith, c.begin_fstring.ensures.count, kept.few) in
-    rw c.step_over.ensures (took c.args.text.now history c.args.self.now (Some (c.args.self.now.at, token.FStringStart c.quotes_of.result, c.args.self.now.at + c.args.len)) _ _ c.utf8.text kept stands
+    rw c.step_over.ensures (took c.args.text.now history c.args.self.now (Some (c.args.self.now.at, token.FStringStart c.quotes_of.result, c.args.self.now.at + c.args.len)) _ _ c.utf8.text kept stands refl
     nesting
     (kept.levels ∙ ap open_widths (sym (append-nil history.widths)))
     refl

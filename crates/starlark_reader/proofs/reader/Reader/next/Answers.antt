@@ -1,6 +1,7 @@
 use Rattle.std.proofs.Common.{List, Option, refl, sym, subst}
 use Rattle.starlark_grammar.specs.Tokens.{Fault, Spanned}
 use Rattle.starlark_token.specs.TokenViews.{TokenView}
+use Rattle.starlark_reader.specs.Joints.MarginCuts.{IsLinePassed}
 use Rattle.starlark_reader.specs.Joints.Reads.{HasReadAt}
 use Rattle.starlark_reader.specs.Joints.Pending.{IsFirst, IsIdle}
 use Rattle.starlark_reader.specs.Joints.Reader.{IsAhead, IsAheadBehind}
@@ -16,7 +17,7 @@ returns-in_err-lexeme-clause-memory c = after_error c.from_residual.result _ (λ
 pub returns-in-Some-clause-next : goal.returns-in-Some-clause-next
 returns-in-Some-clause-next c = λ lexemes fault ahead.
     lexeme_next c.args.text.now c.loop-lexeme.self _ c.in-Some.lexeme lexemes fault (record { at = refl; nesting = refl; levels = refl; before = refl }) refl
-    (subst (IsFirst c.args.text.now c.loop-lexeme.self.pending c.next.new.self) c.in-Some.is c.in_ok-lexeme.ensures.next) (c.loop-lexeme.invariant.ahead lexemes fault ahead)
+    (subst (IsFirst c.args.text.now c.loop-lexeme.self.pending c.next.new.self) c.in-Some.is c.in_ok-lexeme.ensures.next) (subst (IsLinePassed c.args.text.now c.loop-lexeme.self.pending c.next.new.self) c.in-Some.is c.in_ok-lexeme.ensures.lines) (c.loop-lexeme.invariant.ahead lexemes fault ahead)
 
 pub returns-in_err-read_first_margin-in-Begin-clause-memory : goal.returns-in_err-read_first_margin-in-Begin-clause-memory
 returns-in_err-read_first_margin-in-Begin-clause-memory c = after_error c.from_residual-in_err-read_first_margin-in-Begin.result _ (λ lexemes fault ahead.
@@ -53,3 +54,9 @@ loop-lexeme-preserved c =
       reads = λ has. c.in_ok-lexeme-in-Onward.ensures.reads (pending_reads c.args.text.now c.loop-lexeme.self (record c.loop-lexeme.self { pending = c.next.new.self; reads = c.next.new.reads }) refl c.in_ok-lexeme.ensures.reads.0 c.in_ok-lexeme.ensures.reads.1 stage.Onward
           (subst (HasReadAt c.args.text.now c.loop-lexeme.self) c.in-Onward.is (c.loop-lexeme.invariant.reads has)));
     }
+
+pub read_piece-requires-clause-ready : goal.read_piece-requires-clause-ready
+read_piece-requires-clause-ready c =
+    let ready = c.loop-lexeme.invariant.ready in
+    let none = none_left c.args.text.now c.loop-lexeme.self c.next.new.self c.in_ok-lexeme.field-0 c.in_default.not-Some c.in_ok-lexeme.ensures.next ready in
+    (ready.0, ready.1, reads_ahead c.args.text.now (record c.loop-lexeme.self { pending = c.next.new.self }) c.next.new.reads stage.Onward ready.0 ready.1 (ahead_now c.args.text.now c.loop-lexeme.self c.next.new.self stage.Onward ready.0 ready.1 none.1 c.in-Onward.is ready.2))

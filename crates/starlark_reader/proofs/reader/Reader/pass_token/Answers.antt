@@ -21,7 +21,7 @@ step_over-requires-clause-fits c =
 pub returns-clause-read : goal.returns-clause-read
 returns-clause-read c = λ history kept stands.
     let here = piece_here c.args.text.now history c.args.self.now (one c.args.len stands.0) kept stands.3 in
-    rw c.step_over.ensures (took c.args.text.now history c.args.self.now (Some (c.args.self.now.at, c.args.token.now, c.args.self.now.at + c.args.len)) _ (one c.args.len stands.0) c.utf8.text kept stands.3
+    rw c.step_over.ensures (took c.args.text.now history c.args.self.now (Some (c.args.self.now.at, c.args.token.now, c.args.self.now.at + c.args.len)) _ (one c.args.len stands.0) c.utf8.text kept stands.3 refl
     (c.pass.ensures.passes history.tokens stands.0 stands.1 stands.2 kept.nesting)
     (kept.levels ∙ ap open_widths (sym (append-nil history.widths)))
     refl

@@ -11,7 +11,7 @@ returns-in-Taken-clause-ahead c = λ lexemes fault ahead.
     let new = c.step_over.ensures in
     let taken = rw c.in-Taken.is at c.in_ok-laid.ensures.laid in
     let is_new = new_ahead text c.args.self.now lexemes fault ahead in
-    let read = margin_taken text c.args.self.now c.step_over.new.self is_new c.in-Taken.len c.utf8.text (rw new taken)
+    let read = margin_taken text c.args.self.now c.step_over.new.self is_new c.in-Taken.len c.utf8.text (rw new taken) (rw new (rw c.in-Taken.is at c.in_ok-laid.ensures.place))
     (ap (λ (reader : Reader). reader.nesting) new) (ap (λ (reader : Reader). reader.before) new) (ap (λ (reader : Reader). reader.at) new) (ap (λ (reader : Reader). reader.stage) new) in
     first_ahead text c.args.self.now c.step_over.new.self lexemes fault read c.requires.idle ahead
 
@@ -21,7 +21,7 @@ returns-in-Fault-clause-ahead c = λ lexemes fault ahead.
     let new = c.refuse.ensures in
     let refused = rw c.in-Fault.is at c.in_ok-laid.ensures.laid in
     let is_new = new_ahead text c.args.self.now lexemes fault ahead in
-    let read = margin_refused text c.args.self.now c.refuse.new.self is_new c.in-Fault.fault c.in-Fault.end (rw new refused) (ap (λ (reader : Reader). reader.stage) new) in
+    let read = margin_refused text c.args.self.now c.refuse.new.self is_new c.in-Fault.fault c.in-Fault.end (rw new refused) (ap (λ (reader : Reader). reader.stage) new) (ap (λ (reader : Reader). reader.at) new) (ap (λ (reader : Reader). reader.before) new) in
     first_ahead text c.args.self.now c.refuse.new.self lexemes fault read c.requires.idle ahead
 
 pub returns-in-Taken-clause-reads : goal.returns-in-Taken-clause-reads

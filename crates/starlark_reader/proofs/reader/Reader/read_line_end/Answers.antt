@@ -31,7 +31,7 @@ unfolding token_view
 returns-in-Taken-clause-read c = λ history kept stands.
     let new = c.step_over.ensures in
     let taken = rw c.in-Taken.is at (c.in_ok-laid.ensures.laid history.widths kept.levels) in
-    line_taken c.args.text.now history c.args.self.now c.args.len kept stands c.step_over.new.self c.in-Taken.whole token.Newline refl c.utf8.text (rw new taken)
+    line_taken c.args.text.now history c.args.self.now c.args.len kept stands c.step_over.new.self c.in-Taken.whole token.Newline refl c.utf8.text (rw new taken) (rw new (rw c.in-Taken.is at c.in_ok-laid.ensures.place))
     (ap (λ (reader : Reader). reader.nesting) new) (ap (λ (reader : Reader). reader.before) new) (ap (λ (reader : Reader). reader.at) new) (ap (λ (reader : Reader). reader.stage) new)
 
 pub returns-in-Taken-clause-less : goal.returns-in-Taken-clause-less
@@ -46,7 +46,7 @@ pub returns-in-Fault-clause-read : goal.returns-in-Fault-clause-read
 returns-in-Fault-clause-read c = λ history kept stands.
     let new = c.refuse.ensures in
     let refused = rw c.in-Fault.is at (c.in_ok-laid.ensures.laid history.widths kept.levels) in
-    line_refused c.args.text.now history c.args.self.now c.args.len kept stands c.refuse.new.self c.in-Fault.fault c.in-Fault.fault_end (rw new refused) (ap (λ (reader : Reader). reader.stage) new)
+    line_refused c.args.text.now history c.args.self.now c.args.len kept stands c.refuse.new.self c.in-Fault.fault c.in-Fault.fault_end (rw new refused) (ap (λ (reader : Reader). reader.stage) new) (ap (λ (reader : Reader). reader.at) new) (ap (λ (reader : Reader). reader.before) new)
 
 pub returns-in-Taken-clause-reads : goal.returns-in-Taken-clause-reads
 returns-in-Taken-clause-reads c =

@@ -55,7 +55,7 @@ passed c history same =
 pub returns-then-is_empty-clause-read : goal.returns-then-is_empty-clause-read
 returns-then-is_empty-clause-read c = λ history kept stands.
     let here = piece_here c.args.text.now history c.args.self.now (two (string_bytes c.args.chunk) c.args.chunk_len c.args.len (text_end_node c.args.stop)) kept stands in
-    rw c.step_over.ensures (took c.args.text.now history c.args.self.now (Some (c.args.self.now.at + c.args.chunk_len, c.token-then-is_empty.result, c.args.self.now.at + c.args.chunk_len + c.args.len)) _ (two (string_bytes c.args.chunk) c.args.chunk_len c.args.len (text_end_node c.args.stop)) c.utf8.text kept stands
+    rw c.step_over.ensures (took c.args.text.now history c.args.self.now (Some (c.args.self.now.at + c.args.chunk_len, c.token-then-is_empty.result, c.args.self.now.at + c.args.chunk_len + c.args.len)) _ (two (string_bytes c.args.chunk) c.args.chunk_len c.args.len (text_end_node c.args.stop)) c.utf8.text kept stands refl
     (passed (goal.at.returns-then-is_empty-clause-read c).After-pass history kept.nesting)
     (kept.levels ∙ ap open_widths (sym (append-nil history.widths)))
     refl
@@ -67,7 +67,7 @@ returns-then-is_empty-clause-read c = λ history kept stands.
 pub returns-clause-read : goal.returns-clause-read
 returns-clause-read c = λ history kept stands.
     let here = piece_here c.args.text.now history c.args.self.now (two (string_bytes c.args.chunk) c.args.chunk_len c.args.len (text_end_node c.args.stop)) kept stands in
-    rw c.step_over.ensures (took c.args.text.now history c.args.self.now (Some (c.args.self.now.at, token.FStringText c.args.chunk, c.args.self.now.at + c.args.chunk_len)) _ (two (string_bytes c.args.chunk) c.args.chunk_len c.args.len (text_end_node c.args.stop)) c.utf8.text kept stands
+    rw c.step_over.ensures (took c.args.text.now history c.args.self.now (Some (c.args.self.now.at, token.FStringText c.args.chunk, c.args.self.now.at + c.args.chunk_len)) _ (two (string_bytes c.args.chunk) c.args.chunk_len c.args.len (text_end_node c.args.stop)) c.utf8.text kept stands refl
     (passed (goal.at.returns-clause-read c).After-pass history kept.nesting)
     (kept.levels ∙ ap open_widths (sym (append-nil history.widths)))
     refl

@@ -1,15 +1,16 @@
-use Rattle.std.proofs.Common.{◌≡◌, ℕ, ◌+◌, ◌<◌, ◌^◌, ◌++◌, List, [], map, take, drop, length, ap, arith, subst, sym, ◌∙◌}
+use Rattle.std.proofs.Common.{◌≡◌, ◌⊎◌, true, ℕ, ◌+◌, ◌-◌, ◌<◌, ◌^◌, ◌++◌, List, [], map, take, drop, length, ap, arith, subst, sym, ◌∙◌}
 use Rattle.std.specs.Prelude.{◌&&◌, ◌||◌, ◌==◌, if◌then◌else◌, nat_lt}
 use Rattle.std.proofs.lemmas.List.{length-drop, length-map}
 use Rattle.starlark_grammar.specs.Words.{Text}
 use Rattle.starlark_grammar.specs.Margins.{has_tab, is_content, margin_of}
 use Rattle.starlark_grammar.specs.Reading.{outcome}
+use Rattle.starlark_grammar.specs.Cuts.{is_kept_cut}
 use Rattle.starlark_syntax.specs.LexedTexts.{IsFaultIn, LexedView}
 use Rattle.starlark_reader.specs.Lexemes.{lexeme_view, shown_lexeme}
 use Rattle.starlark_syntax.specs.Joints.LexedTexts.{AreCuts, IsBegin, IsPart, IsTakenBack, last_newline_of, later, later_cut}
 use Rattle.starlark_syntax.specs.declared.lexer.lexed_text.cuts.Cut.{Cut}
 use Rattle.starlark_token.specs.declared.tokens.Token.{Token}
-use Rattle.starlark_syntax.proofs.LexedTexts.Edits.{begin_boundary, begin_clean, begin_few, end_cut_is, relexed}
+use Rattle.starlark_syntax.proofs.LexedTexts.Edits.{begin_boundary, begin_clean, begin_few, begin_kept, end_cut_is, relexed}
 use Rattle.starlark_syntax.proofs.LexedTexts.Parts.{fault_near, given_near}
 use Rattle.starlark_syntax.proofs.LexedTexts.Relexed.{count_near, cuts_near}
 use Rattle.starlark_syntax.proofs.lexer.lexed_text.LexedText.relex.Goals as goal
@@ -31,8 +32,8 @@ exception_of-requires c =
     let same : take c.args.from c.old.inside.text.now ≡ take c.args.from c.args.edited.now = ap (λ (v : LexedView). take c.args.from v.text) c.old.view_is ∙ c.requires.same in
     let part : IsPart (drop c.begin_of-begin.result.at c.args.edited.now) c.in-Ok.part = subst (λ (t : Text). IsPart t c.in-Ok.part) c.range_from-rest.ensures.value c.in-Ok.ensures.part in
     let short : c.begin_of-begin.result.at + length (drop c.begin_of-begin.result.at c.args.edited.now) < 2 ^ 32 = omega (arith, length-drop c.begin_of-begin.result.at c.args.edited.now, begin.before, c.requires.new.0, c.requires.fits) in
-    let made = relexed c.old.inside.text.now c.args.edited.now c.old.inside.lexemes.items c.old.inside.cuts.items c.args.from c.begin_of-begin.result c.in-Ok.part c.kept_of-kept.result c.begins_with_tab-has_tab.result c.old.invariant.3.1.lexemes c.old.invariant.2 begin same c.requires.new.0 part
-    (c.begins_with_tab-has_tab.ensures ∙ ap (λ (t : Text). is_content (margin_of t).behind && has_tab (margin_of t)) c.range_from-rest.ensures.value)
+    let made = relexed c.old.inside.text.now c.args.edited.now c.old.inside.lexemes.items c.old.inside.cuts.items c.args.from c.begin_of-begin.result c.in-Ok.part c.kept_of-kept.result c.in-Ok.part.has_tab c.old.invariant.3.1.lexemes c.old.invariant.2 begin same c.requires.new.0 part
+    (c.in-Ok.ensures.part.tab ∙ ap (λ (t : Text). is_content (margin_of t).behind && has_tab (margin_of t)) c.range_from-rest.ensures.value)
     c.kept_of-kept.ensures.plain
     (λ h e. c.kept_of-kept.ensures.comments h (ap (λ (xs : List (ℕ × Token × ℕ)). last_newline_of (map lexeme_view (take c.begin_of-begin.result.lexemes xs))) c.deref-2.ensures.value ∙ e))
     (λ h last e. subst (λ (xs : List (ℕ × Token × ℕ)). IsTakenBack xs c.old.inside.cuts.items last c.kept_of-kept.result) c.deref-2.ensures.value
@@ -45,8 +46,8 @@ make_room-requires c =
     let begin : IsBegin c.old.inside.text.now c.old.inside.cuts.items c.args.from c.begin_of-begin.result = subst (λ (xs : List Cut). IsBegin c.old.inside.text.now xs c.args.from c.begin_of-begin.result) c.deref.ensures.value (c.begin_of-begin.ensures c.old.inside.text.now (subst (AreCuts c.old.inside.text.now) (sym c.deref.ensures.value) c.old.invariant.2)) in
     let same : take c.args.from c.old.inside.text.now ≡ take c.args.from c.args.edited.now = ap (λ (v : LexedView). take c.args.from v.text) c.old.view_is ∙ c.requires.same in
     let part : IsPart (drop c.begin_of-begin.result.at c.args.edited.now) c.in-Ok.part = subst (λ (t : Text). IsPart t c.in-Ok.part) c.range_from-rest.ensures.value c.in-Ok.ensures.part in
-    let made = relexed c.old.inside.text.now c.args.edited.now c.old.inside.lexemes.items c.old.inside.cuts.items c.args.from c.begin_of-begin.result c.in-Ok.part c.kept_of-kept.result c.begins_with_tab-has_tab.result c.old.invariant.3.1.lexemes c.old.invariant.2 begin same c.requires.new.0 part
-    (c.begins_with_tab-has_tab.ensures ∙ ap (λ (t : Text). is_content (margin_of t).behind && has_tab (margin_of t)) c.range_from-rest.ensures.value)
+    let made = relexed c.old.inside.text.now c.args.edited.now c.old.inside.lexemes.items c.old.inside.cuts.items c.args.from c.begin_of-begin.result c.in-Ok.part c.kept_of-kept.result c.in-Ok.part.has_tab c.old.invariant.3.1.lexemes c.old.invariant.2 begin same c.requires.new.0 part
+    (c.in-Ok.ensures.part.tab ∙ ap (λ (t : Text). is_content (margin_of t).behind && has_tab (margin_of t)) c.range_from-rest.ensures.value)
     c.kept_of-kept.ensures.plain
     (λ h e. c.kept_of-kept.ensures.comments h (ap (λ (xs : List (ℕ × Token × ℕ)). last_newline_of (map lexeme_view (take c.begin_of-begin.result.lexemes xs))) c.deref-2.ensures.value ∙ e))
     (λ h last e. subst (λ (xs : List (ℕ × Token × ℕ)). IsTakenBack xs c.old.inside.cuts.items last c.kept_of-kept.result) c.deref-2.ensures.value
@@ -80,8 +81,8 @@ invariant_of-result c =
     let begin : IsBegin c.old.inside.text.now c.old.inside.cuts.items c.args.from c.begin_of-begin.result = subst (λ (xs : List Cut). IsBegin c.old.inside.text.now xs c.args.from c.begin_of-begin.result) c.deref.ensures.value (c.begin_of-begin.ensures c.old.inside.text.now (subst (AreCuts c.old.inside.text.now) (sym c.deref.ensures.value) c.old.invariant.2)) in
     let same : take c.args.from c.old.inside.text.now ≡ take c.args.from c.args.edited.now = ap (λ (v : LexedView). take c.args.from v.text) c.old.view_is ∙ c.requires.same in
     let part : IsPart (drop c.begin_of-begin.result.at c.args.edited.now) c.in-Ok.part = subst (λ (t : Text). IsPart t c.in-Ok.part) c.range_from-rest.ensures.value c.in-Ok.ensures.part in
-    let made = relexed c.old.inside.text.now c.args.edited.now c.old.inside.lexemes.items c.old.inside.cuts.items c.args.from c.begin_of-begin.result c.in-Ok.part c.kept_of-kept.result c.begins_with_tab-has_tab.result c.old.invariant.3.1.lexemes c.old.invariant.2 begin same c.requires.new.0 part
-    (c.begins_with_tab-has_tab.ensures ∙ ap (λ (t : Text). is_content (margin_of t).behind && has_tab (margin_of t)) c.range_from-rest.ensures.value)
+    let made = relexed c.old.inside.text.now c.args.edited.now c.old.inside.lexemes.items c.old.inside.cuts.items c.args.from c.begin_of-begin.result c.in-Ok.part c.kept_of-kept.result c.in-Ok.part.has_tab c.old.invariant.3.1.lexemes c.old.invariant.2 begin same c.requires.new.0 part
+    (c.in-Ok.ensures.part.tab ∙ ap (λ (t : Text). is_content (margin_of t).behind && has_tab (margin_of t)) c.range_from-rest.ensures.value)
     c.kept_of-kept.ensures.plain
     (λ h e. c.kept_of-kept.ensures.comments h (ap (λ (xs : List (ℕ × Token × ℕ)). last_newline_of (map lexeme_view (take c.begin_of-begin.result.lexemes xs))) c.deref-2.ensures.value ∙ e))
     (λ h last e. subst (λ (xs : List (ℕ × Token × ℕ)). IsTakenBack xs c.old.inside.cuts.items last c.kept_of-kept.result) c.deref-2.ensures.value
@@ -104,8 +105,8 @@ returns-clause-lexed c =
     let begin : IsBegin c.old.inside.text.now c.old.inside.cuts.items c.args.from c.begin_of-begin.result = subst (λ (xs : List Cut). IsBegin c.old.inside.text.now xs c.args.from c.begin_of-begin.result) c.deref.ensures.value (c.begin_of-begin.ensures c.old.inside.text.now (subst (AreCuts c.old.inside.text.now) (sym c.deref.ensures.value) c.old.invariant.2)) in
     let same : take c.args.from c.old.inside.text.now ≡ take c.args.from c.args.edited.now = ap (λ (v : LexedView). take c.args.from v.text) c.old.view_is ∙ c.requires.same in
     let part : IsPart (drop c.begin_of-begin.result.at c.args.edited.now) c.in-Ok.part = subst (λ (t : Text). IsPart t c.in-Ok.part) c.range_from-rest.ensures.value c.in-Ok.ensures.part in
-    let made = relexed c.old.inside.text.now c.args.edited.now c.old.inside.lexemes.items c.old.inside.cuts.items c.args.from c.begin_of-begin.result c.in-Ok.part c.kept_of-kept.result c.begins_with_tab-has_tab.result c.old.invariant.3.1.lexemes c.old.invariant.2 begin same c.requires.new.0 part
-    (c.begins_with_tab-has_tab.ensures ∙ ap (λ (t : Text). is_content (margin_of t).behind && has_tab (margin_of t)) c.range_from-rest.ensures.value)
+    let made = relexed c.old.inside.text.now c.args.edited.now c.old.inside.lexemes.items c.old.inside.cuts.items c.args.from c.begin_of-begin.result c.in-Ok.part c.kept_of-kept.result c.in-Ok.part.has_tab c.old.invariant.3.1.lexemes c.old.invariant.2 begin same c.requires.new.0 part
+    (c.in-Ok.ensures.part.tab ∙ ap (λ (t : Text). is_content (margin_of t).behind && has_tab (margin_of t)) c.range_from-rest.ensures.value)
     c.kept_of-kept.ensures.plain
     (λ h e. c.kept_of-kept.ensures.comments h (ap (λ (xs : List (ℕ × Token × ℕ)). last_newline_of (map lexeme_view (take c.begin_of-begin.result.lexemes xs))) c.deref-2.ensures.value ∙ e))
     (λ h last e. subst (λ (xs : List (ℕ × Token × ℕ)). IsTakenBack xs c.old.inside.cuts.items last c.kept_of-kept.result) c.deref-2.ensures.value
@@ -115,3 +116,15 @@ returns-clause-lexed c =
     c.append_later.ensures ∙ ap (λ xs. take c.kept_of-kept.result.lexemes xs ++ map (later c.begin_of-begin.result.at) c.given_behind-more.result.items) c.make_room.ensures.same
     ∙ ap (λ xs. take c.kept_of-kept.result.lexemes c.old.inside.lexemes.items ++ map (later c.begin_of-begin.result.at) xs) c.given_behind-more.ensures in
     record { lexemes = ap (map lexeme_view) lexemes ∙ made.lexemes; fault = subst (λ f. IsFaultIn c.args.code_map.now f c.in-Ok-exception_of.fault) (sym made.fault) (c.in-Ok-exception_of.ensures.exception (outcome (drop c.begin_of-begin.result.at c.args.edited.now)).fault part.fault) }
+
+pub returns-clause-reads : goal.returns-clause-reads
+returns-clause-reads c =
+    let begin : IsBegin c.old.inside.text.now c.old.inside.cuts.items c.args.from c.begin_of-begin.result = subst (λ (xs : List Cut). IsBegin c.old.inside.text.now xs c.args.from c.begin_of-begin.result) c.deref.ensures.value (c.begin_of-begin.ensures c.old.inside.text.now (subst (AreCuts c.old.inside.text.now) (sym c.deref.ensures.value) c.old.invariant.2)) in
+    let rest : length c.range_from-rest.result.now ≡ length c.args.edited.now - c.begin_of-begin.result.at = ap length c.range_from-rest.ensures.value ∙ length-drop c.begin_of-begin.result.at c.args.edited.now in
+    record {
+      at = c.begin_of-begin.result.at;
+      before = begin.before;
+      is_kept = subst (λ (v : LexedView). (c.begin_of-begin.result.at ≡ 0) ⊎ (is_kept_cut v.text c.begin_of-begin.result.at ≡ true)) c.old.view_is (begin_kept c.old.inside.text.now c.old.inside.cuts.items c.args.from c.begin_of-begin.result begin);
+      most = omega (arith, rest, c.in-Ok.ensures.most);
+      least = λ none. omega (arith, rest, c.in-Ok.ensures.least (c.in-Ok-exception_of.ensures.none none));
+    }

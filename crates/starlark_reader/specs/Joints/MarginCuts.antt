@@ -1,0 +1,55 @@
+-- Places where a text may be cut, in margins of which the lexemes are still to be handed out.
+use Rattle.std.specs.Prelude.{◌≡◌, ◌≤◌, ◌<◌, true, ℕ, ◌+◌, ◌==◌, List, ◌∷◌, ◌++◌, length, drop, take, Option, Some, None, ⊤, ◌⊎◌}
+use Rattle.starlark_grammar.specs.Words.{Text, language}
+use Rattle.starlark_grammar.specs.Margins.{lines, margin_of}
+use Rattle.starlark_grammar.specs.Reading.{outcome, pieces_len, read}
+use Rattle.starlark_grammar.specs.Cuts.{is_clean_cut, is_kept_cut, without_closing}
+use Rattle.starlark_reader.specs.Joints.Pending.{lines_between}
+use Rattle.starlark_reader.specs.declared.layout.Laid.{Laid}
+use Rattle.starlark_reader.specs.declared.layout.Laid.TheVariants as laid
+use Rattle.starlark_reader.specs.declared.layout.pending.Pending.{Pending}
+use Rattle.starlark_token.specs.declared.tokens.Token.{Token}
+
+-- how many lexemes of a text stand before a kept cut
+abbrev pub lexemes_before : Text → ℕ → ℕ
+lexemes_before text at = length (without_closing (outcome (take at text)).lexemes)
+
+-- A kept cut of a text, which lies before its end, behind all lexemes but so many.
+pub record IsCutBefore (text : Text) (at ahead : ℕ) : Type 0 where
+  pub inside : at < length text
+  pub is_kept : is_kept_cut text at ≡ true
+  pub count : lexemes_before text at + ahead ≡ length (outcome text).lexemes
+
+-- The comment-only lines of a margin are still to be read for their comments: so many bytes from a place on. Whether no
+-- width is open before it is known.
+pub record IsOfMargin (begin len : ℕ) (levels : List ℕ) (pending : Pending) : Type 0 where
+  pub from : pending.from ≡ begin
+  pub to : pending.to ≡ begin + len
+  pub flat : pending.is_flat ≡ (length levels == 0)
+
+abbrev pub IsLaidOut : Text → ℕ → List ℕ → Laid → Type 0
+IsLaidOut text begin levels (laid.Taken pending len) = IsOfMargin begin (margin_of (drop begin text)).at levels pending
+IsLaidOut text begin levels (laid.Fault pending fault end) = ⊤
+
+-- One of the lines was passed.
+pub record IsPassedLine (text : Text) (old new : Pending) : Type 0 where
+  pub line : Text
+  pub first : lines_between text old.from old.to ≡ line ∷ lines_between text new.from new.to
+  pub from : new.from ≡ old.from + length line
+  pub to : new.to ≡ old.to
+  pub flat : old.is_flat ≡ true
+
+-- Where a lexeme was handed out, and the place is still one of a margin before which no width is open, it was a line's.
+abbrev pub IsLinePassed : Text → Pending → Pending → Option (ℕ × Token × ℕ) → Type 0
+IsLinePassed text old new None = ⊤
+IsLinePassed text old new (Some found) = new.is_flat ≡ true → IsPassedLine text old new
+
+-- In a margin before which nothing is open, all lexemes before a place were handed out, and so many of the text are ahead.
+-- The place is the margin's begin, or behind a line of it.
+pub record IsMarginAhead (text : Text) (pending : Pending) (ahead : ℕ) : Type 0 where
+  pub before : ℕ
+  pub more : List Text
+  pub lines_left : lines (drop pending.from text) ≡ lines_between text pending.from pending.to ++ more
+  pub reach : pending.to ≤ pieces_len (read language text).pieces
+  pub known : ((pending.from ≡ 0) × (before ≡ 0)) ⊎ ((is_clean_cut (take pending.from text) ≡ true) × (lexemes_before text pending.from ≡ before))
+  pub count : before + ahead ≡ length (outcome text).lexemes
