@@ -7,4 +7,4 @@ mod nesting;
 pub mod reader;
 mod reading;
 
-pub use layout::{PlacedToken, begins_with_tab};
+pub use layout::PlacedToken;

@@ -10,3 +10,4 @@ pub mod LaneRuns
 pub mod EndLanes
 pub mod RunBytes
 pub mod BodyRuns
+pub mod PlainBodies

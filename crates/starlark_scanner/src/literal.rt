@@ -4,7 +4,9 @@ mod body;
 mod escapes;
 mod items;
 mod lanes;
+mod plain;
 mod runs;
 
 pub use body::{Body, LiteralValue, read_body};
 pub use items::{Literal, Opening, Stop, closing_len};
+pub use plain::plain_body_len;

@@ -11,6 +11,7 @@ ghost use Rattle.starlark_grammar.specs.Words as grammar;
 ghost use Rattle.starlark_grammar.specs.declared.class.Class.TheVariants as class;
 ghost use Rattle.starlark_grammar.specs.declared.class.LiteralKind.TheVariants as kind;
 
+mod first;
 mod marks;
 mod names;
 mod numbers;
@@ -18,6 +19,7 @@ mod openers;
 mod word;
 
 use crate::reads::Reads;
+use first::is_name_start;
 pub use starlark_grammar::class::{Class, LiteralKind, Quote, Terminal};
 pub use word::Word;
 
@@ -83,8 +85,8 @@ pub fn spaces_len(reads: &mut Reads, text: &str) -> usize
     reads.spaces_len(text.as_bytes())
 }
 
-/// The longest word at the front of a text, where its first byte or its first two tell which it is: a name, or a
-/// symbol of one byte. `None` where they don't.
+/// The longest word at the front of a text, where its first byte or its first two tell which it is: a name, a
+/// symbol of one byte, or a quote. `None` where they don't.
 #[inline(always)]
 pub fn common_word(reads: &mut Reads, text: &str) -> Option<Word>
     ensures word { IfSome result (λ word. Some (word_view word) ≡ language_front text.now) }
@@ -95,13 +97,17 @@ pub fn common_word(reads: &mut Reads, text: &str) -> Option<Word>
 {
     let front = reads.front(text.as_bytes(), 2);
     let first = *front.first()?;
-    if names::is_name_start(first) {
+    if is_name_start(first) {
         return Some(names::name_from(reads, text));
     }
     if marks::is_mark_alone(front) {
         return marks::longest_of_one(first);
     }
-    None
+    match first {
+        b'\'' => Some(quote_word(Quote::Single)),
+        b'"' => Some(quote_word(Quote::Double)),
+        _ => None,
+    }
 }
 
 /// The longest word at the front of a text that doesn't begin with a letter or `_`, or `None` where no word stands there.

@@ -6,14 +6,21 @@ use std::alloc::{AllocError, Global};
 use std::fmt;
 use std::marker::Model;
 
-/// A whole number that 32 bits don't hold: its sign, its digits and the base that they are written in.
-///
-/// Two are equal where sign, digits and base are, so a number written in two bases has two values.
+/// The sign, the digits and the base of a number.
 #[derive(Debug, Drop)]
-pub struct BigInt {
+struct Parts {
     negative: bool,
     digits: String,
     radix: u32,
+}
+
+/// A whole number that 32 bits don't hold: its sign, its digits and the base that they are written in.
+///
+/// Two are equal where sign, digits and base are, so a number written in two bases has two values. Its parts lie in a
+/// box, since such numbers are rare and each token has room for one.
+#[derive(Debug, Drop)]
+pub struct BigInt {
+    parts: Box<Parts>,
 }
 
 impl Model for BigInt {
@@ -22,9 +29,9 @@ impl Model for BigInt {
 
     ghost Value = { BigInteger };
 
-    ghost view = { λ n. record { is_negative = n.negative; digits = string_bytes n.digits; radix = n.radix } };
+    ghost view = { λ n. record { is_negative = n.parts.value.negative; digits = string_bytes n.parts.value.digits; radix = n.parts.value.radix } };
 
-    ghost invariant = { λ n. IsCanonical (record { is_negative = n.negative; digits = string_bytes n.digits; radix = n.radix }) };
+    ghost invariant = { λ n. IsCanonical (record { is_negative = n.parts.value.negative; digits = string_bytes n.parts.value.digits; radix = n.parts.value.radix }) };
 }
 
 impl BigInt {
@@ -32,22 +39,30 @@ impl BigInt {
     ghost use Rattle.starlark_token.specs.BigIntegers.{IsCanonical};
 
     /// The number with this sign and these digits.
-    pub(crate) fn from_parts(negative: bool, digits: String, radix: u32) -> BigInt
+    pub(crate) fn from_parts(
+        alloc: Global,
+        negative: bool,
+        digits: String,
+        radix: u32,
+    ) -> Result<BigInt, AllocError>
         requires { IsCanonical (record { is_negative = negative; digits = string_bytes digits; radix = radix }) }
-        ensures { result ≡ record { is_negative = negative; digits = string_bytes digits; radix = radix } }
+        ensures { IfOk result (λ number. number ≡ record { is_negative = negative; digits = string_bytes digits; radix = radix }) }
     {
-        BigInt {
+        let parts = Parts {
             negative,
             digits,
             radix,
-        }
+        };
+        Ok(BigInt {
+            parts: Box::new(alloc, parts)?,
+        })
     }
 
     /// Whether the number is below 0.
     pub fn is_negative(&self) -> bool
         ensures { result ≡ self.now.is_negative }
     {
-        self.negative
+        self.parts.negative
     }
 
     /// The digits, letters in lower case, the first no zero.
@@ -55,7 +70,7 @@ impl BigInt {
         ensures value { result.now ≡ self.now.digits }
         ensures kept { IsCanonical self.now }
     {
-        self.digits.as_str()
+        self.parts.digits.as_str()
     }
 
     /// The base that the digits are written in, from 2 to 36.
@@ -63,19 +78,15 @@ impl BigInt {
         ensures value { result ≡ self.now.radix }
         ensures kept { IsCanonical self.now }
     {
-        self.radix
+        self.parts.radix
     }
 
     /// An equal number, its digits in memory of its own.
     pub fn clone(&self, alloc: Global) -> Result<BigInt, AllocError>
         ensures { IfOk result (λ copy. copy ≡ self.now) }
     {
-        let digits = String::from_str(alloc, self.digits.as_str())?;
-        Ok(BigInt {
-            negative: self.negative,
-            digits,
-            radix: self.radix,
-        })
+        let digits = String::from_str(alloc, self.parts.digits.as_str())?;
+        BigInt::from_parts(alloc, self.parts.negative, digits, self.parts.radix)
     }
 }
 
@@ -92,7 +103,9 @@ impl PartialEq for BigInt {
     ghost laws = { Prim.search (comparing, rules) };
 
     fn eq(&self, other: &BigInt) -> bool {
-        self.digits == other.digits && self.negative == other.negative && self.radix == other.radix
+        self.parts.digits == other.parts.digits
+            && self.parts.negative == other.parts.negative
+            && self.parts.radix == other.parts.radix
     }
 }
 
@@ -111,10 +124,10 @@ impl fmt::Display for BigInt {
     ghost output = { λ n. Some (big_text n.is_negative n.digits n.radix) };
 
     fn fmt<W: fmt::Write>(&self, f: &mut fmt::Formatter<W>) -> fmt::Result {
-        let sign = if self.negative { "-" } else { "" };
-        if self.radix == 10 {
-            return write!(f, "{sign}{}", self.digits);
+        let sign = if self.parts.negative { "-" } else { "" };
+        if self.parts.radix == 10 {
+            return write!(f, "{sign}{}", self.parts.digits);
         }
-        write!(f, "{sign}{} (base {})", self.digits, self.radix)
+        write!(f, "{sign}{} (base {})", self.parts.digits, self.parts.radix)
     }
 }

@@ -99,6 +99,6 @@ pub fn number_in(alloc: Global, text: &str, base: u32) -> Result<Option<TokenInt
         return Ok(Some(TokenInt::I32(value)));
     }
     let plain = plain_digits(alloc, digits)?;
-    let number = BigInt::from_parts(is_negative(text.as_bytes()), plain, base);
+    let number = BigInt::from_parts(alloc, is_negative(text.as_bytes()), plain, base)?;
     Ok(Some(TokenInt::BigInt(number)))
 }

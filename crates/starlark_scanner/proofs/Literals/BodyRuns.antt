@@ -12,7 +12,6 @@ use Rattle.std.specs.Str.{IsCharBoundary, IsUtf8}
 use Rattle.starlark_grammar.specs.Characters.{first_character}
 use Rattle.starlark_grammar.specs.Words.{Text}
 use Rattle.starlark_grammar.specs.declared.class.Quote.{Quote}
-use Rattle.starlark_grammar.specs.declared.class.Quote.TheVariants.{Single as SingleQuote, Double as DoubleQuote}
 use Rattle.starlark_grammar.specs.Items.{Literal, Item, goes, closing_quotes, found_at, is_brace, quote_byte, body_at, body_value}
 use Rattle.starlark_scanner.specs.Joints.Runs.{is_in_run, is_special}
 use Rattle.starlark_scanner.proofs.Literals.BodySteps.{IsFront, front_more, front_none}
@@ -21,14 +20,14 @@ use Rattle.starlark_grammar.proofs.Lists.{drop-sum}
 use Rattle.starlark_scanner.proofs.Literals.RunBytes.{run_edge}
 
 -- what each test of a special byte says where it fails
-record IsOther (literal : Literal) (b : ℕ) : Type 0 where
-  quote : (b == quote_byte literal.opening.quote) ≡ false
-  backslash : (b == 92) ≡ false
-  return : (b == 13) ≡ false
-  line : (b == 10 && not literal.opening.is_triple) ≡ false
-  brace : is_brace literal.kind b ≡ false
+pub record IsOther (literal : Literal) (b : ℕ) : Type 0 where
+  pub quote : (b == quote_byte literal.opening.quote) ≡ false
+  pub backslash : (b == 92) ≡ false
+  pub return : (b == 13) ≡ false
+  pub line : (b == 10 && not literal.opening.is_triple) ≡ false
+  pub brace : is_brace literal.kind b ≡ false
 
-others : (literal : Literal) (b : ℕ) → is_in_run literal b ≡ true → IsOther literal b
+pub others : (literal : Literal) (b : ℕ) → is_in_run literal b ≡ true → IsOther literal b
 others literal b h = go _ _ _ _ _ refl refl refl refl refl (not-true (is_special literal b) h)
   where
     go : (q s r l c : Bool) → (b == quote_byte literal.opening.quote) ≡ q → (b == 92) ≡ s → (b == 13) ≡ r → (b == 10 && not literal.opening.is_triple) ≡ l → is_brace literal.kind b ≡ c

@@ -1,7 +1,6 @@
 -- What the first bytes of the rest of a body tell, which are read of it.
 use Rattle.std.proofs.Common.{◌≡◌, Bool, true, false, [], ◌∷◌, take, refl}
 use Rattle.starlark_grammar.specs.Items.{Literal}
-use Rattle.starlark_grammar.specs.Tokens.{Opening}
 use Rattle.starlark_grammar.specs.Words.{Text}
 use Rattle.starlark_scanner.proofs.Literals.Found.{closes}
 

@@ -1,5 +1,5 @@
 -- What the first bytes of a text tell, which are read of it.
-use Rattle.std.proofs.Common.{◌≡◌, ℕ, Bool, List, [], ◌∷◌, ◌≤◌, Option, take, refl, sym, ap, ◌∙◌}
+use Rattle.std.proofs.Common.{◌≡◌, ℕ, Bool, List, [], ◌∷◌, Option, take, refl, sym, ap, ◌∙◌}
 use Rattle.std.specs.List.{slice_get}
 use Rattle.starlark_grammar.specs.Front.{longest_front}
 use Rattle.starlark_grammar.specs.Words.{Text, begins, has_base, sign_len}

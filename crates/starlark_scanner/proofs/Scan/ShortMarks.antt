@@ -14,7 +14,7 @@ use Rattle.starlark_scanner.specs.declared.scanner.word.Word.{Word}
 use Rattle.starlark_grammar.specs.declared.class.Class.{Class}
 use Rattle.starlark_scanner.proofs.Scan.ByFirst.{front_mark}
 use Rattle.starlark_scanner.proofs.Scan.Listed.{all_pass, lookup_fails, each_byte, implied}
-use Rattle.starlark_scanner.proofs.Scan.Marks.{front_one, mark_is, mark_of}
+use Rattle.starlark_scanner.proofs.Scan.Marks.{mark_is, mark_of}
 
 -- a byte that such a mark may be
 abbrev is_one : ℕ → Bool

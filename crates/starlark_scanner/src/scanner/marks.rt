@@ -3,40 +3,11 @@
 ghost use Rattle.std.specs.Prelude.{◌≡◌, ◌≤◌, ◌∷◌, []};
 ghost use Rattle.std.specs.Option.{option_map};
 ghost use Rattle.starlark_grammar.specs.Front.{longest_front};
-ghost use Rattle.starlark_scanner.specs.Joints.Words.{goes_on, is_lone_mark, is_mark_alone, is_symbol, marks, word_len, word_view};
+ghost use Rattle.starlark_scanner.specs.Joints.Words.{is_mark_alone, marks, word_len, word_view};
 ghost use Rattle.starlark_grammar.specs.Words.{class_in};
 
+use super::first::{goes_on, is_lone_mark, is_symbol};
 use super::{Class, Terminal, Word};
-
-/// Whether a byte is a mark with which no longer mark begins.
-#[inline(always)]
-fn is_lone_mark(byte: u8) -> bool
-    ensures { result ≡ is_lone_mark byte }
-{
-    matches!(
-        byte,
-        b'\n' | b',' | b';' | b':' | b'~' | b'[' | b'{' | b'(' | b']' | b'}' | b')'
-    )
-}
-
-/// Whether a byte is a symbol, with which longer ones may begin.
-#[inline(always)]
-fn is_symbol(byte: u8) -> bool
-    ensures { result ≡ is_symbol byte }
-{
-    matches!(
-        byte,
-        b'=' | b'.' | b'<' | b'>' | b'-' | b'+' | b'*' | b'%' | b'/' | b'&' | b'|' | b'^'
-    )
-}
-
-/// Whether a symbol goes on with a byte, or a number.
-#[inline(always)]
-fn goes_on(byte: u8) -> bool
-    ensures { result ≡ goes_on byte }
-{
-    matches!(byte, b'=' | b'*' | b'/' | b'<' | b'>' | b'.' | b'0'..=b'9')
-}
 
 /// Whether the first byte of a text is a mark, which the byte behind it makes no longer.
 #[inline(always)]

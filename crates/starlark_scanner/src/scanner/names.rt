@@ -18,13 +18,6 @@ use crate::reads::Reads;
 /// The greatest length of a literal's prefix.
 const PREFIX_LEN: usize = 2;
 
-/// Whether a name may begin with the byte.
-pub fn is_name_start(byte: u8) -> bool
-    ensures { result ≡ grammar.is_name_start byte }
-{
-    byte.is_ascii_alphabetic() || byte == b'_'
-}
-
 /// Whether a keyword or a reserved word begins with two bytes.
 #[inline(always)]
 fn begin_listed_name(first: u8, second: u8) -> bool
@@ -62,29 +55,27 @@ fn may_be_listed(name: &[u8]) -> bool
     }
 }
 
-/// The class of a name. Most names are told by their first two bytes.
-fn name_class(name: &str) -> Class
+/// The class of a name, by the list. Frequent words are compared first.
+#[inline(never)]
+fn listed_class(name: &str) -> Class
     ensures { result ≡ unwrap_or (lookup (bytes_eq name.now) grammar.names) class.Identifier }
 {
-    if !may_be_listed(name.as_bytes()) {
-        return Class::Identifier;
-    }
     match name {
-        "and" => Class::Fixed(Terminal::And),
-        "break" => Class::Fixed(Terminal::Break),
-        "continue" => Class::Fixed(Terminal::Continue),
-        "def" => Class::Fixed(Terminal::Def),
-        "elif" => Class::Fixed(Terminal::Elif),
-        "else" => Class::Fixed(Terminal::Else),
-        "for" => Class::Fixed(Terminal::For),
-        "if" => Class::Fixed(Terminal::If),
         "in" => Class::Fixed(Terminal::In),
-        "lambda" => Class::Fixed(Terminal::Lambda),
-        "load" => Class::Fixed(Terminal::Load),
+        "if" => Class::Fixed(Terminal::If),
+        "for" => Class::Fixed(Terminal::For),
+        "def" => Class::Fixed(Terminal::Def),
+        "return" => Class::Fixed(Terminal::Return),
         "not" => Class::Fixed(Terminal::Not),
         "or" => Class::Fixed(Terminal::Or),
+        "and" => Class::Fixed(Terminal::And),
+        "else" => Class::Fixed(Terminal::Else),
+        "load" => Class::Fixed(Terminal::Load),
         "pass" => Class::Fixed(Terminal::Pass),
-        "return" => Class::Fixed(Terminal::Return),
+        "elif" => Class::Fixed(Terminal::Elif),
+        "lambda" => Class::Fixed(Terminal::Lambda),
+        "break" => Class::Fixed(Terminal::Break),
+        "continue" => Class::Fixed(Terminal::Continue),
         "as"
         | "assert"
         | "async"
@@ -107,7 +98,19 @@ fn name_class(name: &str) -> Class
     }
 }
 
+/// The class of a name. Most names are told by their first two bytes.
+#[inline(always)]
+fn name_class(name: &str) -> Class
+    ensures { result ≡ unwrap_or (lookup (bytes_eq name.now) grammar.names) class.Identifier }
+{
+    if !may_be_listed(name.as_bytes()) {
+        return Class::Identifier;
+    }
+    listed_class(name)
+}
+
 /// Whether a quote stands at a place of a text.
+#[inline(always)]
 fn is_quote_at(reads: &mut Reads, text: &[u8], at: usize) -> bool
     ensures value { result ≡ is_quote (get_or text.now at 0) }
     ensures reads { reads.new ≡ more_reads reads.old 1 }
@@ -120,6 +123,7 @@ fn is_quote_at(reads: &mut Reads, text: &[u8], at: usize) -> bool
 
 /// What opens a literal at the front of a text that begins with a name of the given length: that
 /// name as a prefix, and a quote.
+#[inline(always)]
 fn prefixed_opener(reads: &mut Reads, text: &str, len: usize) -> Option<Class>
     requires { len ≡ prefix_len grammar.is_in_name text.now }
     ensures opener { result ≡ lookup (bytes_eq (take (len + 1) text.now)) grammar.openers }

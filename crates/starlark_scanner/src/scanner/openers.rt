@@ -21,6 +21,7 @@ fn opener(kind: LiteralKind, is_raw: bool, quote: Quote) -> Class
 }
 
 /// The opener that a word is, if it is one.
+#[inline(never)]
 pub fn opener_class(word: &str) -> Option<Class>
     ensures { result ≡ lookup (bytes_eq word.now) grammar.openers }
 {

@@ -1,9 +1,7 @@
-use Rattle.std.proofs.Common.{◌≡◌, List, ℕ, get_or, Some, None, refl, sym, ap, ◌∙◌, subst, take, arith, true, false}
-use Rattle.std.proofs.lemmas.Option.{get_or_from_slice_get}
+use Rattle.std.proofs.Common.{◌≡◌, List, ℕ, Some, refl, sym, ap, ◌∙◌, take, arith}
 use Rattle.std.specs.List.{slice_get}
-use Rattle.std.specs.Prelude.{IfSome}
-use Rattle.starlark_grammar.specs.Words.{is_name_start, begins}
-use Rattle.starlark_scanner.specs.Joints.Words.{is_mark_alone, word_view}
+use Rattle.starlark_scanner.specs.Joints.Words.{is_mark_alone}
+use Rattle.starlark_scanner.proofs.Scan.ByFirst.{front_double_quote, front_single_quote}
 use Rattle.starlark_scanner.proofs.Scan.ReadFronts.{alone_by_two, first_by_two}
 use Rattle.starlark_scanner.proofs.Scan.ShortMarks.{front_alone, single_word}
 use Rattle.starlark_scanner.proofs.scanner.common_word.Goals as goal
@@ -16,3 +14,15 @@ returns-then-is_mark_alone-clause-word c =
     let alone = sym (alone_by_two c.args.text.now) ∙ sym (ap is_mark_alone front) ∙ sym c.if-is_mark_alone.ensures in
     let found = front_alone c.args.text.now b (λ i. omega (arith, c.type_inv.text i)) first alone in
     single_word c.longest_of_one.result _ (c.longest_of_one.ensures.word ∙ sym found.0)
+
+pub returns-in-39-clause-word : goal.returns-in-39-clause-word
+returns-in-39-clause-word c =
+    let front = c.front-front.ensures.bytes ∙ ap (take 2) c.as_bytes.ensures.value in
+    let first : slice_get c.args.text.now 0 ≡ Some 39 = sym (first_by_two c.args.text.now) ∙ sym (ap (λ (t : List ℕ). slice_get t 0) front) ∙ sym c.in_ok-first.ensures.value ∙ ap Some c.in-39.is in
+    rw (c.quote_word.ensures, front_single_quote c.args.text.now first) refl
+
+pub returns-in-34-clause-word : goal.returns-in-34-clause-word
+returns-in-34-clause-word c =
+    let front = c.front-front.ensures.bytes ∙ ap (take 2) c.as_bytes.ensures.value in
+    let first : slice_get c.args.text.now 0 ≡ Some 34 = sym (first_by_two c.args.text.now) ∙ sym (ap (λ (t : List ℕ). slice_get t 0) front) ∙ sym c.in_ok-first.ensures.value ∙ ap Some c.in-34.is in
+    rw (c.quote_word-in-34.ensures, front_double_quote c.args.text.now first) refl

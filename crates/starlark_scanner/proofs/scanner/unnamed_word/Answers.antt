@@ -1,5 +1,5 @@
 -- The first byte decides which words may stand there.
-use Rattle.std.proofs.Common.{ℕ, List, [], ◌∷◌, ◌≡◌, ◌<◌, false, refl, sym, ap, ◌∙◌, arith, Some, None, Option, take}
+use Rattle.std.proofs.Common.{ℕ, [], ◌∷◌, ◌≡◌, ◌<◌, false, refl, sym, ap, ◌∙◌, arith, Some, None, take}
 use Rattle.std.proofs.lemmas.Option.{get_or_from_slice_get}
 use Rattle.std.specs.List.{slice_get}
 use Rattle.starlark_grammar.specs.Words.{Text, begins, class_in, is_name_start}

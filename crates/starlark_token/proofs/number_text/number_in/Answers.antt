@@ -24,12 +24,18 @@ returns-in_err-plain-clause-memory c =
     let big : IsSomeAnd (integer_in c.args.base c.args.text.now) IsBig = rw (not_parsed c.args.base c.args.text.now number c.in_default.ensures.value) tt in
     search (rules, big)
 
+pub returns-in_err-number-clause-memory : goal.returns-in_err-number-clause-memory
+returns-in_err-number-clause-memory c =
+    let number : is_number c.args.base c.args.text.now ≡ true = rw (← c.unsigned-digits.ensures, ← c.as_bytes.ensures.value, ← c.is_numeral.ensures) c.if-not-is_numeral.false in
+    let big : IsSomeAnd (integer_in c.args.base c.args.text.now) IsBig = rw (not_parsed c.args.base c.args.text.now number c.in_default.ensures.value) tt in
+    search (rules, big)
+
 pub returns-clause-value : goal.returns-clause-value
 returns-clause-value c =
     let number : is_number c.args.base c.args.text.now ≡ true = rw (← c.unsigned-digits.ensures, ← c.as_bytes.ensures.value, ← c.is_numeral.ensures) c.if-not-is_numeral.false in
-    rw (not_parsed c.args.base c.args.text.now number c.in_default.ensures.value, c.from_parts-number.ensures, c.is_negative.ensures, c.as_bytes-2.ensures.value, c.in_ok-plain.ensures, c.unsigned-digits.ensures) refl
+    rw (not_parsed c.args.base c.args.text.now number c.in_default.ensures.value, c.in_ok-number.ensures, c.is_negative.ensures, c.as_bytes-2.ensures.value, c.in_ok-plain.ensures, c.unsigned-digits.ensures) refl
 
-pub from_parts-number-requires : goal.from_parts-number-requires
-from_parts-number-requires c =
+pub from_parts-requires : goal.from_parts-requires
+from_parts-requires c =
     let number : is_number c.args.base c.args.text.now ≡ true = rw (← c.unsigned-digits.ensures, ← c.as_bytes.ensures.value, ← c.is_numeral.ensures) c.if-not-is_numeral.false in
     rw (c.is_negative.ensures, c.as_bytes-2.ensures.value, c.in_ok-plain.ensures, c.unsigned-digits.ensures) (is_kept c.args.base c.args.text.now c.requires.least c.requires.most number c.in_default.ensures.value)

@@ -1,4 +1,4 @@
-use Rattle.std.proofs.Common.{◌≡◌, ◌∙◌, true, false, sym, ap, refl, take, Some, None}
+use Rattle.std.proofs.Common.{◌≡◌, ◌∙◌, true, false, sym, ap, take, Some, None}
 use Rattle.std.specs.List.{slice_get}
 use Rattle.starlark_grammar.specs.Items.{is_brace}
 use Rattle.starlark_scanner.specs.Joints.Literals.{literal_view}

@@ -1,4 +1,4 @@
-use Rattle.std.proofs.Common.{ap, sym, ◌∙◌, unwrap_or, Option, ℕ}
+use Rattle.std.proofs.Common.{ap, ◌∙◌, unwrap_or, Option, ℕ}
 use Rattle.std.proofs.lemmas.Option.{unwrap_or-slice_get}
 use Rattle.starlark_scanner.specs.Joints.Words.{is_quote}
 use Rattle.starlark_scanner.proofs.scanner.names.is_quote_at.Goals as goal
