@@ -14,11 +14,11 @@ abbrev pub begun : List ℕ → ℕ
 begun bytes = count_by begins_character bytes
 
 -- one more step is passed
-pub step_passed : (text front rest : List ℕ) (at size : ℕ) → drop at text ≡ front ++ rest → length front ≡ size → begun_before text (at + size) ≡ begun_before text at + begun front
+step_passed : (text front rest : List ℕ) (at size : ℕ) → drop at text ≡ front ++ rest → length front ≡ size → begun_before text (at + size) ≡ begun_before text at + begun front
 step_passed text front rest at size next long =
     begun_on text at size ∙ ap (λ bytes. begun_before text at + begun bytes) (ap (take size) next ∙ take_at front rest size long)
 
-pub rest_passed : (text front rest : List ℕ) (at size : ℕ) → drop at text ≡ front ++ rest → length front ≡ size → drop (at + size) text ≡ rest
+rest_passed : (text front rest : List ℕ) (at size : ℕ) → drop at text ≡ front ++ rest → length front ≡ size → drop (at + size) text ≡ rest
 rest_passed text front rest at size next long = sym (drop-drop size at text) ∙ ap (drop size) next ∙ drop_at front rest size long
 
 -- of ASCII each byte is a character
@@ -49,7 +49,7 @@ pub record AreStepsTo (step : ℕ) (text counts : List ℕ) (at count : ℕ) : T
   pub each : (k : ℕ) → k < length counts → get_or counts k 0 ≡ begun_before text (k * step)
 
 -- one step more
-pub one_step_more : (step : ℕ) (text counts front : List ℕ) (at next_at count next : ℕ) → AreStepsTo step text counts at count → next_at ≡ at + step
+one_step_more : (step : ℕ) (text counts front : List ℕ) (at next_at count next : ℕ) → AreStepsTo step text counts at count → next_at ≡ at + step
     → begun_before text (at + step) ≡ begun_before text at + begun front → next ≡ count + begun front → AreStepsTo step text (counts ++ next ∷ []) next_at next
 one_step_more step text counts front at next_at count next so_far there more total =
     let size : length (counts ++ next ∷ []) ≡ length counts + 1 = length-append counts (next ∷ []) in

@@ -25,7 +25,9 @@ impl PlaceTally {
 
     /// Counts one end of a span.
     fn add_pos(&mut self, pos: ResolvedPos) {
-        let place = (pos.line as u64).wrapping_mul(3).wrapping_add(pos.column as u64);
+        let place = (pos.line as u64)
+            .wrapping_mul(3)
+            .wrapping_add(pos.column as u64);
         self.checksum = self.checksum.rotate_left(5).wrapping_add(place);
     }
 

@@ -1,7 +1,7 @@
 //! Characters of a text, counted in steps, so that those before any byte are known from a look at a few.
 
-ghost use Rattle.std.specs.Prelude.{◌≡◌, ◌<◌, ◌≤◌, ◌^◌, IfOk, length, slice_range};
-ghost use Rattle.std.specs.Str.{IsCharBoundary};
+ghost use Rattle.std.specs.Prelude.{◌≡◌, ◌<◌, ◌≤◌, ◌^◌, [], IfOk, length, slice_range};
+ghost use Rattle.std.specs.Str.{IsAscii, IsCharBoundary};
 ghost use Rattle.starlark_base.specs.Joints.CharacterCounts.{AreCounts, begun_before};
 ghost use Rattle.starlark_text.specs.Characters.{char_count};
 
@@ -31,7 +31,8 @@ fn counts_of_steps(alloc: Global, bytes: &[u8]) -> Result<Vec<u32>, AllocError>
 /// which no memory is asked.
 pub(crate) fn counts_of(alloc: Global, text: &str) -> Result<Vec<u32>, AllocError>
     requires { length text.now < 2 ^ 32 }
-    ensures { IfOk result (λ counts. AreCounts STEP text.now counts.items) }
+    ensures counted { IfOk result (λ counts. AreCounts STEP text.now counts.items) }
+    ensures ascii { IfOk result (λ counts. IsAscii text.now → counts.items ≡ []) }
 {
     if text.is_ascii() {
         Ok(Vec::new(alloc))
