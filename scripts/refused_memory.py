@@ -36,6 +36,9 @@ MOST_REQUESTS = 100_000
 # read and answered.
 WHOLE_GROUPS = {b"errors", b"files", b"refusals", b"words"}
 
+# A call that lexes thousands of texts, with too many requests to refuse each.
+LEFT_OUT = {(b"edits", b"each_byte")}
+
 TEXTS = [
     b"",
     b"def f\n",
@@ -157,7 +160,7 @@ def tried_rows(most):
     for row, answer in zip(rows, answers, strict=True):
         call = tuple(row.split(b"\t")[:2])
         seen[call] += 1
-        if call[0] in WHOLE_GROUPS or seen[call] <= most:
+        if call not in LEFT_OUT and (call[0] in WHOLE_GROUPS or seen[call] <= most):
             yield row, answer + b"\n"
 
 

@@ -2,11 +2,10 @@
 //! of memory handed on. `scripts/refused_memory.py` refuses each request of each of these rows in turn.
 
 use crate::code_maps::code_map;
-use crate::edits;
 use crate::errors::{first, forms, kind, one_call, placed, shown_error, tab};
-use crate::lexed_texts;
 use crate::rows::{Answer, Row, given, unknown};
 use crate::words::{add_lexeme, lexer};
+use crate::{edits, lexed_texts};
 use starlark_syntax::call_stack::CallStack;
 use starlark_syntax::codemap::{CodeMap, CodeMapId, CodeMaps, OrMemory};
 use starlark_syntax::diagnostic::WithDiagnostic;

@@ -24,12 +24,7 @@ pub struct Version {
 }
 
 /// The version that an edit leaves of a text, where the edit stands at this place of a list.
-fn next_version(
-    alloc: Global,
-    text: &str,
-    at: usize,
-    edit: &Edit<'_>,
-) -> Result<Version, RunFault>
+fn next_version(alloc: Global, text: &str, at: usize, edit: &Edit<'_>) -> Result<Version, RunFault>
     requires { length text.now ≤ GREATEST_LEN }
     ensures follows { IfOk result (Follows text.now) }
     ensures text { IfOk result (λ version. text_after_one at text.now edit.now ≡ Ok (string_bytes version.text)) }
@@ -60,11 +55,7 @@ fn newest<'v>(first: &'v str, versions: &'v [Version]) -> &'v str
 }
 
 /// The versions that edits leave of a text, one after another.
-pub fn versions_of(
-    alloc: Global,
-    first: &str,
-    edits: &[Edit<'_>],
-) -> Result<Vec<Version>, RunFault>
+pub fn versions_of(alloc: Global, first: &str, edits: &[Edit<'_>]) -> Result<Vec<Version>, RunFault>
     requires { length first.now ≤ GREATEST_LEN }
     ensures versions { IfOk result (λ versions. AreVersions first.now versions.items) }
     ensures last { IfOk result (λ versions. text_after 0 first.now edits.now ≡ Ok (newest_text first.now versions.items)) }

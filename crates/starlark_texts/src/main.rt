@@ -26,6 +26,7 @@ fn status(outcome: &Result<RunStatus, RunFault>) -> &'static str {
         Ok(RunStatus::Fault) => "fault",
         Err(RunFault::NotUtf8) => "not UTF-8",
         Err(RunFault::TooLong) => "too long",
+        Err(RunFault::BadEdit(_)) => "not edited",
         Err(RunFault::Read) => "not read",
         Err(RunFault::Write) => "not written",
         Err(RunFault::Memory) => "out of memory",
