@@ -41,14 +41,16 @@ pub fn line_of(alloc: Global, file: &CodeMap, finding: Finding) -> Result<String
     format!(in alloc; "{place}: {}", finding.rule)
 }
 
+/// Whether a text is an address that is read in the clear.
+fn is_clear_address(text: &str) -> bool {
+    text.as_bytes().starts_with(b"http://")
+}
+
 /// The rule that a token breaks. Of an indent the width is given, and that of the block round it.
 fn broken_rule(token: &Token, width: usize, outer: usize) -> Option<Rule> {
     match token {
-        Token::Indent => (width != outer.saturating_add(STEP)).then_some(Rule::Indentation),
-        Token::String(text) => text
-            .as_str()
-            .starts_with("http://")
-            .then_some(Rule::Address),
+        Token::Indent if width != outer.saturating_add(STEP) => Some(Rule::Indentation),
+        Token::String(text) if is_clear_address(text.as_str()) => Some(Rule::Address),
         _ => None,
     }
 }

@@ -21,7 +21,7 @@ impl Before {
     fn bracket(self) -> Before {
         match self {
             Before::Load => Before::LoadAndBracket,
-            _ => Before::Other,
+            Before::LoadAndBracket | Before::Other => Before::Other,
         }
     }
 }

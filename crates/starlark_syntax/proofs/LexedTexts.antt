@@ -1,6 +1,7 @@
 -- Texts with all their lexemes.
 pub mod Collected
 pub mod Within
+pub mod Boundaries
 pub mod CleanCuts
 pub mod Joined
 pub mod Newlines

@@ -12,7 +12,7 @@ use Rattle.starlark_token.specs.TokenViews.{TokenView}
 use Rattle.starlark_token.specs.declared.tokens.Token.{Token}
 
 -- with something weaker that follows
-found_all : (P Q : ℕ → ℕ → Type 0) (found : List (ℕ × Token × ℕ)) (lexemes : List Lexeme) → ((begin end : ℕ) → P begin end → Q begin end) → map lexeme_view found ≡ map shown_lexeme lexemes
+pub found_all : (P Q : ℕ → ℕ → Type 0) (found : List (ℕ × Token × ℕ)) (lexemes : List Lexeme) → ((begin end : ℕ) → P begin end → Q begin end) → map lexeme_view found ≡ map shown_lexeme lexemes
     → AllByRecursion (λ (l : Lexeme). P l.begin l.end) lexemes → AllByRecursion (λ (x : ℕ × Token × ℕ). Q x.0 x.2) found
 found_all P Q [] lexemes weaker e all = tt
 found_all P Q (x ∷ xs) [] weaker e all = cc
@@ -21,7 +21,7 @@ found_all P Q (x ∷ xs) (l ∷ ls) weaker e all =
     let more : map lexeme_view xs ≡ map shown_lexeme ls = cc in
     (subst (λ (s : Spanned TokenView). Q s.begin s.end) (sym first) (weaker l.begin l.end all.0), found_all P Q xs ls weaker more all.1)
 
-by_index : {A : Type 0} (P : A → Type 0) (xs : List A) → AllByRecursion P xs → All P xs
+pub by_index : {A : Type 0} (P : A → Type 0) (xs : List A) → AllByRecursion P xs → All P xs
 by_index P [] all k d h = absurd (omega (arith, h))
 by_index P (x ∷ xs) all zero d h = all.0
 by_index P (x ∷ xs) all (suc k) d h = by_index P xs all.1 k d (omega (arith, h))

@@ -95,11 +95,14 @@ impl<'a> LexedText<'a> {
     }
 
     /// The lexemes: each token with the places, in bytes, where it begins and ends. Each begins at or before its end, and
-    /// lies inside of the text.
+    /// lies inside of the text, between characters.
     pub fn lexemes(&self) -> &[(usize, Token, usize)]
         ensures lexemes { map lexeme_view result.now ≡ self.now.lexemes }
         ensures within { All (λ lexeme. IsWithin self.now.text lexeme.0 lexeme.2) result.now }
+        ensures boundaries { All (λ lexeme. IsCharBoundary self.now.text lexeme.0 × IsCharBoundary self.now.text lexeme.2) result.now }
     {
+        // What is read as a `&str` is known to be text, on which `boundaries` rests.
+        let _text = self.text();
         &self.lexemes
     }
 
