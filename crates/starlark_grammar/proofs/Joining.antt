@@ -12,3 +12,4 @@ pub mod ShortenedBodies
 pub mod ShortenedPieces
 pub mod LaidCuts
 pub mod LineCuts
+pub mod KeptPlaces

@@ -122,7 +122,7 @@ unfolding is_settled mode_after
 flat_settled history flat laid = rw (laid, flat.none_open, flat.balanced, flat.no_width) refl
 
 -- as many comments as lines
-comments_count : (at : ℕ) (ls : List Text) → length (comments_from at ls) ≡ length ls
+pub comments_count : (at : ℕ) (ls : List Text) → length (comments_from at ls) ≡ length ls
 comments_count at [] = refl
 comments_count at (line ∷ ls) = omega (arith, comments_count (at + length line) ls)
 
@@ -324,7 +324,7 @@ clean_ends : (text : Text) → is_clean_cut text ≡ true → ends_with nat_eq t
 unfolding is_clean_cut is_clean_cut_in
 clean_ends text h = (and_parts _ _ h).1
 
-split_last : {A : Type 0} (xs : List A) → (xs ≡ [] → ⊥) → (init : List A) × (last : A) × (xs ≡ init ++ last ∷ [])
+pub split_last : {A : Type 0} (xs : List A) → (xs ≡ [] → ⊥) → (init : List A) × (last : A) × (xs ≡ init ++ last ∷ [])
 split_last [] some = absurd (some refl)
 split_last (x ∷ []) some = ([], x, refl)
 split_last (x ∷ y ∷ ys) some = let rest = split_last (y ∷ ys) (λ e. cc) in (x ∷ rest.0, rest.1, ap (λ zs. x ∷ zs) rest.2)

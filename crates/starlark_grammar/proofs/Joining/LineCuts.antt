@@ -4,6 +4,8 @@ use Rattle.std.specs.Prelude.{if◌then◌else◌, codes, nat_eq, not, ◌&&◌}
 use Rattle.std.specs.List.{ends_with, list_all, onto_first}
 use Rattle.std.proofs.lemmas.Bool.{and_parts}
 use Rattle.std.proofs.lemmas.List.{length-map, length-take-le}
+use Rattle.std.proofs.lemmas.List.Sums.{sum_by-cons}
+use Rattle.starlark_grammar.proofs.Lists.{drop-sum}
 use Rattle.starlark_grammar.specs.Words as word
 use Rattle.starlark_grammar.specs.Words.{Class, Text, class_in, language, line_ends, names, openers, patterns, symbols}
 use Rattle.starlark_grammar.specs.Front.{longest_front}
@@ -150,6 +152,21 @@ pub kept_by : (text : Text) (at : ℕ) → at ≤ pieces_len (read language text
 unfolding is_kept_cut
 kept_by text at reach clean = ap (λ (b : Bool). b && is_clean_cut (take at text)) (le-leb at (pieces_len (read language text).pieces) reach) ∙ clean
 
+drop_first : (first : Piece) (front : List Piece) (text : Text) → drop (pieces_len (first ∷ front)) text ≡ drop (pieces_len front) (drop first.len text)
+drop_first first front text = ap (λ n. drop n text) (sum_by-cons (λ (piece : Piece). piece.len) first front) ∙ drop-sum first.len (pieces_len front) text
+
+-- one piece more
+pub reads_more : (history : History) (text : Text) (pieces : List Piece) (piece : Piece) → IsReading language history text pieces → next_step language (after_all history pieces) (drop (pieces_len pieces) text) ≡ Stands piece → IsReading language history text (pieces ++ piece ∷ [])
+reads_more history text [] piece reads stands = (stands, tt)
+reads_more history text (first ∷ pieces) piece reads stands =
+    (reads.0, reads_more (after history first) (drop first.len text) pieces piece reads.1 (ap (next_step language (after_all (after history first) pieces)) (sym (drop_first first pieces text)) ∙ stands))
+
+-- the piece behind some
+pub next_reads : (history : History) (text : Text) (front : List Piece) (piece : Piece) (more : List Piece) → IsReading language history text (front ++ piece ∷ more) → next_step language (after_all history front) (drop (pieces_len front) text) ≡ Stands piece
+next_reads history text [] piece more reads = reads.0
+next_reads history text (first ∷ front) piece more reads =
+    ap (next_step language (after_all (after history first) front)) (drop_first first front text) ∙ next_reads (after history first) (drop first.len text) front piece more reads.1
+
 -- No reading goes further than the longest.
 pub reading_reach : (text : Text) (pieces : List Piece) → IsReading language nothing text pieces → pieces_len pieces ≤ pieces_len (read language text).pieces
 reading_reach text pieces reads = go (readings_agree language nothing text pieces (read language text).pieces reads (read_is language text).reads)
@@ -160,15 +177,6 @@ reading_reach text pieces reads = go (readings_agree language nothing text piece
     stuck : (more : List Piece) → pieces ≡ (read language text).pieces ++ more → pieces_len pieces ≤ pieces_len (read language text).pieces
     stuck [] e = omega (arith, ap pieces_len (e ∙ append-nil (read language text).pieces))
     stuck (piece ∷ more) e = absurd (longest.no_piece piece (sym longest.stands_last ∙ next_reads nothing text (read language text).pieces piece more (subst (IsReading language nothing text) e reads)))
-      where
-        next_reads : (history : History) (text : Text) (front : List Piece) (piece : Piece) (more : List Piece) → IsReading language history text (front ++ piece ∷ more) → next_step language (after_all history front) (drop (pieces_len front) text) ≡ Stands piece
-        next_reads history text [] piece more reads = reads.0
-        next_reads history text (first ∷ front) piece more reads =
-            ap (next_step language (after_all (after history first) front)) (drop_first first front text) ∙ next_reads (after history first) (drop first.len text) front piece more reads.1
-          where
-            drop_first : (first : Piece) (front : List Piece) (text : Text) → drop (pieces_len (first ∷ front)) text ≡ drop (pieces_len front) (drop first.len text)
-            drop_first first front text =
-                ap (λ n. drop n text) (Rattle.std.proofs.lemmas.List.Sums.sum_by-cons (λ (piece : Piece). piece.len) first front) ∙ Rattle.starlark_grammar.proofs.Lists.drop-sum first.len (pieces_len front) text
 
     go : Begins pieces (read language text).pieces ⊎ Begins (read language text).pieces pieces → pieces_len pieces ≤ pieces_len (read language text).pieces
     go (inl more) = omega (arith, ap pieces_len more.1, pieces_both pieces more.0)

@@ -26,7 +26,7 @@ use Rattle.starlark_grammar.proofs.Joining.CleanCuts.{past_both, pieces_both}
 use Rattle.starlark_grammar.proofs.Joining.Joined.{CountedEnd, counted_end, margin_step_len, outside}
 use Rattle.starlark_grammar.proofs.Joining.LaidCuts.{Behind, IsFlat, IsLaid, laid_clean, laid_lexemes}
 use Rattle.starlark_grammar.proofs.Joining.Laws.{ends_behind}
-use Rattle.starlark_grammar.proofs.Joining.LineCuts.{kept_by, line_behind, line_clean, line_end_ends, line_lexeme, reading_reach}
+use Rattle.starlark_grammar.proofs.Joining.LineCuts.{kept_by, line_behind, line_clean, line_end_ends, line_lexeme, reading_reach, reads_more}
 use Rattle.starlark_grammar.proofs.Joining.Settled.{outside_none}
 use Rattle.starlark_reader.specs.Joints.MarginCuts.{IsCutBefore, IsMarginAhead, IsOfMargin, IsPassedLine, lexemes_before}
 use Rattle.starlark_reader.specs.Joints.Pending.{IsPending, lines_between, pending_lexemes}
@@ -36,13 +36,6 @@ use Rattle.starlark_reader.proofs.Indentation.Pending.{margin_lines}
 use Rattle.starlark_reader.proofs.Pieces.Onward.{first_stands, margin_first, onward_stands}
 
 -- Readings
-
--- one piece more
-reads_more : (history : History) (text : Text) (pieces : List Piece) (piece : Piece) → IsReading language history text pieces → next_step language (after_all history pieces) (drop (pieces_len pieces) text) ≡ Stands piece → IsReading language history text (pieces ++ piece ∷ [])
-reads_more history text [] piece reads stands = (stands, tt)
-reads_more history text (first ∷ pieces) piece reads stands =
-    let left : drop (pieces_len (first ∷ pieces)) text ≡ drop (pieces_len pieces) (drop first.len text) = ap (λ n. drop n text) (sum_by-cons (λ (piece : Piece). piece.len) first pieces) ∙ drop-sum first.len (pieces_len pieces) text in
-    (reads.0, reads_more (after history first) (drop first.len text) pieces piece reads.1 (ap (next_step language (after_all (after history first) pieces)) (sym left) ∙ stands))
 
 pub read_more : (text : Text) (history : History) (at next : ℕ) (piece : Piece) → IsReadTo text history at → next_step language history (drop at text) ≡ Stands piece → next ≡ at + piece.len → IsReadTo text (after history piece) next
 read_more text history at next piece read stands is = record {

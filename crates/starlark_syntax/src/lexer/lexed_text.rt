@@ -115,7 +115,8 @@ impl<'a> LexedText<'a> {
 
     /// How often bytes of the text were read by the call that made this: each look at a byte counts, looks ahead included,
     /// and each byte of those that are looked at together. At most `16 * (n + 1)` after `lex`, where the text has `n` bytes,
-    /// and at least `n` where it has no fault; 0 after `join`.
+    /// and at least `n` where it has no fault; the same after `relex`, of the bytes behind the cut that it went on from; 0
+    /// after `join`.
     pub fn reads(&self) -> u64
         ensures { result ≡ self.now.reads }
     {
