@@ -8,6 +8,7 @@ ghost use Rattle.starlark_scanner.specs.Joints.Literals.{opening_view};
 ghost use Rattle.starlark_grammar.specs.Margins.{open_widths};
 ghost use Rattle.starlark_grammar.specs.Pieces as grammar;
 ghost use Rattle.starlark_grammar.specs.declared.class.Class.TheVariants as class;
+ghost use Rattle.starlark_grammar.specs.declared.class.LiteralKind.TheVariants as kind;
 ghost use Rattle.starlark_reader.specs.Joints.Pending.{IsIdle, IsPending};
 ghost use Rattle.starlark_reader.specs.Joints.MarginCuts.{IsCutBefore};
 ghost use Rattle.starlark_reader.specs.Joints.Reads.{HasRead, HasReadAt, HasReadNext, IsMarginRead, IsPassed, IsPassedBy};
@@ -31,8 +32,9 @@ use crate::nesting::{LexerMode, Nesting};
 use crate::reading::code::{gap_len, is_code};
 use crate::reading::terminals::terminal_token;
 use crate::reading::{Piece, is_outside, piece_at};
+use starlark_scanner::literal::plain_body_len;
 use starlark_scanner::reads::Reads;
-use starlark_scanner::scanner::{Terminal, Word, common_word};
+use starlark_scanner::scanner::{Quote, Terminal, Word, common_word};
 use starlark_token::lexeme_error::LexemeError;
 use starlark_token::tokens::Token;
 use std::alloc::{AllocError, Global};
@@ -457,8 +459,8 @@ impl Reader {
         }
     }
 
-    /// The word that comes next, where its first two bytes tell which it is: a name, or a symbol of one byte. The
-    /// spaces before it are passed. `None` where something else comes.
+    /// The word that comes next, where its first two bytes tell which it is: a name, a symbol of one byte, or a
+    /// quote. The spaces before it are passed. `None` where something else comes.
     #[inline(always)]
     pub fn common_word(&mut self, text: &str) -> Option<Word>
         requires fits { length text.now < 2 ^ 32 }
@@ -488,6 +490,34 @@ impl Reader {
         let token = Token::Identifier(String::from_str(self.alloc, &rest[..len])?);
         self.pass_token(&token, len, text);
         Ok((begin, token, begin + len))
+    }
+
+    /// Takes the text literal here, by its opener of so many bytes, where one quote closes it and each of its characters
+    /// denotes itself. `None` where another literal stands here. After an error the reader isn't to be asked again.
+    #[inline(always)]
+    pub fn take_plain_text(
+        &mut self,
+        is_raw: bool,
+        quote: Quote,
+        len: usize,
+        text: &str,
+    ) -> Result<Option<PlacedToken>, AllocError>
+        requires fits { length text.now < 2 ^ 32 }
+        requires ready { IsReady text.now self.old self.old.stage }
+        requires stands { IsWordHere text.now self.old (record { class = class.Opener kind.Text is_raw quote; len = len }) }
+        ensures ahead { IfOk result (λ given. (lexemes : List (Spanned TokenView)) (fault : Option (Spanned Fault)) → IsAhead text.now self.old self.old.stage lexemes fault → IsAheadBehind text.now given self.new lexemes fault) }
+        ensures memory { OnErr result ((lexemes : List (Spanned TokenView)) (fault : Option (Spanned Fault)) → IsAhead text.now self.old self.old.stage lexemes fault → IsSomething lexemes fault) }
+    {
+        let begin = self.at;
+        let rest = &text[begin..];
+        let behind = &rest[len..];
+        let Some(body) = plain_body_len(&mut self.reads, is_raw, quote, behind) else {
+            return Ok(None);
+        };
+        let whole = len + body + 1;
+        let token = Token::String(String::from_str(self.alloc, &behind[..body])?);
+        self.pass_token(&token, whole, text);
+        Ok(Some((begin, token, begin + whole)))
     }
 
     /// Takes the keyword or the symbol here, of so many bytes.

@@ -1,5 +1,5 @@
 -- What a reader makes of the piece that stands where it is.
-use Rattle.std.proofs.Common.{◌≡◌, ℕ, ◌+◌, ◌≤◌, Bool, true, false, List, [], length, drop, refl, sym, ap, ◌∙◌, subst, arith, append-nil, take, None}
+use Rattle.std.proofs.Common.{◌≡◌, ◌≢◌, ℕ, ◌+◌, ◌≤◌, Bool, true, false, List, [], length, drop, refl, sym, ap, ◌∙◌, subst, arith, append-nil, take, None}
 use Rattle.std.specs.Prelude.{Option, String, string_bytes}
 use Rattle.std.specs.Str.{IsUtf8}
 use Rattle.std.specs.declared.alloc.Global.{Global}
@@ -7,7 +7,12 @@ use Rattle.starlark_grammar.specs.Words.{Text, language}
 use Rattle.starlark_grammar.specs.Tokens as Tokens
 use Rattle.starlark_grammar.specs.Tokens.{Fault, Spanned}
 use Rattle.starlark_grammar.specs.declared.class.Class.TheVariants as class
+use Rattle.starlark_grammar.specs.declared.class.LiteralKind.TheVariants.{Text as OfText, FString as OfFString}
+use Rattle.starlark_grammar.specs.declared.class.Quote.{Quote}
 use Rattle.starlark_grammar.specs.declared.class.Terminal.{Terminal}
+use Rattle.starlark_grammar.specs.Depths.{Mode}
+use Rattle.starlark_scanner.specs.Joints.Literals.{IsPlainBody}
+use Rattle.starlark_reader.proofs.Literals.Pieces.{opener_plain}
 use Rattle.starlark_reader.specs.Joints.Steps.{IsStep, is_fstring_start}
 use Rattle.starlark_reader.specs.declared.literal.pieces.Step.TheVariants as step
 use Rattle.starlark_reader.specs.declared.reader.Stage.{Stage}
@@ -80,6 +85,37 @@ name_step text history reader len name kept here is = (
   ap (λ t. Whole (Tokens.Identifier t)) is,
   refl,
   word_read text history reader (record { class = class.Identifier; len = len }) kept here ∙ ap (λ n. pieces.token n (Tokens.Identifier (take len (drop reader.at text)))) (word_len (drop reader.at text) class.Identifier len (sym here.front)),
+)
+
+-- a text literal that one quote closes, and whose characters denote themselves
+plain_opener : (place : Mode) (is_raw : Bool) (quote : Quote) (begin count : ℕ) (behind : Text) → IsPlainBody is_raw quote behind count
+    → pieces.opener place OfText (pieces.opening_of is_raw quote behind) begin behind ≡ pieces.token (begin + count + 1) (Tokens.String (take count behind))
+plain_opener place is_raw quote begin count behind plain =
+    opener_plain place OfText (pieces.opening_of is_raw quote behind) begin behind other plain.single ∙ ap (λ opening. pieces.literal place OfText opening begin behind) same ∙ closed
+  where
+    single : Tokens.Opening
+    single = record { is_raw = is_raw; quote = quote; is_triple = false }
+
+    other : OfText ≢ OfFString
+    other e = cc
+
+    same : pieces.opening_of is_raw quote behind ≡ single
+    same = ap (λ (triple : Bool). record { is_raw = is_raw; quote = quote; is_triple = triple }) plain.single
+
+    closed : pieces.literal place OfText single begin behind ≡ pieces.token (begin + count + 1) (Tokens.String (take count behind))
+    closed = rw (plain.stop, plain.len, plain.value) refl
+
+pub text_step : (text : Text) (history : History) (reader : Reader) (is_raw : Bool) (quote : Quote) (len count : ℕ) (value : String Global) → IsStateAfter text history reader
+    → IsWordHere text reader (record { class = class.Opener OfText is_raw quote; len = len }) → IsPlainBody is_raw quote (drop len (drop reader.at text)) count
+    → string_bytes value ≡ take count (drop len (drop reader.at text)) → IsStep (step_here text history reader) (step.Token (token.String value) (len + count + 1))
+unfolding token_view situation
+text_step text history reader is_raw quote len count value kept here plain is = (
+  Tokens.String (take count (drop len (drop reader.at text))),
+  ap (λ t. Whole (Tokens.String t)) is,
+  refl,
+  word_read text history reader (record { class = class.Opener OfText is_raw quote; len = len }) kept here
+      ∙ ap (λ n. pieces.opener (mode_after history.tokens) OfText (pieces.opening_of is_raw quote (drop len (drop reader.at text))) n (drop len (drop reader.at text))) (word_len (drop reader.at text) (class.Opener OfText is_raw quote) len (sym here.front))
+      ∙ plain_opener (mode_after history.tokens) is_raw quote len count (drop len (drop reader.at text)) plain,
 )
 
 pub terminal_step : (text : Text) (history : History) (reader : Reader) (terminal : Terminal) (len : ℕ) (place : LexerMode) (found : Token) → IsStateAfter text history reader → IsWordHere text reader (record { class = class.Fixed terminal; len = len })

@@ -10,7 +10,7 @@ use starlark_base::codemap::{CodeMap, OrMemory, Pos, SourceTooLong, Span};
 use starlark_base::dialect::Dialect;
 use starlark_error::error::{ErrorKind, ParserMessage, error_from_lexeme};
 use starlark_error::eval_exception::EvalException;
-use starlark_scanner::scanner::{Class, Word};
+use starlark_scanner::scanner::{Class, LiteralKind, Word};
 use starlark_token::lexeme_error::LexemeError;
 use starlark_token::tokens::Token;
 use std::alloc::{AllocError, Global};
@@ -122,6 +122,41 @@ impl<'a> Lexer<'a> {
         }
     }
 
+    /// The next lexeme of a lexer that no error has ended: quickly where it is a text literal whose characters denote
+    /// themselves.
+    #[inline(never)]
+    fn next_text(&mut self) -> Option<Lexeme>
+        requires { self.old.has_ended ≡ false }
+        ensures item { AnswersNext self.old.code_map (slice_get (items self.old.text) self.old.handed_out) result }
+        ensures within { AnswersWithin self.old.text result }
+        ensures after { self.new ≡ record self.old { handed_out = self.old.handed_out + handed_out_by result; has_ended = is_ended_by result } }
+    {
+        let Some(
+            Word {
+                class: Class::Opener {
+                    kind: LiteralKind::Text,
+                    is_raw,
+                    quote,
+                },
+                len,
+            },
+        ) = self.reader.common_word(self.text)
+        else {
+            return self.next_of_all();
+        };
+        match self.reader.take_plain_text(is_raw, quote, len, self.text) {
+            Ok(Some(lexeme)) => {
+                self.handed_out += 1;
+                Some(Ok(lexeme))
+            }
+            Ok(None) => self.next_of_all(),
+            Err(_) => {
+                self.has_ended = true;
+                Some(Err(OrMemory::Memory))
+            }
+        }
+    }
+
     /// The next lexeme; `None` behind the last, and behind any error. The first error, want of memory too, ends the lexer.
     /// What is handed out begins at or before its end, and lies inside of the text.
     pub fn next(&mut self) -> Option<Lexeme>
@@ -158,6 +193,15 @@ impl<'a> Lexer<'a> {
                 self.handed_out += 1;
                 Some(Ok(self.reader.take_terminal(terminal, len, self.text)))
             }
+            Some(
+                Word {
+                    class: Class::Opener {
+                        kind: LiteralKind::Text,
+                        ..
+                    },
+                    ..
+                },
+            ) => self.next_text(),
             _ => self.next_of_all(),
         }
     }
