@@ -24,9 +24,7 @@ ghost use Rattle.starlark_reader.specs.Joints.Nesting.{Represents, mode_view};
 ghost use Rattle.starlark_reader.specs.Joints.Pieces.{is_code};
 ghost use Rattle.starlark_grammar.specs.Words.{Text};
 
-use crate::layout::{
-    Behind, IndentStack, Laid, Pending, PlacedToken, first_margin, line_end,
-};
+use crate::layout::{Behind, IndentStack, Laid, Pending, PlacedToken, first_margin, line_end};
 use crate::literal::{Opening, Step, TextEnd, quotes_of};
 use crate::nesting::{LexerMode, Nesting};
 use crate::reading::code::{gap_len, is_code};

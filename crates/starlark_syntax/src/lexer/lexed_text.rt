@@ -15,12 +15,12 @@ mod cuts;
 mod parts;
 mod tails;
 
-use starlark_reader::PlacedToken;
 use cuts::{Cut, append_cuts, begin_of, is_cut_behind};
 use parts::{exception_of, read_part};
 use starlark_base::codemap::{CodeMap, OrMemory, SourceTooLong};
 use starlark_base::dialect::Dialect;
 use starlark_error::eval_exception::EvalException;
+use starlark_reader::PlacedToken;
 use starlark_token::tokens::Token;
 use std::alloc::Global;
 use std::marker::Model;

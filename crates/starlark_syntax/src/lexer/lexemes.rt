@@ -5,11 +5,11 @@ ghost use Rattle.std.specs.List.{slice_get};
 ghost use Rattle.starlark_base.specs.Diagnostics.{place_in, unplaced, with_span};
 ghost use Rattle.starlark_syntax.specs.Lexer.{AnswersNext, AnswersWithin, handed_out_by, is_ended_by, items};
 
-use starlark_reader::reader::{Next, Reader};
 use starlark_base::codemap::{CodeMap, OrMemory, Pos, SourceTooLong, Span};
 use starlark_base::dialect::Dialect;
 use starlark_error::error::{ErrorKind, ParserMessage, error_from_lexeme};
 use starlark_error::eval_exception::EvalException;
+use starlark_reader::reader::{Next, Reader};
 use starlark_scanner::scanner::{Class, LiteralKind, Word};
 use starlark_token::lexeme_error::LexemeError;
 use starlark_token::tokens::Token;

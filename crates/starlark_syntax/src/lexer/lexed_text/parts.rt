@@ -8,11 +8,11 @@ ghost use Rattle.starlark_syntax.specs.Joints.LexedTexts.{IsPart, IsPlacedFault,
 ghost use Rattle.starlark_syntax.specs.LexedTexts.{IsFaultIn};
 
 use super::cuts::Cut;
-use starlark_reader::PlacedToken;
 use crate::lexer::lexemes::exception;
-use starlark_reader::reader::{Next, Reader};
 use starlark_base::codemap::CodeMap;
 use starlark_error::eval_exception::EvalException;
+use starlark_reader::PlacedToken;
+use starlark_reader::reader::{Next, Reader};
 use starlark_scanner::reads::Reads;
 use starlark_token::lexeme_error::LexemeError;
 use std::alloc::{AllocError, Global};
