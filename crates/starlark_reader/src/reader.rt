@@ -12,7 +12,7 @@ ghost use Rattle.starlark_grammar.specs.declared.class.LiteralKind.TheVariants a
 ghost use Rattle.starlark_reader.specs.Joints.Pending.{IsIdle, IsPending};
 ghost use Rattle.starlark_reader.specs.Joints.MarginCuts.{IsCutBefore};
 ghost use Rattle.starlark_reader.specs.Joints.Reads.{HasRead, HasReadAt, HasReadNext, IsMarginRead, IsPassed, IsPassedBy};
-ghost use Rattle.starlark_reader.specs.Joints.Reader.{has_read_none, IsAhead, IsAheadBehind, IsStateAfter, IsNext, IsOver, IsRead, IsReady, IsSomething, IsWordHere, before_view, left_here, left_to_read, silent_sort, step_here};
+ghost use Rattle.starlark_reader.specs.Joints.Reader.{has_read_none, IsAhead, IsAheadBehind, IsInFlatMargin, IsReached, IsStateAfter, IsNext, IsOver, IsRead, IsReady, IsSomething, IsWordHere, before_view, left_here, left_to_read, silent_sort, step_here};
 ghost use Rattle.starlark_reader.specs.Joints.Pieces.{IsBehind};
 ghost use Rattle.starlark_grammar.specs.Cuts.{is_layout, is_settled};
 ghost use Rattle.starlark_grammar.specs.Reading.{History, outcome};
@@ -358,6 +358,7 @@ impl Reader {
         ensures stage { result ≡ true → self.now.stage ≡ Stage.Onward }
         ensures before { result ≡ true → self.now.before ≡ Before.Layout }
         ensures flat { result ≡ true → self.now.pending.is_flat ≡ true }
+        ensures holds { IsInFlatMargin self.now self.now.stage → result ≡ true }
     {
         matches!(self.stage, Stage::Onward)
             && matches!(self.before, Before::Layout)
@@ -365,9 +366,11 @@ impl Reader {
     }
 
     /// The place before the text's end where it may be cut, if the lexemes that were handed out so far are those before
-    /// one: behind a line end, or behind a comment-only line, in a margin before which no width is open.
+    /// one: behind a line end, or behind a comment-only line, in a margin before which no width is open. Each such place is
+    /// told behind the last lexeme before it.
     pub fn cut(&self, text: &str) -> Option<usize>
-        ensures { IfSome result (λ at. (lexemes : List (Spanned TokenView)) (fault : Option (Spanned Fault)) → IsAhead text.now self.now self.now.stage lexemes fault → IsCutBefore text.now at (length lexemes)) }
+        ensures kept { IfSome result (λ at. (lexemes : List (Spanned TokenView)) (fault : Option (Spanned Fault)) → IsAhead text.now self.now self.now.stage lexemes fault → IsCutBefore text.now at (length lexemes)) }
+        ensures reached { (at : ℕ) → IsReached self.now at → 0 < at → at < length text.now → result ≡ Some at }
     {
         let at = self.pending.from;
         if self.is_in_flat_margin() && 0 < at && at < text.len() {

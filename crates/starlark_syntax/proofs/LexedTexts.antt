@@ -6,6 +6,7 @@ pub mod CleanCuts
 pub mod Joined
 pub mod Newlines
 pub mod KeptCuts
+pub mod HeldCuts
 pub mod Begins
 pub mod Relexed
 pub mod Parts

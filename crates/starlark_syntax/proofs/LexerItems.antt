@@ -1,13 +1,23 @@
 -- The items of a text, one by one.
-use Rattle.std.proofs.Common.{◌≡◌, ℕ, zero, suc, ◌+◌, ◌<◌, ◌≤◌, ◌^◌, List, [], ◌∷◌, ◌++◌, map, length, drop, refl, ap, subst, ◌∙◌, arith, None, Some, slice_get, IfSome, option_to_list}
-use Rattle.std.specs.Prelude.{Option}
+use Rattle.std.proofs.Common.{◌≡◌, ℕ, zero, suc, ◌+◌, ◌*◌, ◌<◌, ◌≤◌, ◌^◌, List, [], ◌∷◌, ◌++◌, map, length, length-append, drop, refl, ap, sym, subst, ◌∙◌, arith, Ok, Err, None, Some, slice_get, IfSome, option_to_list}
+use Rattle.std.proofs.lemmas.List.{length-map}
+use Rattle.std.specs.Prelude.{Option, Result}
+use Rattle.std.specs.Str.{IsCharBoundary, IsUtf8}
+use Rattle.starlark_base.specs.Diagnostics.{Diagnosed}
+use Rattle.starlark_base.specs.Sources.{SourceFile}
+use Rattle.starlark_error.specs.declared.error.kinds.ErrorKind.{ErrorKind}
+use Rattle.starlark_text.specs.declared.refusals.OrMemory.{OrMemory}
+use Rattle.starlark_text.specs.declared.refusals.OrMemory.TheVariants.{Error, Memory}
+use Rattle.starlark_token.specs.declared.tokens.Token.{Token}
+use Rattle.starlark_grammar.specs.Laws.{AtBoundaries}
+use Rattle.starlark_grammar.proofs.Order.WholeTexts.{outcome_edges, fault_edges}
 use Rattle.starlark_grammar.specs.Words.{Text, language}
 use Rattle.starlark_grammar.specs.Tokens.{Fault, Lexeme, Spanned}
 use Rattle.std.specs.List.{AllByRecursion}
 use Rattle.starlark_grammar.specs.Cuts.{InOrder}
 use Rattle.starlark_grammar.specs.Reading.{outcome}
 use Rattle.starlark_reader.specs.Lexemes.{shown_lexeme}
-use Rattle.starlark_syntax.specs.Lexer.{IsWithin, LexerItem, Given, Refused, items}
+use Rattle.starlark_syntax.specs.Lexer.{IsWithin, LexerItem, Given, Refused, items, AnswersNext, AnswersBetween}
 use Rattle.starlark_reader.specs.Joints.Reader.{IsSomething}
 use Rattle.starlark_token.specs.TokenViews.{TokenView}
 use Rattle.starlark_grammar.proofs.Order.Lexemes.{outcome_order}
@@ -92,3 +102,48 @@ fault_within text fault has = subst (λ f. IfSome f (λ (fault : Spanned Fault).
 pub lexemes_few : (text : Text) → length text < 2 ^ 32 → length (outcome text).lexemes < 2 ^ 34
 unfolding outcome
 lexemes_few text short = let few = (outcome_balances language text).2 in omega (arith, few, short)
+
+-- an item begins and ends between characters
+abbrev ItemBetween : Text → LexerItem → Type 0
+ItemBetween text (Given lexeme) = IsCharBoundary text lexeme.begin × IsCharBoundary text lexeme.end
+ItemBetween text (Refused fault) = AtBoundaries text fault
+
+fault_between : (text : Text) (fault : Option (Spanned Fault)) (h : ℕ) → IfSome fault (AtBoundaries text) → IfSome (slice_get (map Refused (option_to_list fault)) h) (ItemBetween text)
+fault_between text None h edges = tt
+fault_between text (Some fault) zero edges = edges
+fault_between text (Some fault) (suc h) edges = tt
+
+all_between : (text : Text) (ls : List Lexeme) (rest : List LexerItem) (h : ℕ) → AllByRecursion (AtBoundaries text) ls → ((k : ℕ) → IfSome (slice_get rest k) (ItemBetween text))
+    → IfSome (slice_get (map given ls ++ rest) h) (ItemBetween text)
+all_between text [] rest h edges behind = behind h
+all_between text (l ∷ ls) rest zero edges behind = edges.0
+all_between text (l ∷ ls) rest (suc h) edges behind = all_between text ls rest h edges.1 behind
+
+item_between : (text : Text) (h : ℕ) → IsUtf8 text → IfSome (slice_get (items text) h) (ItemBetween text)
+unfolding items
+item_between text h utf8 = all_between text (outcome text).lexemes _ h (outcome_edges text utf8) (λ k. fault_between text (outcome text).fault k (fault_edges text utf8))
+
+-- so is what is answered for it
+answer_between : (text : Text) (file : SourceFile) (item : Option LexerItem) (answer : Option (Result (ℕ × Token × ℕ) (OrMemory (Diagnosed ErrorKind)))) → IfSome item (ItemBetween text) → AnswersNext file item answer → AnswersBetween text answer
+answer_between text file None None between is = tt
+answer_between text file None (Some answer) between is = absurd is
+answer_between text file (Some item) None between is = absurd is
+answer_between text file (Some item) (Some (Err Memory)) between is = tt
+answer_between text file (Some (Given lexeme)) (Some (Ok found)) between is = subst (λ (s : Spanned TokenView). IsCharBoundary text s.begin × IsCharBoundary text s.end) (sym is) between
+answer_between text file (Some (Given lexeme)) (Some (Err (Error exception))) between is = absurd is
+answer_between text file (Some (Refused fault)) (Some (Ok found)) between is = absurd is
+answer_between text file (Some (Refused fault)) (Some (Err (Error exception))) between is =
+    subst (λ (d : Diagnosed ErrorKind). IfSome d.span (λ place. IsCharBoundary text place.span.begin × IsCharBoundary text place.span.end)) (sym is.2) between
+
+pub next_between : (text : Text) (file : SourceFile) (h : ℕ) (answer : Option (Result (ℕ × Token × ℕ) (OrMemory (Diagnosed ErrorKind)))) → IsUtf8 text → AnswersNext file (slice_get (items text) h) answer → AnswersBetween text answer
+next_between text file h answer utf8 is = answer_between text file (slice_get (items text) h) answer (item_between text h utf8) is
+
+pub none_between : (text : Text) (file : SourceFile) (answer : Option (Result (ℕ × Token × ℕ) (OrMemory (Diagnosed ErrorKind)))) → AnswersNext file None answer → AnswersBetween text answer
+none_between text file answer is = answer_between text file None answer tt is
+
+-- of n bytes there are at most 2n + 1 items
+pub items_few : (text : Text) → length (items text) ≤ 2 * length text + 1
+unfolding items outcome
+items_few text =
+    let few = (outcome_balances language text).2 in
+    omega (arith, few, length-append (map given (outcome text).lexemes) (map Refused (option_to_list (outcome text).fault)), length-map (outcome text).lexemes given, length-map (option_to_list (outcome text).fault) Refused)

@@ -1,5 +1,6 @@
 -- What a lexed text is to its user.
 use Rattle.std.specs.Prelude.{◌≡◌, ◌≤◌, ◌+◌, ◌*◌, ◌-◌, ◌⊎◌, true, ℕ, List, ◌++◌, map, take, length, Option, Some, None, ⊤}
+use Rattle.std.specs.List.{AllByRecursion}
 use Rattle.starlark_base.specs.Sources.{SourceFile}
 use Rattle.starlark_base.specs.Diagnostics.{Diagnosed}
 use Rattle.starlark_error.specs.declared.error.kinds.ErrorKind.{ErrorKind}
@@ -38,11 +39,17 @@ joined first second = record {
   reads = 0;
 }
 
--- A text behind an edit was read from one of the kept cuts of the text before it on, at or before a place, or from its
--- begin: each byte behind once at least where it has no fault, and some sixteen times at most.
-pub record IsReadFrom (old edited : Text) (from : ℕ) (lexed : LexedView) : Type 0 where
+-- A text behind an edit was read from the last of the kept cuts of the text before it on, at or before a place, or from its
+-- begin where there is none: each byte behind once at least where it has no fault, and some sixteen times at most. The first
+-- lexemes are the first ones of the text before the edit, and the others begin at or behind that cut.
+pub record IsReadFrom (old : LexedView) (edited : Text) (from : ℕ) (lexed : LexedView) : Type 0 where
   pub at : ℕ
   pub before : at ≤ from
-  pub is_kept : (at ≡ 0) ⊎ (is_kept_cut old at ≡ true)
+  pub is_kept : (at ≡ 0) ⊎ (is_kept_cut old.text at ≡ true)
+  pub greatest : (other : ℕ) → other ≤ from → is_kept_cut old.text other ≡ true → other ≤ at
   pub most : lexed.reads ≤ 16 * (length edited - at + 1)
   pub least : lexed.fault ≡ None → length edited - at ≤ lexed.reads
+  pub kept : ℕ
+  pub more : List (grammar.Spanned TokenView)
+  pub lexemes : lexed.lexemes ≡ take kept old.lexemes ++ more
+  pub behind : AllByRecursion (λ (lexeme : grammar.Spanned TokenView). at ≤ lexeme.begin) more

@@ -2,6 +2,7 @@
 use Rattle.std.specs.Prelude.{◌≡◌, ◌<◌, ◌≤◌, ◌^◌, IfSome, ℕ, ◌+◌, ◌-◌, ◌||◌, if◌then◌else◌, Bool, true, false, List, ◌++◌, map, length, Option, Some, None, option_to_list, Result, Ok, Err, ⊤}
 use Rattle.std.specs.Iterator.{Count, at_most}
 use Rattle.std.specs.List.{slice_get}
+use Rattle.std.specs.Str.{IsCharBoundary}
 use Rattle.starlark_base.specs.Sources.{SourceFile}
 use Rattle.starlark_base.specs.Diagnostics.{Diagnosed, place_in, unplaced, with_span}
 use Rattle.starlark_text.specs.declared.refusals.OrMemory.{OrMemory}
@@ -61,6 +62,13 @@ AnswersWithin text (Some (Ok found)) = IsWithin text found.0 found.2
 AnswersWithin text (Some (Err (refusal.Error exception))) = IfSome exception.span (λ place. IsWithin text place.span.begin place.span.end)
 AnswersWithin text answer = ⊤
 
+-- what is handed out begins and ends between characters of the text
+abbrev pub AnswersBetween : Text → Option (Result (ℕ × Token × ℕ) (OrMemory (Diagnosed ErrorKind))) → Type 0
+AnswersBetween text (Some (Ok found)) = IsCharBoundary text found.0 × IsCharBoundary text found.2
+AnswersBetween text (Some (Err (refusal.Error exception))) =
+    IfSome exception.span (λ place. IsCharBoundary text place.span.begin × IsCharBoundary text place.span.end)
+AnswersBetween text answer = ⊤
+
 -- how many items an answer hands out, and whether it ends the lexer
 abbrev pub handed_out_by : Option (Result (ℕ × Token × ℕ) (OrMemory (Diagnosed ErrorKind))) → ℕ
 handed_out_by None = 0
@@ -75,6 +83,7 @@ is_ended_by answer = false
 pub record IsNextOf (old : LexerView) (answer : Option (Result (ℕ × Token × ℕ) (OrMemory (Diagnosed ErrorKind)))) (new : LexerView) : Type 0 where
   pub item : AnswersNext old.code_map (if old.has_ended then None else slice_get (items old.text) old.handed_out) answer
   pub within : AnswersWithin old.text answer
+  pub between : AnswersBetween old.text answer
   pub after : new ≡ record old { handed_out = old.handed_out + handed_out_by answer; has_ended = old.has_ended || is_ended_by answer }
 
 -- how many items are left at most

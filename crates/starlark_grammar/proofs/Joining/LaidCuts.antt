@@ -350,7 +350,7 @@ reading_stays history text more (piece ∷ pieces) h reads inside =
           (reading_stays (after history piece) (drop piece.len text) more pieces (ends_line_drop piece.len text (omega (arith, inside, total)) h) reads.1 (omega (arith, inside, total, length-drop piece.len text))),
     )
 
-ends_some : (text : Text) → ends_line text ≡ true → 0 < length text
+pub ends_some : (text : Text) → ends_line text ≡ true → 0 < length text
 ends_some [] h = cc
 ends_some (b ∷ bs) h = omega arith
 

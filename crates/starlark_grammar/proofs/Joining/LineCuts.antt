@@ -1,8 +1,8 @@
 -- Line ends and comment-only lines, and cuts behind them.
-use Rattle.std.proofs.Common.{◌≡◌, ℕ, zero, ◌+◌, ◌-◌, ◌≤◌, ◌<◌, Bool, true, false, List, [], ◌∷◌, ◌++◌, length, take, drop, map, refl, ap, ◌∙◌, sym, subst, Some, arith, append-nil, le-leb, length-append, inl, inr, ◌⊎◌}
-use Rattle.std.specs.Prelude.{if◌then◌else◌, codes, nat_eq, not, ◌&&◌}
+use Rattle.std.proofs.Common.{◌≡◌, ℕ, ◌+◌, ◌-◌, ◌≤◌, ◌<◌, Bool, true, false, List, [], ◌∷◌, ◌++◌, length, take, drop, map, refl, ap, ◌∙◌, sym, subst, Some, arith, append-nil, le-leb, length-append, inl, inr, ◌⊎◌}
+use Rattle.std.specs.Prelude.{if◌then◌else◌, codes, nat_eq, nat_le, not, ◌&&◌}
 use Rattle.std.specs.List.{ends_with, list_all, onto_first}
-use Rattle.std.proofs.lemmas.Bool.{and_parts}
+use Rattle.std.proofs.lemmas.Bool.{and_parts, leb-true}
 use Rattle.std.proofs.lemmas.List.{length-map, length-take-le}
 use Rattle.std.proofs.lemmas.List.Sums.{sum_by-cons}
 use Rattle.starlark_grammar.proofs.Lists.{drop-sum}
@@ -12,7 +12,7 @@ use Rattle.starlark_grammar.specs.Front.{longest_front}
 use Rattle.starlark_grammar.specs.Tokens.{Lexeme, Newline, Outcome, moved}
 use Rattle.starlark_grammar.specs.Margins.{is_comment_only, is_feed, lines, open_widths}
 use Rattle.starlark_grammar.specs.Depths.{is_balanced, open_fstring}
-use Rattle.starlark_grammar.specs.Pieces.{Piece, Stands, Step}
+use Rattle.starlark_grammar.specs.Pieces.{Piece, Stands}
 use Rattle.starlark_grammar.specs.Reading.{History, IsLongestReading, IsReading, after, after_all, lexemes_along, next_step, nothing, outcome, pieces_len, read}
 use Rattle.starlark_grammar.specs.Cuts.{is_clean_cut, is_kept_cut, without_closing}
 use Rattle.starlark_grammar.specs.Laws.{Begins, HasFirstMargin}
@@ -21,7 +21,7 @@ use Rattle.starlark_grammar.proofs.Words.Fronts.{front_sound}
 use Rattle.starlark_grammar.proofs.Order.Lexemes.{is_line}
 use Rattle.starlark_grammar.proofs.Reading.Readings.{read_is, readings_agree}
 use Rattle.starlark_grammar.proofs.Joining.CleanCuts.{cut, cuts_join, pieces_both}
-use Rattle.starlark_grammar.proofs.Joining.Laws.{cuts_of_joined, ends_behind}
+use Rattle.starlark_grammar.proofs.Joining.Laws.{cuts_of_joined}
 use Rattle.starlark_grammar.proofs.Joining.LaidCuts.{First, IsLaid, laid_clean, laid_lexemes}
 
 -- A line end ends with an LF.
@@ -151,6 +151,11 @@ module _ (line : Text) (comment : is_comment_only line ≡ true) (one : is_line 
 pub kept_by : (text : Text) (at : ℕ) → at ≤ pieces_len (read language text).pieces → is_clean_cut (take at text) ≡ true → is_kept_cut text at ≡ true
 unfolding is_kept_cut
 kept_by text at reach clean = ap (λ (b : Bool). b && is_clean_cut (take at text)) (le-leb at (pieces_len (read language text).pieces) reach) ∙ clean
+
+-- what a kept cut is
+pub kept_parts : (text : Text) (at : ℕ) → is_kept_cut text at ≡ true → (at ≤ pieces_len (read language text).pieces) × (is_clean_cut (take at text) ≡ true)
+unfolding is_kept_cut
+kept_parts text at h = let parts = and_parts (nat_le at (pieces_len (read language text).pieces)) (is_clean_cut (take at text)) h in (leb-true at _ parts.0, parts.1)
 
 drop_first : (first : Piece) (front : List Piece) (text : Text) → drop (pieces_len (first ∷ front)) text ≡ drop (pieces_len front) (drop first.len text)
 drop_first first front text = ap (λ n. drop n text) (sum_by-cons (λ (piece : Piece). piece.len) first front) ∙ drop-sum first.len (pieces_len front) text

@@ -1,34 +1,37 @@
 -- Where a reader may be asked for a cut: in margins before which nothing is open.
-use Rattle.std.proofs.Common.{◌≡◌, ℕ, suc, ◌+◌, ◌≤◌, ◌<◌, true, false, List, [], ◌∷◌, ◌++◌, length, take, drop, map, refl, ap, ◌∙◌, sym, subst, Some, arith, length-append, inl, inr, ◌⊎◌}
+use Rattle.std.proofs.Common.{◌≡◌, ℕ, suc, ◌+◌, ◌≤◌, ◌<◌, true, false, List, [], ◌∷◌, ◌++◌, length, take, drop, map, refl, ap, ◌∙◌, sym, subst, Option, None, Some, arith, length-append, inl, inr, ◌⊎◌}
 use Rattle.std.specs.Prelude.{codes, nat_eq, not, ⊤}
 use Rattle.std.specs.List.{AllByRecursion, ends_with, list_all, prefix_len}
 use Rattle.std.proofs.Common.{drop_of_length-le}
 use Rattle.std.proofs.Math.Seq.{take-add, drop-append_seam, take-append_seam}
-use Rattle.std.proofs.lemmas.List.{length-drop, length-take-le, take-append-drop}
+use Rattle.std.proofs.lemmas.List.{length-drop, length-map, length-take, length-take-le, take-append-drop}
 use Rattle.std.proofs.lemmas.List.Sums.{sum_by-cons}
 use Rattle.starlark_grammar.specs.declared.class.Class.TheVariants as class
+use Rattle.starlark_grammar.specs.declared.class.Class.{Class}
 use Rattle.starlark_grammar.specs.Words.{Text, class_in, language}
 use Rattle.starlark_grammar.specs.Front.{longest_front}
 use Rattle.starlark_grammar.specs.Tokens as grammar
-use Rattle.starlark_grammar.specs.Tokens.{Lexeme, Outcome, moved}
+use Rattle.starlark_grammar.specs.Tokens.{Lexeme, Outcome, Spanned, moved}
 use Rattle.starlark_grammar.specs.Depths.{Mode, is_balanced, mode_after}
-use Rattle.starlark_grammar.specs.Margins.{fits, has_tab, is_comment_only, is_content, lines, margin_of, open_widths, width_of}
-use Rattle.starlark_grammar.specs.Pieces.{Piece, Stands, counts, first_margin, line_end, margin_step}
+use Rattle.starlark_grammar.specs.Margins.{comment_lines, fits, has_tab, is_comment_only, is_content, lines, margin_of, open_widths, width_of}
+use Rattle.starlark_grammar.specs.Pieces.{Ends, Fails, Piece, Stands, counts, first_margin, line_end, margin_step}
 use Rattle.starlark_grammar.specs.Reading.{History, IsReading, after, after_all, lexemes_along, next_step, nothing, outcome, pieces_len, read, situation}
 use Rattle.starlark_grammar.specs.Cuts.{is_clean_cut, is_layout, is_outside, without_closing}
 use Rattle.starlark_grammar.proofs.Lists.{drop-sum}
 use Rattle.starlark_grammar.proofs.Words.Fronts.{front_sound}
 use Rattle.starlark_grammar.proofs.Order.Lexemes.{Split, first_line}
-use Rattle.starlark_grammar.proofs.Reading.Readings.{piece_fits, started}
+use Rattle.starlark_grammar.proofs.Reading.Readings.{one_longest, piece_fits, read_is, started, stops_here}
 use Rattle.starlark_grammar.proofs.Reading.Steps.{Each, is_nothing}
 use Rattle.starlark_grammar.proofs.Choices.{either}
-use Rattle.starlark_grammar.proofs.Joining.CleanCuts.{past_both, pieces_both}
+use Rattle.starlark_grammar.proofs.Joining.CleanCuts.{cut, past_both, pieces_both}
 use Rattle.starlark_grammar.proofs.Joining.Joined.{CountedEnd, counted_end, margin_step_len, outside}
-use Rattle.starlark_grammar.proofs.Joining.LaidCuts.{Behind, IsFlat, IsLaid, laid_clean, laid_lexemes}
+use Rattle.starlark_grammar.proofs.Joining.KeptPlaces.{HasPassed, IsInMargin, cut_few, cut_in}
+use Rattle.starlark_grammar.proofs.Joining.LaidCuts.{Behind, First, IsFlat, IsLaid, MarginAt, ends_some, laid_clean, laid_lexemes, line_count}
 use Rattle.starlark_grammar.proofs.Joining.Laws.{ends_behind}
-use Rattle.starlark_grammar.proofs.Joining.LineCuts.{kept_by, line_behind, line_clean, line_end_ends, line_lexeme, reading_reach, reads_more}
+use Rattle.starlark_grammar.proofs.Joining.LineCuts.{kept_by, kept_parts, line_behind, line_clean, line_end_ends, line_lexeme, reading_reach, reads_more}
 use Rattle.starlark_grammar.proofs.Joining.Settled.{outside_none}
-use Rattle.starlark_reader.specs.Joints.MarginCuts.{IsCutBefore, IsMarginAhead, IsOfMargin, IsPassedLine, lexemes_before}
+use Rattle.starlark_grammar.proofs.Joining.FollowedMargins.{lines_sum}
+use Rattle.starlark_reader.specs.Joints.MarginCuts.{IsBehindLines, IsCutBefore, IsMarginAhead, IsOfMargin, IsPassedLine, lexemes_before}
 use Rattle.starlark_reader.specs.Joints.Pending.{IsPending, lines_between, pending_lexemes}
 use Rattle.starlark_reader.specs.Joints.Reader.{IsReadTo, remaining_outcome}
 use Rattle.starlark_reader.specs.declared.layout.pending.Pending.{Pending}
@@ -289,3 +292,117 @@ cut_ahead text pending ahead is at some inside = go at.known
       is_kept = kept_by text pending.from (omega (arith, is.order, at.reach)) cut.0;
       count = omega (arith, cut.1, at.count);
     }
+
+-- Kept cuts by the lexemes behind them
+
+-- what is left of a text behind a piece
+abbrev left_behind : Text → History → ℕ → Piece → Outcome
+left_behind text history at piece = remaining_outcome (after history piece) (at + piece.len) (drop piece.len (drop at text))
+
+-- One with fewer lexemes behind it than from a piece on, and no fewer than behind that, lies in the piece's margin.
+pub cut_of_piece : (text : Text) (history : History) (at : ℕ) (piece : Piece) (read : IsReadTo text history at) → is_nothing history.before ≡ false → next_step language history (drop at text) ≡ Stands piece
+    → (x behind : ℕ) → IsCutBefore text x behind → length (left_behind text history at piece).lexemes ≤ behind → behind < length piece.lexemes + length (left_behind text history at piece).lexemes → IsInMargin text x read.pieces
+cut_of_piece text history at piece read begun stands x behind is least most =
+    let all = all_lexemes text history at read begun in
+    let goes = onward_stands history at (drop at text) piece begun stands in
+    let parts = kept_parts text x is.is_kept in
+    let here = ap (λ (h : History). next_step language h (drop (pieces_len read.pieces) text)) read.is_history ∙ ap (λ n. next_step language history (drop n text)) read.reach ∙ stands in
+    let whole = length-append (map (moved at) piece.lexemes) (left_behind text history at piece).lexemes in
+    let count = is.count in
+    cut_in text x read.pieces piece parts.1 parts.0 read.reads here
+    (omega (arith, all, ap length goes.lexemes, whole, length-map piece.lexemes (moved at), count, most))
+    (omega (arith, all, ap length goes.lexemes, whole, length-map piece.lexemes (moved at), count, least))
+
+-- the same of the text's first margin
+cut_of_first : (text : Text) (piece : Piece) → first_margin text ≡ Stands piece
+    → (x behind : ℕ) → IsCutBefore text x behind → length (left_behind text nothing 0 piece).lexemes ≤ behind → behind < length piece.lexemes + length (left_behind text nothing 0 piece).lexemes → IsInMargin text x []
+cut_of_first text piece stands x behind is least most =
+    let goes = first_stands text piece stands in
+    let parts = kept_parts text x is.is_kept in
+    let whole = length-append (map (moved 0) piece.lexemes) (left_behind text nothing 0 piece).lexemes in
+    let count = is.count in
+    cut_in text x [] piece parts.1 parts.0 tt (margin_first text ∙ stands)
+    (omega (arith, ap length goes.lexemes, whole, length-map piece.lexemes (moved 0), count, most))
+    (omega (arith, ap length goes.lexemes, whole, length-map piece.lexemes (moved 0), count, least))
+
+-- the lines of a margin are those of which the comments are still to be handed out
+lines_ahead_of : (text : Text) (x behind ahead : ℕ) (pieces : List Piece) (n line begin : ℕ) (levels : List ℕ) (pending : Pending) (found : HasPassed text x pieces n line) → IsOfMargin begin (margin_of (drop begin text)).at levels pending
+    → pieces_len pieces + n ≡ begin → behind + found.passed ≡ ahead → IsBehindLines text pending x behind ahead
+lines_ahead_of text x behind ahead pieces n line begin levels pending found of place count =
+    let left : drop n (drop (pieces_len pieces) text) ≡ drop begin text = sym (drop-sum (pieces_len pieces) n text) ∙ ap (λ k. drop k text) place in
+    let lines : lines_between text pending.from pending.to ≡ comment_lines (drop n (drop (pieces_len pieces) text)) =
+    ap (λ k. lines_between text k pending.to) of.from ∙ ap (lines_between text begin) of.to ∙ margin_lines text begin (margin_of (drop begin text)).at refl ∙ ap comment_lines (sym left) in
+    record {
+      passed = found.passed;
+      few = omega (arith, found.few, ap length lines);
+      place = omega (arith, found.place, place, of.from, ap (λ (ls : List Text). lines_sum (take found.passed ls)) lines);
+      count = count;
+    }
+
+module _ (text : Text) (history : History) (at len : ℕ) (piece : Piece) (read : IsReadTo text history at) (begun : is_nothing history.before ≡ false) (stands : next_step language history (drop at text) ≡ Stands piece)
+    (is : line_end len (open_widths history.widths) (drop (at + len) text) ≡ Stands piece) (layout : is_layout piece.sort ≡ true) where
+  -- One in the margin behind a line end that was taken: no width is open before it, and it lies behind some of its lines.
+  pub line_cut : (levels : List ℕ) (given : Lexeme) (pending : Pending) → IsOfMargin (at + len) (margin_of (drop (at + len) text)).at levels pending → map (moved at) piece.lexemes ≡ given ∷ pending_lexemes text pending
+      → (x behind : ℕ) → IsCutBefore text x behind → length (left_behind text history at piece).lexemes ≤ behind → behind < length piece.lexemes + length (left_behind text history at piece).lexemes
+      → (open_widths history.widths ≡ []) × IsBehindLines text pending x behind (length (pending_lexemes text pending) + length (left_behind text history at piece).lexemes)
+  line_cut levels given pending of lexemes x behind cut least most =
+      let found = cut_of_piece text history at piece read begun stands x behind cut least most in
+      let flat : open_widths history.widths ≡ [] = ap (λ (h : History). open_widths h.widths) (sym read.is_history) ∙ found.flat.no_width in
+      (flat, by flat found.n found.margin found.lines_passed)
+    where
+      len_of : Option (Class × ℕ) → ℕ
+      len_of None = 0
+      len_of (Some found) = found.1
+
+      count_of : (passed : ℕ) → lexemes_before text x ≡ length (lexemes_along 0 read.pieces) + (1 + passed) → behind + passed ≡ length (pending_lexemes text pending) + length (left_behind text history at piece).lexemes
+      count_of passed before =
+          let all = all_lexemes text history at read begun in
+          let goes = onward_stands history at (drop at text) piece begun stands in
+          let whole = length-append (map (moved at) piece.lexemes) (left_behind text history at piece).lexemes in
+          let count = cut.count in
+          omega (arith, all, ap length goes.lexemes, whole, count, before, ap length lexemes)
+
+      by : open_widths history.widths ≡ [] → (n : ℕ) (margin : MarginAt text read.pieces n) → HasPassed text x read.pieces n (line_count margin) → IsBehindLines text pending x behind (length (pending_lexemes text pending) + length (left_behind text history at piece).lexemes)
+      by flat n (First none zero_len) found = let both : true ≡ false = ap (λ (ps : List Piece). is_nothing (after_all nothing ps).before) (sym none) ∙ ap (λ (h : History). is_nothing h.before) read.is_history ∙ begun in cc
+      by flat n (Behind started counted front) found =
+          let here = front_here text history at len piece read begun stands is layout flat in
+          let there : longest_front (class_in language) (drop at text) ≡ Some (class.LineEnd, n) = ap (λ k. longest_front (class_in language) (drop k text)) (sym read.reach) ∙ front in
+          let both : Some (class.LineEnd, n) ≡ Some (class.LineEnd, len) = sym there ∙ here in
+          let same : n ≡ len = ap len_of both in
+          lines_ahead_of text x behind _ read.pieces n 1 (at + len) levels pending found of (omega (arith, read.reach, same)) (count_of found.passed found.count)
+
+-- One in the text's first margin
+pub first_cut : (text : Text) (levels : List ℕ) (piece : Piece) (pending : Pending) → first_margin text ≡ Stands piece → IsOfMargin 0 (margin_of (drop 0 text)).at levels pending → map (moved 0) piece.lexemes ≡ pending_lexemes text pending
+    → (x behind : ℕ) → IsCutBefore text x behind → length (left_behind text nothing 0 piece).lexemes ≤ behind → behind < length piece.lexemes + length (left_behind text nothing 0 piece).lexemes
+    → IsBehindLines text pending x behind (length (pending_lexemes text pending) + length (left_behind text nothing 0 piece).lexemes)
+first_cut text levels piece pending stands of lexemes x behind cut least most =
+    let found = cut_of_first text piece stands x behind cut least most in
+    by found.n found.margin found.lines_passed
+  where
+    by : (n : ℕ) (margin : MarginAt text [] n) → HasPassed text x [] n (line_count margin) → IsBehindLines text pending x behind (length (pending_lexemes text pending) + length (left_behind text nothing 0 piece).lexemes)
+    by n (First none zero_len) found =
+        let goes = first_stands text piece stands in
+        let whole = length-append (map (moved 0) piece.lexemes) (left_behind text nothing 0 piece).lexemes in
+        let count = cut.count in
+        lines_ahead_of text x behind _ [] n 0 0 levels pending found of (omega (arith, zero_len)) (omega (arith, ap length goes.lexemes, whole, count, found.count, ap length lexemes))
+    by n (Behind started counted front) found = cc
+
+-- None lies behind the lexemes of all pieces.
+pub none_at_end : (text : Text) (history : History) (at : ℕ) (read : IsReadTo text history at) → is_nothing history.before ≡ false → next_step language history (drop at text) ≡ Ends
+    → (x behind : ℕ) → IsCutBefore text x behind → behind < length (remaining_outcome history at (drop at text)).lexemes → ⊥
+none_at_end text history at read begun ends x behind is most =
+    let all = all_lexemes text history at read begun in
+    let parts = kept_parts text x is.is_kept in
+    let here = ap (λ (h : History). next_step language h (drop (pieces_len read.pieces) text)) read.is_history ∙ ap (λ n. next_step language history (drop n text)) read.reach ∙ ends in
+    let same = one_longest language nothing text _ _ _ _ (read_is language text) (record { reads = read.reads; stands_last = here; no_piece = λ piece e. let both : Ends ≡ Stands piece = e in cc }) in
+    let few = cut_few text x parts.1 parts.0 in
+    let count = is.count in
+    omega (arith, all, count, most, few, ap (λ (ps : List Piece). length (lexemes_along 0 ps)) same.0)
+
+-- None lies in a text whose first margin has a fault.
+pub none_at_fault : (text : Text) (fault : Spanned grammar.Fault) → first_margin text ≡ Fails fault → (x behind : ℕ) → IsCutBefore text x behind → ⊥
+none_at_fault text fault fails x behind is =
+    let parts = kept_parts text x is.is_kept in
+    let none = one_longest language nothing text _ _ _ _ (read_is language text) (stops_here language nothing text (Fails fault) (margin_first text ∙ fails) (λ piece e. let both : Fails fault ≡ Stands piece = e in cc)) in
+    let some : 0 < length (take x text) = ends_some (take x text) (cut (take x text) parts.1).ends in
+    omega (arith, parts.0, ap pieces_len none.0, some, length-take x text)

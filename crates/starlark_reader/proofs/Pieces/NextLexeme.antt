@@ -1,15 +1,15 @@
 -- What a reader hands out next.
-use Rattle.std.proofs.Common.{◌≡◌, ℕ, ◌<◌, length, arith, List, [], ◌∷◌, ◌++◌, map, drop, refl, sym, ap, subst, ◌∙◌, None, Some, ◌⊎◌, inl, inr}
-use Rattle.std.specs.Prelude.{Option}
+use Rattle.std.proofs.Common.{◌≡◌, Bool, true, false, ℕ, zero, suc, ◌+◌, ◌<◌, ◌≤◌, length, length-append, take, arith, List, [], ◌∷◌, ◌++◌, map, drop, refl, sym, ap, subst, ◌∙◌, None, Some, ◌⊎◌, inl, inr}
+use Rattle.std.specs.Prelude.{Option, nat_lt, sum_by}
 use Rattle.starlark_grammar.specs.Words.{Text, language}
 use Rattle.starlark_grammar.specs.Tokens.{Fault, Lexeme, Outcome, Spanned}
 use Rattle.starlark_grammar.specs.Pieces.{Piece, Step, Stands, Fails, Ends}
 use Rattle.starlark_grammar.specs.Reading.{History, lexemes_along, outcome, outcome_in, outcome_of, read, read_from}
 use Rattle.starlark_reader.specs.Lexemes.{fault_view, shown_lexeme}
-use Rattle.starlark_reader.specs.Joints.MarginCuts.{IsLinePassed, IsMarginAhead}
+use Rattle.starlark_reader.specs.Joints.MarginCuts.{IsBehindLines, IsCutBefore, IsLinePassed, IsMarginAhead, IsPassedLine}
 use Rattle.starlark_reader.specs.Joints.Nesting.{bracket_count}
-use Rattle.starlark_reader.specs.Joints.Pending.{IsFirst, IsIdle, pending_lexemes}
-use Rattle.starlark_reader.specs.Joints.Reader.{begins_with_tab, has_read_none, IsAhead, IsAheadBehind, IsStateAfter, IsLeft, IsOver, IsReady, IsSomething, history_of, outcome_along, remaining_outcome}
+use Rattle.starlark_reader.specs.Joints.Pending.{IsFirst, IsIdle, lines_between, pending_lexemes}
+use Rattle.starlark_reader.specs.Joints.Reader.{begins_with_tab, has_read_none, IsAhead, IsAheadBehind, IsInFlatMargin, IsStateAfter, IsLeft, IsOver, IsReady, IsSomething, history_of, outcome_along, remaining_outcome}
 use Rattle.starlark_token.specs.TokenViews.{TokenView}
 use Rattle.starlark_token.specs.declared.lexeme_error.LexemeError.{LexemeError}
 use Rattle.starlark_token.specs.declared.tokens.Token.{Token}
@@ -19,13 +19,20 @@ use Rattle.starlark_reader.specs.declared.reader.Stage.TheVariants as stage
 use Rattle.starlark_reader.specs.declared.layout.pending.Pending.{Pending}
 use Rattle.starlark_reader.proofs.Pieces.Here.{IsHere, kept_here}
 use Rattle.starlark_reader.proofs.Pieces.MarginCuts.{passed_cut}
-use Rattle.starlark_reader.proofs.Pieces.Taken.{none_before}
+use Rattle.starlark_reader.proofs.Pieces.Taken.{none_before, reached_by}
+use Rattle.starlark_reader.proofs.Indentation.Pending.{no_lines_between}
+use Rattle.std.proofs.lemmas.Bool.{ltb-false, ltb-true}
+use Rattle.std.proofs.lemmas.List.{length-map}
+use Rattle.std.proofs.lemmas.List.Sums.{sum_by-cons}
 
 pub same_left : (text : Text) (old new : Reader) (stage : Stage) (left : Outcome) → IsHere old new → IsLeft text old stage left → IsLeft text new stage left
 same_left text old new stage.Begin left here h = (h.0, here.at ∙ h.1, rw here.nesting h.2, here.levels ∙ h.3, ap bracket_count here.nesting ∙ h.4, here.before ∙ h.5)
 same_left text old new stage.Onward left here h = (h.0, kept_here text h.0 old new here h.1, h.2 ∙ ap (λ at. remaining_outcome h.0 at (drop at text)) (sym here.at))
 same_left text old new (stage.Fault begin fault end) left here h = (h.0, h.1, h.2, rw (here.at, here.before) h.3)
 same_left text old new stage.Closed left here h = (h.0, kept_here text (history_of text) old new here h.1)
+
+flat_here : (old new : Reader) (now later : Stage) → IsHere old new → new.pending ≡ old.pending → later ≡ now → IsInFlatMargin old now → IsInFlatMargin new later
+flat_here old new now later here pending same is = (same ∙ is.0, here.before ∙ is.1, ap (λ (p : Pending). p.is_flat) pending ∙ is.2)
 
 -- what is ahead of a reader is ahead of one that stands where it does
 pub ahead_here : (text : Text) (old new : Reader) (lexemes : List (Spanned TokenView)) (fault : Option (Spanned Fault)) → IsHere old new → new.stage ≡ old.stage → new.pending ≡ old.pending → IsAhead text old old.stage lexemes fault → IsAhead text new new.stage lexemes fault
@@ -38,12 +45,38 @@ ahead_here text old new lexemes fault here same pending ahead = record {
   cut = λ on layout flat inside.
       subst (λ (p : Pending). IsMarginAhead text p (length lexemes)) (sym pending)
       (ahead.cut (sym same ∙ on) (sym here.before ∙ layout) (ap (λ (p : Pending). p.is_flat) (sym pending) ∙ flat) (subst (λ (p : Pending). p.from < length text) pending inside));
+  cuts = λ x behind cut least most.
+      let lies = ahead.cuts x behind cut least most in
+      (flat_here old new old.stage new.stage here pending same lies.0, subst (λ (p : Pending). IsBehindLines text p x behind (length lexemes)) (sym pending) lies.1);
 }
+
+-- where there are lines there are bytes
+lines_some : (text : Text) (from to : ℕ) → 0 < length (lines_between text from to) → from < to
+lines_some text from to some = go (nat_lt from to) refl
+  where
+    go : (b : Bool) → nat_lt from to ≡ b → from < to
+    go true e = ltb-true from to e
+    go false e = absurd (omega (arith, some, ap length (no_lines_between text from to (ltb-false from to e))))
+
+-- behind one line fewer, where one was passed
+behind_passed : (text : Text) (old new : Pending) (at behind ahead : ℕ) → IsPassedLine text old new → IsBehindLines text old at behind (1 + ahead) → behind ≤ ahead → IsBehindLines text new at behind ahead
+behind_passed text old new at behind ahead passed is few = go is.passed is.few is.place is.count
+  where
+    go : (n : ℕ) → n ≤ length (lines_between text old.from old.to) → at ≡ old.from + sum_by (λ (line : Text). length line) (take n (lines_between text old.from old.to)) → behind + n ≡ 1 + ahead → IsBehindLines text new at behind ahead
+    go zero inside place count = absurd (omega (arith, count, few))
+    go (suc n) inside place count =
+        let sum = ap (λ (ls : List Text). sum_by (λ (line : Text). length line) (take (suc n) ls)) passed.first ∙ sum_by-cons (λ (line : Text). length line) passed.line (take n (lines_between text new.from new.to)) in
+        record {
+          passed = n;
+          few = omega (arith, inside, ap length passed.first);
+          place = omega (arith, place, sum, passed.from);
+          count = omega (arith, count);
+        }
 
 -- the first lexeme that was read and is to be handed out
 pub lexeme_next : (text : Text) (old new : Reader) (x : ℕ × Token × ℕ) (lexemes : List (Spanned TokenView)) (fault : Option (Spanned Fault)) → IsHere old new → new.stage ≡ old.stage → IsFirst text old.pending new.pending (Some x) → IsLinePassed text old.pending new.pending (Some x)
-    → IsAhead text old old.stage lexemes fault → IsAheadBehind text (Some x) new lexemes fault
-lexeme_next text old new x lexemes fault here same first lines ahead = (
+    → (old.pending.from < old.pending.to → new.pending.is_flat ≡ old.pending.is_flat) → IsAhead text old old.stage lexemes fault → IsAheadBehind text (Some x) new lexemes fault
+lexeme_next text old new x lexemes fault here same first lines stays ahead = (
   map shown_lexeme (pending_lexemes text new.pending) ++ map shown_lexeme ahead.left.lexemes,
   ahead.ahead ∙ ap (λ vs. vs ++ map shown_lexeme ahead.left.lexemes) first.1,
   record {
@@ -56,8 +89,27 @@ lexeme_next text old new x lexemes fault here same first lines ahead = (
         let passed = lines flat in
         passed_cut text old.pending new.pending (length (map shown_lexeme (pending_lexemes text new.pending) ++ map shown_lexeme ahead.left.lexemes)) ahead.is_pending passed inside
         (subst (IsMarginAhead text old.pending) (ap length (ahead.ahead ∙ ap (λ vs. vs ++ map shown_lexeme ahead.left.lexemes) first.1)) (ahead.cut (sym same ∙ on) (sym here.before ∙ layout) passed.flat (omega (arith, passed.from, inside))));
+    cuts = λ at behind cut least most. behind_first at behind cut least (omega (arith, most));
   },
+  λ at cut. reached_by text new at _ (behind_first at _ cut (omega (arith, length-append (map shown_lexeme (pending_lexemes text new.pending)) (map shown_lexeme ahead.left.lexemes), length-map ahead.left.lexemes shown_lexeme)) (omega arith)),
 )
+  where
+    more : List (Spanned TokenView)
+    more = map shown_lexeme (pending_lexemes text new.pending) ++ map shown_lexeme ahead.left.lexemes
+
+    all : length lexemes ≡ 1 + length more
+    all = omega (arith, ap length (ahead.ahead ∙ ap (λ vs. vs ++ map shown_lexeme ahead.left.lexemes) first.1))
+
+    behind_first : (at behind : ℕ) → IsCutBefore text at behind → length ahead.left.lexemes ≤ behind → behind ≤ length more → IsInFlatMargin new new.stage × IsBehindLines text new.pending at behind (length more)
+    behind_first at behind cut least most =
+        let lies = ahead.cuts at behind cut least (omega (arith, most, all)) in
+        let count = lies.1.count in
+        let some : old.pending.from < old.pending.to = lines_some text old.pending.from old.pending.to (omega (arith, count, lies.1.few, most, all)) in
+        let flat = stays some ∙ lies.0.2 in
+        let passed = lines flat in (
+          (same ∙ lies.0.0, here.before ∙ lies.0.1, flat),
+          behind_passed text old.pending new.pending at behind (length more) passed (subst (IsBehindLines text old.pending at behind) all lies.1) most,
+        )
 
 -- what comes behind the last lexeme
 pub fault_next : (text : Text) (reader : Reader) (lexemes : List (Spanned TokenView)) (fault : Option (Spanned Fault)) (begin : ℕ) (error : LexemeError) (end : ℕ) → IsIdle text reader.pending → reader.stage ≡ stage.Fault begin error end → IsAhead text reader reader.stage lexemes fault
@@ -82,6 +134,7 @@ nothing_next text old new lexemes fault here idle same e e_now ahead =
         ahead = ap (λ ls. map shown_lexeme ls ++ []) (sym (ap (pending_lexemes text) same ∙ idle.1));
         behind_them = refl;
         cut = λ on. let over_now : stage.Closed ≡ stage.Onward = sym e_now ∙ on in cc;
+        cuts = λ x behind cut least most. absurd (omega (arith, most));
       },
       kept,
     )

@@ -88,7 +88,7 @@ state_reads text history reader reads state =
 pub reads_ahead : (text : Text) (reader : Reader) (reads : ℕ) (stage : Stage) (lexemes : List (Spanned TokenView)) (fault : Option (Spanned Fault)) → IsAhead text reader stage lexemes fault
     → IsAhead text (record reader { reads = reads }) stage lexemes fault
 reads_ahead text reader reads stage lexemes fault ahead =
-    record { left = ahead.left; is_left = by_stage stage ahead.is_left; is_pending = ahead.is_pending; ahead = ahead.ahead; behind_them = ahead.behind_them; cut = ahead.cut }
+    record { left = ahead.left; is_left = by_stage stage ahead.is_left; is_pending = ahead.is_pending; ahead = ahead.ahead; behind_them = ahead.behind_them; cut = ahead.cut; cuts = ahead.cuts }
   where
     by_stage : (stage : Stage) → IsLeft text reader stage ahead.left → IsLeft text (record reader { reads = reads }) stage ahead.left
     by_stage stages.Begin left = left

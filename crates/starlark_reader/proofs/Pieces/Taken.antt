@@ -1,6 +1,6 @@
 -- A reader before and after a piece.
-use Rattle.std.proofs.Common.{◌≡◌, ℕ, zero, suc, ◌+◌, ◌≤◌, ◌<◌, Bool, true, false, not, List, [], ◌∷◌, ◌++◌, length, drop, map, refl, ap, ◌∙◌, sym, subst, Option, Some, None, arith, append-nil, length-append, nat_lt}
-use Rattle.std.specs.Prelude.{⊤, ◌==◌, ◌&&◌, if◌then◌else◌, count_by, option_map, option_to_list, replicate}
+use Rattle.std.proofs.Common.{◌≡◌, ℕ, zero, suc, ◌+◌, ◌≤◌, ◌<◌, Bool, true, false, not, List, [], ◌∷◌, ◌++◌, length, drop, take, map, refl, ap, ◌∙◌, sym, subst, Option, Some, None, arith, append-nil, length-append, nat_lt}
+use Rattle.std.specs.Prelude.{⊤, ◌==◌, ◌&&◌, if◌then◌else◌, count_by, option_map, option_to_list, replicate, sum_by}
 use Rattle.std.specs.List.{AllByRecursion}
 use Rattle.std.specs.Str.{IsCharBoundary, IsUtf8}
 use Rattle.std.proofs.lemmas.Bool.{and_parts, eqb-true}
@@ -17,10 +17,10 @@ use Rattle.starlark_grammar.specs.Cuts.{is_layout}
 use Rattle.starlark_grammar.specs.Reading.{History, IsReading, after, after_all, closing, next_step, pieces_len, nothing, outcome, tokens_onto}
 use Rattle.starlark_reader.specs.Lexemes.{fault_view, lexeme_view, shown_lexeme}
 use Rattle.starlark_reader.specs.Joints.Layout.{IsRefused, IsTaken}
-use Rattle.starlark_reader.specs.Joints.Pending.{IsIdle, IsPending, pending_lexemes}
+use Rattle.starlark_reader.specs.Joints.Pending.{IsIdle, IsPending, lines_between, pending_lexemes}
 use Rattle.starlark_reader.specs.Joints.Nesting.{Represents, bracket_count, change_by, closes, fstring_of, opens}
-use Rattle.starlark_reader.specs.Joints.MarginCuts.{IsOfMargin}
-use Rattle.starlark_reader.specs.Joints.Reader.{begins_with_tab, has_read_none, IsAhead, IsAheadBehind, IsCutAhead, IsReadTo, IsStateAfter, IsLeft, IsRead, before_view, history_from, history_of, left_here, left_to_read, remaining_outcome, step_here}
+use Rattle.starlark_reader.specs.Joints.MarginCuts.{IsBehindLines, IsCutBefore, IsOfMargin}
+use Rattle.starlark_reader.specs.Joints.Reader.{begins_with_tab, has_read_none, IsAhead, IsAheadBehind, IsCutAhead, HoldsCuts, IsInFlatMargin, IsReached, IsReadTo, IsStateAfter, IsLeft, IsRead, before_view, history_from, history_of, left_here, left_to_read, remaining_outcome, step_here}
 use Rattle.starlark_token.specs.TokenViews.{TokenView, Whole, token_view}
 use Rattle.starlark_token.specs.declared.lexeme_error.LexemeError.{LexemeError}
 use Rattle.starlark_reader.specs.declared.nesting.Nesting.{Nesting}
@@ -43,7 +43,9 @@ use Rattle.starlark_grammar.proofs.Joining.Tabs.{margin_tab, tab, tab_of}
 use Rattle.starlark_reader.proofs.OpenBrackets.FStrings.{innermost_onward, keeps, outer_onward}
 use Rattle.starlark_grammar.proofs.Reading.Steps.{Each, is_nothing}
 use Rattle.starlark_grammar.proofs.Choices.{either}
-use Rattle.starlark_reader.proofs.Pieces.MarginCuts.{first_ahead_cut, line_ahead_cut, read_first, read_more}
+use Rattle.starlark_reader.proofs.Pieces.MarginCuts.{cut_of_piece, first_ahead_cut, first_cut, line_ahead_cut, line_cut, none_at_end, none_at_fault, read_first, read_more}
+use Rattle.starlark_grammar.proofs.Joining.KeptPlaces.{IsInMargin}
+use Rattle.starlark_grammar.proofs.Joining.LaidCuts.{Behind, First, MarginAt, line_laid}
 use Rattle.starlark_reader.proofs.Pieces.Waiting.{Hands, hands_first, hands_later}
 
 -- What is kept is kept behind the text's first margin.
@@ -177,14 +179,16 @@ kept_behind text history at new piece utf8 here stands nesting levels before is_
       read = read;
     }
 
--- what is known of the cuts of a piece that was read
-abbrev pub IsCutBehind : Text → History → ℕ → Piece → Reader → Type 0
-IsCutBehind text history at piece new = IsCutAhead text new stage.Onward (length (pending_lexemes text new.pending) + length (remaining_outcome (after history piece) (at + piece.len) (drop piece.len (drop at text))).lexemes)
+-- What is known of the cuts of a piece that was read: that the place reached may be one, and where each lies.
+pub record AreCutsBehind (text : Text) (history : History) (at : ℕ) (piece : Piece) (new : Reader) : Type 0 where
+  pub cut : IsCutAhead text new stage.Onward (length (pending_lexemes text new.pending) + length (remaining_outcome (after history piece) (at + piece.len) (drop piece.len (drop at text))).lexemes)
+  pub cuts : HoldsCuts text new stage.Onward (length (remaining_outcome (after history piece) (at + piece.len) (drop piece.len (drop at text))).lexemes) (length piece.lexemes + length (remaining_outcome (after history piece) (at + piece.len) (drop piece.len (drop at text))).lexemes)
+      (length (pending_lexemes text new.pending) + length (remaining_outcome (after history piece) (at + piece.len) (drop piece.len (drop at text))).lexemes)
 
 -- a piece was read, by what is left behind it
 read_piece : (text : Text) (whole : Outcome) (history : History) (at : ℕ) (given : Option (ℕ × Token × ℕ)) (new : Reader) (piece : Piece) → GoesOn at piece whole (remaining_outcome (after history piece) (at + piece.len) (drop piece.len (drop at text)))
-    → IsStateAfter text (after history piece) new → new.at ≡ at + piece.len → new.stage ≡ stage.Onward → Hands text given new.pending (map (moved at) piece.lexemes) → IsCutBehind text history at piece new → IsRead text whole given new
-read_piece text whole history at given new piece goes kept is_at is_onward hands cut =
+    → IsStateAfter text (after history piece) new → new.at ≡ at + piece.len → new.stage ≡ stage.Onward → Hands text given new.pending (map (moved at) piece.lexemes) → AreCutsBehind text history at piece new → IsRead text whole given new
+read_piece text whole history at given new piece goes kept is_at is_onward hands cuts =
     let behind : drop piece.len (drop at text) ≡ drop new.at text = sym (drop-sum at piece.len text) ∙ ap (λ n. drop n text) (sym is_at) in
     let rest = remaining_outcome (after history piece) (at + piece.len) (drop piece.len (drop at text)) in
     let left : rest ≡ remaining_outcome (after history piece) new.at (drop new.at text) = ap (λ n. remaining_outcome (after history piece) n (drop piece.len (drop at text))) (sym is_at) ∙ ap (remaining_outcome (after history piece) new.at) behind in
@@ -196,29 +200,51 @@ read_piece text whole history at given new piece goes kept is_at is_onward hands
       fault = goes.fault;
       is_pending = hands.0;
       handed_out = hands.1;
-      cut = subst (λ now. IsCutAhead text new now (length (pending_lexemes text new.pending) + length rest.lexemes)) (sym is_onward) cut;
+      cut = subst (λ now. IsCutAhead text new now (length (pending_lexemes text new.pending) + length rest.lexemes)) (sym is_onward) cuts.cut;
+      cuts = subst (λ now. HoldsCuts text new now (length rest.lexemes) (length (map (moved at) piece.lexemes) + length rest.lexemes) (length (pending_lexemes text new.pending) + length rest.lexemes)) (sym is_onward)
+          (subst (λ n. HoldsCuts text new stage.Onward (length rest.lexemes) (n + length rest.lexemes) (length (pending_lexemes text new.pending) + length rest.lexemes)) (sym (length-map piece.lexemes (moved at))) cuts.cuts);
     }
 
-took_by : (text : Text) (history : History) (old : Reader) (given : Option (ℕ × Token × ℕ)) (new : Reader) (piece : Piece) → IsUtf8 text → IsStateAfter text history old → step_here text history old ≡ Stands piece → IsCutBehind text history old.at piece new
+took_by : (text : Text) (history : History) (old : Reader) (given : Option (ℕ × Token × ℕ)) (new : Reader) (piece : Piece) → IsUtf8 text → IsStateAfter text history old → step_here text history old ≡ Stands piece → AreCutsBehind text history old.at piece new
     → Represents (tokens_onto history.tokens piece.lexemes) new.nesting → new.levels ≡ open_widths (history.widths ++ option_to_list piece.width) → before_view new.before ≡ piece.sort → new.at ≡ old.at + piece.len → bracket_count new.nesting ≤ new.at
     → new.stage ≡ stage.Onward → Hands text given new.pending (map (moved old.at) piece.lexemes) → IsRead text (left_here text history old) given new
-took_by text history old given new piece utf8 kept stands cut nesting levels before is_at few is_onward hands =
+took_by text history old given new piece utf8 kept stands cuts nesting levels before is_at few is_onward hands =
     read_piece text (left_here text history old) history old.at given new piece (onward_stands history old.at (drop old.at text) piece (begun text history old kept) stands)
-    (kept_behind text history old.at new piece utf8 kept.boundary stands nesting levels before is_at few (sym (history_onward history (drop old.at text) piece (begun text history old kept) stands) ∙ kept.onward) (read_more text history old.at new.at piece kept.read stands is_at)) is_at is_onward hands cut
+    (kept_behind text history old.at new piece utf8 kept.boundary stands nesting levels before is_at few (sym (history_onward history (drop old.at text) piece (begun text history old kept) stands) ∙ kept.onward) (read_more text history old.at new.at piece kept.read stands is_at)) is_at is_onward hands cuts
+
+-- no cut lies in a piece that is no margin
+no_cut_in : (text : Text) (history : History) (at : ℕ) (piece : Piece) (read : IsReadTo text history at) → is_nothing history.before ≡ false → next_step language history (drop at text) ≡ Stands piece → is_layout piece.sort ≡ false
+    → (x : ℕ) → IsInMargin text x read.pieces → ⊥
+no_cut_in text history at piece read begun stands other x found = by found.n found.margin
+  where
+    by : (n : ℕ) → MarginAt text read.pieces n → ⊥
+    by n (First none zero_len) = let both : true ≡ false = ap (λ (ps : List Piece). is_nothing (after_all nothing ps).before) (sym none) ∙ ap (λ (h : History). is_nothing h.before) read.is_history ∙ begun in cc
+    by n (Behind started counted front) =
+        let here = ap (λ (h : History). next_step language h (drop (pieces_len read.pieces) text)) read.is_history ∙ ap (λ n. next_step language history (drop n text)) read.reach ∙ stands in
+        let line = (line_laid (after_all nothing read.pieces) (drop (pieces_len read.pieces) text) n started counted front).step in
+        let layout = line_is_quiet n (open_widths (after_all nothing read.pieces).widths) (drop n (drop (pieces_len read.pieces) text)) piece (sym line ∙ here) in
+        let both : true ≡ false = sym (ap is_layout layout.sort) ∙ other in
+        cc
 
 -- a piece that is no margin
 pub took : (text : Text) (history : History) (old : Reader) (given : Option (ℕ × Token × ℕ)) (new : Reader) (piece : Piece) → IsUtf8 text → IsStateAfter text history old → step_here text history old ≡ Stands piece → is_layout piece.sort ≡ false
     → Represents (tokens_onto history.tokens piece.lexemes) new.nesting → new.levels ≡ open_widths (history.widths ++ option_to_list piece.width) → before_view new.before ≡ piece.sort → new.at ≡ old.at + piece.len → bracket_count new.nesting ≤ new.at
     → new.stage ≡ stage.Onward → Hands text given new.pending (map (moved old.at) piece.lexemes) → IsRead text (left_here text history old) given new
 took text history old given new piece utf8 kept stands other nesting levels before =
-    took_by text history old given new piece utf8 kept stands (λ on layout flat inside. let both : true ≡ false = ap is_layout (sym (ap before_view layout) ∙ before) ∙ other in cc) nesting levels before
+    took_by text history old given new piece utf8 kept stands
+    (record {
+      cut = λ on layout flat inside. let both : true ≡ false = ap is_layout (sym (ap before_view layout) ∙ before) ∙ other in cc;
+      cuts = λ x behind cut least most.
+          absurd (no_cut_in text history old.at piece kept.read (begun text history old kept) stands other x (cut_of_piece text history old.at piece kept.read (begun text history old kept) stands x behind cut least most));
+    })
+    nesting levels before
 
-took_first : (text : Text) (new : Reader) (piece : Piece) → IsUtf8 text → first_margin text ≡ Stands piece → IsCutBehind text nothing 0 piece new
+took_first : (text : Text) (new : Reader) (piece : Piece) → IsUtf8 text → first_margin text ≡ Stands piece → AreCutsBehind text nothing 0 piece new
     → Represents (tokens_onto [] piece.lexemes) new.nesting → new.levels ≡ open_widths ([] ++ option_to_list piece.width) → before_view new.before ≡ piece.sort → new.at ≡ 0 + piece.len → bracket_count new.nesting ≤ new.at
     → new.stage ≡ stage.Onward → Hands text None new.pending (map (moved 0) piece.lexemes) → IsRead text (outcome text) None new
-took_first text new piece utf8 stands cut nesting levels before is_at few is_onward hands =
+took_first text new piece utf8 stands cuts nesting levels before is_at few is_onward hands =
     read_piece text (outcome text) nothing 0 None new piece (first_stands text piece stands)
-    (kept_behind text nothing 0 new piece utf8 (IsCharBoundary-start text utf8) (margin_first text ∙ stands) nesting levels before is_at few (sym (history_first text piece stands)) (read_first text new.at piece stands is_at)) is_at is_onward hands cut
+    (kept_behind text nothing 0 new piece utf8 (IsCharBoundary-start text utf8) (margin_first text ∙ stands) nesting levels before is_at few (sym (history_first text piece stands)) (read_first text new.at piece stands is_at)) is_at is_onward hands cuts
 
 pub piece_inside : (text : Text) (history : History) (old : Reader) (piece : Piece) → IsStateAfter text history old → step_here text history old ≡ Stands piece → (old.at < old.at + piece.len) × (old.at + piece.len ≤ length text)
 piece_inside text history old piece kept stands =
@@ -281,8 +307,9 @@ same_place old new at before = ap (λ n. n == 0 && not (is_layout (before_view n
 
 -- a fault was read, by the lexemes before it
 read_fault : (text : Text) (whole : Outcome) (at : ℕ) (lexemes : List Lexeme) (new : Reader) (fault : Spanned grammar.Fault) (error : LexemeError) → whole ≡ record { lexemes = lexemes; fault = Some (moved at fault) }
-    → fault_view error ≡ Some fault.node → new.stage ≡ stage.Fault (at + fault.begin) error (at + fault.end) → Hands text None new.pending lexemes → has_read_none new ≡ begins_with_tab text → IsRead text whole None new
-read_fault text whole at lexemes new fault error left view is hands place = record {
+    → fault_view error ≡ Some fault.node → new.stage ≡ stage.Fault (at + fault.begin) error (at + fault.end) → Hands text None new.pending lexemes → has_read_none new ≡ begins_with_tab text
+    → ((x behind : ℕ) → IsCutBefore text x behind → behind < length lexemes → ⊥) → IsRead text whole None new
+read_fault text whole at lexemes new fault error left view is hands place none = record {
   lexemes = lexemes;
   left = record { lexemes = []; fault = Some (moved at fault) };
   is_left = subst (λ now. IsLeft text new now (record { lexemes = []; fault = Some (moved at fault) })) (sym is) (fault.node, view, refl, place);
@@ -291,12 +318,13 @@ read_fault text whole at lexemes new fault error left view is hands place = reco
   is_pending = hands.0;
   handed_out = hands.1;
   cut = λ on. let over : stage.Fault (at + fault.begin) error (at + fault.end) ≡ stage.Onward = sym is ∙ on in cc;
+  cuts = λ x behind cut least most. absurd (none x behind cut (omega (arith, most)));
 }
 
 pub failed : (text : Text) (history : History) (old new : Reader) (fault : Spanned grammar.Fault) (error : LexemeError) → IsStateAfter text history old → step_here text history old ≡ Fails fault → fault_view error ≡ Some fault.node
     → new.stage ≡ stage.Fault (old.at + fault.begin) error (old.at + fault.end) → Hands text None new.pending [] → new.at ≡ old.at → new.before ≡ old.before → IsRead text (left_here text history old) None new
 failed text history old new fault error kept fails view is hands at before =
-    read_fault text (left_here text history old) old.at [] new fault error (onward_fails history old.at (drop old.at text) fault (begun text history old kept) fails) view is hands (same_place old new at before ∙ state_begun text history old kept)
+    read_fault text (left_here text history old) old.at [] new fault error (onward_fails history old.at (drop old.at text) fault (begun text history old kept) fails) view is hands (same_place old new at before ∙ state_begun text history old kept) (λ x behind cut most. omega (arith, most))
 
 pub failed_first : (text : Text) (new : Reader) (fault : Spanned grammar.Fault) (error : LexemeError) → first_margin text ≡ Fails fault → fault_view error ≡ Some fault.node
     → new.stage ≡ stage.Fault (0 + fault.begin) error (0 + fault.end) → Hands text None new.pending (margin_of text).comments → new.at ≡ 0 → new.before ≡ sort.Other → IsRead text (outcome text) None new
@@ -304,7 +332,7 @@ failed_first text new fault error fails view is hands at before =
     let has = tab_of (margin_of text) fault fails in
     let tabbed : begins_with_tab text ≡ true = rw (has.content, has.is) refl in
     let none : has_read_none new ≡ true = rw (at, before) refl in
-    read_fault text (outcome text) 0 (margin_of text).comments new fault error (first_fails text fault fails) view is hands (none ∙ sym tabbed)
+    read_fault text (outcome text) 0 (margin_of text).comments new fault error (first_fails text fault fails) view is hands (none ∙ sym tabbed) (λ x behind cut most. none_at_fault text fault fails x behind cut)
 
 pub fault_inside : (text : Text) (history : History) (old : Reader) (fault : Spanned grammar.Fault) → IsStateAfter text history old → step_here text history old ≡ Fails fault → (old.at + fault.begin ≤ length text) × (old.at + fault.end ≤ length text)
 fault_inside text history old fault kept fails =
@@ -329,6 +357,7 @@ closed text history old given new here kept ends hands is =
       is_pending = hands.0;
       handed_out = hands.1;
       cut = λ on. let over : stage.Closed ≡ stage.Onward = sym is ∙ on in cc;
+      cuts = λ x behind cut least most. absurd (none_at_end text history old.at kept.read (begun text history old kept) ends x behind cut (omega (arith, most, ap (λ (o : Outcome). length o.lexemes) left)));
     }
 
 -- what closes a text
@@ -341,6 +370,12 @@ closing_hands text history at count levels pending found is open_now counted wai
 
 -- What is ahead, where something was read
 
+-- a cut behind none of the lines is reached
+pub reached_by : (text : Text) (reader : Reader) (at ahead : ℕ) → IsInFlatMargin reader reader.stage × IsBehindLines text reader.pending at ahead ahead → IsReached reader at
+reached_by text reader at ahead is =
+    let none : is.1.passed ≡ 0 = omega (arith, is.1.count) in
+    (is.0, omega (arith, is.1.place, ap (λ n. sum_by (λ (line : Text). length line) (take n (lines_between text reader.pending.from reader.pending.to))) none))
+
 both_count : (one other : List Lexeme) → length one + length other ≡ length (map shown_lexeme one ++ map shown_lexeme other)
 both_count one other = omega (arith, length-append (map shown_lexeme one) (map shown_lexeme other), length-map one shown_lexeme, length-map other shown_lexeme)
 
@@ -351,6 +386,9 @@ read_ahead text whole given new lexemes fault read ahead behind = by given read.
     parts : lexemes ≡ map shown_lexeme read.lexemes ++ map shown_lexeme read.left.lexemes
     parts = ahead ∙ ap (λ ls. map shown_lexeme ls) read.parts ∙ map-append shown_lexeme read.lexemes read.left.lexemes
 
+    one_first : (found : ℕ × Token × ℕ) → map shown_lexeme read.lexemes ≡ lexeme_view found ∷ map shown_lexeme (pending_lexemes text new.pending) → length read.lexemes ≡ 1 + length (pending_lexemes text new.pending)
+    one_first found e = omega (arith, ap length e, length-map read.lexemes shown_lexeme, length-map (pending_lexemes text new.pending) shown_lexeme)
+
     by : (given : Option (ℕ × Token × ℕ)) → map shown_lexeme read.lexemes ≡ map lexeme_view (option_to_list given) ++ map shown_lexeme (pending_lexemes text new.pending) → IsAheadBehind text given new lexemes fault
     by None e = record {
       left = read.left;
@@ -359,6 +397,8 @@ read_ahead text whole given new lexemes fault read ahead behind = by given read.
       ahead = parts ∙ ap (λ vs. vs ++ map shown_lexeme read.left.lexemes) e;
       behind_them = behind ∙ read.fault;
       cut = subst (IsCutAhead text new new.stage) (both_count (pending_lexemes text new.pending) read.left.lexemes ∙ ap length (sym (parts ∙ ap (λ vs. vs ++ map shown_lexeme read.left.lexemes) e))) read.cut;
+      cuts = subst (λ n. HoldsCuts text new new.stage (length read.left.lexemes) n n) (both_count (pending_lexemes text new.pending) read.left.lexemes ∙ ap length (sym (parts ∙ ap (λ vs. vs ++ map shown_lexeme read.left.lexemes) e)))
+          (λ x behind cut least most. read.cuts x behind cut least (omega (arith, most, ap length e, length-map read.lexemes shown_lexeme, length-map (pending_lexemes text new.pending) shown_lexeme)));
     }
     by (Some x) e = (
       map shown_lexeme (pending_lexemes text new.pending) ++ map shown_lexeme read.left.lexemes,
@@ -370,7 +410,14 @@ read_ahead text whole given new lexemes fault read ahead behind = by given read.
         ahead = refl;
         behind_them = behind ∙ read.fault;
         cut = subst (IsCutAhead text new new.stage) (both_count (pending_lexemes text new.pending) read.left.lexemes) read.cut;
+        cuts = subst (λ n. HoldsCuts text new new.stage (length read.left.lexemes) n n) (both_count (pending_lexemes text new.pending) read.left.lexemes)
+            (λ at behind cut least most. read.cuts at behind cut least (omega (arith, most, one_first x e)));
       },
+      λ at cut.
+          let count = both_count (pending_lexemes text new.pending) read.left.lexemes in
+          reached_by text new at (length (map shown_lexeme (pending_lexemes text new.pending) ++ map shown_lexeme read.left.lexemes))
+          (subst (λ n. IsInFlatMargin new new.stage × IsBehindLines text new.pending at (length (map shown_lexeme (pending_lexemes text new.pending) ++ map shown_lexeme read.left.lexemes)) n) count
+          (read.cuts at _ cut (omega (arith, count)) (omega (arith, count, one_first x e)))),
     )
 
 -- Less is left to read
@@ -429,9 +476,14 @@ module _ (text : Text) (history : History) (old : Reader) (len : ℕ) (kept : Is
       let hands : Hands text (Some (old.at, found, old.at + len)) new.pending (map (moved old.at) taken.piece.lexemes) =
       rw taken.lexemes (hands_first text new.pending (old.at, found, old.at + len) (record { begin = old.at; node = grammar.Newline; end = old.at + len }) (pending_lexemes text new.pending) taken.is_pending
       (ap (λ view. record { begin = old.at; node = view; end = old.at + len }) is) refl) in
-      let cut : IsCutBehind text history old.at taken.piece new = λ on layout_now flat inside.
-      line_ahead_cut text history old.at len taken.piece kept.read (begun text history old kept) stands taken.stands (ap is_layout layout.sort) (sym kept.levels ∙ none_open old.levels (sym of.flat ∙ flat)) old.levels (record { begin = old.at; node = grammar.Newline; end = old.at + len }) new.pending of taken.lexemes in
-      took_by text history old (Some (old.at, found, old.at + len)) new taken.piece utf8 kept stands cut
+      let cuts : AreCutsBehind text history old.at taken.piece new = record {
+        cut = λ on layout_now flat inside.
+            line_ahead_cut text history old.at len taken.piece kept.read (begun text history old kept) stands taken.stands (ap is_layout layout.sort) (sym kept.levels ∙ none_open old.levels (sym of.flat ∙ flat)) old.levels (record { begin = old.at; node = grammar.Newline; end = old.at + len }) new.pending of taken.lexemes;
+        cuts = λ x behind cut least most.
+            let lies = line_cut text history old.at len taken.piece kept.read (begun text history old kept) stands taken.stands (ap is_layout layout.sort) old.levels (record { begin = old.at; node = grammar.Newline; end = old.at + len }) new.pending of taken.lexemes x behind cut least most in
+            ((refl, before, of.flat ∙ ap (λ (levels : List ℕ). length levels == 0) (kept.levels ∙ lies.0)), lies.1);
+      } in
+      took_by text history old (Some (old.at, found, old.at + len)) new taken.piece utf8 kept stands cuts
       (rw nesting (quiet_kept taken.piece.lexemes history.tokens old.nesting layout.tokens kept.nesting)) taken.open_now (ap before_view before ∙ sym layout.sort) (is_at ∙ ap (λ n. old.at + n) (sym taken.whole)) (rw nesting few) is_onward hands
 
   pub line_refused : (new : Reader) (error : LexemeError) (end : ℕ) → IsRefused text (line_end len (open_widths history.widths) (drop (old.at + len) text)) [] history.widths new.levels new.pending error end
@@ -454,8 +506,12 @@ module _ (text : Text) (old new : Reader) (is_new : IsNew old) where
       let layout = first_is_quiet text taken.piece taken.stands in
       let few : bracket_count old.nesting ≤ new.at = omega (arith, is_new.few) in
       let end : new.at ≡ 0 + taken.piece.len = omega (arith, is_at, is_new.at, taken.whole) in
-      let cut : IsCutBehind text nothing 0 taken.piece new = λ on layout_now flat inside. first_ahead_cut text old.levels taken.piece new.pending taken.stands of taken.lexemes in
-      took_first text new taken.piece utf8 taken.stands cut
+      let cuts : AreCutsBehind text nothing 0 taken.piece new = record {
+        cut = λ on layout_now flat inside. first_ahead_cut text old.levels taken.piece new.pending taken.stands of taken.lexemes;
+        cuts = λ x behind cut least most.
+            ((refl, before, of.flat ∙ ap (λ (levels : List ℕ). length levels == 0) is_new.levels), first_cut text old.levels taken.piece new.pending taken.stands of taken.lexemes x behind cut least most);
+      } in
+      took_first text new taken.piece utf8 taken.stands cuts
       (rw nesting (quiet_kept taken.piece.lexemes [] old.nesting layout.tokens is_new.nesting)) taken.open_now (ap before_view before ∙ sym layout.sort) end (rw nesting few) is_onward (hands_later text new.pending _ taken.is_pending taken.lexemes)
 
   pub margin_refused : (error : LexemeError) (end : ℕ) → IsRefused text (first_margin text) (margin_of text).comments [] new.levels new.pending error end

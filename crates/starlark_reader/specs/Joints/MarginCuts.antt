@@ -1,5 +1,5 @@
 -- Places where a text may be cut, in margins of which the lexemes are still to be handed out.
-use Rattle.std.specs.Prelude.{◌≡◌, ◌≤◌, ◌<◌, true, ℕ, ◌+◌, ◌==◌, List, ◌∷◌, ◌++◌, length, drop, take, Option, Some, None, ⊤, ◌⊎◌}
+use Rattle.std.specs.Prelude.{◌≡◌, ◌≤◌, ◌<◌, true, ℕ, ◌+◌, ◌==◌, List, ◌∷◌, ◌++◌, length, drop, sum_by, take, Option, Some, None, ⊤, ◌⊎◌}
 use Rattle.starlark_grammar.specs.Words.{Text, language}
 use Rattle.starlark_grammar.specs.Margins.{lines, margin_of}
 use Rattle.starlark_grammar.specs.Reading.{outcome, pieces_len, read}
@@ -19,6 +19,14 @@ pub record IsCutBefore (text : Text) (at ahead : ℕ) : Type 0 where
   pub inside : at < length text
   pub is_kept : is_kept_cut text at ≡ true
   pub count : lexemes_before text at + ahead ≡ length (outcome text).lexemes
+
+-- A place lies behind so many of the lines of which the comments are still to be handed out: behind all lexemes of the text
+-- but so many.
+pub record IsBehindLines (text : Text) (pending : Pending) (at behind ahead : ℕ) : Type 0 where
+  pub passed : ℕ
+  pub few : passed ≤ length (lines_between text pending.from pending.to)
+  pub place : at ≡ pending.from + sum_by (λ (line : Text). length line) (take passed (lines_between text pending.from pending.to))
+  pub count : behind + passed ≡ ahead
 
 -- The comment-only lines of a margin are still to be read for their comments: so many bytes from a place on. Whether no
 -- width is open before it is known.

@@ -12,7 +12,7 @@ use Rattle.starlark_scanner.specs.Joints.Words.{word_view}
 use Rattle.starlark_scanner.specs.declared.scanner.word.Word.{Word}
 use Rattle.starlark_grammar.specs.Reading.{History, IsReading, Reading, after_all, nothing, pieces_len, lexemes_along, closing, next_step, read, read_from, outcome}
 use Rattle.starlark_reader.specs.Lexemes.{fault_view, lexeme_view, shown_lexeme}
-use Rattle.starlark_reader.specs.Joints.MarginCuts.{IsMarginAhead}
+use Rattle.starlark_reader.specs.Joints.MarginCuts.{IsBehindLines, IsCutBefore, IsMarginAhead}
 use Rattle.starlark_reader.specs.Joints.Pending.{IsIdle, IsPending, pending_lexemes}
 use Rattle.starlark_reader.specs.Joints.Nesting.{Represents, bracket_count}
 use Rattle.starlark_reader.specs.Joints.Pieces.{is_code}
@@ -96,6 +96,20 @@ abbrev pub IsCutAhead : Text → Reader → Stage → ℕ → Type 0
 IsCutAhead text reader now ahead =
     now ≡ stage.Onward → reader.before ≡ before.Layout → reader.pending.is_flat ≡ true → reader.pending.from < length text → IsMarginAhead text reader.pending ahead
 
+-- It is in a margin before which no width is open, and nothing behind the margin's comments was handed out.
+abbrev pub IsInFlatMargin : Reader → Stage → Type 0
+IsInFlatMargin reader now = (now ≡ stage.Onward) × (reader.before ≡ before.Layout) × (reader.pending.is_flat ≡ true)
+
+-- Each kept cut before a text's end behind which as many lexemes stand as one number says or more, and fewer than another
+-- says, lies in such a margin, where so many lexemes are ahead.
+abbrev pub HoldsCuts : Text → Reader → Stage → ℕ → ℕ → ℕ → Type 0
+HoldsCuts text reader now least most ahead =
+    (at behind : ℕ) → IsCutBefore text at behind → least ≤ behind → behind < most → IsInFlatMargin reader now × IsBehindLines text reader.pending at behind ahead
+
+-- A place is the one that is reached in such a margin.
+abbrev pub IsReached : Reader → ℕ → Type 0
+IsReached reader at = IsInFlatMargin reader reader.stage × (at ≡ reader.pending.from)
+
 -- What is still to be handed out of a text: the lexemes that were read, those still to be read, and the fault behind
 -- them.
 pub record IsAhead (text : Text) (reader : Reader) (stage : Stage) (lexemes : List (grammar.Spanned TokenView)) (fault : Option (grammar.Spanned grammar.Fault)) : Type 0 where
@@ -105,15 +119,16 @@ pub record IsAhead (text : Text) (reader : Reader) (stage : Stage) (lexemes : Li
   pub ahead : lexemes ≡ map shown_lexeme (pending_lexemes text reader.pending) ++ map shown_lexeme left.lexemes
   pub behind_them : fault ≡ left.fault
   pub cut : IsCutAhead text reader stage (length lexemes)
+  pub cuts : HoldsCuts text reader stage (length left.lexemes) (length lexemes) (length lexemes)
 
 -- Something is still to be handed out, if only the end.
 abbrev pub IsReady : Text → Reader → Stage → Type 0
 IsReady text reader stage = (lexemes : List (grammar.Spanned TokenView)) × (fault : Option (grammar.Spanned grammar.Fault)) × IsAhead text reader stage lexemes fault
 
--- the same behind a lexeme, where one was handed out
+-- The same behind a lexeme, where one was handed out. A kept cut that lies right behind it is reached.
 abbrev pub IsAheadBehind : Text → Option (ℕ × Token × ℕ) → Reader → List (grammar.Spanned TokenView) → Option (grammar.Spanned grammar.Fault) → Type 0
 IsAheadBehind text None reader lexemes fault = IsAhead text reader reader.stage lexemes fault
-IsAheadBehind text (Some lexeme) reader lexemes fault = (more : List (grammar.Spanned TokenView)) × (lexemes ≡ lexeme_view lexeme ∷ more) × IsAhead text reader reader.stage more fault
+IsAheadBehind text (Some lexeme) reader lexemes fault = (more : List (grammar.Spanned TokenView)) × (lexemes ≡ lexeme_view lexeme ∷ more) × IsAhead text reader reader.stage more fault × ((at : ℕ) → IsCutBefore text at (length more) → IsReached reader at)
 
 -- Some lexemes of an outcome were read, of which the first may be handed out, and the rest of it is still to be read.
 pub record IsRead (text : Text) (whole : grammar.Outcome) (given : Option (ℕ × Token × ℕ)) (new : Reader) : Type 0 where
@@ -125,6 +140,7 @@ pub record IsRead (text : Text) (whole : grammar.Outcome) (given : Option (ℕ �
   pub is_pending : IsPending text new.pending
   pub handed_out : map shown_lexeme lexemes ≡ map lexeme_view (option_to_list given) ++ map shown_lexeme (pending_lexemes text new.pending)
   pub cut : IsCutAhead text new new.stage (length (pending_lexemes text new.pending) + length left.lexemes)
+  pub cuts : HoldsCuts text new new.stage (length left.lexemes) (length lexemes + length left.lexemes) (length (pending_lexemes text new.pending) + length left.lexemes)
 
 -- the step that stands where a reader is, behind a history
 abbrev pub step_here : Text → History → Reader → Step

@@ -1,6 +1,6 @@
 //! Lexemes that were read, and are made when they are asked for.
 
-ghost use Rattle.std.specs.Prelude.{◌≡◌, ◌≤◌, ◌+◌, ◌*◌, [], true, OnErr, IfOk};
+ghost use Rattle.std.specs.Prelude.{◌≡◌, ◌<◌, ◌≤◌, ◌+◌, ◌*◌, [], true, OnErr, OnOk, IfOk};
 ghost use Rattle.starlark_reader.specs.Joints.Pending.{IsFirst, IsFirstBehind, IsPending, behind_lexemes, owed, pending_lexemes};
 ghost use Rattle.starlark_reader.specs.Joints.MarginCuts.{IsLinePassed};
 ghost use Rattle.starlark_grammar.specs.Words.{Text};
@@ -117,6 +117,7 @@ impl Pending {
         ensures next { IfOk result (λ first. IsFirst text.now self.old self.new first) }
         ensures memory { OnErr result (pending_lexemes text.now self.old ≡ [] → ⊥) }
         ensures lines { IfOk result (λ first. IsLinePassed text.now self.old self.new first) }
+        ensures flat { OnOk result (self.old.from < self.old.to → self.new.is_flat ≡ self.old.is_flat) }
         ensures reads { IfOk result (λ first. (more_reads reads.old 0 ≤ reads.new) × (reads.new + 6 * owed self.new ≤ reads.old + 6 * owed self.old)) }
     {
         if self.from < self.to {

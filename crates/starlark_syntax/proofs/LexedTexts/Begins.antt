@@ -4,7 +4,7 @@ use Rattle.std.specs.Prelude.{slice_get, slice_index_or}
 use Rattle.std.specs.List.{AllByRecursion}
 use Rattle.std.proofs.lemmas.Option.{slice_get-get_or}
 use Rattle.starlark_grammar.specs.Words.{Text}
-use Rattle.starlark_syntax.specs.Joints.LexedTexts.{AreCuts, IsBegin, IsCutOf, IsRising, IsUpTo}
+use Rattle.starlark_syntax.specs.Joints.LexedTexts.{AreBeyond, AreCuts, IsBegin, IsCutOf, IsRising, IsUpTo}
 use Rattle.starlark_syntax.specs.declared.lexer.lexed_text.cuts.Cut.{Cut}
 
 pub all_at : {A : Type 0} (P : A → Type 0) (xs : List A) (i : ℕ) (d : A) → AllByRecursion P xs → i < length xs → P (slice_index_or xs i d)
@@ -38,9 +38,9 @@ all_up_to cuts from (suc i) d rising few up_to =
     weaker (cut ∷ cuts) one other less all = (omega (arith, less, all.0), weaker cuts one other less all.1)
 
 -- the last of so many cuts is where a text may be lexed again
-pub begin_found : (text : Text) (cuts : List Cut) (from count : ℕ) (d : Cut) → AreCuts text cuts → 0 < count → count ≤ length cuts → IsUpTo cuts from count
+pub begin_found : (text : Text) (cuts : List Cut) (from count : ℕ) (d : Cut) → AreCuts text cuts → 0 < count → count ≤ length cuts → IsUpTo cuts from count → AreBeyond cuts from count
     → IsBegin text cuts from (record { at = (slice_index_or cuts (count - 1) d).at; lexemes = (slice_index_or cuts (count - 1) d).lexemes; cuts = count })
-begin_found text cuts from count d are some few up_to =
+begin_found text cuts from count d are some few up_to beyond =
     let last = slice_index_or cuts (count - 1) d in
     let inside : count - 1 < length cuts = omega (arith, some, few) in
     let is : IsCutOf text last = all_at (IsCutOf text) cuts (count - 1) d are.each inside in
@@ -50,4 +50,5 @@ begin_found text cuts from count d are some few up_to =
       stands = inr is;
       few = few;
       up_to = subst (λ n. AllByRecursion (λ (cut : Cut). cut.at ≤ last.at) (take n cuts)) next (up_to_one cuts (count - 1) d are.order inside);
+      beyond = beyond;
     }

@@ -1,5 +1,5 @@
 -- What a text comes to behind an edit.
-use Rattle.std.proofs.Common.{◌≡◌, ℕ, suc, zero, ◌+◌, ◌<◌, ◌≤◌, Bool, true, false, List, [], ◌∷◌, ◌++◌, map, take, drop, length, refl, ap, sym, subst, ◌∙◌, arith, Some, None, inl, inr, ◌⊎◌, append-nil, length-append}
+use Rattle.std.proofs.Common.{◌≡◌, ℕ, suc, zero, ◌+◌, ◌-◌, ◌*◌, ◌<◌, ◌≤◌, Bool, true, false, List, [], ◌∷◌, ◌++◌, map, take, drop, length, refl, ap, sym, subst, ◌∙◌, arith, Some, None, inl, inr, ◌⊎◌, append-nil, length-append}
 use Rattle.std.specs.Prelude.{Option, ◌&&◌, ◌||◌, ◌==◌, if◌then◌else◌, nat_lt, option_map, slice_get, slice_index_or}
 use Rattle.std.specs.List.{AllByRecursion}
 use Rattle.std.specs.Str.{IsCharBoundary, IsUtf8}
@@ -17,10 +17,11 @@ use Rattle.starlark_grammar.specs.Cuts.{is_clean_cut, is_kept_cut, tabbed, witho
 use Rattle.starlark_grammar.specs.Laws.{HasFirstMargin}
 use Rattle.starlark_grammar.proofs.Joining.CleanCuts.{cuts_join}
 use Rattle.starlark_grammar.proofs.Joining.Laws.{kept_cuts_keep}
+use Rattle.starlark_grammar.proofs.Joining.LineCuts.{kept_parts}
 use Rattle.starlark_grammar.proofs.Joining.Tabs.{HasTab, behind_tab, first_margin_is, first_step, margin_tab, outcome_by, tab, tab_longest}
 use Rattle.starlark_grammar.proofs.Reading.Readings.{one_longest, read_is}
 use Rattle.starlark_reader.specs.Lexemes.{lexeme_view, shown_lexeme}
-use Rattle.starlark_syntax.specs.Joints.LexedTexts.{AreCuts, IsBegin, IsCutOf, IsPart, IsTakenBack, last_newline_of, later, later_cut}
+use Rattle.starlark_syntax.specs.Joints.LexedTexts.{AreBeyond, AreCuts, IsBegin, IsCutOf, IsPart, IsTakenBack, holds_cut, last_newline_of, later, later_cut}
 use Rattle.starlark_syntax.specs.declared.lexer.lexed_text.cuts.Begin.{Begin}
 use Rattle.starlark_syntax.specs.declared.lexer.lexed_text.cuts.Cut.{Cut}
 use Rattle.starlark_syntax.specs.declared.lexer.lexed_text.parts.Part.{Part}
@@ -28,10 +29,12 @@ use Rattle.starlark_syntax.specs.declared.lexer.lexed_text.tails.Kept.{Kept}
 use Rattle.starlark_token.specs.declared.tokens.Token.{Token}
 use Rattle.starlark_token.specs.TokenViews.{TokenView}
 use Rattle.starlark_syntax.proofs.LexedTexts.Begins.{all_take, all_up_to}
+use Rattle.starlark_syntax.proofs.LexedTexts.HeldCuts.{all_nearer, held_as, held_front, held_joined, held_right, kept_in, kept_some}
 use Rattle.starlark_syntax.proofs.LexedTexts.Joined.{cut_joined, shown_later, viewed_later}
-use Rattle.starlark_syntax.proofs.LexedTexts.KeptCuts.{kept_parts, reach_joined, take_less as take_within}
+use Rattle.starlark_syntax.proofs.LexedTexts.KeptCuts.{reach_joined, take_less as take_within}
 use Rattle.starlark_syntax.proofs.LexedTexts.Newlines.{FoundNewline, none_shown, some_shown}
 use Rattle.starlark_syntax.proofs.LexedTexts.Parts.{unmoved_fault}
+use Rattle.starlark_syntax.specs.LexedTexts.{IsReadFrom, LexedView}
 use Rattle.starlark_syntax.proofs.LexedTexts.Relexed.{above_later, all_both, all_later, all_stay, cut_boundary, rising_both, rising_later, rising_take, some_cut}
 use Rattle.starlark_reader.proofs.Pieces.Onward.{first_fails}
 
@@ -70,6 +73,7 @@ relexed_start old edited ls cuts part count are up_to is = record {
   are_cuts = record {
     each = all_both (IsCutOf edited) (take count cuts) _ (all_stay old edited 0 0 (take count cuts) refl (omega arith) (omega arith) (omega arith) (all_take (IsCutOf old) count cuts are.each) up_to) (subst (AllByRecursion (IsCutOf edited)) (sym (same_cuts part.cuts.items)) is.cuts.each);
     order = rising_both 0 (take count cuts) _ (rising_take count cuts are.order) (rising_later 0 0 part.cuts.items is.cuts.order) up_to (above_later edited 0 0 part.cuts.items is.cuts.each);
+    all = λ x kept. held_right x (take count cuts) _ (subst (λ (found : List Cut). holds_cut x found ≡ true) (sym (same_cuts part.cuts.items)) (is.cuts.all x kept));
   };
   near = omega arith;
   few = omega arith;
@@ -120,10 +124,14 @@ module _ (old edited : Text) (ls : List (ℕ × Token × ℕ)) (cuts : List Cut)
       ∙ sym (map-append shown_lexeme (without_closing (outcome (take at edited)).lexemes) (map (moved at) (outcome (drop at edited)).lexemes))
       ∙ ap (map shown_lexeme) (sym e)
 
+  -- a cut of the new text at or before the one that is read from is an old one, among the first where the others lie behind it
+  held_old : (x to n : ℕ) → x ≤ at → x ≤ to → AreBeyond cuts to n → is_clean_cut (take x edited) ≡ true → holds_cut x (take n cuts) ≡ true
+  held_old x to n before less beyond there = held_front x to n cuts (are.all x (kept_in old edited at x same is.is_kept before there)) beyond less
+
   -- where the margin at the cut has no fault
-  pub relexed_cut : (kept_cuts : ℕ) → AllByRecursion (λ (cut : Cut). cut.at ≤ at) (take kept_cuts cuts) → HasFirstMargin language (drop at edited)
+  pub relexed_cut : (kept_cuts : ℕ) → AllByRecursion (λ (cut : Cut). cut.at ≤ at) (take kept_cuts cuts) → AreBeyond cuts at kept_cuts → HasFirstMargin language (drop at edited)
       → IsRelexed edited ls cuts at count part (record { lexemes = count; cuts = kept_cuts; fault_at = at; gives_more = true })
-  relexed_cut kept_cuts up_to margin =
+  relexed_cut kept_cuts up_to beyond margin =
       let joined = ap outcome (sym whole) ∙ cuts_join (take at edited) (drop at edited) clean margin in
       let reach : pieces_len (read language edited).pieces ≡ length (take at edited) + pieces_len (read language (drop at edited)).pieces = ap (λ (t : Text). pieces_len (read language t).pieces) (sym whole) ∙ reach_joined (take at edited) (drop at edited) clean margin in
       let behind = all_later (take at edited) (drop at edited) part.cuts.items clean margin is_part.cuts.each in
@@ -136,6 +144,10 @@ module _ (old edited : Text) (ls : List (ℕ × Token × ℕ)) (cuts : List Cut)
               (subst (λ n. AllByRecursion (IsCutOf edited) (map (later_cut n (length (without_closing (outcome (take at edited)).lexemes))) part.cuts.items)) len
               (subst (λ (t : Text). AllByRecursion (IsCutOf t) (map (later_cut (length (take at edited)) (length (without_closing (outcome (take at edited)).lexemes))) part.cuts.items)) whole behind)));
           order = rising_both at (take kept_cuts cuts) _ (rising_take kept_cuts cuts are.order) (rising_later at count part.cuts.items is_part.cuts.order) up_to (above_later (drop at edited) at count part.cuts.items is_part.cuts.each);
+          all = λ x kept. subst (λ n. holds_cut x (take kept_cuts cuts ++ map (later_cut n count) part.cuts.items) ≡ true) len
+              (held_joined (take at edited) (drop at edited) (take kept_cuts cuts) part.cuts.items count clean margin
+              (λ x less there. held_old x at kept_cuts (omega (arith, less, len)) (omega (arith, less, len)) beyond (ap is_clean_cut (sym (take_within x at edited (omega (arith, less, len)))) ∙ there))
+              is_part.cuts.all x (ap (λ (t : Text). is_kept_cut t x) whole ∙ kept));
         };
         near = omega arith;
         few = few;
@@ -158,6 +170,16 @@ module _ (old edited : Text) (ls : List (ℕ × Token × ℕ)) (cuts : List Cut)
     tabs : outcome edited ≡ tabbed (length (take at edited)) (without_closing (outcome (take at edited)).lexemes) (margin_of (drop at edited)).comments
     tabs = ap outcome (sym whole) ∙ (behind_tab (take at edited) (drop at edited) clean has).is
 
+    -- the reading goes as far as the fault
+    tab_reach : (fault : Spanned Fault) → (outcome edited).fault ≡ Some fault → pieces_len (read language edited).pieces ≡ fault.begin
+    tab_reach fault found =
+        let bt = behind_tab (take at edited) (drop at edited) clean has in
+        let reading = one_longest language nothing (take at edited ++ drop at edited) _ _ _ _ (read_is language (take at edited ++ drop at edited)) bt.longest in
+        let begin = ap (λ (o : Outcome). begin_at o.fault) (sym (outcome_by (take at edited ++ drop at edited) bt.front (Fails tab) bt.longest) ∙ ap outcome whole) ∙ ap begin_at found in
+        let reach : pieces_len (read language edited).pieces ≡ pieces_len bt.front = ap (λ (t : Text). pieces_len (read language t).pieces) (sym whole) ∙ ap pieces_len reading.0 in
+        let here : pieces_len bt.front + 0 ≡ fault.begin = begin in
+        omega (arith, reach, here)
+
     -- where it has a tab, behind comments alone
     pub relexed_comments : last_newline_of (map lexeme_view (take count ls)) ≡ None → IsRelexed edited ls cuts at count part (record { lexemes = count; cuts = 0; fault_at = 0; gives_more = true })
     relexed_comments none =
@@ -167,7 +189,8 @@ module _ (old edited : Text) (ls : List (ℕ × Token × ℕ)) (cuts : List Cut)
           lexemes = all_views (ap (λ (o : Outcome). o.lexemes) all ∙ ap (λ n. without_closing (outcome (take at edited)).lexemes ++ map (moved n) (margin_of (drop at edited)).comments) len
               ∙ ap (λ (o : Outcome). without_closing (outcome (take at edited)).lexemes ++ map (moved at) o.lexemes) (sym fails));
           fault = ap (λ (o : Outcome). o.fault) all ∙ ap (λ (o : Outcome). option_map (moved 0) o.fault) (sym fails);
-          are_cuts = subst (λ (found : List Cut). AreCuts edited (map (later_cut at count) found)) (sym (no_cuts part.cuts.items is_part.cuts.each)) (record { each = tt; order = tt });
+          are_cuts = subst (λ (found : List Cut). AreCuts edited (map (later_cut at count) found)) (sym (no_cuts part.cuts.items is_part.cuts.each))
+              (record { each = tt; order = tt; all = λ x kept. absurd (omega (arith, kept_some edited x kept, (kept_parts edited x kept).0, tab_reach (record { begin = 0; node = InvalidTab; end = 0 }) (ap (λ (o : Outcome). o.fault) all))) });
           near = omega arith;
           few = few;
         }
@@ -216,7 +239,7 @@ module _ (old edited : Text) (ls : List (ℕ × Token × ℕ)) (cuts : List Cut)
           lexemes = rw (taken.count, taken.gives_none) (ap (map lexeme_view) (append-nil (take last ls) ∙ sym (take_less last count ls (omega (arith, less)))) ∙ sym (take-map lexeme_view last (take count ls)) ∙ ap (take last) kept_views ∙ take-map shown_lexeme last lexemes ∙ ap (λ (o : Outcome). map shown_lexeme o.lexemes) (sym all));
           fault = ap (λ (o : Outcome). o.fault) all ∙ at_place found.begin kept.fault_at placed ∙ ap (λ (o : Outcome). option_map (moved kept.fault_at) o.fault) (sym fails);
           are_cuts = subst (λ (behind : List Cut). AreCuts edited (take kept.cuts cuts ++ behind)) (sym nil) (subst (AreCuts edited) (sym (append-nil (take kept.cuts cuts)))
-              (record { each = all_stay old edited at kept.fault_at (take kept.cuts cuts) same inside near (omega (arith, placed, here, reach)) (all_take (IsCutOf old) kept.cuts cuts are.each) up_to; order = rising_take kept.cuts cuts are.order }));
+              (record { each = all_stay old edited at kept.fault_at (take kept.cuts cuts) same inside near (omega (arith, placed, here, reach)) (all_take (IsCutOf old) kept.cuts cuts are.each) up_to; order = rising_take kept.cuts cuts are.order; all = λ x kept_x. let parts = kept_parts edited x kept_x in held_old x kept.fault_at kept.cuts (omega (arith, parts.0, reach, here, placed, near)) (omega (arith, parts.0, reach, here, placed)) taken.beyond parts.1 }));
           near = near;
           few = omega (arith, taken.count, less, few);
         }
@@ -295,7 +318,7 @@ relexed old edited ls cuts from begin part kept has lexed are is same inside is_
         by_newline h (Some last) e = relexed_line old edited ls cuts part begin.at begin.lexemes lexed are cut front within is_part (has_of h) last kept e (line h last e)
 
         go : (b : Bool) → has ≡ b → IsRelexed edited ls cuts begin.at begin.lexemes part kept
-        go false h = subst (IsRelexed edited ls cuts begin.at begin.lexemes part) (sym (plain h)) (relexed_cut old edited ls cuts part begin.at begin.lexemes lexed are cut front within is_part begin.cuts is.up_to (margin_of_it h (first_margin_is (drop begin.at edited))))
+        go false h = subst (IsRelexed edited ls cuts begin.at begin.lexemes part) (sym (plain h)) (relexed_cut old edited ls cuts part begin.at begin.lexemes lexed are cut front within is_part begin.cuts is.up_to (all_nearer from begin.at (drop begin.cuts cuts) is.before is.beyond) (margin_of_it h (first_margin_is (drop begin.at edited))))
         go true h = by_newline h (last_newline_of (map lexeme_view (take begin.lexemes ls))) refl
 
     by : ((begin.at ≡ 0) × (begin.lexemes ≡ 0)) ⊎ IsCutOf old (record { at = begin.at; lexemes = begin.lexemes }) → IsRelexed edited ls cuts begin.at begin.lexemes part kept
@@ -333,3 +356,29 @@ begin_kept old cuts from begin is = by is.stands
     by : ((begin.at ≡ 0) × (begin.lexemes ≡ 0)) ⊎ IsCutOf old (record { at = begin.at; lexemes = begin.lexemes }) → (begin.at ≡ 0) ⊎ (is_kept_cut old begin.at ≡ true)
     by (inl start) = inl start.0
     by (inr cut) = inr cut.is_kept
+
+-- no kept cut lies between that place and the edit
+begin_greatest : (old : Text) (cuts : List Cut) (from : ℕ) (begin : Begin) → AreCuts old cuts → IsBegin old cuts from begin → (other : ℕ) → other ≤ from → is_kept_cut old other ≡ true → other ≤ begin.at
+begin_greatest old cuts from begin are is other less kept =
+    let found = held_as (λ (cut : Cut). cut.at ≤ begin.at) other (take begin.cuts cuts) (held_front other from begin.cuts cuts (are.all other kept) is.beyond less) is.up_to in
+    omega (arith, found.1, found.2)
+
+later_begins : (len : ℕ) (xs : List (ℕ × Token × ℕ)) → AllByRecursion (λ (lexeme : Spanned TokenView). len ≤ lexeme.begin) (map lexeme_view (map (later len) xs))
+later_begins len [] = tt
+later_begins len (x ∷ xs) = (omega arith, later_begins len xs)
+
+-- what was read, and which lexemes are old
+pub read_from : (old : LexedView) (edited : Text) (from : ℕ) (ls given : List (ℕ × Token × ℕ)) (cuts : List Cut) (begin : Begin) (lexed : LexedView) (kept : ℕ) → old.lexemes ≡ map lexeme_view ls → AreCuts old.text cuts → IsBegin old.text cuts from begin
+    → lexed.lexemes ≡ map lexeme_view (take kept ls ++ map (later begin.at) given) → lexed.reads ≤ 16 * (length edited - begin.at + 1) → (lexed.fault ≡ None → length edited - begin.at ≤ lexed.reads) → IsReadFrom old edited from lexed
+read_from old edited from ls given cuts begin lexed kept seen are is made most least = record {
+  at = begin.at;
+  before = is.before;
+  is_kept = begin_kept old.text cuts from begin is;
+  greatest = begin_greatest old.text cuts from begin are is;
+  most = most;
+  least = least;
+  kept = kept;
+  more = map lexeme_view (map (later begin.at) given);
+  lexemes = made ∙ map-append lexeme_view (take kept ls) (map (later begin.at) given) ∙ ap (λ vs. vs ++ map lexeme_view (map (later begin.at) given)) (sym (take-map lexeme_view kept ls) ∙ ap (take kept) (sym seen));
+  behind = later_begins begin.at given;
+}

@@ -7,11 +7,11 @@ use Rattle.starlark_grammar.specs.Words.{Text, language}
 use Rattle.starlark_grammar.specs.Tokens.{Lexeme, Outcome, moved}
 use Rattle.starlark_grammar.specs.Pieces.{Ends, Fails, Piece, Stands, Step}
 use Rattle.starlark_grammar.specs.Reading.{after_all, closing, lexemes_along, nothing, outcome, outcome_in, outcome_of, pieces_len, read}
-use Rattle.starlark_grammar.specs.Cuts.{is_clean_cut, is_clean_cut_in, is_faultless, is_kept_cut, is_settled, without_closing}
+use Rattle.starlark_grammar.specs.Cuts.{is_clean_cut, is_clean_cut_in, is_faultless, is_settled, without_closing}
 use Rattle.starlark_grammar.specs.Laws.{HasFirstMargin}
 use Rattle.starlark_grammar.proofs.Joining.CleanCuts.{both, begun, cut, longest, pieces_both}
 use Rattle.starlark_grammar.proofs.Joining.Laws.{faults_join}
-use Rattle.starlark_grammar.proofs.Joining.LineCuts.{kept_by}
+use Rattle.starlark_grammar.proofs.Joining.LineCuts.{kept_by, kept_parts}
 use Rattle.starlark_grammar.proofs.Reading.Readings.{longest_onward, one_longest, read_is}
 use Rattle.starlark_syntax.specs.Joints.LexedTexts.{IsCutOf}
 use Rattle.starlark_reader.specs.Joints.MarginCuts.{lexemes_before}
@@ -50,11 +50,6 @@ pub count_joined : (first second : Text) → is_clean_cut first ≡ true → (ou
 count_joined first second clean none =
     let whole : (outcome (first ++ second)).lexemes ≡ without_closing (outcome first).lexemes ++ map (moved (length first)) (outcome second).lexemes = ap (λ (o : Outcome). o.lexemes) (outcome_joined first second clean none) in
     omega (arith, count_is (outcome (first ++ second)).lexemes, count_is (outcome second).lexemes, ap length whole, length-append (without_closing (outcome first).lexemes) (map (moved (length first)) (outcome second).lexemes), length-map (outcome second).lexemes (moved (length first)), some_lexemes second none)
-
--- what a kept cut is
-pub kept_parts : (text : Text) (at : ℕ) → is_kept_cut text at ≡ true → (at ≤ pieces_len (read language text).pieces) × (is_clean_cut (take at text) ≡ true)
-unfolding is_kept_cut
-kept_parts text at h = let parts = and_parts (nat_le at (pieces_len (read language text).pieces)) (is_clean_cut (take at text)) h in (leb-true at _ parts.0, parts.1)
 
 -- the end of a clean cut is a kept one
 pub take_all : (text : Text) → take (length text) text ≡ text

@@ -14,11 +14,12 @@ use Rattle.starlark_grammar.specs.Laws.{HasFirstMargin}
 use Rattle.starlark_grammar.proofs.Joining.CleanCuts.{cut}
 use Rattle.starlark_grammar.proofs.Joining.Followed.{ends_line}
 use Rattle.starlark_grammar.proofs.Joining.Laws.{cuts_of_joined}
-use Rattle.starlark_grammar.proofs.Joining.LineCuts.{kept_by}
+use Rattle.starlark_grammar.proofs.Joining.LineCuts.{kept_by, kept_parts}
 use Rattle.starlark_grammar.proofs.Indentation.Totals.{outcome_balances}
 use Rattle.starlark_syntax.specs.Joints.LexedTexts.{AllNearCuts, AreCuts, IsCutOf, IsRising, later_cut}
 use Rattle.starlark_syntax.specs.declared.lexer.lexed_text.cuts.Cut.{Cut}
-use Rattle.starlark_syntax.proofs.LexedTexts.KeptCuts.{clean_faultless, count_is, count_joined, kept_parts, reach_joined, take_all}
+use Rattle.starlark_syntax.proofs.LexedTexts.HeldCuts.{held_joined}
+use Rattle.starlark_syntax.proofs.LexedTexts.KeptCuts.{clean_faultless, count_is, count_joined, reach_joined, take_all}
 
 -- Cuts
 
@@ -119,6 +120,7 @@ cuts_joined first second one other clean margin are are' = record {
       (all_stay first (first ++ second) (length first) (length first) one (take_all first ∙ sym (take-append_seam first second)) (omega (arith, length-append first second)) (omega arith) (omega (arith, reach_joined first second clean margin)) are.each (inside one are.each))
       (all_later first second other clean margin are'.each);
   order = rising_both (length first) one _ are.order (rising_later _ _ other are'.order) (inside one are.each) (above_later second _ _ other are'.each);
+  all = held_joined first second one other (length (without_closing (outcome first).lexemes)) clean margin (λ x less there. are.all x (kept_by first x (omega (arith, less, (cut first clean).reach)) there)) are'.all;
 }
   where
     inside : (cuts : List Cut) → AllByRecursion (IsCutOf first) cuts → AllByRecursion (λ (cut : Cut). cut.at ≤ length first) cuts

@@ -1,6 +1,6 @@
 -- The lexemes of a lexed text and the places where it may be cut, as the code keeps them.
-use Rattle.std.specs.Prelude.{◌≡◌, Bool, true, false, ℕ, suc, ◌+◌, ◌-◌, ◌<◌, ◌≤◌, ◌^◌, List, [], ◌∷◌, map, length, take, slice_get, Option, Some, None, ⊤, ◌⊎◌}
-use Rattle.std.specs.List.{AllByRecursion}
+use Rattle.std.specs.Prelude.{◌≡◌, Bool, true, false, ℕ, suc, ◌+◌, ◌-◌, ◌<◌, ◌≤◌, ◌^◌, List, [], ◌∷◌, map, length, drop, take, slice_get, ◌==◌, Option, Some, None, ⊤, ◌⊎◌}
+use Rattle.std.specs.List.{AllByRecursion, list_any}
 use Rattle.starlark_token.specs.declared.lexeme_error.LexemeError.{LexemeError}
 use Rattle.starlark_grammar.specs.Words.{Text}
 use Rattle.starlark_grammar.specs.Tokens as grammar
@@ -43,21 +43,32 @@ abbrev pub IsRising : List Cut → Type 0
 IsRising [] = ⊤
 IsRising (cut ∷ cuts) = AllByRecursion (λ (behind : Cut). cut.at < behind.at) cuts × IsRising cuts
 
--- Kept cuts of a text, in their order.
+-- whether one of the cuts lies at a place
+abbrev pub holds_cut : ℕ → List Cut → Bool
+holds_cut at cuts = list_any (λ (cut : Cut). cut.at == at) cuts
+
+-- All kept cuts of a text, in their order.
 pub record AreCuts (text : Text) (cuts : List Cut) : Type 0 where
   pub each : AllByRecursion (IsCutOf text) cuts
   pub order : IsRising cuts
+  pub all : (at : ℕ) → is_kept_cut text at ≡ true → holds_cut at cuts ≡ true
+
+-- the cuts behind so many of them lie behind a place
+abbrev pub AreBeyond : List Cut → ℕ → ℕ → Type 0
+AreBeyond cuts from count = AllByRecursion (λ (cut : Cut). from < cut.at) (drop count cuts)
 
 -- the last of so many cuts lies at or before a place
 abbrev pub IsUpTo : List Cut → ℕ → ℕ → Type 0
 IsUpTo cuts from count = 0 < count → (cut : Cut) → slice_get cuts (count - 1) ≡ Some cut → cut.at ≤ from
 
--- A text's begin, or one of its kept cuts, at or before a place; and how many of some cuts lie up to it.
+-- A text's begin, or one of its kept cuts, at or before a place; and how many of some cuts lie up to it, all others behind
+-- the place.
 pub record IsBegin (text : Text) (cuts : List Cut) (from : ℕ) (begin : Begin) : Type 0 where
   pub before : begin.at ≤ from
   pub stands : ((begin.at ≡ 0) × (begin.lexemes ≡ 0)) ⊎ IsCutOf text (record { at = begin.at; lexemes = begin.lexemes })
   pub few : begin.cuts ≤ length cuts
   pub up_to : AllByRecursion (λ (cut : Cut). cut.at ≤ begin.at) (take begin.cuts cuts)
+  pub beyond : AreBeyond cuts from begin.cuts
 
 -- the one cut at a place, if it is one
 abbrev pub cuts_at : Option ℕ → ℕ → List Cut
@@ -76,6 +87,7 @@ pub record IsTakenBack (lexemes : List (ℕ × Token × ℕ)) (cuts : List Cut) 
   pub place : (lexeme : ℕ × Token × ℕ) → slice_get lexemes last ≡ Some lexeme → kept.fault_at ≡ lexeme.0
   pub few : kept.cuts ≤ length cuts
   pub up_to : IsUpTo cuts kept.fault_at kept.cuts
+  pub beyond : AreBeyond cuts kept.fault_at kept.cuts
 
 -- a fault with its places, as the grammar's
 abbrev pub IsPlacedFault : Option (grammar.Spanned grammar.Fault) → Option (ℕ × LexemeError × ℕ) → Type 0

@@ -27,8 +27,7 @@ use std::marker::Model;
 use tails::{append_later, given_behind, kept_of, make_room};
 
 /// A text with its lexemes and its fault, if it has one. In a contract it is these three, and how often bytes of it were
-/// read. It keeps places where it may be
-/// cut, so that a text with an edit behind one of them is lexed from there on.
+/// read. It keeps all places where it may be cut, so that a text with an edit behind one of them is lexed from there on.
 #[derive(Drop)]
 pub struct LexedText<'a> {
     text: &'a str,
@@ -176,8 +175,8 @@ impl<'a> LexedText<'a> {
     }
 
     /// The lexed text behind an edit: `edited` has the same bytes as this text up to `from`, in bytes, and any behind it.
-    /// What stands behind the last stored cut at or before `from` is read, and the lexemes before that are kept. The answer
-    /// is what `lex` makes of `edited`, with its fault in this code map. Want of memory hands this text back as it was.
+    /// What stands behind the last place at or before `from` where this text may be cut is read, and the lexemes before that
+    /// are kept. The answer is what `lex` makes of `edited`, with its fault in this code map. Want of memory hands this text back as it was.
     pub fn relex(
         self,
         from: usize,
@@ -190,7 +189,7 @@ impl<'a> LexedText<'a> {
         requires fits { length edited.now < 2 ^ 32 }
         ensures text { IfOk result (λ lexed. lexed.text ≡ edited.now) }
         ensures lexed { IfOk result (λ lexed. IsLexed code_map.now lexed) }
-        ensures reads { IfOk result (IsReadFrom self.entry.text edited.now from) }
+        ensures reads { IfOk result (IsReadFrom self.entry edited.now from) }
         ensures refused { IfErr result (λ lexed. lexed ≡ self.entry) }
     {
         let mut old = self;

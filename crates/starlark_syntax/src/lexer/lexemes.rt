@@ -1,9 +1,9 @@
 //! The lexer: a text's lexemes one after another.
 
-ghost use Rattle.std.specs.Prelude.{◌≡◌, ◌<◌, ◌≤◌, ◌+◌, ◌^◌, ◌↔◌, ◌||◌, None, length, true, false, IfOk, IsErr};
+ghost use Rattle.std.specs.Prelude.{◌≡◌, ◌<◌, ◌≤◌, ◌+◌, ◌*◌, ◌^◌, ◌↔◌, ◌||◌, None, length, true, false, IfOk, IsErr};
 ghost use Rattle.std.specs.List.{slice_get};
 ghost use Rattle.starlark_base.specs.Diagnostics.{place_in, unplaced, with_span};
-ghost use Rattle.starlark_syntax.specs.Lexer.{AnswersNext, AnswersWithin, handed_out_by, is_ended_by, items};
+ghost use Rattle.starlark_syntax.specs.Lexer.{AnswersBetween, AnswersNext, AnswersWithin, handed_out_by, is_ended_by, items};
 
 use starlark_base::codemap::{CodeMap, OrMemory, Pos, SourceTooLong, Span};
 use starlark_base::dialect::Dialect;
@@ -68,7 +68,7 @@ pub fn exception(
 
 impl<'a> Lexer<'a> {
     /// A lexer of a text, whose faults lie in a code map. A text of more than 4294967295 bytes is refused. The dialect
-    /// isn't looked at.
+    /// isn't looked at. A text of n bytes has at most 2 n + 1 lexemes and faults.
     pub fn new(
         alloc: Global,
         input: &'a str,
@@ -76,6 +76,7 @@ impl<'a> Lexer<'a> {
         code_map: CodeMap,
     ) -> Result<Lexer<'a>, SourceTooLong>
         ensures ok { IfOk result (λ lexer. lexer ≡ record { text = input.now; code_map = code_map; handed_out = 0; has_ended = false }) }
+        ensures few { IfOk result (λ lexer. length (items lexer.text) ≤ 2 * length input.now + 1) }
         ensures too_long { IsErr result ↔ (2 ^ 32 ≤ length input.now) }
     {
         if input.len() > u32::MAX as usize {
@@ -158,8 +159,30 @@ impl<'a> Lexer<'a> {
     }
 
     /// The next lexeme; `None` behind the last, and behind any error. The first error, want of memory too, ends the lexer.
-    /// What is handed out begins at or before its end, and lies inside of the text.
+    /// What is handed out begins at or before its end, and lies inside of the text, between characters.
     pub fn next(&mut self) -> Option<Lexeme>
+        ensures ended { self.old.has_ended ≡ true → AnswersNext self.old.code_map None result }
+        ensures item { self.old.has_ended ≡ false → AnswersNext self.old.code_map (slice_get (items self.old.text) self.old.handed_out) result }
+        ensures within { AnswersWithin self.old.text result }
+        ensures between { AnswersBetween self.old.text result }
+        ensures after { self.new ≡ record self.old { handed_out = self.old.handed_out + handed_out_by result; has_ended = self.old.has_ended || is_ended_by result } }
+    {
+        // What is read as a `&str` is known to be text, on which `between` rests.
+        let _text = self.text();
+        self.next_item()
+    }
+
+    /// The text.
+    #[inline(always)]
+    fn text(&self) -> &str
+        ensures { result.now ≡ self.now.text }
+    {
+        self.text
+    }
+
+    /// The next item, as `next` answers it.
+    #[inline(always)]
+    fn next_item(&mut self) -> Option<Lexeme>
         ensures ended { self.old.has_ended ≡ true → AnswersNext self.old.code_map None result }
         ensures item { self.old.has_ended ≡ false → AnswersNext self.old.code_map (slice_get (items self.old.text) self.old.handed_out) result }
         ensures within { AnswersWithin self.old.text result }

@@ -2,7 +2,7 @@
 
 ghost use Rattle.std.specs.Prelude.{◌≡◌, ◌&&◌, ◌||◌, ◌==◌, ◌<◌, ◌≤◌, ◌+◌, ◌++◌, ◌^◌, length, map, nat_lt, take, vec_capacity, vec_len};
 ghost use Rattle.starlark_grammar.specs.Words.{Text};
-ghost use Rattle.starlark_syntax.specs.Joints.LexedTexts.{AllNearCuts, AreCuts, IsBegin, IsUpTo, later_cut};
+ghost use Rattle.starlark_syntax.specs.Joints.LexedTexts.{AllNearCuts, AreBeyond, AreCuts, IsBegin, IsUpTo, later_cut};
 
 /// A place in a text, in bytes, where it may be cut, and how many lexemes stand before it.
 #[derive(Clone, Copy, Debug, PartialEq, Eq)]
@@ -23,6 +23,7 @@ pub struct Begin {
 pub fn cuts_up_to(cuts: &[Cut], from: usize) -> usize
     ensures bound { result ≤ length cuts.now }
     ensures last { IsUpTo cuts.now from result }
+    ensures beyond { AreBeyond cuts.now from result }
 {
     let mut count = cuts.len();
     while count > 0 && cuts[count - 1].at > from {

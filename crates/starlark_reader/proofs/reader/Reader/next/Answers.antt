@@ -17,7 +17,7 @@ returns-in_err-lexeme-clause-memory c = after_error c.from_residual.result _ (λ
 pub returns-in-Some-clause-next : goal.returns-in-Some-clause-next
 returns-in-Some-clause-next c = λ lexemes fault ahead.
     lexeme_next c.args.text.now c.loop-lexeme.self _ c.in-Some.lexeme lexemes fault (record { at = refl; nesting = refl; levels = refl; before = refl }) refl
-    (subst (IsFirst c.args.text.now c.loop-lexeme.self.pending c.next.new.self) c.in-Some.is c.in_ok-lexeme.ensures.next) (subst (IsLinePassed c.args.text.now c.loop-lexeme.self.pending c.next.new.self) c.in-Some.is c.in_ok-lexeme.ensures.lines) (c.loop-lexeme.invariant.ahead lexemes fault ahead)
+    (subst (IsFirst c.args.text.now c.loop-lexeme.self.pending c.next.new.self) c.in-Some.is c.in_ok-lexeme.ensures.next) (subst (IsLinePassed c.args.text.now c.loop-lexeme.self.pending c.next.new.self) c.in-Some.is c.in_ok-lexeme.ensures.lines) c.in_ok-lexeme.ensures.flat (c.loop-lexeme.invariant.ahead lexemes fault ahead)
 
 pub returns-in_err-read_first_margin-in-Begin-clause-memory : goal.returns-in_err-read_first_margin-in-Begin-clause-memory
 returns-in_err-read_first_margin-in-Begin-clause-memory c = after_error c.from_residual-in_err-read_first_margin-in-Begin.result _ (λ lexemes fault ahead.
@@ -60,3 +60,16 @@ read_piece-requires-clause-ready c =
     let ready = c.loop-lexeme.invariant.ready in
     let none = none_left c.args.text.now c.loop-lexeme.self c.next.new.self c.in_ok-lexeme.field-0 c.in_default.not-Some c.in_ok-lexeme.ensures.next ready in
     (ready.0, ready.1, reads_ahead c.args.text.now (record c.loop-lexeme.self { pending = c.next.new.self }) c.next.new.reads stage.Onward ready.0 ready.1 (ahead_now c.args.text.now c.loop-lexeme.self c.next.new.self stage.Onward ready.0 ready.1 none.1 c.in-Onward.is ready.2))
+
+pub loop-lexeme-preserved-in-Continue-branch-3 : goal.loop-lexeme-preserved-in-Continue-branch-3
+loop-lexeme-preserved-in-Continue-branch-3 c =
+    let none = none_left c.args.text.now c.loop-lexeme.self c.next.new.self c.in_ok-lexeme.field-0 c.in_default.not-Some c.in_ok-lexeme.ensures.next c.loop-lexeme.invariant.ready in
+    let on = λ (lexemes : List (Spanned TokenView)) (fault : Option (Spanned Fault)) (ahead : IsAhead c.args.text.now c.loop-lexeme.self c.loop-lexeme.self.stage lexemes fault).
+    c.in_ok-read_first_margin-in-Begin.ensures.ahead lexemes fault (reads_ahead c.args.text.now (record c.loop-lexeme.self { pending = c.next.new.self }) c.next.new.reads stage.Begin lexemes fault (ahead_now c.args.text.now c.loop-lexeme.self c.next.new.self stage.Begin lexemes fault none.1 c.in-Begin.is ahead)) in
+    let ready = c.loop-lexeme.invariant.ready in
+    record {
+      ready = (ready.0, ready.1, on ready.0 ready.1 ready.2);
+      ahead = λ lexemes fault ahead. on lexemes fault (c.loop-lexeme.invariant.ahead lexemes fault ahead);
+      reads = λ has. c.in_ok-read_first_margin-in-Begin.ensures.reads (pending_reads c.args.text.now c.loop-lexeme.self (record c.loop-lexeme.self { pending = c.next.new.self; reads = c.next.new.reads }) refl c.in_ok-lexeme.ensures.reads.0 c.in_ok-lexeme.ensures.reads.1 stage.Begin
+          (subst (HasReadAt c.args.text.now c.loop-lexeme.self) c.in-Begin.is (c.loop-lexeme.invariant.reads has)));
+    }

@@ -1,16 +1,15 @@
-use Rattle.std.proofs.Common.{◌≡◌, ◌⊎◌, true, ℕ, ◌+◌, ◌-◌, ◌<◌, ◌^◌, ◌++◌, List, [], map, take, drop, length, ap, arith, subst, sym, ◌∙◌}
+use Rattle.std.proofs.Common.{◌≡◌, refl, ℕ, ◌+◌, ◌-◌, ◌<◌, ◌^◌, ◌++◌, List, [], map, take, drop, length, ap, arith, subst, sym, ◌∙◌}
 use Rattle.std.specs.Prelude.{◌&&◌, ◌||◌, ◌==◌, if◌then◌else◌, nat_lt}
 use Rattle.std.proofs.lemmas.List.{length-drop, length-map}
 use Rattle.starlark_grammar.specs.Words.{Text}
 use Rattle.starlark_grammar.specs.Margins.{has_tab, is_content, margin_of}
 use Rattle.starlark_grammar.specs.Reading.{outcome}
-use Rattle.starlark_grammar.specs.Cuts.{is_kept_cut}
-use Rattle.starlark_syntax.specs.LexedTexts.{IsFaultIn, LexedView}
+use Rattle.starlark_syntax.specs.LexedTexts.{IsFaultIn, IsReadFrom, LexedView}
 use Rattle.starlark_reader.specs.Lexemes.{lexeme_view, shown_lexeme}
 use Rattle.starlark_syntax.specs.Joints.LexedTexts.{AreCuts, IsBegin, IsPart, IsTakenBack, last_newline_of, later, later_cut}
 use Rattle.starlark_syntax.specs.declared.lexer.lexed_text.cuts.Cut.{Cut}
 use Rattle.starlark_token.specs.declared.tokens.Token.{Token}
-use Rattle.starlark_syntax.proofs.LexedTexts.Edits.{begin_boundary, begin_clean, begin_few, begin_kept, end_cut_is, relexed}
+use Rattle.starlark_syntax.proofs.LexedTexts.Edits.{begin_boundary, begin_clean, begin_few, end_cut_is, read_from, relexed}
 use Rattle.starlark_syntax.proofs.LexedTexts.Parts.{fault_near, given_near}
 use Rattle.starlark_syntax.proofs.LexedTexts.Relexed.{count_near, cuts_near}
 use Rattle.starlark_syntax.proofs.lexer.lexed_text.LexedText.relex.Goals as goal
@@ -121,10 +120,11 @@ pub returns-clause-reads : goal.returns-clause-reads
 returns-clause-reads c =
     let begin : IsBegin c.old.inside.text.now c.old.inside.cuts.items c.args.from c.begin_of-begin.result = subst (λ (xs : List Cut). IsBegin c.old.inside.text.now xs c.args.from c.begin_of-begin.result) c.deref.ensures.value (c.begin_of-begin.ensures c.old.inside.text.now (subst (AreCuts c.old.inside.text.now) (sym c.deref.ensures.value) c.old.invariant.2)) in
     let rest : length c.range_from-rest.result.now ≡ length c.args.edited.now - c.begin_of-begin.result.at = ap length c.range_from-rest.ensures.value ∙ length-drop c.begin_of-begin.result.at c.args.edited.now in
-    record {
-      at = c.begin_of-begin.result.at;
-      before = begin.before;
-      is_kept = subst (λ (v : LexedView). (c.begin_of-begin.result.at ≡ 0) ⊎ (is_kept_cut v.text c.begin_of-begin.result.at ≡ true)) c.old.view_is (begin_kept c.old.inside.text.now c.old.inside.cuts.items c.args.from c.begin_of-begin.result begin);
-      most = omega (arith, rest, c.in-Ok.ensures.most);
-      least = λ none. omega (arith, rest, c.in-Ok.ensures.least (c.in-Ok-exception_of.ensures.none none));
-    }
+    let lexemes : c.append_later.new.lexemes.items ≡ take c.kept_of-kept.result.lexemes c.old.inside.lexemes.items ++ map (later c.begin_of-begin.result.at) c.given_behind-more.result.items =
+    c.append_later.ensures ∙ ap (λ xs. take c.kept_of-kept.result.lexemes xs ++ map (later c.begin_of-begin.result.at) c.given_behind-more.result.items) c.make_room.ensures.same in
+    let made : LexedView = record { text = c.args.edited.now; lexemes = map lexeme_view c.append_later.new.lexemes.items; fault = c.in-Ok-exception_of.fault; reads = c.in-Ok.part.reads } in
+    subst (λ (v : LexedView). IsReadFrom v c.args.edited.now c.args.from made) c.old.view_is
+    (read_from (record { text = c.old.inside.text.now; lexemes = map lexeme_view c.old.inside.lexemes.items; fault = c.old.inside.fault; reads = c.old.inside.reads }) c.args.edited.now c.args.from c.old.inside.lexemes.items c.given_behind-more.result.items c.old.inside.cuts.items c.begin_of-begin.result made c.kept_of-kept.result.lexemes
+    refl c.old.invariant.2 begin (ap (map lexeme_view) lexemes)
+    (omega (arith, rest, c.in-Ok.ensures.most))
+    (λ none. omega (arith, rest, c.in-Ok.ensures.least (c.in-Ok-exception_of.ensures.none none))))

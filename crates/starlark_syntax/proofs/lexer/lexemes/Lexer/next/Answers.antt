@@ -1,64 +1,11 @@
-use Rattle.std.proofs.Common.{◌+◌, ◌≤◌, ◌^◌, arith, map, refl, rules}
-use Rattle.std.proofs.lemmas.List.{length-map}
-use Rattle.starlark_reader.specs.Lexemes.{shown_lexeme}
-use Rattle.starlark_grammar.specs.Reading.{outcome}
-use Rattle.starlark_syntax.proofs.LexerItems.{lexeme_item, lexeme_within, lexemes_few, one_more, some_item}
+use Rattle.std.proofs.Common.{◌≡◌, Bool, true, false, refl}
+use Rattle.starlark_syntax.specs.Lexer.{AnswersBetween}
+use Rattle.starlark_syntax.proofs.LexerItems.{next_between, none_between}
 use Rattle.starlark_syntax.proofs.lexer.lexemes.Lexer.next.Goals as goal
 
-pub overflow_add-self : goal.overflow_add-self
-overflow_add-self c =
-    let inv = c.self.invariant.1 c.if-self.false in
-    let few = lexemes_few c.self.inside.text.now c.self.invariant.0 in
-    let small : c.self.inside.handed_out + 1 ≤ 2 ^ 34 = omega (arith, inv.0, few) in
-    search (rules, small)
-
-pub overflow_add-self-in-Some-Fixed : goal.overflow_add-self-in-Some-Fixed
-overflow_add-self-in-Some-Fixed c =
-    let inv = c.self.invariant.1 c.if-self.false in
-    let few = lexemes_few c.self.inside.text.now c.self.invariant.0 in
-    let small : c.self.inside.handed_out + 1 ≤ 2 ^ 34 = omega (arith, inv.0, few) in
-    search (rules, small)
-
-pub invariant_of-self : goal.invariant_of-self
-invariant_of-self c =
-    let inv = c.self.invariant.1 c.if-self.false in
-    let is = c.in-Ok.ensures.ahead _ _ (c.common_word.ensures.ahead _ _ inv.1) in
-    let further = one_more (map shown_lexeme (outcome c.self.inside.text.now).lexemes) c.self.inside.handed_out _ is.0 is.1 in
-    (c.self.invariant.0, λ on. (omega (arith, further.0, length-map (outcome c.self.inside.text.now).lexemes shown_lexeme), rw further.1 is.2))
-
-pub invariant_of-self-in-Fixed-1 : goal.invariant_of-self-in-Fixed-1
-invariant_of-self-in-Fixed-1 c =
-    let inv = c.self.invariant.1 c.if-self.false in
-    let is = c.take_terminal.ensures.ahead _ _ (c.common_word.ensures.ahead _ _ inv.1) in
-    let further = one_more (map shown_lexeme (outcome c.self.inside.text.now).lexemes) c.self.inside.handed_out _ is.0 is.1 in
-    (c.self.invariant.0, λ on. (omega (arith, further.0, length-map (outcome c.self.inside.text.now).lexemes shown_lexeme), rw further.1 is.2))
-
-pub returns-in-Ok-clause-item : goal.returns-in-Ok-clause-item
-returns-in-Ok-clause-item c = λ on.
-    let inv = c.self.invariant.1 c.if-self.false in
-    let is = c.in-Ok.ensures.ahead _ _ (c.common_word.ensures.ahead _ _ inv.1) in
-    rw (← c.self.view_is) (rw (lexeme_item c.self.inside.text.now c.self.inside.handed_out _ is.0 is.1) refl)
-
-pub returns-in-Err-clause-item : goal.returns-in-Err-clause-item
-returns-in-Err-clause-item c = λ on.
-    let inv = c.self.invariant.1 c.if-self.false in
-    let item = some_item c.self.inside.text.now c.self.inside.handed_out inv.0 (c.in-Err.ensures.memory _ _ (c.common_word.ensures.ahead _ _ inv.1)) in
-    rw (← c.self.view_is) (rw item.1 tt)
-
-pub returns-in-Some-Fixed-clause-item : goal.returns-in-Some-Fixed-clause-item
-returns-in-Some-Fixed-clause-item c = λ on.
-    let inv = c.self.invariant.1 c.if-self.false in
-    let is = c.take_terminal.ensures.ahead _ _ (c.common_word.ensures.ahead _ _ inv.1) in
-    rw (← c.self.view_is) (rw (lexeme_item c.self.inside.text.now c.self.inside.handed_out _ is.0 is.1) refl)
-
-pub returns-in-Ok-clause-within : goal.returns-in-Ok-clause-within
-returns-in-Ok-clause-within c =
-    let inv = c.self.invariant.1 c.if-self.false in
-    let is = c.in-Ok.ensures.ahead _ _ (c.common_word.ensures.ahead _ _ inv.1) in
-    rw (← c.self.view_is) (lexeme_within c.self.inside.text.now c.self.inside.handed_out _ is.0 c.self.invariant.0 is.1)
-
-pub returns-in-Some-Fixed-clause-within : goal.returns-in-Some-Fixed-clause-within
-returns-in-Some-Fixed-clause-within c =
-    let inv = c.self.invariant.1 c.if-self.false in
-    let is = c.take_terminal.ensures.ahead _ _ (c.common_word.ensures.ahead _ _ inv.1) in
-    rw (← c.self.view_is) (lexeme_within c.self.inside.text.now c.self.inside.handed_out _ is.0 c.self.invariant.0 is.1)
+pub returns-clause-between : goal.returns-clause-between
+returns-clause-between c = by_ended c.args.self.now.has_ended refl
+  where
+    by_ended : (ended : Bool) → c.args.self.now.has_ended ≡ ended → AnswersBetween c.args.self.now.text c.next_item.result
+    by_ended true is = none_between c.args.self.now.text c.args.self.now.code_map c.next_item.result (c.next_item.ensures.ended is)
+    by_ended false is = next_between c.args.self.now.text c.args.self.now.code_map c.args.self.now.handed_out c.next_item.result (rw c.text-text.ensures at c.text-text.utf8) (c.next_item.ensures.item is)
