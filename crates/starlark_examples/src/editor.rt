@@ -15,6 +15,11 @@ fn agree(old: &str, new: &str, from: usize) -> bool
     old.is_char_boundary(from) && new.is_char_boundary(from) && old[..from] == new[..from]
 }
 
+/// The lexed text of a file that is opened.
+pub fn opened<'a>(alloc: Global, file: &'a CodeMap) -> Result<LexedText<'a>, SourceError> {
+    Ok(LexedText::lex(alloc, file.source(), &Dialect::Standard, file.dupe()?)?)
+}
+
 /// The lexed text of a new version, which differs from the old one only behind a place. Where that isn't so, all of it is
 /// lexed anew.
 pub fn update<'a>(
@@ -24,7 +29,7 @@ pub fn update<'a>(
     new: &'a CodeMap,
 ) -> Result<LexedText<'a>, SourceError> {
     if !agree(old.text(), new.source(), from) {
-        return Ok(LexedText::lex(alloc, new.source(), &Dialect::Standard, new.dupe()?)?);
+        return opened(alloc, new);
     }
     match old.relex(from, new.source(), new) {
         Ok(lexed) => Ok(lexed),

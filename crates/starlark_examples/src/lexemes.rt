@@ -11,8 +11,9 @@ pub fn lexemes_of(
     text: &str,
     file: &CodeMap,
 ) -> Result<Vec<Spanned<Token>>, SourceError> {
+    let lexer = Lexer::new(alloc, text, &Dialect::Standard, file.dupe()?)?;
     let mut lexemes = Vec::new(alloc);
-    for lexeme in Lexer::new(alloc, text, &Dialect::Standard, file.dupe()?)? {
+    for lexeme in lexer {
         let (begin, node, end) = lexeme?;
         let span = Span::new(Pos::new(begin as u32), Pos::new(end as u32));
         lexemes.push(Spanned { node, span })?;

@@ -55,23 +55,44 @@ fn broken_rule(token: &Token, width: usize, outer: usize) -> Option<Rule> {
     }
 }
 
-/// All that the rules find in a file, in its order.
-pub fn findings(alloc: Global, file: &CodeMap) -> Result<Vec<Finding>, SourceError> {
-    let mut found = Vec::new(alloc);
-    let mut widths = Vec::new(alloc);
-    for lexeme in Lexer::new(alloc, file.source(), &Dialect::Standard, file.dupe()?)? {
-        let (begin, token, end) = lexeme?;
-        let width = end - begin;
-        let outer = widths.last().copied().unwrap_or(0);
-        if let Some(rule) = broken_rule(&token, width, outer) {
-            let place = Pos::new(begin as u32);
-            found.push(Finding { rule, place })?;
-        }
+/// A linter: what it has found, and the widths of the blocks that are open.
+#[derive(Drop)]
+struct Linter {
+    found: Vec<Finding>,
+    widths: Vec<usize>,
+}
+
+impl Linter {
+    /// Keeps the width of a block that a token begins, or forgets that of one that it ends.
+    fn keep_width(&mut self, token: &Token, width: usize) -> Result<(), AllocError> {
         match token {
-            Token::Indent => widths.push(width)?,
-            Token::Dedent => drop(widths.pop()),
+            Token::Indent => self.widths.push(width)?,
+            Token::Dedent => drop(self.widths.pop()),
             _ => {}
         }
+        Ok(())
     }
-    Ok(found)
+
+    /// Looks at the next token, of a width at a place, and keeps the rule that it breaks, if it breaks one.
+    fn look_at(&mut self, token: Token, width: usize, place: Pos) -> Result<(), AllocError> {
+        let outer = self.widths.last().copied().unwrap_or(0);
+        if let Some(rule) = broken_rule(&token, width, outer) {
+            self.found.push(Finding { rule, place })?;
+        }
+        self.keep_width(&token, width)
+    }
+}
+
+/// All that the rules find in a file, in its order.
+pub fn findings(alloc: Global, file: &CodeMap) -> Result<Vec<Finding>, SourceError> {
+    let lexer = Lexer::new(alloc, file.source(), &Dialect::Standard, file.dupe()?)?;
+    let mut linter = Linter {
+        found: Vec::new(alloc),
+        widths: Vec::new(alloc),
+    };
+    for lexeme in lexer {
+        let (begin, token, end) = lexeme?;
+        linter.look_at(token, end - begin, Pos::new(begin as u32))?;
+    }
+    Ok(linter.found)
 }

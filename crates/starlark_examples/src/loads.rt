@@ -2,7 +2,7 @@
 
 use starlark_syntax::codemap::CodeMap;
 use starlark_syntax::dialect::Dialect;
-use starlark_syntax::lexer::{Lexer, SourceError, Token};
+use starlark_syntax::lexer::{Lexeme, Lexer, SourceError, Token};
 use std::alloc::Global;
 
 /// What stands before a lexeme.
@@ -24,26 +24,28 @@ impl Before {
             Before::LoadAndBracket | Before::Other => Before::Other,
         }
     }
+
+    /// What stands before a lexeme behind a lexeme. The label of a `load` statement is kept.
+    fn lexeme(self, lexeme: Lexeme, labels: &mut Vec<String>) -> Result<Before, SourceError> {
+        let (_, token, _) = lexeme?;
+        match token {
+            Token::Comment(_) => return Ok(self),
+            Token::Load => return Ok(Before::Load),
+            Token::OpeningRound => return Ok(self.bracket()),
+            Token::String(label) if matches!(self, Before::LoadAndBracket) => labels.push(label)?,
+            _ => {}
+        }
+        Ok(Before::Other)
+    }
 }
 
 /// The labels of the files that a file loads, in the order of its `load` statements.
 pub fn loads(alloc: Global, file: &CodeMap) -> Result<Vec<String>, SourceError> {
+    let lexer = Lexer::new(alloc, file.source(), &Dialect::Standard, file.dupe()?)?;
     let mut labels = Vec::new(alloc);
     let mut before = Before::Other;
-    for lexeme in Lexer::new(alloc, file.source(), &Dialect::Standard, file.dupe()?)? {
-        let (_, token, _) = lexeme?;
-        before = match token {
-            Token::Comment(_) => before,
-            Token::Load => Before::Load,
-            Token::OpeningRound => before.bracket(),
-            Token::String(label) => {
-                if matches!(before, Before::LoadAndBracket) {
-                    labels.push(label)?;
-                }
-                Before::Other
-            }
-            _ => Before::Other,
-        };
+    for lexeme in lexer {
+        before = before.lexeme(lexeme, &mut labels)?;
     }
     Ok(labels)
 }

@@ -12,10 +12,12 @@ mod linter;
 mod loads;
 mod parser;
 
+use crate::linter::Finding;
+use crate::parser::Expression;
 use starlark_syntax::codemap::{CodeMap, CodeMapId};
-use starlark_syntax::dialect::Dialect;
+use starlark_syntax::eval_exception::EvalException;
 use starlark_syntax::lexer::{LexedText, SourceError};
-use std::alloc::Global;
+use std::alloc::{AllocError, Global};
 use std::fmt::Write;
 use std::io;
 
@@ -30,8 +32,14 @@ fn file_of(alloc: Global, name: &str, text: &str) -> Result<CodeMap, SourceError
 fn parsed(alloc: Global, text: &str) -> Result<String, SourceError> {
     let file = file_of(alloc, "BUILD", text)?;
     let lexemes = lexemes::lexemes_of(alloc, text, &file)?;
+    let expressions = parser::expressions(alloc, &file, &lexemes)?;
+    Ok(expression_lines(alloc, &expressions)?)
+}
+
+/// A line for each expression.
+fn expression_lines(alloc: Global, expressions: &[Expression<'_>]) -> Result<String, AllocError> {
     let mut lines = String::new(alloc);
-    for expression in parser::expressions(alloc, &file, &lexemes)? {
+    for expression in expressions {
         write!(lines, "{expression}\n")?;
     }
     Ok(lines)
@@ -40,9 +48,19 @@ fn parsed(alloc: Global, text: &str) -> Result<String, SourceError> {
 /// The linter's answer: a line for each finding.
 fn linted(alloc: Global, text: &str) -> Result<String, SourceError> {
     let file = file_of(alloc, "BUILD", text)?;
+    let findings = linter::findings(alloc, &file)?;
+    Ok(finding_lines(alloc, &file, &findings)?)
+}
+
+/// A line for each finding in a file.
+fn finding_lines(
+    alloc: Global,
+    file: &CodeMap,
+    findings: &[Finding],
+) -> Result<String, AllocError> {
     let mut lines = String::new(alloc);
-    for finding in linter::findings(alloc, &file)? {
-        let line = linter::line_of(alloc, &file, finding)?;
+    for finding in findings {
+        let line = linter::line_of(alloc, file, *finding)?;
         write!(lines, "{line}\n")?;
     }
     Ok(lines)
@@ -61,34 +79,48 @@ fn formatted(alloc: Global, text: &str) -> Result<String, SourceError> {
 fn loaded(alloc: Global, files: &str) -> Result<String, SourceError> {
     let mut lines = String::new(alloc);
     for file in files.split("--- ") {
-        let Some((name, text)) = file.split_once('\n') else {
-            continue;
-        };
-        match loads::loads(alloc, &file_of(alloc, name, text)?) {
-            Ok(labels) => add_labels(&mut lines, name, &labels)?,
-            Err(error) => write!(lines, "{name}: {error}\n")?,
+        if let Some((name, text)) = file.split_once('\n') {
+            add_loads(alloc, &mut lines, name, text)?;
         }
     }
     Ok(lines)
 }
 
+/// Adds what a file loads, or its fault.
+fn add_loads(alloc: Global, lines: &mut String, name: &str, text: &str) -> Result<(), SourceError> {
+    let file = file_of(alloc, name, text)?;
+    match loads::loads(alloc, &file) {
+        Ok(labels) => Ok(add_labels(lines, name, &labels)?),
+        Err(error) => Ok(write!(lines, "{name}: {error}\n")?),
+    }
+}
+
 /// Adds a line for each label that a file loads.
-fn add_labels(lines: &mut String, name: &str, labels: &[String]) -> Result<(), SourceError> {
+fn add_labels(lines: &mut String, name: &str, labels: &[String]) -> Result<(), AllocError> {
     for label in labels {
         write!(lines, "{name} loads {label}\n")?;
     }
     Ok(())
 }
 
-/// Adds a line for a version: its lexemes, and the place of its fault as editors count.
-fn add_version(lines: &mut String, lexed: &LexedText<'_>) -> Result<(), SourceError> {
-    write!(lines, "{} lexemes", lexed.lexemes().len())?;
-    if let Some(place) = lexed.fault().and_then(|fault| fault.error().span()) {
-        if let Some((line, column)) = editor::utf16_place(&place.file, place.span.begin()) {
-            write!(lines, ", a fault in line {line}, column {column}")?;
-        }
+/// Adds the place of a fault, if it has one, as editors count.
+fn add_place(lines: &mut String, fault: &EvalException) -> Result<(), AllocError> {
+    let Some(place) = fault.error().span() else {
+        return Ok(());
+    };
+    match editor::utf16_place(&place.file, place.span.begin()) {
+        Some((line, column)) => write!(lines, ", a fault in line {line}, column {column}"),
+        None => Ok(()),
     }
-    Ok(lines.push('\n')?)
+}
+
+/// Adds a line for a version: its lexemes, and the place of its fault.
+fn add_version(lines: &mut String, lexed: &LexedText<'_>) -> Result<(), AllocError> {
+    write!(lines, "{} lexemes", lexed.lexemes().len())?;
+    if let Some(fault) = lexed.fault() {
+        add_place(lines, fault)?;
+    }
+    lines.push('\n')
 }
 
 /// How many bytes two texts have in common at their fronts.
@@ -99,34 +131,45 @@ fn common_len(old: &str, new: &str) -> usize {
         .count()
 }
 
+/// Adds a line for each of two versions of a file.
+fn add_versions(
+    alloc: Global,
+    lines: &mut String,
+    old: &CodeMap,
+    new: &CodeMap,
+) -> Result<(), SourceError> {
+    let lexed = editor::opened(alloc, old)?;
+    add_version(lines, &lexed)?;
+    let from = common_len(old.source(), new.source());
+    let lexed = editor::update(alloc, lexed, from, new)?;
+    Ok(add_version(lines, &lexed)?)
+}
+
 /// The editor's answer: a line for a text before an edit, and one for it behind the edit.
 fn edited(alloc: Global, versions: &str) -> Result<String, SourceError> {
     let mut lines = String::new(alloc);
-    let Some((old, new)) = versions.split_once("---\n") else {
-        return Ok(lines);
-    };
-    let file = file_of(alloc, "BUILD", new)?;
-    let lexed = LexedText::lex(
-        alloc,
-        old,
-        &Dialect::Standard,
-        file_of(alloc, "BUILD", old)?,
-    )?;
-    add_version(&mut lines, &lexed)?;
-    let lexed = editor::update(alloc, lexed, common_len(old, new), &file)?;
-    add_version(&mut lines, &lexed)?;
+    if let Some((old, new)) = versions.split_once("---\n") {
+        let old = file_of(alloc, "BUILD", old)?;
+        let new = file_of(alloc, "BUILD", new)?;
+        add_versions(alloc, &mut lines, &old, &new)?;
+    }
     Ok(lines)
+}
+
+/// Adds what a format string gives.
+fn add_formatted(alloc: Global, lines: &mut String, template: &str) -> Result<(), AllocError> {
+    let values = [("name", "lexer"), ("0", "don't")];
+    match evaluator::formatted(alloc, template, &values) {
+        Ok(text) => write!(lines, "{text}\n"),
+        Err(fault) => write!(lines, "{fault}\n"),
+    }
 }
 
 /// The evaluator's answer: what each line gives as a format string.
 fn evaluated(alloc: Global, templates: &str) -> Result<String, SourceError> {
-    let values = [("name", "lexer"), ("0", "don't")];
     let mut lines = String::new(alloc);
     for template in templates.lines() {
-        match evaluator::formatted(alloc, template, &values) {
-            Ok(text) => write!(lines, "{text}\n")?,
-            Err(fault) => write!(lines, "{fault}\n")?,
-        }
+        add_formatted(alloc, &mut lines, template)?;
     }
     Ok(lines)
 }
@@ -144,18 +187,23 @@ fn answer(alloc: Global, example: &str, text: &str) -> Result<String, SourceErro
     }
 }
 
+/// What is printed of a section: its example, and the answer or a fault.
+fn section_lines(alloc: Global, section: &str) -> Result<String, AllocError> {
+    let Some((example, text)) = section.split_once('\n') else {
+        return Ok(String::new(alloc));
+    };
+    match answer(alloc, example, text) {
+        Ok(lines) => format!(in alloc; "== {example}\n{lines}"),
+        Err(error) => format!(in alloc; "== {example}\n{error}\n"),
+    }
+}
+
 fn main(rt: HostRuntime) -> io::Result<()> {
     let alloc = rt.alloc();
     let sections = io::read_to_string(alloc, rt.stdin())?;
     for section in sections.as_str().split("%%% ") {
-        let Some((example, text)) = section.split_once('\n') else {
-            continue;
-        };
-        println!(rt; "== {example}")?;
-        match answer(alloc, example, text) {
-            Ok(lines) => print!(rt; "{lines}")?,
-            Err(error) => println!(rt; "{error}")?,
-        }
+        let lines = section_lines(alloc, section)?;
+        print!(rt; "{lines}")?;
     }
     Ok(())
 }

@@ -46,7 +46,7 @@ impl fmt::Display for Expression<'_> {
     #[cycle(printing)]
     fn fmt<W: fmt::Write>(&self, f: &mut fmt::Formatter<W>) -> fmt::Result {
         match self {
-            Expression::Name(name) => write!(f, "{name}"),
+            Expression::Name(name) => f.write_str(name),
             Expression::Integer(value) => write!(f, "{value}"),
             Expression::Text(text) => write!(f, "{text:?}"),
             Expression::List(items) => write_group(f, ('[', ']'), ", ", items),
@@ -60,6 +60,25 @@ impl fmt::Display for Expression<'_> {
     }
 }
 
+/// The expression that a token is by itself, if it is one.
+fn expression_of(token: &Token) -> Option<Expression<'_>> {
+    match token {
+        Token::Identifier(name) => Some(Expression::Name(name.as_str())),
+        Token::Int(value) => Some(Expression::Integer(value)),
+        Token::String(text) => Some(Expression::Text(text.as_str())),
+        _ => None,
+    }
+}
+
+/// An error that says that something is missing.
+fn missing_error<D: fmt::Display>(alloc: Global, wanted: &D) -> Result<Error, AllocError> {
+    let message = ParserMessage::Text(format!(in alloc; "Parse error: {wanted} is missing")?);
+    match Error::new_kind(alloc, ErrorKind::Parser(message)) {
+        Ok(error) => Ok(error),
+        Err(_) => Err(AllocError),
+    }
+}
+
 /// A fault at a place of a file: something is missing there.
 fn missing_at<D: fmt::Display>(
     alloc: Global,
@@ -67,11 +86,11 @@ fn missing_at<D: fmt::Display>(
     span: Span,
     wanted: &D,
 ) -> Result<EvalException, AllocError> {
-    let message = ParserMessage::Text(format!(in alloc; "Parse error: {wanted} is missing")?);
-    let Ok(error) = Error::new_kind(alloc, ErrorKind::Parser(message)) else {
-        return Err(AllocError);
-    };
-    EvalException::new(error, span, file).map_err(|_| AllocError)
+    let error = missing_error(alloc, wanted)?;
+    match EvalException::new(error, span, file) {
+        Ok(fault) => Ok(fault),
+        Err(_) => Err(AllocError),
+    }
 }
 
 /// A parser: the lexemes that it hasn't taken yet.
@@ -115,21 +134,67 @@ impl<'t> Parser<'t> {
         }
     }
 
+    /// Takes the next lexeme, which has to be an expression by itself.
+    fn single(&mut self) -> Result<Expression<'t>, SourceError> {
+        if let [first, rest @ ..] = self.rest {
+            if let Some(value) = expression_of(&first.node) {
+                self.rest = rest;
+                return Ok(value);
+            }
+        }
+        Err(self.missing(&"an expression"))
+    }
+
     /// A sum of operands, or one alone.
     #[cycle(expression)]
     fn sum(&mut self, depth: u32) -> Result<Expression<'t>, SourceError> {
         let first = self.operand(depth)?;
-        if !self.takes(&Token::Plus) {
-            return Ok(first);
+        if self.takes(&Token::Plus) {
+            self.terms(depth, first)
+        } else {
+            Ok(first)
         }
-        let mut terms = vec![in self.alloc; first, self.operand(depth)?]?;
+    }
+
+    /// A sum, of which the first operand and the plus behind it are taken.
+    #[cycle(expression)]
+    fn terms(&mut self, depth: u32, first: Expression<'t>) -> Result<Expression<'t>, SourceError> {
+        let mut terms = vec![in self.alloc; first]?;
         for _ in self.rest {
-            if !self.takes(&Token::Plus) {
-                break;
-            }
             terms.push(self.operand(depth)?)?;
+            if !self.takes(&Token::Plus) {
+                return Ok(Expression::Sum(terms));
+            }
         }
-        Ok(Expression::Sum(terms))
+        Err(self.missing(&"an expression"))
+    }
+
+    /// A sum, behind which a token has to stand.
+    #[cycle(expression)]
+    fn sum_before(&mut self, depth: u32, end: &Token) -> Result<Expression<'t>, SourceError> {
+        let sum = self.sum(depth)?;
+        self.needs(end)?;
+        Ok(sum)
+    }
+
+    /// A call of a function, of which the opening bracket is taken.
+    #[cycle(expression)]
+    fn call(
+        &mut self,
+        depth: u32,
+        function: Expression<'t>,
+    ) -> Result<Expression<'t>, SourceError> {
+        let function = Box::new(self.alloc, function)?;
+        let arguments = self.items(depth, &Token::ClosingRound)?;
+        Ok(Expression::Call(function, arguments))
+    }
+
+    /// A value at an index, of which the opening bracket is taken.
+    #[cycle(expression)]
+    fn index(&mut self, depth: u32, value: Expression<'t>) -> Result<Expression<'t>, SourceError> {
+        let value = Box::new(self.alloc, value)?;
+        let index = self.sum_before(depth, &Token::ClosingSquare)?;
+        Ok(Expression::Index(value, Box::new(self.alloc, index)?))
     }
 
     /// A value, and the calls and indices behind it, each of which nests it once more.
@@ -138,12 +203,9 @@ impl<'t> Parser<'t> {
         let mut value = self.value(depth)?;
         for depth in (0..depth).rev() {
             if self.takes(&Token::OpeningRound) {
-                let arguments = self.items(depth, &Token::ClosingRound)?;
-                value = Expression::Call(Box::new(self.alloc, value)?, arguments);
+                value = self.call(depth, value)?;
             } else if self.takes(&Token::OpeningSquare) {
-                let index = Box::new(self.alloc, self.sum(depth)?)?;
-                self.needs(&Token::ClosingSquare)?;
-                value = Expression::Index(Box::new(self.alloc, value)?, index);
+                value = self.index(depth, value)?;
             } else {
                 return Ok(value);
             }
@@ -154,30 +216,16 @@ impl<'t> Parser<'t> {
     /// A name, an integer, a string, a list, or an expression in brackets.
     #[cycle(expression)]
     fn value(&mut self, depth: u32) -> Result<Expression<'t>, SourceError> {
-        let [first, rest @ ..] = self.rest else {
-            return Err(self.missing(&"an expression"));
-        };
         let Some(depth) = depth.checked_sub(1) else {
             return Err(self.missing(&"an end of the nesting"));
         };
-        let value = match &first.node {
-            Token::Identifier(name) => Expression::Name(name.as_str()),
-            Token::Int(value) => Expression::Integer(value),
-            Token::String(text) => Expression::Text(text.as_str()),
-            Token::OpeningSquare => {
-                self.rest = rest;
-                return Ok(Expression::List(self.items(depth, &Token::ClosingSquare)?));
-            }
-            Token::OpeningRound => {
-                self.rest = rest;
-                let inner = self.sum(depth)?;
-                self.needs(&Token::ClosingRound)?;
-                return Ok(inner);
-            }
-            _ => return Err(self.missing(&"an expression")),
-        };
-        self.rest = rest;
-        Ok(value)
+        if self.takes(&Token::OpeningSquare) {
+            Ok(Expression::List(self.items(depth, &Token::ClosingSquare)?))
+        } else if self.takes(&Token::OpeningRound) {
+            self.sum_before(depth, &Token::ClosingRound)
+        } else {
+            self.single()
+        }
     }
 
     /// Expressions with commas between them, up to a closing bracket.
@@ -215,8 +263,7 @@ pub fn expressions<'t>(
             break;
         }
         if !parser.takes(&Token::Newline) {
-            expressions.push(parser.sum(DEPTH)?)?;
-            parser.needs(&Token::Newline)?;
+            expressions.push(parser.sum_before(DEPTH, &Token::Newline)?)?;
         }
     }
     Ok(expressions)

@@ -1,6 +1,6 @@
 //! Reads a text piece by piece, and keeps what later pieces depend on.
 
-ghost use Rattle.std.specs.Prelude.{◌≡◌, true, ◌<◌, ◌≤◌, ◌+◌, ◌^◌, [], ℕ, None, Some, List, Option, drop, length, map, OnErr, OnOk, IfOk, IfSome};
+ghost use Rattle.std.specs.Prelude.{◌≡◌, true, false, ◌<◌, ◌≤◌, ◌+◌, ◌^◌, [], ℕ, None, Some, List, Option, drop, length, map, OnErr, OnOk, IfOk, IfSome};
 ghost use Rattle.std.specs.Str.{IsCharBoundary};
 ghost use Rattle.starlark_reader.specs.Joints.Steps.{IsStep};
 ghost use Rattle.starlark_reader.specs.Lexemes.{shown_lexeme};
@@ -12,7 +12,7 @@ ghost use Rattle.starlark_grammar.specs.declared.class.LiteralKind.TheVariants a
 ghost use Rattle.starlark_reader.specs.Joints.Pending.{IsIdle, IsPending};
 ghost use Rattle.starlark_reader.specs.Joints.MarginCuts.{IsCutBefore};
 ghost use Rattle.starlark_reader.specs.Joints.Reads.{HasRead, HasReadAt, HasReadNext, IsMarginRead, IsPassed, IsPassedBy};
-ghost use Rattle.starlark_reader.specs.Joints.Reader.{has_read_none, IsAhead, IsAheadBehind, IsInFlatMargin, IsReached, IsStateAfter, IsNext, IsOver, IsRead, IsReady, IsSomething, IsWordHere, before_view, left_here, left_to_read, silent_sort, step_here};
+ghost use Rattle.starlark_reader.specs.Joints.Reader.{CountsLineEnds, has_read_none, IsAhead, IsAheadBehind, IsInFlatMargin, IsReached, IsStateAfter, IsNext, IsOver, IsRead, IsReady, IsSomething, IsWordHere, before_view, left_here, left_to_read, newline_if, silent_sort, step_here};
 ghost use Rattle.starlark_reader.specs.Joints.Pieces.{IsBehind};
 ghost use Rattle.starlark_grammar.specs.Cuts.{is_layout, is_settled};
 ghost use Rattle.starlark_grammar.specs.Reading.{History, outcome};
@@ -29,7 +29,7 @@ use crate::literal::{Opening, Step, TextEnd, quotes_of};
 use crate::nesting::{LexerMode, Nesting};
 use crate::reading::code::{gap_len, is_code};
 use crate::reading::terminals::terminal_token;
-use crate::reading::{Piece, is_outside, piece_at};
+use crate::reading::{Piece, is_outside, line_end_counts, piece_at};
 use starlark_scanner::literal::plain_body_len;
 use starlark_scanner::reads::Reads;
 use starlark_scanner::scanner::{Quote, Terminal, Word, common_word};
@@ -171,7 +171,40 @@ impl Reader {
         Ok(())
     }
 
-    /// Reads a line end that counts, and the margin behind it.
+    /// Reads a line end that counts, and the margin behind it. Answers whether the margin has no fault.
+    fn lay_line_end(&mut self, text: &str, len: usize) -> Result<bool, AllocError>
+        requires fits { length text.now < 2 ^ 32 }
+        requires stage { self.old.stage ≡ Stage.Onward }
+        requires stands { (history : History) × IsStateAfter text.now history self.old × (step_here text.now history self.old ≡ grammar.line_end len (open_widths history.widths) (drop len (drop self.old.at text.now))) }
+        requires cut { IsCharBoundary text.now (self.old.at + len) }
+        ensures read { IfOk result (λ is_laid. (history : History) → IsStateAfter text.now history self.old → step_here text.now history self.old ≡ grammar.line_end len (open_widths history.widths) (drop len (drop self.old.at text.now)) →
+            IsRead text.now (left_here text.now history self.old) (newline_if is_laid self.old.at len) self.new) }
+        ensures less { OnOk result (left_to_read text.now self.new self.new.stage < left_to_read text.now self.old Stage.Onward) }
+        ensures reads { OnOk result (IsMarginRead text.now len self.old self.new self.new.stage) }
+    {
+        let laid = line_end(&mut self.levels, &mut self.reads, self.at, len, text)?;
+        match laid {
+            Laid::Taken {
+                pending,
+                len: whole,
+            } => {
+                self.pending = pending;
+                self.step_over(whole, Before::Layout);
+                Ok(true)
+            }
+            Laid::Fault {
+                pending,
+                fault,
+                end: fault_end,
+            } => {
+                self.pending = pending;
+                self.refuse(0, fault, fault_end);
+                Ok(false)
+            }
+        }
+    }
+
+    /// Reads a line end that counts, and the margin behind it. Answers its `Newline`; `None` where the margin has a fault.
     fn read_line_end(&mut self, text: &str, len: usize) -> Result<Option<PlacedToken>, AllocError>
         requires fits { length text.now < 2 ^ 32 }
         requires stage { self.old.stage ≡ Stage.Onward }
@@ -183,25 +216,10 @@ impl Reader {
         ensures reads { OnOk result (IsMarginRead text.now len self.old self.new self.new.stage) }
     {
         let begin = self.at;
-        let laid = line_end(&mut self.levels, &mut self.reads, begin, len, text)?;
-        match laid {
-            Laid::Taken {
-                pending,
-                len: whole,
-            } => {
-                self.pending = pending;
-                self.step_over(whole, Before::Layout);
-                Ok(Some((begin, Token::Newline, begin + len)))
-            }
-            Laid::Fault {
-                pending,
-                fault,
-                end: fault_end,
-            } => {
-                self.pending = pending;
-                self.refuse(0, fault, fault_end);
-                Ok(None)
-            }
+        if self.lay_line_end(text, len)? {
+            Ok(Some((begin, Token::Newline, begin + len)))
+        } else {
+            Ok(None)
         }
     }
 
@@ -453,6 +471,7 @@ impl Reader {
         requires idle { IsIdle text.now self.old.pending }
         ensures ahead { (lexemes : List (Spanned TokenView)) (fault : Option (Spanned Fault)) → IsAhead text.now self.old Stage.Onward lexemes fault → IsAhead text.now self.new Stage.Onward lexemes fault }
         ensures same { (self.new.nesting ≡ self.old.nesting) × (self.new.pending ≡ self.old.pending) × (self.new.stage ≡ Stage.Onward) }
+        ensures onward { self.old.at ≤ self.new.at }
     {
         let len = gap_len(&mut self.reads, place, &text[self.at..]);
         if len > 0 {
@@ -467,6 +486,7 @@ impl Reader {
         requires fits { length text.now < 2 ^ 32 }
         requires ready { IsReady text.now self.old self.old.stage }
         ensures ahead { (lexemes : List (Spanned TokenView)) (fault : Option (Spanned Fault)) → IsAhead text.now self.old self.old.stage lexemes fault → IsAhead text.now self.new self.new.stage lexemes fault }
+        ensures onward { left_to_read text.now self.new self.new.stage ≤ left_to_read text.now self.old self.old.stage }
         ensures stands { IfSome result (λ word. IsWordHere text.now self.new word) }
     {
         let place = self.nesting.place();
@@ -475,6 +495,46 @@ impl Reader {
         }
         self.pass_spaces(place, text);
         common_word(&mut self.reads, &text[self.at..])
+    }
+
+    /// The place up to which the text is read, in bytes.
+    #[inline(always)]
+    pub fn at(&self) -> usize
+        ensures { result ≡ self.now.at }
+    {
+        self.at
+    }
+
+    /// Passes the line end here, of so many bytes, where it doesn't count. Answers whether it did.
+    #[inline(always)]
+    pub fn pass_line_end(&mut self, len: usize, text: &str) -> bool
+        requires fits { length text.now < 2 ^ 32 }
+        requires ready { IsReady text.now self.old self.old.stage }
+        requires stands { IsWordHere text.now self.old (record { class = class.LineEnd; len = len }) }
+        ensures ahead { (lexemes : List (Spanned TokenView)) (fault : Option (Spanned Fault)) → IsAhead text.now self.old self.old.stage lexemes fault → IsAhead text.now self.new self.new.stage lexemes fault }
+        ensures less { result ≡ true → left_to_read text.now self.new self.new.stage < left_to_read text.now self.old self.old.stage }
+        ensures stays { result ≡ false → self.new ≡ self.old }
+        ensures counts { result ≡ false → CountsLineEnds self.new }
+    {
+        if line_end_counts(self.nesting.place(), self.nesting.is_balanced()) {
+            return false;
+        }
+        self.step_over(len, Before::Other);
+        true
+    }
+
+    /// Takes the line end here, which counts and has so many bytes, and the margin behind it. Answers whether the margin has
+    /// no fault: then a `Newline` stands here. After an error the reader isn't to be asked again.
+    #[inline(never)]
+    pub fn take_line_end(&mut self, len: usize, text: &str) -> Result<bool, AllocError>
+        requires fits { length text.now < 2 ^ 32 }
+        requires ready { IsReady text.now self.old self.old.stage }
+        requires stands { IsWordHere text.now self.old (record { class = class.LineEnd; len = len }) }
+        requires counts { CountsLineEnds self.old }
+        ensures ahead { IfOk result (λ is_laid. (lexemes : List (Spanned TokenView)) (fault : Option (Spanned Fault)) → IsAhead text.now self.old self.old.stage lexemes fault → IsAheadBehind text.now (newline_if is_laid self.old.at len) self.new lexemes fault) }
+        ensures memory { OnErr result ((lexemes : List (Spanned TokenView)) (fault : Option (Spanned Fault)) → IsAhead text.now self.old self.old.stage lexemes fault → IsSomething lexemes fault) }
+    {
+        self.lay_line_end(text, len)
     }
 
     /// Takes the name here, of so many bytes. After an error the reader isn't to be asked again.

@@ -53,7 +53,8 @@ pub fn is_outside(place: LexerMode) -> bool
 }
 
 /// Whether line ends count: where all brackets are closed and no f-string is open.
-fn counts(place: LexerMode, is_balanced: bool) -> bool
+#[inline(always)]
+pub fn line_end_counts(place: LexerMode, is_balanced: bool) -> bool
     ensures { result ≡ grammar.counts (mode_view place) is_balanced }
 {
     is_outside(place) && is_balanced
@@ -72,7 +73,7 @@ fn line_end(place: LexerMode, is_balanced: bool, len: usize) -> Piece
     ensures piece { (s : grammar.Situation) (front behind text : word.Text) → s.place ≡ mode_view place → s.is_balanced ≡ is_balanced → length front ≡ len → drop len text ≡ behind → IsCharBoundary text len →
         IsPiece s.levels text (grammar.word_step s class.LineEnd front behind) result }
 {
-    if counts(place, is_balanced) {
+    if line_end_counts(place, is_balanced) {
         Piece::LineEnd { len }
     } else {
         Piece::Nothing { len, is_gap: false }

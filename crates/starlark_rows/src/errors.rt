@@ -55,6 +55,10 @@ fn new_kind(alloc: Global, row: &Row) -> Result<Error, AllocError> {
     given(Error::new_kind(alloc, kind))
 }
 
+fn shown_kind(alloc: Global, row: &Row) -> Answer {
+    shown_error(alloc, &new_kind(alloc, row)?)
+}
+
 fn into_internal_error(alloc: Global, row: &Row) -> Answer {
     let error = new_kind(alloc, row)?;
     shown_error(alloc, &given(error.into_internal_error(alloc))?)
@@ -63,6 +67,10 @@ fn into_internal_error(alloc: Global, row: &Row) -> Answer {
 /// A fault of the lexer, without a place.
 pub fn tab(alloc: Global) -> Result<Error, AllocError> {
     given(error_from_lexeme(alloc, LexemeError::InvalidTab))
+}
+
+fn shown_tab(alloc: Global) -> Answer {
+    shown_error(alloc, &tab(alloc)?)
 }
 
 /// A fault of the lexer, which is told two places.
@@ -166,7 +174,7 @@ fn of_diagnostic(alloc: Global, map: &CodeMap, row: &Row) -> Answer {
     }
 }
 
-/// The answer to a call of an exception.
+/// The answer to a call of an exception, or of a place that an error is told.
 fn of_exception(alloc: Global, map: &CodeMap, row: &Row) -> Answer {
     match row.text(1) {
         "exception" => exception(alloc, map),
@@ -174,18 +182,23 @@ fn of_exception(alloc: Global, map: &CodeMap, row: &Row) -> Answer {
         "exception_with_callstack" => exception_with_callstack(alloc, map),
         "internal_error" => internal_error(alloc, map),
         "testing_loc" => testing_loc(alloc, map, row.count(2)),
+        "set_span" => set_span(alloc, map),
         _ => of_diagnostic(alloc, map, row),
     }
 }
 
+/// The answer to a call of an error in a file.
+fn of_file(alloc: Global, row: &Row) -> Answer {
+    let map = code_map(alloc, "f", "ab")?;
+    of_exception(alloc, &map, row)
+}
+
 /// The answer to a call of an error.
 pub fn answer(alloc: Global, row: &Row) -> Answer {
-    let map = code_map(alloc, "f", "ab")?;
     match row.text(1) {
-        "new_kind" => shown_error(alloc, &new_kind(alloc, row)?),
+        "new_kind" => shown_kind(alloc, row),
         "into_internal_error" => into_internal_error(alloc, row),
-        "error_from_lexeme" => shown_error(alloc, &tab(alloc)?),
-        "set_span" => set_span(alloc, &map),
-        _ => of_exception(alloc, &map, row),
+        "error_from_lexeme" => shown_tab(alloc),
+        _ => of_file(alloc, row),
     }
 }

@@ -14,11 +14,19 @@ fn file_span(alloc: Global, row: &Row, index: usize) -> Result<FileSpan, AllocEr
     given(FileSpan::new(alloc, id, name, source))
 }
 
+/// Adds the code map of a file of the row, which is shared first.
+fn add_file(alloc: Global, maps: &mut CodeMaps, row: &Row, index: usize) -> Result<(), AllocError> {
+    let span = file_span(alloc, row, index)?;
+    let map = span.file.dupe()?;
+    maps.add(&map)?;
+    Ok(())
+}
+
 /// The code maps of two files of the row, which are shared first.
 fn two_code_maps(alloc: Global, row: &Row, index: usize) -> Result<CodeMaps, AllocError> {
     let mut maps = CodeMaps::new(alloc);
-    maps.add(&file_span(alloc, row, index)?.file.dupe()?)?;
-    maps.add(&file_span(alloc, row, index.saturating_add(2))?.file)?;
+    add_file(alloc, &mut maps, row, index)?;
+    add_file(alloc, &mut maps, row, index.saturating_add(2))?;
     Ok(maps)
 }
 

@@ -7,6 +7,7 @@ use crate::code_maps::code_map;
 use crate::refusals::unchanged;
 use crate::rows::{Answer, Row, shown, unknown};
 use crate::words::add_placed;
+use starlark_syntax::codemap::CodeMap;
 use starlark_syntax::dialect::Dialect;
 use starlark_syntax::lexer::LexedText;
 use std::alloc::{AllocError, Global};
@@ -32,7 +33,20 @@ pub fn both_texts(alloc: Global, first: &str, second: &str) -> Result<String, Al
     Ok(text)
 }
 
-/// Two lexed texts joined, where the first is a clean cut and the second has no fault. The third text is both.
+/// Two lexed texts joined, or both handed back.
+type Joined<'a> = Result<LexedText<'a>, (LexedText<'a>, LexedText<'a>)>;
+
+/// Two lexed texts joined to a third text, which is both, where the first is a clean cut and the second has no fault.
+fn join_lexed<'a>(first: LexedText<'a>, second: LexedText<'a>, both: &'a str) -> Option<Joined<'a>>
+    requires { both.now ≡ first.text ++ second.text }
+{
+    if !first.is_clean_cut() || second.fault().is_some() || both.len() > u32::MAX as usize {
+        return None;
+    }
+    Some(first.join(second, both))
+}
+
+/// Two texts joined, where they may be. The third text is both.
 fn joined<'a>(
     alloc: Global,
     first: &'a str,
@@ -43,12 +57,10 @@ fn joined<'a>(
 {
     let first = lexed(alloc, first)?;
     let second = lexed(alloc, second)?;
-    if !first.is_clean_cut() || second.fault().is_some() || both.len() > u32::MAX as usize {
-        return Ok(None);
-    }
-    match first.join(second, both) {
-        Ok(joined) => Ok(Some(joined)),
-        Err(_) => Err(AllocError),
+    match join_lexed(first, second, both) {
+        Some(Ok(joined)) => Ok(Some(joined)),
+        Some(Err(_)) => Err(AllocError),
+        None => Ok(None),
     }
 }
 
@@ -77,24 +89,22 @@ fn both_printed(alloc: Global, first: &LexedText<'_>, second: &LexedText<'_>) ->
     Ok(list)
 }
 
+/// Want of memory where two lexed texts that were handed back are as they were.
+fn both_kept(alloc: Global, before: &str, handed_back: &(LexedText<'_>, LexedText<'_>)) -> Answer {
+    let after = both_printed(alloc, &handed_back.0, &handed_back.1)?;
+    unchanged(alloc, before, &after)
+}
+
 /// Two texts joined, as they print. Where that is refused, both are handed back.
 pub fn join(alloc: Global, first: &str, second: &str) -> Answer {
     let both = both_texts(alloc, first, second)?;
     let first = lexed(alloc, first)?;
     let second = lexed(alloc, second)?;
-    if !first.is_clean_cut() || second.fault().is_some() || both.len() > u32::MAX as usize {
-        return String::from_str(alloc, "not joined");
-    }
     let before = both_printed(alloc, &first, &second)?;
-    match first.join(second, both.as_str()) {
-        Ok(joined) => printed(alloc, &joined),
-        Err((first, second)) => {
-            unchanged(
-                alloc,
-                before.as_str(),
-                &both_printed(alloc, &first, &second)?,
-            )
-        }
+    match join_lexed(first, second, both.as_str()) {
+        Some(Ok(joined)) => printed(alloc, &joined),
+        Some(Err(handed_back)) => both_kept(alloc, before.as_str(), &handed_back),
+        None => String::from_str(alloc, "not joined"),
     }
 }
 
@@ -105,16 +115,33 @@ fn agree(first: &str, second: &str, from: usize) -> bool
     first.is_char_boundary(from) && second.is_char_boundary(from) && first[..from] == second[..from]
 }
 
+/// A lexed text that is lexed again behind an edit, or as it was; none where the two texts aren't the same up to the edit.
+fn relex_lexed<'a>(
+    old: LexedText<'a>,
+    from: usize,
+    edited: &'a str,
+    map: &CodeMap,
+) -> Option<Result<LexedText<'a>, LexedText<'a>>> {
+    if !agree(old.text(), edited, from) || edited.len() > u32::MAX as usize {
+        return None;
+    }
+    Some(old.relex(from, edited, map))
+}
+
+/// Want of memory where a lexed text that was handed back is as it was.
+fn kept(alloc: Global, before: &str, old: &LexedText<'_>) -> Answer {
+    let after = printed(alloc, old)?;
+    unchanged(alloc, before, &after)
+}
+
 /// A lexed text that is lexed again behind an edit, as it prints. Where that is refused, the text is handed back.
 fn relexed<'a>(alloc: Global, old: LexedText<'a>, from: usize, edited: &'a str) -> Answer {
-    if !agree(old.text(), edited, from) || edited.len() > u32::MAX as usize {
-        return String::from_str(alloc, "no edit");
-    }
     let map = code_map(alloc, "f", edited)?;
     let before = printed(alloc, &old)?;
-    match old.relex(from, edited, &map) {
-        Ok(new) => printed(alloc, &new),
-        Err(old) => unchanged(alloc, before.as_str(), &printed(alloc, &old)?),
+    match relex_lexed(old, from, edited, &map) {
+        Some(Ok(new)) => printed(alloc, &new),
+        Some(Err(old)) => kept(alloc, before.as_str(), &old),
+        None => String::from_str(alloc, "no edit"),
     }
 }
 
@@ -126,13 +153,11 @@ pub fn relex(alloc: Global, text: &str, from: u32, edited: &str) -> Answer {
 /// How often bytes were read to lex a text again behind an edit.
 fn relex_reads(alloc: Global, text: &str, from: usize, edited: &str) -> Answer {
     let old = lexed(alloc, text)?;
-    if !agree(old.text(), edited, from) || edited.len() > u32::MAX as usize {
-        return String::from_str(alloc, "no edit");
-    }
     let map = code_map(alloc, "f", edited)?;
-    match old.relex(from, edited, &map) {
-        Ok(new) => shown(alloc, &new.reads()),
-        Err(_) => Err(AllocError),
+    match relex_lexed(old, from, edited, &map) {
+        Some(Ok(new)) => shown(alloc, &new.reads()),
+        Some(Err(_)) => Err(AllocError),
+        None => String::from_str(alloc, "no edit"),
     }
 }
 

@@ -13,7 +13,7 @@ use starlark_syntax::error::{Error, error_from_diagnostic, error_from_lexeme};
 use starlark_syntax::eval_exception::EvalException;
 use starlark_syntax::lexer::{LexemeError, Lexer};
 use std::alloc::{AllocError, Global};
-use std::fmt::{Display, Write};
+use std::fmt::{Debug, Display, Write};
 
 /// Want of memory where a refused call left something as it was; else how it was and how it is.
 pub fn unchanged<T: Display>(alloc: Global, before: &str, after: &T) -> Answer {
@@ -22,6 +22,18 @@ pub fn unchanged<T: Display>(alloc: Global, before: &str, after: &T) -> Answer {
         return Err(AllocError);
     }
     format!(in alloc; "{before} became {after}")
+}
+
+/// Want of memory where an error that was handed back is as it was; else how it was and how it is.
+fn kept(alloc: Global, before: &str, error: &Error) -> Answer {
+    let after = shown_error(alloc, error)?;
+    unchanged(alloc, before, &after)
+}
+
+/// The same of a value with its place.
+fn kept_place<T: Display + Debug>(alloc: Global, before: &str, value: &T) -> Answer {
+    let after = forms(alloc, value)?;
+    unchanged(alloc, before, &after)
 }
 
 /// The code map of a file of a number, whose name is given and whose source is empty.
@@ -107,7 +119,7 @@ fn of_diagnostic(alloc: Global, map: &CodeMap) -> Answer {
     let before = forms(alloc, &fault)?;
     match error_from_diagnostic(alloc, fault) {
         Ok(error) => shown_error(alloc, &error),
-        Err(fault) => unchanged(alloc, before.as_str(), &forms(alloc, &fault)?),
+        Err(fault) => kept_place(alloc, before.as_str(), &fault),
     }
 }
 
@@ -117,7 +129,7 @@ fn set_span(alloc: Global, map: &CodeMap) -> Answer {
     let before = shown_error(alloc, &error)?;
     match error.set_span(first(), map) {
         Ok(()) => shown_error(alloc, &error),
-        Err(_) => unchanged(alloc, before.as_str(), &shown_error(alloc, &error)?),
+        Err(_) => kept(alloc, before.as_str(), &error),
     }
 }
 
@@ -127,7 +139,7 @@ fn into_internal_error(alloc: Global, map: &CodeMap) -> Answer {
     let before = shown_error(alloc, &error)?;
     match error.into_internal_error(alloc) {
         Ok(error) => shown_error(alloc, &error),
-        Err(error) => unchanged(alloc, before.as_str(), &shown_error(alloc, &error)?),
+        Err(error) => kept(alloc, before.as_str(), &error),
     }
 }
 
@@ -137,7 +149,7 @@ fn exception(alloc: Global, map: &CodeMap) -> Answer {
     let before = shown_error(alloc, &error)?;
     match EvalException::new(error, first(), map) {
         Ok(exception) => shown_error(alloc, exception.error()),
-        Err(error) => unchanged(alloc, before.as_str(), &shown_error(alloc, &error)?),
+        Err(error) => kept(alloc, before.as_str(), &error),
     }
 }
 
@@ -158,7 +170,7 @@ fn with_callstack(alloc: Global, map: &CodeMap) -> Answer {
     match EvalException::new_with_callstack(error, first(), map, calls) {
         Ok(exception) => shown_error(alloc, exception.error()),
         Err(_) if is_asked => asked(alloc),
-        Err(error) => unchanged(alloc, before.as_str(), &shown_error(alloc, &error)?),
+        Err(error) => kept(alloc, before.as_str(), &error),
     }
 }
 
@@ -168,11 +180,7 @@ fn internal_exception(alloc: Global, map: &CodeMap) -> Answer {
     let before = shown_error(alloc, exception.error())?;
     match exception.into_internal_error(alloc) {
         Ok(exception) => shown_error(alloc, exception.error()),
-        Err(exception) => unchanged(
-            alloc,
-            before.as_str(),
-            &shown_error(alloc, exception.error())?,
-        ),
+        Err(exception) => kept(alloc, before.as_str(), exception.error()),
     }
 }
 
@@ -197,7 +205,7 @@ fn map_value(alloc: Global, map: &CodeMap) -> Answer {
     match made {
         Ok(len) => forms(alloc, &len),
         Err(_) if is_asked => asked(alloc),
-        Err(oops) => unchanged(alloc, before.as_str(), &forms(alloc, &oops)?),
+        Err(oops) => kept_place(alloc, before.as_str(), &oops),
     }
 }
 

@@ -21,13 +21,19 @@ fn parts(alloc: Global, number: &TokenInt) -> Answer {
     }
 }
 
+/// An integer's parts, and how it prints.
+fn shown_integer(alloc: Global, number: &TokenInt) -> Answer {
+    let parts = parts(alloc, number)?;
+    both(alloc, &parts, number)
+}
+
 /// The integer that a text writes in a base, or why there is none.
 fn integer(alloc: Global, text: &str, base: u32) -> Answer {
     if base < 2 || base > 36 {
         return String::from_str(alloc, "no such base");
     }
     match TokenInt::from_str_radix(alloc, text, base) {
-        Ok(number) => both(alloc, &parts(alloc, &number)?, &number),
+        Ok(number) => shown_integer(alloc, &number),
         Err(OrMemory::Error(fault)) => fault.to_string(alloc),
         Err(OrMemory::Memory) => Err(AllocError),
     }

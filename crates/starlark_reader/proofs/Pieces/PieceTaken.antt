@@ -1,6 +1,6 @@
 -- What a reader makes of the piece that stands where it is.
 use Rattle.std.proofs.Common.{◌≡◌, ◌≢◌, ℕ, ◌+◌, ◌≤◌, Bool, true, false, List, [], length, drop, refl, sym, ap, ◌∙◌, subst, arith, append-nil, take, None}
-use Rattle.std.specs.Prelude.{Option, String, string_bytes}
+use Rattle.std.specs.Prelude.{Option, String, string_bytes, if◌then◌else◌}
 use Rattle.std.specs.Str.{IsUtf8}
 use Rattle.std.specs.declared.alloc.Global.{Global}
 use Rattle.starlark_grammar.specs.Words.{Text, language}
@@ -131,6 +131,32 @@ terminal_step text history reader terminal len place found kept here at view own
       ∙ ap (λ n. pieces.token n (pieces.terminal_token (mode_after history.tokens) terminal)) (word_len (drop reader.at text) (class.Fixed terminal) len (sym here.front))
       ∙ ap (λ m. pieces.token len (pieces.terminal_token m terminal)) (sym (at history.tokens kept.nesting)),
 )
+
+-- a line end here, which counts or doesn't
+pub line_end_step : (text : Text) (history : History) (reader : Reader) (len : ℕ) → IsStateAfter text history reader → IsWordHere text reader (record { class = class.LineEnd; len = len })
+    → step_here text history reader ≡ (if pieces.counts (mode_after history.tokens) (is_balanced history.tokens) then pieces.line_end len (open_widths history.widths) (drop len (drop reader.at text)) else pieces.piece len [])
+unfolding situation
+line_end_step text history reader len kept here =
+    word_read text history reader (record { class = class.LineEnd; len = len }) kept here
+    ∙ ap (λ n. if pieces.counts (mode_after history.tokens) (is_balanced history.tokens) then pieces.line_end n (open_widths history.widths) (drop len (drop reader.at text)) else pieces.piece n []) (word_len (drop reader.at text) class.LineEnd len (sym here.front))
+
+-- one that doesn't count gives nothing
+pub silent_line_end : (text : Text) (history : History) (reader : Reader) (len : ℕ) (place : LexerMode) (balanced : Bool) → IsStateAfter text history reader → IsWordHere text reader (record { class = class.LineEnd; len = len })
+    → ((before : List Tokens.Token) → Represents before reader.nesting → mode_view place ≡ mode_after before)
+    → ((before : List Tokens.Token) → Represents before reader.nesting → balanced ≡ is_balanced before)
+    → pieces.counts (mode_view place) balanced ≡ false → step_here text history reader ≡ nothing_of len false
+silent_line_end text history reader len place balanced kept here at count silent =
+    line_end_step text history reader len kept here
+    ∙ ap (λ (b : Bool). if b then pieces.line_end len (open_widths history.widths) (drop len (drop reader.at text)) else pieces.piece len [])
+    (ap (λ m. pieces.counts m (is_balanced history.tokens)) (sym (at history.tokens kept.nesting)) ∙ ap (pieces.counts (mode_view place)) (sym (count history.tokens kept.nesting)) ∙ silent)
+
+-- one that counts takes its margin with it
+pub counting_line_end : (text : Text) (history : History) (reader : Reader) (len : ℕ) → IsStateAfter text history reader → IsWordHere text reader (record { class = class.LineEnd; len = len })
+    → ((before : List Tokens.Token) → Represents before reader.nesting → pieces.counts (mode_after before) (is_balanced before) ≡ true)
+    → step_here text history reader ≡ pieces.line_end len (open_widths history.widths) (drop len (drop reader.at text))
+counting_line_end text history reader len kept here counts =
+    line_end_step text history reader len kept here
+    ∙ ap (λ (b : Bool). if b then pieces.line_end len (open_widths history.widths) (drop len (drop reader.at text)) else pieces.piece len []) (counts history.tokens kept.nesting)
 
 -- what is left where a reader goes on
 pub left_onward : (text : Text) (reader : Reader) (lexemes : List (Spanned TokenView)) (fault : Option (Spanned Fault)) → reader.stage ≡ stage.Onward → IsAhead text reader reader.stage lexemes fault → IsAhead text reader stage.Onward lexemes fault

@@ -5,9 +5,9 @@ use Rattle.starlark_grammar.specs.Words.{Text, language}
 use Rattle.starlark_grammar.specs.Tokens as grammar
 use Rattle.starlark_grammar.specs.Margins.{has_tab, is_content, margin_of, open_widths}
 use Rattle.starlark_grammar.specs.Cuts.{is_layout}
-use Rattle.starlark_grammar.specs.Depths.{mode_after}
+use Rattle.starlark_grammar.specs.Depths.{is_balanced, mode_after}
 use Rattle.starlark_grammar.specs.Front.{language_front}
-use Rattle.starlark_grammar.specs.Pieces.{Before, Gap, Layout, Other, Step, Piece, Fails, is_bang}
+use Rattle.starlark_grammar.specs.Pieces.{Before, Gap, Layout, Other, Step, Piece, Fails, counts, is_bang}
 use Rattle.starlark_scanner.specs.Joints.Words.{word_view}
 use Rattle.starlark_scanner.specs.declared.scanner.word.Word.{Word}
 use Rattle.starlark_grammar.specs.Reading.{History, IsReading, Reading, after_all, nothing, pieces_len, lexemes_along, closing, next_step, read, read_from, outcome}
@@ -18,6 +18,7 @@ use Rattle.starlark_reader.specs.Joints.Nesting.{Represents, bracket_count}
 use Rattle.starlark_reader.specs.Joints.Pieces.{is_code}
 use Rattle.starlark_token.specs.TokenViews.{TokenView}
 use Rattle.starlark_token.specs.declared.tokens.Token.{Token}
+use Rattle.starlark_token.specs.declared.tokens.Token.TheVariants as token
 use Rattle.starlark_reader.specs.declared.reader.Reader.{Reader}
 use Rattle.starlark_reader.specs.declared.reader.Before as code
 use Rattle.starlark_reader.specs.declared.reader.Before.TheVariants as before
@@ -180,3 +181,12 @@ pub record IsWordHere (text : Text) (reader : Reader) (word : Word) : Type 0 whe
   pub code : (before : List grammar.Token) → Represents before reader.nesting → is_code (mode_after before) ≡ true
   pub front : Some (word_view word) ≡ language_front (drop reader.at text)
   pub bang : is_bang (drop reader.at text) ≡ false
+
+-- Line ends count where a reader is: all brackets are closed, and no f-string is open.
+abbrev pub CountsLineEnds : Reader → Type 0
+CountsLineEnds reader = (before : List grammar.Token) → Represents before reader.nesting → counts (mode_after before) (is_balanced before) ≡ true
+
+-- The `Newline` of a line end at a place, of so many bytes, if its margin has no fault.
+abbrev pub newline_if : Bool → ℕ → ℕ → Option (ℕ × Token × ℕ)
+newline_if true at len = Some (at, token.Newline, at + len)
+newline_if false at len = None

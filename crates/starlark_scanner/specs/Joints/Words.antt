@@ -1,10 +1,12 @@
 -- What the scanner finds, and what it looks for.
-use Rattle.std.specs.Prelude.{ℕ, Bool, false, not, ◌&&◌, ◌||◌, ◌==◌, nat_eq, List, [], ◌∷◌, ◌++◌, codes, Option, None, Some}
-use Rattle.std.specs.List.{list_any}
+use Rattle.std.specs.Prelude.{ℕ, Bool, false, not, ◌&&◌, ◌||◌, ◌==◌, nat_eq, List, [], ◌∷◌, ◌++◌, take, length, codes, Option, None, Some, unwrap_or}
+use Rattle.std.specs.List.{filter, list_any}
+use Rattle.std.specs.Map.{lookup}
 use Rattle.std.specs.Str.{bytes_eq}
 use Rattle.std.specs.Char.{is_ascii_digit}
 use Rattle.starlark_grammar.specs.Words as grammar
 use Rattle.starlark_grammar.specs.declared.class.Class.{Class}
+use Rattle.starlark_grammar.specs.declared.class.Class.TheVariants.{Identifier}
 use Rattle.starlark_scanner.specs.declared.scanner.word.Word.{Word}
 
 -- a word at the front of a text, by its class and its length
@@ -24,17 +26,26 @@ marks = grammar.listed grammar.line_ends ++ grammar.listed grammar.symbols
 abbrev pub is_quote : ℕ → Bool
 is_quote b = b == 39 || b == 34
 
--- what the keywords and the reserved words begin with
-abbrev pub listed_begins : List grammar.Text
-listed_begins =
-    codes "an" ∷ codes "as" ∷ codes "aw" ∷ codes "br" ∷ codes "co" ∷ codes "cl" ∷ codes "de" ∷ codes "el" ∷ codes "ex" ∷ codes "fo"
-    ∷ codes "fi" ∷ codes "fr" ∷ codes "gl" ∷ codes "if" ∷ codes "in" ∷ codes "im" ∷ codes "is" ∷ codes "la" ∷ codes "lo" ∷ codes "no"
-    ∷ codes "or" ∷ codes "pa" ∷ codes "re" ∷ codes "ra" ∷ codes "tr" ∷ codes "wh" ∷ codes "wi" ∷ codes "yi" ∷ []
+-- whether a keyword or a reserved word of a length begins with two bytes
+abbrev pub begin_listed_name : ℕ → ℕ → ℕ → Bool
+begin_listed_name a b len = list_any (λ row. bytes_eq (take 2 row.0) (a ∷ b ∷ []) && length row.0 == len) grammar.names
 
--- A keyword or a reserved word may begin as a name does. Every one passes this test.
+-- A keyword or a reserved word may begin as a name does and be as long. Every one passes this test.
 abbrev pub may_be_listed : grammar.Text → Bool
-may_be_listed (a ∷ b ∷ rest) = list_any (bytes_eq (a ∷ b ∷ [])) listed_begins
+may_be_listed (a ∷ b ∷ rest) = begin_listed_name a b (length (a ∷ b ∷ rest))
 may_be_listed text = false
+
+-- the keywords and the reserved words whose length passes a test
+abbrev pub names_by_length : (ℕ → Bool) → List (grammar.Text × Class)
+names_by_length test = filter (λ row. test (length row.0)) grammar.names
+
+-- the class of a name by these
+abbrev pub class_by_length : (ℕ → Bool) → grammar.Text → Class
+class_by_length test word = unwrap_or (lookup (bytes_eq word) (names_by_length test)) Identifier
+
+-- none of the lengths that most keywords and reserved words have
+abbrev pub is_other_length : ℕ → Bool
+is_other_length len = not (list_any (nat_eq len) (2 ∷ 3 ∷ 4 ∷ 5 ∷ 6 ∷ []))
 
 -- a mark of one byte with which no longer mark begins
 abbrev pub is_lone_mark : ℕ → Bool

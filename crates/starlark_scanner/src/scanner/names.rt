@@ -1,13 +1,13 @@
 //! Words that begin with a letter or `_`: keywords, reserved words, identifiers, and openers that have a prefix.
 
-ghost use Rattle.std.specs.Prelude.{◌≡◌, ◌∷◌, [], ◌≤◌, ◌<◌, ◌+◌, IfSome, get_or, Some, is_some, if◌then◌else◌, length, take, true, unwrap_or};
+ghost use Rattle.std.specs.Prelude.{◌≡◌, ◌≤◌, ◌<◌, ◌+◌, IfSome, get_or, Some, is_some, if◌then◌else◌, length, nat_eq, take, true, unwrap_or};
 ghost use Rattle.std.specs.List.{prefix_len};
 ghost use Rattle.std.specs.Map.{lookup};
 ghost use Rattle.std.specs.Option.{option_map};
 ghost use Rattle.std.specs.Str.{bytes_eq};
 ghost use Rattle.starlark_grammar.specs.Front.{language_front};
 ghost use Rattle.starlark_scanner.specs.Joints.Reads.{AreReads, more_reads};
-ghost use Rattle.starlark_scanner.specs.Joints.Words.{is_quote, may_be_listed, word_view};
+ghost use Rattle.starlark_scanner.specs.Joints.Words.{begin_listed_name, class_by_length, is_other_length, is_quote, may_be_listed, word_view};
 ghost use Rattle.starlark_grammar.specs.Words as grammar;
 ghost use Rattle.starlark_grammar.specs.declared.class.Class.TheVariants as class;
 
@@ -18,87 +18,145 @@ use crate::reads::Reads;
 /// The greatest length of a literal's prefix.
 const PREFIX_LEN: usize = 2;
 
-/// Whether a keyword or a reserved word begins with two bytes.
+#[tactic(auto, unfolding(starlark_grammar::specs::Words::names))]
+/// Whether a keyword or a reserved word of a length begins with two bytes.
 #[inline(always)]
-fn begin_listed_name(first: u8, second: u8) -> bool
-    ensures { result ≡ may_be_listed (first ∷ second ∷ []) }
+fn begin_listed_name(first: u8, second: u8, len: usize) -> bool
+    ensures { result ≡ begin_listed_name first second len }
 {
     matches!(
-        (first, second),
-        (b'a', b'n' | b's' | b'w')
-            | (b'b', b'r')
-            | (b'c', b'o' | b'l')
-            | (b'd', b'e')
-            | (b'e', b'l' | b'x')
-            | (b'f', b'o' | b'i' | b'r')
-            | (b'g', b'l')
-            | (b'i', b'f' | b'n' | b'm' | b's')
-            | (b'l', b'a' | b'o')
-            | (b'n', b'o')
-            | (b'o', b'r')
-            | (b'p', b'a')
-            | (b'r', b'e' | b'a')
-            | (b't', b'r')
-            | (b'w', b'h' | b'i')
-            | (b'y', b'i')
+        (first, second, len),
+        (b'a', b'n', 3)
+            | (b'a', b's', 2 | 5 | 6)
+            | (b'a', b'w', 5)
+            | (b'b', b'r', 5)
+            | (b'c', b'l', 5)
+            | (b'c', b'o', 8)
+            | (b'd', b'e', 3)
+            | (b'e', b'l', 4)
+            | (b'e', b'x', 6)
+            | (b'f', b'i', 7)
+            | (b'f', b'o', 3)
+            | (b'f', b'r', 4)
+            | (b'g', b'l', 6)
+            | (b'i', b'f' | b'n' | b's', 2)
+            | (b'i', b'm', 6)
+            | (b'l', b'a', 6)
+            | (b'l', b'o', 4)
+            | (b'n', b'o', 3 | 8)
+            | (b'o', b'r', 2)
+            | (b'p', b'a', 4)
+            | (b'r', b'a', 5)
+            | (b'r', b'e', 6)
+            | (b't', b'r', 3)
+            | (b'w', b'h', 5)
+            | (b'w', b'i', 4)
+            | (b'y', b'i', 5)
     )
 }
 
-/// Whether a name may be a keyword or a reserved word, by its first two bytes.
+/// Whether a name may be a keyword or a reserved word, by its first two bytes and its length.
 #[inline(always)]
 fn may_be_listed(name: &[u8]) -> bool
     ensures { result ≡ may_be_listed name.now }
 {
     match name {
-        [first, second, ..] => begin_listed_name(*first, *second),
+        [first, second, ..] => begin_listed_name(*first, *second, name.len()),
         _ => false,
     }
 }
 
-/// The class of a name, by the list. Frequent words are compared first.
-#[inline(never)]
-fn listed_class(name: &str) -> Class
-    ensures { result ≡ unwrap_or (lookup (bytes_eq name.now) grammar.names) class.Identifier }
+/// The class of a name of two letters, by the list.
+fn two_letters(name: &str) -> Class
+    ensures { result ≡ class_by_length (nat_eq 2) name.now }
 {
     match name {
         "in" => Class::Fixed(Terminal::In),
         "if" => Class::Fixed(Terminal::If),
-        "for" => Class::Fixed(Terminal::For),
-        "def" => Class::Fixed(Terminal::Def),
-        "return" => Class::Fixed(Terminal::Return),
-        "not" => Class::Fixed(Terminal::Not),
         "or" => Class::Fixed(Terminal::Or),
-        "and" => Class::Fixed(Terminal::And),
-        "else" => Class::Fixed(Terminal::Else),
-        "load" => Class::Fixed(Terminal::Load),
-        "pass" => Class::Fixed(Terminal::Pass),
-        "elif" => Class::Fixed(Terminal::Elif),
-        "lambda" => Class::Fixed(Terminal::Lambda),
-        "break" => Class::Fixed(Terminal::Break),
-        "continue" => Class::Fixed(Terminal::Continue),
-        "as"
-        | "assert"
-        | "async"
-        | "await"
-        | "class"
-        | "del"
-        | "except"
-        | "finally"
-        | "from"
-        | "global"
-        | "import"
-        | "is"
-        | "nonlocal"
-        | "raise"
-        | "try"
-        | "while"
-        | "with"
-        | "yield" => Class::Reserved,
+        "as" | "is" => Class::Reserved,
         _ => Class::Identifier,
     }
 }
 
-/// The class of a name. Most names are told by their first two bytes.
+/// The class of a name of three letters, by the list.
+fn three_letters(name: &str) -> Class
+    ensures { result ≡ class_by_length (nat_eq 3) name.now }
+{
+    match name {
+        "for" => Class::Fixed(Terminal::For),
+        "def" => Class::Fixed(Terminal::Def),
+        "not" => Class::Fixed(Terminal::Not),
+        "and" => Class::Fixed(Terminal::And),
+        "del" | "try" => Class::Reserved,
+        _ => Class::Identifier,
+    }
+}
+
+/// The class of a name of four letters, by the list.
+fn four_letters(name: &str) -> Class
+    ensures { result ≡ class_by_length (nat_eq 4) name.now }
+{
+    match name {
+        "load" => Class::Fixed(Terminal::Load),
+        "else" => Class::Fixed(Terminal::Else),
+        "elif" => Class::Fixed(Terminal::Elif),
+        "pass" => Class::Fixed(Terminal::Pass),
+        "from" | "with" => Class::Reserved,
+        _ => Class::Identifier,
+    }
+}
+
+/// The class of a name of five letters, by the list.
+fn five_letters(name: &str) -> Class
+    ensures { result ≡ class_by_length (nat_eq 5) name.now }
+{
+    match name {
+        "break" => Class::Fixed(Terminal::Break),
+        "async" | "await" | "class" | "raise" | "while" | "yield" => Class::Reserved,
+        _ => Class::Identifier,
+    }
+}
+
+/// The class of a name of six letters, by the list.
+fn six_letters(name: &str) -> Class
+    ensures { result ≡ class_by_length (nat_eq 6) name.now }
+{
+    match name {
+        "return" => Class::Fixed(Terminal::Return),
+        "lambda" => Class::Fixed(Terminal::Lambda),
+        "assert" | "except" | "global" | "import" => Class::Reserved,
+        _ => Class::Identifier,
+    }
+}
+
+/// The class of a name of more letters than six, or of fewer than two, by the list.
+fn more_letters(name: &str) -> Class
+    ensures { result ≡ class_by_length is_other_length name.now }
+{
+    match name {
+        "continue" => Class::Fixed(Terminal::Continue),
+        "finally" | "nonlocal" => Class::Reserved,
+        _ => Class::Identifier,
+    }
+}
+
+/// The class of a name, by the words of its length. Of these, frequent ones are compared first.
+#[inline(never)]
+fn listed_class(name: &str) -> Class
+    ensures { result ≡ unwrap_or (lookup (bytes_eq name.now) grammar.names) class.Identifier }
+{
+    match name.len() {
+        2 => two_letters(name),
+        3 => three_letters(name),
+        4 => four_letters(name),
+        5 => five_letters(name),
+        6 => six_letters(name),
+        _ => more_letters(name),
+    }
+}
+
+/// The class of a name. Most names are told by their first two bytes and their length.
 #[inline(always)]
 fn name_class(name: &str) -> Class
     ensures { result ≡ unwrap_or (lookup (bytes_eq name.now) grammar.names) class.Identifier }

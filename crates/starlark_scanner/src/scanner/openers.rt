@@ -1,6 +1,6 @@
 //! Openers: what a literal begins with.
 
-ghost use Rattle.std.specs.Prelude.{◌≡◌};
+ghost use Rattle.std.specs.Prelude.{◌≡◌, ◌∷◌, []};
 ghost use Rattle.std.specs.Map.{lookup};
 ghost use Rattle.std.specs.Option.{option_map};
 ghost use Rattle.std.specs.Str.{bytes_eq};
@@ -20,28 +20,61 @@ fn opener(kind: LiteralKind, is_raw: bool, quote: Quote) -> Class
     }
 }
 
+#[tactic(auto, unfolding(starlark_grammar::specs::Words::openers))]
+/// The opener that a quote is without a prefix.
+fn without_prefix(quote: u8) -> Option<Class>
+    ensures { result ≡ lookup (bytes_eq (quote ∷ [])) grammar.openers }
+{
+    match quote {
+        b'\'' => Some(opener(LiteralKind::Text, false, Quote::Single)),
+        b'"' => Some(opener(LiteralKind::Text, false, Quote::Double)),
+        _ => None,
+    }
+}
+
+#[tactic(auto, unfolding(starlark_grammar::specs::Words::openers))]
+/// The opener of a prefix of one letter and a quote.
+fn with_letter(prefix: u8, quote: u8) -> Option<Class>
+    ensures { result ≡ lookup (bytes_eq (prefix ∷ quote ∷ [])) grammar.openers }
+{
+    match (prefix, quote) {
+        (b'r', b'\'') => Some(opener(LiteralKind::Text, true, Quote::Single)),
+        (b'r', b'"') => Some(opener(LiteralKind::Text, true, Quote::Double)),
+        (b'f', b'\'') => Some(opener(LiteralKind::FString, false, Quote::Single)),
+        (b'f', b'"') => Some(opener(LiteralKind::FString, false, Quote::Double)),
+        (b'b', b'\'') => Some(opener(LiteralKind::Bytes, false, Quote::Single)),
+        (b'b', b'"') => Some(opener(LiteralKind::Bytes, false, Quote::Double)),
+        _ => None,
+    }
+}
+
+#[tactic(auto, unfolding(starlark_grammar::specs::Words::openers))]
+/// The opener of a prefix of two letters and a quote.
+fn with_letters(first: u8, second: u8, quote: u8) -> Option<Class>
+    ensures { result ≡ lookup (bytes_eq (first ∷ second ∷ quote ∷ [])) grammar.openers }
+{
+    match (first, second, quote) {
+        (b'f', b'r', b'\'') => Some(opener(LiteralKind::FString, true, Quote::Single)),
+        (b'r', b'f', b'\'') => Some(opener(LiteralKind::FString, true, Quote::Single)),
+        (b'f', b'r', b'"') => Some(opener(LiteralKind::FString, true, Quote::Double)),
+        (b'r', b'f', b'"') => Some(opener(LiteralKind::FString, true, Quote::Double)),
+        (b'b', b'r', b'\'') => Some(opener(LiteralKind::Bytes, true, Quote::Single)),
+        (b'r', b'b', b'\'') => Some(opener(LiteralKind::Bytes, true, Quote::Single)),
+        (b'b', b'r', b'"') => Some(opener(LiteralKind::Bytes, true, Quote::Double)),
+        (b'r', b'b', b'"') => Some(opener(LiteralKind::Bytes, true, Quote::Double)),
+        _ => None,
+    }
+}
+
 /// The opener that a word is, if it is one.
 #[inline(never)]
 pub fn opener_class(word: &str) -> Option<Class>
     ensures { result ≡ lookup (bytes_eq word.now) grammar.openers }
 {
-    match word {
-        "'" => Some(opener(LiteralKind::Text, false, Quote::Single)),
-        "r'" => Some(opener(LiteralKind::Text, true, Quote::Single)),
-        "\"" => Some(opener(LiteralKind::Text, false, Quote::Double)),
-        "r\"" => Some(opener(LiteralKind::Text, true, Quote::Double)),
-        "f'" => Some(opener(LiteralKind::FString, false, Quote::Single)),
-        "fr'" => Some(opener(LiteralKind::FString, true, Quote::Single)),
-        "rf'" => Some(opener(LiteralKind::FString, true, Quote::Single)),
-        "f\"" => Some(opener(LiteralKind::FString, false, Quote::Double)),
-        "fr\"" => Some(opener(LiteralKind::FString, true, Quote::Double)),
-        "rf\"" => Some(opener(LiteralKind::FString, true, Quote::Double)),
-        "b'" => Some(opener(LiteralKind::Bytes, false, Quote::Single)),
-        "br'" => Some(opener(LiteralKind::Bytes, true, Quote::Single)),
-        "rb'" => Some(opener(LiteralKind::Bytes, true, Quote::Single)),
-        "b\"" => Some(opener(LiteralKind::Bytes, false, Quote::Double)),
-        "br\"" => Some(opener(LiteralKind::Bytes, true, Quote::Double)),
-        "rb\"" => Some(opener(LiteralKind::Bytes, true, Quote::Double)),
+    match word.as_bytes() {
+        [quote] => without_prefix(*quote),
+        [prefix, quote] => with_letter(*prefix, *quote),
+        [first, second, quote] => with_letters(*first, *second, *quote),
         _ => None,
     }
 }

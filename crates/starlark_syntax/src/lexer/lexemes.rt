@@ -191,41 +191,53 @@ impl<'a> Lexer<'a> {
         if self.has_ended {
             return None;
         }
-        match self.reader.common_word(self.text) {
-            Some(
-                Word {
-                    class: Class::Identifier,
-                    len,
-                },
-            ) => match self.reader.take_name(len, self.text) {
-                Ok(lexeme) => {
+        let is_text = loop {
+            let Some(Word { class, len }) = self.reader.common_word(self.text) else {
+                break false;
+            };
+            match class {
+                Class::Identifier => {
+                    return match self.reader.take_name(len, self.text) {
+                        Ok(lexeme) => {
+                            self.handed_out += 1;
+                            Some(Ok(lexeme))
+                        }
+                        Err(_) => {
+                            self.has_ended = true;
+                            Some(Err(OrMemory::Memory))
+                        }
+                    };
+                }
+                Class::Fixed(terminal) => {
                     self.handed_out += 1;
-                    Some(Ok(lexeme))
+                    return Some(Ok(self.reader.take_terminal(terminal, len, self.text)));
                 }
-                Err(_) => {
-                    self.has_ended = true;
-                    Some(Err(OrMemory::Memory))
-                }
-            },
-            Some(
-                Word {
-                    class: Class::Fixed(terminal),
-                    len,
-                },
-            ) => {
-                self.handed_out += 1;
-                Some(Ok(self.reader.take_terminal(terminal, len, self.text)))
-            }
-            Some(
-                Word {
-                    class: Class::Opener {
-                        kind: LiteralKind::Text,
-                        ..
-                    },
+                Class::Opener {
+                    kind: LiteralKind::Text,
                     ..
-                },
-            ) => self.next_text(),
-            _ => self.next_of_all(),
+                } => break true,
+                Class::LineEnd if self.reader.pass_line_end(len, self.text) => {}
+                Class::LineEnd => {
+                    let begin = self.reader.at();
+                    match self.reader.take_line_end(len, self.text) {
+                        Ok(true) => {
+                            self.handed_out += 1;
+                            return Some(Ok((begin, Token::Newline, begin + len)));
+                        }
+                        Ok(false) => break false,
+                        Err(_) => {
+                            self.has_ended = true;
+                            return Some(Err(OrMemory::Memory));
+                        }
+                    }
+                }
+                _ => break false,
+            }
+        };
+        if is_text {
+            self.next_text()
+        } else {
+            self.next_of_all()
         }
     }
 }

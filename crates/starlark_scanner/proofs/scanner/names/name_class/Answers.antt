@@ -1,4 +1,4 @@
--- A name that begins as no listed one does is none.
+-- A name that fails the test that each listed one passes is none.
 use Rattle.std.proofs.Common.{sym, ap, refl, ◌∙◌}
 use Rattle.starlark_grammar.specs.Words.{names}
 use Rattle.starlark_scanner.specs.Joints.Words.{may_be_listed}

@@ -5,7 +5,7 @@ use Rattle.starlark_reader.specs.declared.reader.Reader.{Reader}
 use Rattle.starlark_reader.specs.Joints.Pending.{owed}
 use Rattle.starlark_reader.proofs.Pieces.ReaderReads.{failed_margin_reads, margin_reads}
 use Rattle.starlark_reader.proofs.Pieces.Taken.{line_fault_inside, line_inside, line_less, line_refused, line_taken}
-use Rattle.starlark_reader.proofs.reader.Reader.read_line_end.Goals as goal
+use Rattle.starlark_reader.proofs.reader.Reader.lay_line_end.Goals as goal
 
 pub step_over-requires-clause-fits : goal.step_over-requires-clause-fits
 step_over-requires-clause-fits c =
