@@ -2,14 +2,16 @@
 """Refuses each request for memory of the built programs in turn, and looks at what they answer.
 
 One run has one request refused: the first, then the second, and so on, until a run has no such request. It takes rows
-of `starlark_rows`, one row a run, and texts for `starlark_lex`. For each run one of these has to hold:
+of `starlark_rows`, one row a run, texts behind edits for `starlark_texts`, and texts for `starlark_lex`. For each run one of
+these has to hold:
 
 - the answer is that of a run with no request refused;
 - the answer is want of memory. A row of the group `refusals` answers that only where the refused call left things as
   they were, and a row of lexemes prints those before it, which have to be a beginning of all of them. What
-  `starlark_lex` has printed has to be a beginning of all its lines.
+  `starlark_lex` has printed, and `starlark_texts` behind edits, has to be a beginning of all its lines.
 
-With no request refused a row has the answer that is stored, and no run ends in want of memory.
+With no request refused a row has the answer that is stored, a text behind edits prints what the plain lexer of fuzz.py does,
+and no run ends in want of memory.
 
     scripts/refused_memory.py [--rows N]    tries N rows of each call that takes no memory itself; 1 if it isn't given
 
@@ -28,6 +30,8 @@ from collections import Counter
 from concurrent.futures import ThreadPoolExecutor
 from pathlib import Path
 
+from stored_texts import Edit, edited_record, runs_of
+
 TOP = Path(__file__).resolve().parent.parent
 WANT_OF_MEMORY = b"out of memory"
 MOST_REQUESTS = 100_000
@@ -37,7 +41,7 @@ MOST_REQUESTS = 100_000
 WHOLE_GROUPS = {b"errors", b"files", b"refusals", b"words"}
 
 # A call that lexes thousands of texts, with too many requests to refuse each.
-LEFT_OUT = {(b"edits", b"each_byte")}
+LEFT_OUT = {(b"lexed_text", b"each_byte")}
 
 TEXTS = [
     b"",
@@ -56,6 +60,12 @@ TEXTS = [
     b"if a:\n" + b"".join(b" " * n + b"if b:\n" for n in range(1, 40)),
     b"name_of_some_length = 'text' # comment\n" * 600,
     b"\xff",
+]
+
+EDITED = [
+    edited_record([Edit(2, 3, b"z"), Edit(0, 1, b"a")], b"x\ny\n"),
+    edited_record([Edit(4, 4, b"f\"{a!r}\" + 'b'"), Edit(0, 4, b"\ty")], b"x\ny\n"),
+    edited_record([Edit(1, 2, b"")], "é".encode()),
 ]
 
 
@@ -84,16 +94,31 @@ class Run:
         os.close(count)
 
 
-def is_row_kept(run, whole, row):
-    """Whether a run of one row answered as with ample memory, or want of memory."""
+def is_all_or_nothing(run, whole):
+    """Whether a run answered as with ample memory, or ended in want of memory and printed nothing."""
     if run.status == 0 and run.output == whole:
         return True
-    if run.status == 1 and run.output == b"" and b"OutOfMemory" in run.message:
+    return run.status == 1 and run.output == b"" and b"OutOfMemory" in run.message
+
+
+def is_row_kept(run, whole, row):
+    """Whether a run of one row answered as with ample memory, or want of memory."""
+    if is_all_or_nothing(run, whole):
         return True
     if row.startswith(b"refusals\tlexemes\t") and run.status == 0:
         front = run.output.removesuffix(WANT_OF_MEMORY + b"\n")
         return front != run.output and whole.startswith(front)
     return False
+
+
+def is_edited_kept(run, whole):
+    """Whether a run over a text behind edits printed all, or a beginning behind want of memory."""
+    if is_all_or_nothing(run, whole):
+        return True
+    number, _, _ = whole.partition(b": ")
+    _, _, lines = whole.partition(b"\n")
+    front = number + b": " + WANT_OF_MEMORY + b"\n"
+    return run.status == 0 and run.output.startswith(front) and lines.startswith(run.output.removeprefix(front))
 
 
 def is_text_kept(run, whole):
@@ -186,7 +211,7 @@ class Tries:
         for number in range(1, MOST_REQUESTS):
             run = self.run(number)
             self.runs += 1
-            self.refused += run.status != whole.status
+            self.refused += (run.status, run.output) != (whole.status, whole.output)
             if not is_kept(run):
                 self.report(number, run)
             if run.requests < number:
@@ -196,14 +221,25 @@ class Tries:
         self.wrong.append(f"{self.stdin[:200]!r}: more than {MOST_REQUESTS} requests")
 
 
-def tried_row(allocator, program, row, answer):
-    """A row with each of its requests refused in turn. With none refused it has to have its stored answer."""
-    tries = Tries(allocator, program, row + b"\n")
+def tried_answer(allocator, program, stdin, answer, is_kept):
+    """An input with each of the program's requests refused in turn. With none refused it has to have its answer."""
+    tries = Tries(allocator, program, stdin)
     whole = tries.run(0)
     if whole.status != 0 or whole.output != answer:
         tries.report(0, whole)
-    tries.each_request(whole, lambda run: is_row_kept(run, answer, row))
+    tries.each_request(whole, is_kept)
     return tries
+
+
+def tried_row(allocator, program, row, answer):
+    """A row with each of its requests refused in turn."""
+    return tried_answer(allocator, program, row + b"\n", answer, lambda run: is_row_kept(run, answer, row))
+
+
+def tried_edited(allocator, program, stored):
+    """A text behind edits with each of the program's requests refused in turn."""
+    [(_, lines)] = runs_of(stored)
+    return tried_answer(allocator, program, stored, lines, lambda run: is_edited_kept(run, lines))
 
 
 def tried_text(allocator, program, text):
@@ -220,10 +256,11 @@ def main():
     arguments = argparse.ArgumentParser(description=__doc__.splitlines()[0])
     arguments.add_argument("--rows", type=int, default=1, metavar="N")
     most = arguments.parse_args().rows
-    rows, lex = built("starlark_rows"), built("starlark_lex")
+    rows, texts, lex = built("starlark_rows"), built("starlark_texts"), built("starlark_lex")
     with tempfile.TemporaryDirectory() as folder, ThreadPoolExecutor(os.cpu_count()) as pool:
         allocator = built_allocator(folder)
         started = [pool.submit(tried_row, allocator, rows, row, answer) for row, answer in tried_rows(most)]
+        started += [pool.submit(tried_edited, allocator, texts, stored) for stored in EDITED]
         started += [pool.submit(tried_text, allocator, lex, text) for text in TEXTS]
         tried = [it.result() for it in started]
     wrong = [line for tries in tried for line in tries.wrong]

@@ -6,6 +6,8 @@ usage: stored_texts.py [--write]
 The file `stdin` of the crate has texts, and its file `stdout` what the program has to print for them. This script makes
 that output again without the program, and says how many texts agree, or prints the first that doesn't and exits with 1.
 
+A text may have edits before it, which are made to it before it is lexed.
+
 Of a text that is repeated many times it counts the lexemes of few repetitions, and goes on from there.
 
 --write  store the output that it made; for a change of the language, after which docs/GRAMMAR.md and fuzz.py say the new rule
@@ -15,12 +17,49 @@ import argparse
 import re
 import sys
 from pathlib import Path
+from typing import NamedTuple
 
 from fuzz import expected, outcome
 
 CRATE = Path(__file__).resolve().parent.parent / "crates/starlark_texts"
 FEW = 12
-STATUSES = {0: "clean", 1: "fault", 2: "not UTF-8"}
+STATUSES = {0: "clean", 1: "fault", 2: "input is not UTF-8"}
+
+
+class Edit(NamedTuple):
+    """The bytes from one place to another give way to others."""
+
+    start: int
+    end: int
+    new: bytes
+
+
+def is_utf8(text):
+    """Whether bytes are UTF-8."""
+    try:
+        text.decode()
+    except UnicodeDecodeError:
+        return False
+    return True
+
+
+def edited(text, edit):
+    """The text behind an edit; None where the edit doesn't fit."""
+    if not edit.start <= edit.end <= len(text):
+        return None
+    front, back = text[: edit.start], text[edit.end :]
+    return front + edit.new + back if is_utf8(front) and is_utf8(back) else None
+
+
+def record(task, text):
+    """A text and what is done with it, as the program reads them."""
+    return " ".join([str(len(text)), *task]).encode() + b"\n" + text + b"\n"
+
+
+def edited_record(edits, text):
+    """A text behind its edits, as the program reads them."""
+    before = [record(["edit", str(edit.start), str(edit.end)], edit.new) for edit in edits]
+    return b"".join([*before, record(["edited"], text)])
 
 
 def records_of(stored):
@@ -77,18 +116,45 @@ def repeated_line(text, times):
     return f"{printed_counts(1, lexemes, faults)}\n"
 
 
-def run_of(number, task, text):
-    """What is printed for a record, whose number comes first."""
-    front = f"text {number}: ".encode()
+def lines_of(text):
+    """What is printed for a text."""
+    output, status = expected(text)
+    return STATUSES[status].encode() + b"\n" + output
+
+
+def edited_lines(text, edits):
+    """What is printed for a text behind its edits."""
+    for number, edit in enumerate(edits):
+        text = edited(text, edit)
+        if text is None:
+            return f"edit {number} does not fit the text\n".encode()
+    return lines_of(text)
+
+
+def printed(task, text, edits):
+    """What is printed for a text behind a record's number."""
     match task:
         case []:
-            output, status = expected(text)
-            return front + STATUSES[status].encode() + b"\n" + output
+            return lines_of(text)
         case ["fronts"]:
-            return front + fronts_line(text).encode()
+            return fronts_line(text).encode()
         case ["times", times]:
-            return front + repeated_line(text, int(times)).encode()
-    raise ValueError(f"text {number}: no such task")
+            return repeated_line(text, int(times)).encode()
+        case ["edited"]:
+            return edited_lines(text, edits)
+    raise ValueError(f"no such task: {task}")
+
+
+def runs_of(stored):
+    """Each text that isn't an edit, and what is printed for it."""
+    edits = []
+    for number, (task, text) in enumerate(records_of(stored), 1):
+        match task:
+            case ["edit", start, end]:
+                edits.append(Edit(int(start), int(end), text))
+            case _:
+                yield text, f"text {number}: ".encode() + printed(task, text, edits)
+                edits = []
 
 
 def stored_runs(stored):
@@ -100,9 +166,8 @@ def main():
     parser = argparse.ArgumentParser()
     parser.add_argument("--write", action="store_true")
     options = parser.parse_args()
-    records = list(records_of((CRATE / "stdin").read_bytes()))
-    texts = [text for _, text in records]
-    runs = [run_of(number, *record) for number, record in enumerate(records, 1)]
+    pairs = list(runs_of((CRATE / "stdin").read_bytes()))
+    runs = [run for _, run in pairs]
     if options.write:
         (CRATE / "stdout").write_bytes(b"".join(runs))
         print(f"{len(runs)} texts stored")
@@ -111,8 +176,9 @@ def main():
     if b"".join(runs) == stored:
         print(f"{len(runs)} texts agree")
         return 0
-    pairs = zip(texts, runs, stored_runs(stored))
-    text, wanted, found = next((pair for pair in pairs if pair[1] != pair[2]), (b"", b"", b"the number of texts differs"))
+    found = [*stored_runs(stored), *[b""] * len(runs)]
+    differing = ((text, run, other) for (text, run), other in zip(pairs, found) if run != other)
+    text, wanted, found = next(differing, (b"", b"", b"the number of texts differs"))
     print(f"text {text!r}\nwanted {wanted!r}\nstored {found!r}")
     return 1
 

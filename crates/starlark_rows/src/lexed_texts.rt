@@ -4,6 +4,7 @@ ghost use Rattle.std.specs.Prelude.{◌≡◌, ◌++◌, IfOk, string_bytes, tak
 ghost use Rattle.std.specs.Str.{IsCharBoundary};
 
 use crate::code_maps::code_map;
+use crate::each_byte::each_byte;
 use crate::refusals::unchanged;
 use crate::rows::{Answer, Row, shown, unknown};
 use crate::words::add_placed;
@@ -224,6 +225,7 @@ pub fn answer(alloc: Global, row: &Row) -> Answer {
         "join_each" => marks(alloc, row),
         "relex_reads" => relex_reads(alloc, text, row.count(3) as usize, row.text(4)),
         "relex" => relex(alloc, text, row.count(3), row.text(4)),
+        "each_byte" => each_byte(alloc, text, row.text(3)),
         "relex_joined" => relex_joined(alloc, text, row.text(3), row.count(4), row.text(5)),
         _ => unknown(alloc, row),
     }

@@ -7,7 +7,7 @@
 
 mod code_maps;
 mod cursors;
-mod edits;
+mod each_byte;
 mod errors;
 mod files;
 mod formats;
@@ -29,7 +29,6 @@ fn answer(alloc: Global, row: &Row) -> Answer {
     match row.text(0) {
         "codemap" => code_maps::answer(alloc, row),
         "cursors" => cursors::answer(alloc, row),
-        "edits" => edits::answer(alloc, row),
         "errors" => errors::answer(alloc, row),
         "files" => files::answer(alloc, row),
         "format" => formats::answer(alloc, row),

@@ -3,9 +3,9 @@
 
 use crate::code_maps::code_map;
 use crate::errors::{first, forms, kind, one_call, placed, shown_error, tab};
+use crate::lexed_texts;
 use crate::rows::{Answer, Row, given, unknown};
 use crate::words::{add_lexeme, lexer};
-use crate::{edits, lexed_texts};
 use starlark_syntax::call_stack::CallStack;
 use starlark_syntax::codemap::{CodeMap, CodeMapId, CodeMaps, OrMemory};
 use starlark_syntax::diagnostic::WithDiagnostic;
@@ -260,7 +260,6 @@ pub fn answer(alloc: Global, row: &Row) -> Answer {
         "lex" => lexed_texts::lex(alloc, row.text(2)),
         "join" => lexed_texts::join(alloc, row.text(2), row.text(3)),
         "relex" => lexed_texts::relex(alloc, row.text(2), row.count(3), row.text(4)),
-        "run_edits" => edits::refused(alloc, row),
         _ => of_file(alloc, row),
     }
 }

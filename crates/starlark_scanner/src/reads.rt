@@ -138,6 +138,17 @@ impl Reads {
         &text[..most.min(text.len())]
     }
 
+    /// The first bytes of a text, at most so many, of which the first ones, so many as are known, were read before.
+    #[inline(always)]
+    pub fn more_front<'a>(&mut self, text: &'a [u8], known: usize, most: usize) -> &'a [u8]
+        requires { known ≤ most }
+        ensures bytes { result.now ≡ take most text.now }
+        ensures reads { self.new ≡ more_reads self.old (most - known) }
+    {
+        self.add(most - known);
+        &text[..most.min(text.len())]
+    }
+
     /// The length of the run of digits.
     #[inline(always)]
     pub fn digits_len(&mut self, text: &[u8]) -> usize
@@ -195,16 +206,17 @@ impl Reads {
         len
     }
 
-    /// The length of the run of letters, digits and `_`.
+    /// The run of letters, digits and `_`: its length, and the byte behind it.
     #[inline(always)]
-    pub fn name_len(&mut self, text: &[u8]) -> usize
-        ensures value { result ≡ prefix_len grammar.is_in_name text.now }
-        ensures within { result ≤ length text.now }
-        ensures reads { self.new ≡ more_reads self.old (result + 1) }
+    pub fn name_run(&mut self, text: &[u8]) -> (usize, Option<u8>)
+        ensures value { result.0 ≡ prefix_len grammar.is_in_name text.now }
+        ensures within { result.0 ≤ length text.now }
+        ensures behind { result.1 ≡ slice_get text.now result.0 }
+        ensures reads { self.new ≡ more_reads self.old (result.0 + 1) }
     {
         let len = text.iter().take_while(|byte| is_in_name(**byte)).count();
         self.add(len + 1);
-        len
+        (len, text.get(len).copied())
     }
 
     /// The length of the run of bytes before a CR or an LF.

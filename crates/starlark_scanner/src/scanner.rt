@@ -1,6 +1,6 @@
 //! Finds the longest word at the front of a text.
 
-ghost use Rattle.std.specs.Prelude.{◌≡◌, false, ◌<◌, ◌≤◌, ◌==◌, ◌+◌, ◌∷◌, IfSome, None, Some, length, nat_eq, take, true};
+ghost use Rattle.std.specs.Prelude.{◌≡◌, false, ◌<◌, ◌≤◌, ◌==◌, ◌+◌, ◌-◌, ◌∷◌, IfSome, None, Some, length, nat_eq, take, true};
 ghost use Rattle.std.specs.List.{prefix_len, slice_get};
 ghost use Rattle.std.specs.Option.{option_map};
 ghost use Rattle.starlark_grammar.specs.Front.{language_front};
@@ -93,7 +93,7 @@ pub fn common_word(reads: &mut Reads, text: &str) -> Option<Word>
     ensures bang { IfSome result (λ word. is_bang text.now ≡ false) }
     ensures none { result ≡ None → grammar.begins grammar.is_name_start text.now ≡ false }
     ensures reads { AreReads (word_len result) (word_len result + 4) reads.old reads.new }
-    ensures few { result ≡ None → reads.new ≤ reads.old + 2 }
+    ensures two { result ≡ None → reads.new ≡ more_reads reads.old 2 }
 {
     let front = reads.front(text.as_bytes(), 2);
     let first = *front.first()?;
@@ -110,14 +110,15 @@ pub fn common_word(reads: &mut Reads, text: &str) -> Option<Word>
     }
 }
 
-/// The longest word at the front of a text that doesn't begin with a letter or `_`, or `None` where no word stands there.
+/// The longest word at the front of a text that doesn't begin with a letter or `_`, and of which the first two bytes were read;
+/// `None` where no word stands there.
 pub fn unnamed_word(reads: &mut Reads, text: &str) -> Option<Word>
     requires { grammar.begins grammar.is_name_start text.now ≡ false }
     ensures word { option_map word_view result ≡ language_front text.now }
-    ensures reads { AreReads (word_len result) (word_len result + 9) reads.old reads.new }
+    ensures reads { AreReads (word_len result - 2) (word_len result + 7) reads.old reads.new }
 {
     let bytes = text.as_bytes();
-    let front = reads.front(bytes, 3);
+    let front = reads.more_front(bytes, 2, 3);
     let first = *front.first()?;
     if begins_number(front) {
         return Some(numbers::number_from(reads, front, bytes));

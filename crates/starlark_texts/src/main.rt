@@ -1,9 +1,9 @@
 //! Runs the lexer over stored texts, so that its whole output is compared with a stored one.
 //!
-//! What standard input has is said in `stored`. For a text the program prints a line `text NUMBER: STATUS`, where
-//! numbers begin at 1, and then what `starlark_lex` prints for it. For the fronts of a text, and for a text that is
-//! repeated, it prints a line `text NUMBER: COUNTS`. Behind these stands a line for each text that a check found
-//! something wrong with. It ends with an error where standard input is no such list.
+//! What standard input has is said in `stored`. For a text, edited or not, the program prints a line
+//! `text NUMBER: STATUS`, where records are numbered from 1, and then what `starlark_lex` prints for it. For the fronts
+//! of a text, and for a text that is repeated, it prints a line `text NUMBER: COUNTS`. Behind these stands a line for
+//! each text that a check found something wrong with. It ends with an error where standard input is no such list.
 #![tactic(auto)]
 
 mod checks;
@@ -12,25 +12,29 @@ mod stored;
 mod tally;
 
 use crate::checks::first_wrong;
-use crate::stored::{Task, first_record};
+use crate::stored::{Record, Task, first_record};
 use crate::tally::{Tally, of_fronts, of_repeated};
-use starlark_run::{RunFault, RunStatus, Watched, run};
+use starlark_run::{Edit, RunFault, RunStatus, Watched, run, run_edits};
 use std::alloc::{AllocError, Global};
 use std::io;
 use std::io::{BufWriter, ErrorKind, Read, Write};
 
-/// How a run ended.
-fn status(outcome: &Result<RunStatus, RunFault>) -> &'static str {
+/// How many bytes are printed for an edited text at most, so that the writer, which has room for them, takes no memory.
+const MOST_PRINTED: usize = 65_536;
+
+/// Prints how a run over a text ended, and what it printed.
+fn print_outcome<W: Write>(
+    out: &mut W,
+    number: u64,
+    outcome: &Result<RunStatus, RunFault>,
+    printed: &[u8],
+) -> io::Result<()> {
     match outcome {
-        Ok(RunStatus::Clean) => "clean",
-        Ok(RunStatus::Fault) => "fault",
-        Err(RunFault::NotUtf8) => "not UTF-8",
-        Err(RunFault::TooLong) => "too long",
-        Err(RunFault::BadEdit(_)) => "not edited",
-        Err(RunFault::Read) => "not read",
-        Err(RunFault::Write) => "not written",
-        Err(RunFault::Memory) => "out of memory",
+        Ok(RunStatus::Clean) => write!(out, "text {number}: clean\n")?,
+        Ok(RunStatus::Fault) => write!(out, "text {number}: fault\n")?,
+        Err(fault) => write!(out, "text {number}: {fault}\n")?,
     }
+    out.write_all(printed)
 }
 
 /// What a check finds wrong with what was printed for a text; nothing is checked of bytes that are no text.
@@ -50,14 +54,26 @@ fn print_run<W: Write>(alloc: Global, out: &mut W, number: u64, text: &[u8]) -> 
     let mut reader = Watched::new(text);
     let mut writer = Watched::new(Vec::new(alloc));
     let outcome = run(alloc, "<stdin>", &mut reader, &mut writer);
-    let status = status(&outcome);
-    write!(out, "text {number}: {status}\n")?;
     let printed = writer.device().as_slice();
-    out.write_all(printed)?;
+    print_outcome(out, number, &outcome, printed)?;
     match wrong_with(alloc, text, printed)? {
         Some(wrong) => write!(out, "wrong: {wrong}\n"),
         None => Ok(()),
     }
+}
+
+/// Runs the lexer over a text behind its edits, and prints how that ended and what the lexer printed.
+fn print_edited<W: Write>(
+    alloc: Global,
+    out: &mut W,
+    number: u64,
+    text: &[u8],
+    edits: &[Edit<'_>],
+) -> io::Result<()> {
+    let mut reader = Watched::new(text);
+    let mut writer = Watched::new(Vec::with_capacity(alloc, MOST_PRINTED)?);
+    let outcome = run_edits(alloc, "<stdin>", &mut reader, edits, &mut writer);
+    print_outcome(out, number, &outcome, writer.device().as_slice())
 }
 
 /// Prints what is wrong with the first text of many that a check refuses, if there is one.
@@ -80,18 +96,38 @@ fn print_repeated<W: Write>(out: &mut W, number: u64, repeated: &Tally) -> io::R
     print_wrong(out, repeated)
 }
 
-/// Does with a text what is to be done, and prints what comes of it.
-fn print_record<W: Write>(
+/// The error of standard input that is no list of records.
+fn no_records() -> io::Error {
+    io::Error::from(ErrorKind::InvalidData)
+}
+
+/// The text of a record that is an edit.
+fn edit_text(text: &[u8]) -> io::Result<&str> {
+    str::from_utf8(text).map_err(|_| no_records())
+}
+
+/// Does with a text what is to be done, and prints what comes of it. An edit is kept for the next text that is edited.
+fn print_record<'b, W: Write>(
     alloc: Global,
     out: &mut W,
     number: u64,
-    task: Task,
-    text: &[u8],
+    record: Record<'b>,
+    edits: &mut Vec<Edit<'b>>,
 ) -> io::Result<()> {
-    match task {
+    let text = record.text;
+    match record.task {
         Task::Lines => print_run(alloc, out, number, text),
         Task::Fronts => print_fronts(out, number, &of_fronts(alloc, text)?),
         Task::Repeated(times) => print_repeated(out, number, &of_repeated(alloc, text, times)?),
+        Task::Edit { from, to } => {
+            let text = edit_text(text)?;
+            Ok(edits.push(Edit { from, to, text })?)
+        }
+        Task::Edited => {
+            print_edited(alloc, out, number, text, edits.as_slice())?;
+            edits.clear();
+            Ok(())
+        }
     }
 }
 
@@ -100,15 +136,14 @@ fn main(rt: HostRuntime) -> io::Result<()> {
     let mut stored = Vec::new(alloc);
     rt.stdin().read_to_end(&mut stored)?;
     let mut out = BufWriter::new(alloc, rt.stdout())?;
+    let mut edits = Vec::new(alloc);
     let mut rest = stored.as_slice();
     for number in 1..u64::MAX {
         if rest.is_empty() {
             break;
         }
-        let Some((record, behind)) = first_record(rest) else {
-            return Err(io::Error::from(ErrorKind::InvalidData));
-        };
-        print_record(alloc, &mut out, number, record.task, record.text)?;
+        let (record, behind) = first_record(rest).ok_or_else(no_records)?;
+        print_record(alloc, &mut out, number, record, &mut edits)?;
         rest = behind;
     }
     out.flush()

@@ -1,7 +1,8 @@
 //! The stored texts: a list of records one behind another.
 //!
 //! A record is the length of its text in bytes as decimal digits, perhaps a space and what is to be done, a line feed,
-//! the text, and a line feed. What is to be done is `fronts`, or `times` and a number behind a space.
+//! the text, and a line feed. What is to be done is `fronts`, or `times` and a number, or `edit` and two places, or
+//! `edited`, with spaces between them.
 
 /// What is done with a text.
 #[derive(Clone, Copy, Debug, PartialEq, Eq)]
@@ -12,6 +13,10 @@ pub enum Task {
     Fronts,
     /// The text so many times, as one text, is lexed and checked, and what that comes to is counted.
     Repeated(u32),
+    /// It is an edit of the next text that is edited: it takes the place of the bytes from one place to another.
+    Edit { from: usize, to: usize },
+    /// It is lexed behind the edits that stand before it, one after another, and all lines are printed.
+    Edited,
 }
 
 /// A text, and what is done with it.
@@ -29,6 +34,11 @@ fn header(line: &str) -> Option<(usize, Task)> {
         None => Task::Lines,
         Some("fronts") => Task::Fronts,
         Some("times") => Task::Repeated(words.next()?.parse().ok()?),
+        Some("edit") => Task::Edit {
+            from: words.next()?.parse().ok()?,
+            to: words.next()?.parse().ok()?,
+        },
+        Some("edited") => Task::Edited,
         Some(_) => return None,
     };
     Some((len, task))

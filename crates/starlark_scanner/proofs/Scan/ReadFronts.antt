@@ -1,8 +1,8 @@
 -- What the first bytes of a text tell, which are read of it.
-use Rattle.std.proofs.Common.{◌≡◌, ℕ, Bool, List, [], ◌∷◌, Option, take, refl, sym, ap, ◌∙◌}
-use Rattle.std.specs.List.{slice_get}
+use Rattle.std.proofs.Common.{◌≡◌, ℕ, ◌+◌, ◌≤◌, Bool, true, List, [], ◌∷◌, Option, drop, length, take, refl, sym, ap, ◌∙◌, arith}
+use Rattle.std.specs.List.{prefix_len, slice_get}
 use Rattle.starlark_grammar.specs.Front.{longest_front}
-use Rattle.starlark_grammar.specs.Words.{Text, begins, has_base, sign_len}
+use Rattle.starlark_grammar.specs.Words.{Text, begins, has_base, is_in_name, is_name_start, sign_len}
 use Rattle.starlark_scanner.specs.Joints.Words.{begins_number, is_mark_alone}
 use Rattle.starlark_scanner.proofs.Scan.Marks.{front_three, mark_of}
 
@@ -52,3 +52,14 @@ mark_by_three (a ∷ b ∷ c ∷ rest) = front_three a b c [] ∙ sym (front_thr
 pub at_front : (text bytes front : Text) (b : Option ℕ) → front ≡ take 3 bytes → bytes ≡ text → b ≡ slice_get front 0 → slice_get text 0 ≡ b
 at_front text bytes front b read same is =
     sym (first_by_three text) ∙ sym (ap (λ (t : List ℕ). slice_get (take 3 t) 0) same) ∙ sym (ap (λ (t : List ℕ). slice_get t 0) read) ∙ sym is
+
+-- a name has a first byte, behind which its run goes on
+pub name_some : (text : Text) → begins is_name_start text ≡ true → 1 ≤ length text
+name_some [] h = cc
+name_some (b ∷ rest) h = omega arith
+
+pub name_goes_on : (text : Text) → begins is_name_start text ≡ true → 1 + prefix_len is_in_name (drop 1 text) ≡ prefix_len is_in_name text
+name_goes_on [] h = cc
+name_goes_on (b ∷ rest) h =
+    let inside : is_in_name b ≡ true = rw h refl in
+    rw inside refl

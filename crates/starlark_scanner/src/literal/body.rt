@@ -30,16 +30,49 @@ impl LiteralValue {
         }
     }
 
-    fn append(&mut self, value: Value<'_>) -> Result<(), AllocError>
-        requires { Takes self.old value }
-        ensures bytes { OnOk result (bytes_of self.new ≡ bytes_of self.old ++ value_view value.entry) }
+    /// Appends a run.
+    fn append_run(&mut self, run: &str) -> Result<(), AllocError>
+        ensures bytes { OnOk result (bytes_of self.new ≡ bytes_of self.old ++ run.now) }
         ensures kind { OnOk result (holds_text self.new ≡ holds_text self.old) }
     {
         match self {
-            LiteralValue::Text(text) => append_to_text(text, value),
-            LiteralValue::Bytes(bytes) => append_to_bytes(bytes, value),
+            LiteralValue::Text(text) => text.push_str(run),
+            LiteralValue::Bytes(bytes) => bytes.extend_from_slice(run.as_bytes()),
         }
     }
+
+    /// Appends a run, and the item behind it.
+    fn append_item(&mut self, run: &str, value: Value<'_>) -> Result<(), AllocError>
+        requires { Takes self.old value }
+        ensures bytes { OnOk result (bytes_of self.new ≡ (bytes_of self.old ++ run.now) ++ value_view value.entry) }
+        ensures kind { OnOk result (holds_text self.new ≡ holds_text self.old) }
+    {
+        match self {
+            LiteralValue::Text(text) => append_item_to_text(text, run, value),
+            LiteralValue::Bytes(bytes) => append_item_to_bytes(bytes, run, value),
+        }
+    }
+}
+
+/// How many more bytes there is room for behind a run and an item, where there was none.
+const SPARE_LEN: usize = 60;
+
+fn make_room_in_text(text: &mut String, len: usize) -> Result<(), AllocError>
+    ensures { string_bytes text.new ≡ string_bytes text.old }
+{
+    if text.capacity() - text.len() < len.saturating_add(4) {
+        text.reserve(len.saturating_add(SPARE_LEN))?;
+    }
+    Ok(())
+}
+
+fn make_room_in_bytes(bytes: &mut Vec<u8>, len: usize) -> Result<(), AllocError>
+    ensures { bytes.new.items ≡ bytes.old.items }
+{
+    if bytes.capacity() - bytes.len() < len.saturating_add(4) {
+        bytes.reserve(len.saturating_add(SPARE_LEN))?;
+    }
+    Ok(())
 }
 
 fn append_to_text(text: &mut String, value: Value<'_>) -> Result<(), AllocError>
@@ -66,6 +99,23 @@ fn append_to_bytes(bytes: &mut Vec<u8>, value: Value<'_>) -> Result<(), AllocErr
     }
 }
 
+fn append_item_to_text(text: &mut String, run: &str, value: Value<'_>) -> Result<(), AllocError>
+    requires { IsCharacters value }
+    ensures { OnOk result (string_bytes text.new ≡ (string_bytes text.old ++ run.now) ++ value_view value.entry) }
+{
+    make_room_in_text(text, run.len())?;
+    text.push_str(run)?;
+    append_to_text(text, value)
+}
+
+fn append_item_to_bytes(bytes: &mut Vec<u8>, run: &str, value: Value<'_>) -> Result<(), AllocError>
+    ensures { OnOk result (bytes.new.items ≡ (bytes.old.items ++ run.now) ++ value_view value.entry) }
+{
+    make_room_in_bytes(bytes, run.len())?;
+    bytes.extend_from_slice(run.as_bytes())?;
+    append_to_bytes(bytes, value)
+}
+
 /// A body: its length in bytes, what it denotes, and why it stops.
 #[derive(Debug, Drop, PartialEq, Eq)]
 pub struct Body {
@@ -90,14 +140,16 @@ pub fn read_body(
     let mut len = 0;
     loop {
         let run = first_run(reads, literal, &text[len..]);
-        value.append(Value::Part(run))?;
         len += run.len();
         match found_at(reads, literal, &text[len..]) {
             Found::Goes(item) => {
-                value.append(item.value)?;
+                value.append_item(run, item.value)?;
                 len += item.len;
             }
-            Found::Stops(stop) => return Ok(Body { len, value, stop }),
+            Found::Stops(stop) => {
+                value.append_run(run)?;
+                return Ok(Body { len, value, stop });
+            }
         }
     }
 }

@@ -1,6 +1,6 @@
 //! Words that begin with a letter or `_`: keywords, reserved words, identifiers, and openers that have a prefix.
 
-ghost use Rattle.std.specs.Prelude.{◌≡◌, ◌≤◌, ◌<◌, ◌+◌, IfSome, get_or, Some, is_some, if◌then◌else◌, length, nat_eq, take, true, unwrap_or};
+ghost use Rattle.std.specs.Prelude.{◌≡◌, ◌≤◌, ◌<◌, ◌+◌, ◌-◌, IfSome, Some, length, slice_get, nat_eq, take, true, unwrap_or};
 ghost use Rattle.std.specs.List.{prefix_len};
 ghost use Rattle.std.specs.Map.{lookup};
 ghost use Rattle.std.specs.Option.{option_map};
@@ -167,45 +167,42 @@ fn name_class(name: &str) -> Class
     listed_class(name)
 }
 
-/// Whether a quote stands at a place of a text.
+/// Whether a byte is a quote.
 #[inline(always)]
-fn is_quote_at(reads: &mut Reads, text: &[u8], at: usize) -> bool
-    ensures value { result ≡ is_quote (get_or text.now at 0) }
-    ensures reads { reads.new ≡ more_reads reads.old 1 }
+fn is_quote(byte: Option<u8>) -> bool
+    ensures { result ≡ is_quote (unwrap_or byte 0) }
 {
-    match reads.at(text, at) {
-        Some(byte) => byte == b'\'' || byte == b'"',
-        None => false,
-    }
+    matches!(byte, Some(b'\'' | b'"'))
 }
 
 /// What opens a literal at the front of a text that begins with a name of the given length: that
-/// name as a prefix, and a quote.
+/// name as a prefix, and a quote, which is the byte behind it.
 #[inline(always)]
-fn prefixed_opener(reads: &mut Reads, text: &str, len: usize) -> Option<Class>
-    requires { len ≡ prefix_len grammar.is_in_name text.now }
+fn prefixed_opener(text: &str, len: usize, behind: Option<u8>) -> Option<Class>
+    requires len { len ≡ prefix_len grammar.is_in_name text.now }
+    requires behind { behind ≡ slice_get text.now len }
     ensures opener { result ≡ lookup (bytes_eq (take (len + 1) text.now)) grammar.openers }
     ensures within { IfSome result (λ class. len < length text.now) }
-    ensures reads { AreReads (if is_some result then 1 else 0) 1 reads.old reads.new }
 {
     if len > PREFIX_LEN {
         return None;
     }
-    if !is_quote_at(reads, text.as_bytes(), len) {
+    if !is_quote(behind) {
         return None;
     }
     opener_class(&text[..len + 1])
 }
 
-/// The longest word at the front of a text that begins with a letter or `_`.
+/// The longest word at the front of a text that begins with a letter or `_`, which was read.
 #[inline(always)]
 pub fn name_from(reads: &mut Reads, text: &str) -> Word
     requires { grammar.begins grammar.is_name_start text.now ≡ true }
     ensures word { Some (word_view result) ≡ language_front text.now }
-    ensures reads { AreReads result.len (result.len + 2) reads.old reads.new }
+    ensures reads { AreReads (result.len - 1) result.len reads.old reads.new }
 {
-    let len = reads.name_len(text.as_bytes());
-    match prefixed_opener(reads, text, len) {
+    let (more, behind) = reads.name_run(&text.as_bytes()[1..]);
+    let len = 1 + more;
+    match prefixed_opener(text, len, behind) {
         Some(class) => Word {
             class,
             len: len + 1,
