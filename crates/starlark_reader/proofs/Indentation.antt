@@ -3,5 +3,7 @@ pub mod Margins
 pub mod CommentLines
 pub mod Blanks
 pub mod Pending
-pub mod IndentStack
+pub mod Indents
 pub mod Laid
+pub mod KeptWidths
+pub mod TakenWidths

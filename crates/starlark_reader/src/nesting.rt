@@ -7,7 +7,7 @@ ghost use Rattle.std.specs.Prelude.{◌≡◌, ◌+◌, ◌<◌, ◌≤◌, ◌^
 ghost use Rattle.starlark_grammar.specs.Depths.{is_balanced, mode_after};
 ghost use Rattle.starlark_reader.specs.Joints.Steps.{is_fstring_start};
 ghost use Rattle.starlark_scanner.specs.Joints.Literals.{opening_view};
-ghost use Rattle.starlark_reader.specs.Joints.Nesting.{IsUnchanged, Represents, bracket_count, mode_view};
+ghost use Rattle.starlark_reader.specs.Joints.Nesting.{IsUnchanged, Represents, bracket_count, change_by, mode_view};
 ghost use Rattle.starlark_token.specs.TokenViews.{Whole, token_view};
 ghost use Rattle.starlark_grammar.specs.Tokens as grammar;
 
@@ -71,8 +71,12 @@ impl Nesting {
         ensures passes { (tokens : List grammar.Token) (node : grammar.Token) → token_view token.now ≡ Whole node → is_fstring_start node ≡ false →
             Represents tokens self.old → Represents (node ∷ tokens) self.new }
         ensures count { bracket_count self.new ≤ bracket_count self.old + 1 }
+        ensures stays { change_by (token_view token.now) ≡ Change.Nothing → self.new ≡ self.old }
     {
         let change = change_of(token);
+        if change == Change::Nothing {
+            return;
+        }
         self.brackets = self.brackets.after(change);
         if change == Change::EndsFString {
             self.fstrings.pop();

@@ -5,6 +5,7 @@ ghost use Rattle.std.specs.Str.{IsCharBoundary};
 ghost use Rattle.starlark_reader.specs.Joints.Steps.{IsStep};
 ghost use Rattle.starlark_reader.specs.Lexemes.{shown_lexeme};
 ghost use Rattle.starlark_scanner.specs.Joints.Literals.{opening_view};
+ghost use Rattle.starlark_scanner.specs.Joints.Words.{HasDigit, IsDigitAt, short_view};
 ghost use Rattle.starlark_grammar.specs.Margins.{open_widths};
 ghost use Rattle.starlark_grammar.specs.Pieces as grammar;
 ghost use Rattle.starlark_grammar.specs.declared.class.Class.TheVariants as class;
@@ -12,27 +13,30 @@ ghost use Rattle.starlark_grammar.specs.declared.class.LiteralKind.TheVariants a
 ghost use Rattle.starlark_reader.specs.Joints.Pending.{IsIdle, IsPending};
 ghost use Rattle.starlark_reader.specs.Joints.MarginCuts.{IsCutBefore};
 ghost use Rattle.starlark_reader.specs.Joints.Reads.{HasRead, HasReadAt, HasReadNext, IsMarginRead, IsPassed, IsPassedBy};
-ghost use Rattle.starlark_reader.specs.Joints.Reader.{CountsLineEnds, has_read_none, IsAhead, IsAheadBehind, IsInFlatMargin, IsReached, IsStateAfter, IsNext, IsOver, IsRead, IsReady, IsSomething, IsWordHere, before_view, left_here, left_to_read, newline_if, silent_sort, step_here};
+ghost use Rattle.starlark_reader.specs.Joints.Reader.{CountsLineEnds, has_read_none, IsAhead, IsAheadBehind, IsAtCode, IsInCode, IsInFlatMargin, IsReached, IsStateAfter, IsNext, IsOver, IsRead, IsReady, IsSomething, IsWordHere, before_view, left_here, left_to_read, newline_if, newline_of, silent_sort, step_here};
 ghost use Rattle.starlark_reader.specs.Joints.Pieces.{IsBehind};
 ghost use Rattle.starlark_grammar.specs.Cuts.{is_layout, is_settled};
 ghost use Rattle.starlark_grammar.specs.Reading.{History, outcome};
-ghost use Rattle.starlark_token.specs.TokenViews.{TokenView};
-ghost use Rattle.starlark_grammar.specs.Depths.{mode_after};
+ghost use Rattle.starlark_token.specs.TokenViews.{TokenView, token_view};
 ghost use Rattle.starlark_grammar.specs.Tokens.{FStringStart, Fault, Spanned};
-ghost use Rattle.starlark_grammar.specs.Tokens as tokens;
-ghost use Rattle.starlark_reader.specs.Joints.Nesting.{Represents, mode_view};
-ghost use Rattle.starlark_reader.specs.Joints.Pieces.{is_code};
+ghost use Rattle.starlark_reader.specs.Joints.Nesting.{change_by};
+ghost use Rattle.starlark_reader.specs.declared.nesting.changes.Change.TheVariants as change;
 ghost use Rattle.starlark_grammar.specs.Words.{Text};
 
-use crate::layout::{Behind, IndentStack, Laid, Pending, PlacedToken, first_margin, line_end};
+use crate::layout::{
+    Behind, IndentStack, Pending, PlacedToken, margin_fault, margin_of, take_margin,
+};
 use crate::literal::{Opening, Step, TextEnd, quotes_of};
-use crate::nesting::{LexerMode, Nesting};
+use crate::nesting::Nesting;
 use crate::reading::code::{gap_len, is_code};
 use crate::reading::terminals::terminal_token;
+use crate::reading::words::digit_token;
 use crate::reading::{Piece, is_outside, line_end_counts, piece_at};
 use starlark_scanner::literal::plain_body_len;
 use starlark_scanner::reads::Reads;
-use starlark_scanner::scanner::{Quote, Terminal, Word, common_word};
+use starlark_scanner::scanner::{
+    Quote, ShortWord, Terminal, TextOpener, Word, common_word, short_word, text_opener,
+};
 use starlark_token::lexeme_error::LexemeError;
 use starlark_token::tokens::Token;
 use std::alloc::{AllocError, Global};
@@ -94,6 +98,14 @@ pub enum Next {
     Nothing,
 }
 
+/// What became of a line end: it doesn't count and was passed, a `Newline` stands there, or its margin has a fault.
+#[derive(Clone, Copy, Debug, PartialEq, Eq)]
+pub enum LineEnd {
+    Passed,
+    Newline,
+    Fault,
+}
+
 impl Reader {
     /// A reader at a text's begin. Takes no memory.
     pub fn new(alloc: Global) -> Self
@@ -152,21 +164,13 @@ impl Reader {
         ensures less { OnOk result (left_to_read text.now self.new self.new.stage < left_to_read text.now self.old Stage.Begin) }
         ensures reads { OnOk result (HasReadAt text.now self.old Stage.Begin → HasRead text.now self.new) }
     {
-        let laid = first_margin(&mut self.levels, &mut self.reads, text)?;
-        match laid {
-            Laid::Taken { pending, len } => {
-                self.pending = pending;
-                self.stage = Stage::Onward;
-                self.step_over(len, Before::Layout);
-            }
-            Laid::Fault {
-                pending,
-                fault,
-                end,
-            } => {
-                self.pending = pending;
-                self.refuse(0, fault, end);
-            }
+        let margin = margin_of(&mut self.reads, text);
+        if take_margin(&mut self.levels, &mut self.pending, 0, margin)? {
+            self.stage = Stage::Onward;
+            self.step_over(margin.at + margin.blanks.len, Before::Layout);
+        } else {
+            let (fault, end) = margin_fault(0, margin);
+            self.refuse(0, fault, end);
         }
         Ok(())
     }
@@ -177,31 +181,22 @@ impl Reader {
         requires stage { self.old.stage ≡ Stage.Onward }
         requires stands { (history : History) × IsStateAfter text.now history self.old × (step_here text.now history self.old ≡ grammar.line_end len (open_widths history.widths) (drop len (drop self.old.at text.now))) }
         requires cut { IsCharBoundary text.now (self.old.at + len) }
+        requires idle { IsIdle text.now self.old.pending }
         ensures read { IfOk result (λ is_laid. (history : History) → IsStateAfter text.now history self.old → step_here text.now history self.old ≡ grammar.line_end len (open_widths history.widths) (drop len (drop self.old.at text.now)) →
             IsRead text.now (left_here text.now history self.old) (newline_if is_laid self.old.at len) self.new) }
         ensures less { OnOk result (left_to_read text.now self.new self.new.stage < left_to_read text.now self.old Stage.Onward) }
         ensures reads { OnOk result (IsMarginRead text.now len self.old self.new self.new.stage) }
     {
-        let laid = line_end(&mut self.levels, &mut self.reads, self.at, len, text)?;
-        match laid {
-            Laid::Taken {
-                pending,
-                len: whole,
-            } => {
-                self.pending = pending;
-                self.step_over(whole, Before::Layout);
-                Ok(true)
-            }
-            Laid::Fault {
-                pending,
-                fault,
-                end: fault_end,
-            } => {
-                self.pending = pending;
-                self.refuse(0, fault, fault_end);
-                Ok(false)
-            }
+        let begin = self.at + len;
+        let margin = margin_of(&mut self.reads, &text[begin..]);
+        if !take_margin(&mut self.levels, &mut self.pending, begin, margin)? {
+            let (fault, end) = margin_fault(len, margin);
+            self.pending = Pending::nothing();
+            self.refuse(0, fault, end);
+            return Ok(false);
         }
+        self.step_over(len + margin.at + margin.blanks.len, Before::Layout);
+        Ok(true)
     }
 
     /// Reads a line end that counts, and the margin behind it. Answers its `Newline`; `None` where the margin has a fault.
@@ -210,6 +205,7 @@ impl Reader {
         requires stage { self.old.stage ≡ Stage.Onward }
         requires stands { (history : History) × IsStateAfter text.now history self.old × (step_here text.now history self.old ≡ grammar.line_end len (open_widths history.widths) (drop len (drop self.old.at text.now))) }
         requires cut { IsCharBoundary text.now (self.old.at + len) }
+        requires idle { IsIdle text.now self.old.pending }
         ensures read { IfOk result (λ given. (history : History) → IsStateAfter text.now history self.old → step_here text.now history self.old ≡ grammar.line_end len (open_widths history.widths) (drop len (drop self.old.at text.now)) →
             IsRead text.now (left_here text.now history self.old) given self.new) }
         ensures less { OnOk result (left_to_read text.now self.new self.new.stage < left_to_read text.now self.old Stage.Onward) }
@@ -256,6 +252,8 @@ impl Reader {
             IsRead text.now (left_here text.now history self.old) (Some (self.old.at, token.now, self.old.at + len)) self.new }
         ensures less { left_to_read text.now self.new self.new.stage < left_to_read text.now self.old Stage.Onward }
         ensures passed { IsPassedBy (self.old.at + len) self.old self.new × (self.new.stage ≡ Stage.Onward) }
+        ensures onward { IsInCode self.new → IsAtCode text.now self.new }
+        ensures stays { change_by (token_view token.now) ≡ change.Nothing → IsInCode self.old → IsInCode self.new }
     {
         self.nesting.pass(token);
         self.step_over(len, Before::Other);
@@ -460,41 +458,83 @@ impl Reader {
         matches!(self.stage, Stage::Onward) && self.pending.is_nothing()
     }
 
+    /// Whether the place is one of code.
+    #[inline(always)]
+    pub fn is_in_code(&self) -> bool
+        ensures { result ≡ true → IsInCode self.now }
+    {
+        is_code(self.nesting.place())
+    }
+
+    /// Whether the text is to be read on here, at a place of code, and nothing else is to be handed out before.
+    #[inline(always)]
+    pub fn is_at_code(&self) -> bool
+        ensures { result ≡ true → (text : Text) → IsPending text self.now.pending → IsAtCode text self.now }
+    {
+        self.reads_on() && self.is_in_code()
+    }
+
     /// Passes the spaces here, at a place of code.
     #[inline(always)]
-    fn pass_spaces(&mut self, place: LexerMode, text: &str)
+    fn pass_spaces(&mut self, text: &str)
         requires fits { length text.now < 2 ^ 32 }
-        requires code { is_code (mode_view place) ≡ true }
-        requires here { (before : List tokens.Token) → Represents before self.old.nesting → mode_view place ≡ mode_after before }
-        requires stage { self.old.stage ≡ Stage.Onward }
+        requires code { IsAtCode text.now self.old }
         requires ready { IsReady text.now self.old Stage.Onward }
-        requires idle { IsIdle text.now self.old.pending }
         ensures ahead { (lexemes : List (Spanned TokenView)) (fault : Option (Spanned Fault)) → IsAhead text.now self.old Stage.Onward lexemes fault → IsAhead text.now self.new Stage.Onward lexemes fault }
         ensures same { (self.new.nesting ≡ self.old.nesting) × (self.new.pending ≡ self.old.pending) × (self.new.stage ≡ Stage.Onward) }
         ensures onward { self.old.at ≤ self.new.at }
     {
-        let len = gap_len(&mut self.reads, place, &text[self.at..]);
+        let len = gap_len(&mut self.reads, &text[self.at..]);
         if len > 0 {
             self.step_over(len, Before::Gap);
         }
     }
 
     /// The word that comes next, where its first two bytes tell which it is: a name, a symbol of one byte, or a
-    /// quote. The spaces before it are passed. `None` where something else comes.
+    /// quote. The spaces before it are passed. `None` where something else comes. For places of code.
     #[inline(always)]
     pub fn common_word(&mut self, text: &str) -> Option<Word>
         requires fits { length text.now < 2 ^ 32 }
         requires ready { IsReady text.now self.old self.old.stage }
+        requires code { IsAtCode text.now self.old }
         ensures ahead { (lexemes : List (Spanned TokenView)) (fault : Option (Spanned Fault)) → IsAhead text.now self.old self.old.stage lexemes fault → IsAhead text.now self.new self.new.stage lexemes fault }
         ensures onward { left_to_read text.now self.new self.new.stage ≤ left_to_read text.now self.old self.old.stage }
+        ensures code { IsAtCode text.now self.new }
         ensures stands { IfSome result (λ word. IsWordHere text.now self.new word) }
     {
-        let place = self.nesting.place();
-        if !self.reads_on() || !is_code(place) {
-            return None;
-        }
-        self.pass_spaces(place, text);
+        self.pass_spaces(text);
         common_word(&mut self.reads, &text[self.at..])
+    }
+
+    /// The word that comes next, where it is a symbol of two bytes or an integer of one digit, and the byte behind it tells
+    /// so. `None` where something else comes. For places of code, behind their spaces.
+    #[inline(always)]
+    pub fn short_word(&mut self, text: &str) -> Option<ShortWord>
+        requires fits { length text.now < 2 ^ 32 }
+        requires ready { IsReady text.now self.old self.old.stage }
+        requires code { IsAtCode text.now self.old }
+        ensures ahead { (lexemes : List (Spanned TokenView)) (fault : Option (Spanned Fault)) → IsAhead text.now self.old self.old.stage lexemes fault → IsAhead text.now self.new self.new.stage lexemes fault }
+        ensures onward { left_to_read text.now self.new self.new.stage ≤ left_to_read text.now self.old self.old.stage }
+        ensures code { IsAtCode text.now self.new }
+        ensures stands { IfSome result (λ short. IsWordHere text.now self.new (short_view short)) }
+        ensures digit { IfSome result (λ short. HasDigit short (drop self.new.at text.now)) }
+    {
+        short_word(&mut self.reads, &text[self.at..])
+    }
+
+    /// The opener of a text literal that comes next. `None` where something else comes. For places of code, behind their
+    /// spaces.
+    #[inline(always)]
+    pub fn text_opener(&mut self, text: &str) -> Option<TextOpener>
+        requires fits { length text.now < 2 ^ 32 }
+        requires ready { IsReady text.now self.old self.old.stage }
+        requires code { IsAtCode text.now self.old }
+        ensures ahead { (lexemes : List (Spanned TokenView)) (fault : Option (Spanned Fault)) → IsAhead text.now self.old self.old.stage lexemes fault → IsAhead text.now self.new self.new.stage lexemes fault }
+        ensures onward { left_to_read text.now self.new self.new.stage ≤ left_to_read text.now self.old self.old.stage }
+        ensures code { IsAtCode text.now self.new }
+        ensures stands { IfSome result (λ opener. IsWordHere text.now self.new (record { class = class.Opener kind.Text opener.is_raw opener.quote; len = opener.len })) }
+    {
+        text_opener(&mut self.reads, &text[self.at..])
     }
 
     /// The place up to which the text is read, in bytes.
@@ -507,7 +547,7 @@ impl Reader {
 
     /// Passes the line end here, of so many bytes, where it doesn't count. Answers whether it did.
     #[inline(always)]
-    pub fn pass_line_end(&mut self, len: usize, text: &str) -> bool
+    fn pass_line_end(&mut self, len: usize, text: &str) -> bool
         requires fits { length text.now < 2 ^ 32 }
         requires ready { IsReady text.now self.old self.old.stage }
         requires stands { IsWordHere text.now self.old (record { class = class.LineEnd; len = len }) }
@@ -515,6 +555,7 @@ impl Reader {
         ensures less { result ≡ true → left_to_read text.now self.new self.new.stage < left_to_read text.now self.old self.old.stage }
         ensures stays { result ≡ false → self.new ≡ self.old }
         ensures counts { result ≡ false → CountsLineEnds self.new }
+        ensures code { result ≡ true → IsAtCode text.now self.new }
     {
         if line_end_counts(self.nesting.place(), self.nesting.is_balanced()) {
             return false;
@@ -524,9 +565,9 @@ impl Reader {
     }
 
     /// Takes the line end here, which counts and has so many bytes, and the margin behind it. Answers whether the margin has
-    /// no fault: then a `Newline` stands here. After an error the reader isn't to be asked again.
+    /// no fault: then a `Newline` stands here.
     #[inline(never)]
-    pub fn take_line_end(&mut self, len: usize, text: &str) -> Result<bool, AllocError>
+    fn take_counting_line_end(&mut self, len: usize, text: &str) -> Result<bool, AllocError>
         requires fits { length text.now < 2 ^ 32 }
         requires ready { IsReady text.now self.old self.old.stage }
         requires stands { IsWordHere text.now self.old (record { class = class.LineEnd; len = len }) }
@@ -537,6 +578,28 @@ impl Reader {
         self.lay_line_end(text, len)
     }
 
+    /// Takes the line end here, of so many bytes, and the margin behind it where it counts. Answers what became of it. After
+    /// an error the reader isn't to be asked again.
+    #[inline(always)]
+    pub fn take_line_end(&mut self, len: usize, text: &str) -> Result<LineEnd, AllocError>
+        requires fits { length text.now < 2 ^ 32 }
+        requires ready { IsReady text.now self.old self.old.stage }
+        requires stands { IsWordHere text.now self.old (record { class = class.LineEnd; len = len }) }
+        ensures ahead { IfOk result (λ line_end. (lexemes : List (Spanned TokenView)) (fault : Option (Spanned Fault)) → IsAhead text.now self.old self.old.stage lexemes fault → IsAheadBehind text.now (newline_of line_end self.old.at len) self.new lexemes fault) }
+        ensures memory { OnErr result ((lexemes : List (Spanned TokenView)) (fault : Option (Spanned Fault)) → IsAhead text.now self.old self.old.stage lexemes fault → IsSomething lexemes fault) }
+        ensures less { IfOk result (λ line_end. line_end ≡ LineEnd.Passed → left_to_read text.now self.new self.new.stage < left_to_read text.now self.old self.old.stage) }
+        ensures code { IfOk result (λ line_end. line_end ≡ LineEnd.Passed → IsAtCode text.now self.new) }
+    {
+        if self.pass_line_end(len, text) {
+            return Ok(LineEnd::Passed);
+        }
+        if self.take_counting_line_end(len, text)? {
+            Ok(LineEnd::Newline)
+        } else {
+            Ok(LineEnd::Fault)
+        }
+    }
+
     /// Takes the name here, of so many bytes. After an error the reader isn't to be asked again.
     #[inline(always)]
     pub fn take_name(&mut self, len: usize, text: &str) -> Result<PlacedToken, AllocError>
@@ -545,6 +608,7 @@ impl Reader {
         requires stands { IsWordHere text.now self.old (record { class = class.Identifier; len = len }) }
         ensures ahead { IfOk result (λ given. (lexemes : List (Spanned TokenView)) (fault : Option (Spanned Fault)) → IsAhead text.now self.old self.old.stage lexemes fault → IsAheadBehind text.now (Some given) self.new lexemes fault) }
         ensures memory { OnErr result ((lexemes : List (Spanned TokenView)) (fault : Option (Spanned Fault)) → IsAhead text.now self.old self.old.stage lexemes fault → IsSomething lexemes fault) }
+        ensures code { OnOk result (IsAtCode text.now self.new) }
     {
         let begin = self.at;
         let rest = &text[begin..];
@@ -568,6 +632,7 @@ impl Reader {
         requires stands { IsWordHere text.now self.old (record { class = class.Opener kind.Text is_raw quote; len = len }) }
         ensures ahead { IfOk result (λ given. (lexemes : List (Spanned TokenView)) (fault : Option (Spanned Fault)) → IsAhead text.now self.old self.old.stage lexemes fault → IsAheadBehind text.now given self.new lexemes fault) }
         ensures memory { OnErr result ((lexemes : List (Spanned TokenView)) (fault : Option (Spanned Fault)) → IsAhead text.now self.old self.old.stage lexemes fault → IsSomething lexemes fault) }
+        ensures code { OnOk result (IsAtCode text.now self.new) }
     {
         let begin = self.at;
         let rest = &text[begin..];
@@ -588,11 +653,28 @@ impl Reader {
         requires ready { IsReady text.now self.old self.old.stage }
         requires stands { IsWordHere text.now self.old (record { class = class.Fixed terminal; len = len }) }
         ensures ahead { (lexemes : List (Spanned TokenView)) (fault : Option (Spanned Fault)) → IsAhead text.now self.old self.old.stage lexemes fault → IsAheadBehind text.now (Some result) self.new lexemes fault }
+        ensures code { IsInCode self.new → IsAtCode text.now self.new }
     {
         let begin = self.at;
         let token = terminal_token(self.nesting.place(), terminal);
         self.pass_token(&token, len, text);
         (begin, token, begin + len)
+    }
+
+    /// Takes the integer of one digit here, of such a value.
+    #[inline(always)]
+    pub fn take_digit(&mut self, digit: u8, text: &str) -> PlacedToken
+        requires fits { length text.now < 2 ^ 32 }
+        requires ready { IsReady text.now self.old self.old.stage }
+        requires stands { IsWordHere text.now self.old (record { class = class.Decimal; len = 1 }) }
+        requires digit { IsDigitAt digit (drop self.old.at text.now) }
+        ensures ahead { (lexemes : List (Spanned TokenView)) (fault : Option (Spanned Fault)) → IsAhead text.now self.old self.old.stage lexemes fault → IsAheadBehind text.now (Some result) self.new lexemes fault }
+        ensures code { IsAtCode text.now self.new }
+    {
+        let begin = self.at;
+        let token = digit_token(digit);
+        self.pass_token(&token, 1, text);
+        (begin, token, begin + 1)
     }
 
     /// What comes next of the text: a lexeme, its fault behind them, or nothing. After an error the reader isn't to be

@@ -19,7 +19,7 @@ ghost use Rattle.starlark_grammar.specs.Words.{class_in, language};
 
 pub mod code;
 pub mod terminals;
-mod words;
+pub mod words;
 
 use crate::literal::{Opening, Step, chunk_from, literal_piece, opening_of};
 use crate::nesting::LexerMode;

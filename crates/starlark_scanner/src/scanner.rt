@@ -5,7 +5,7 @@ ghost use Rattle.std.specs.List.{prefix_len, slice_get};
 ghost use Rattle.std.specs.Option.{option_map};
 ghost use Rattle.starlark_grammar.specs.Front.{language_front};
 ghost use Rattle.starlark_scanner.specs.Joints.Reads.{AreReads, more_reads};
-ghost use Rattle.starlark_scanner.specs.Joints.Words.{begins_number, word_len, word_view};
+ghost use Rattle.starlark_scanner.specs.Joints.Words.{HasDigit, begins_number, opener_view, short_len, short_view, word_len, word_view};
 ghost use Rattle.starlark_grammar.specs.Pieces.{is_bang};
 ghost use Rattle.starlark_grammar.specs.Words as grammar;
 ghost use Rattle.starlark_grammar.specs.declared.class.Class.TheVariants as class;
@@ -21,7 +21,7 @@ mod word;
 use crate::reads::Reads;
 use first::is_name_start;
 pub use starlark_grammar::class::{Class, LiteralKind, Quote, Terminal};
-pub use word::Word;
+pub use word::{ShortWord, TextOpener, Word};
 
 /// Whether a number begins at the front of a text: with a digit, or with a point and a digit.
 fn begins_number(text: &[u8]) -> bool
@@ -108,6 +108,37 @@ pub fn common_word(reads: &mut Reads, text: &str) -> Option<Word>
         b'"' => Some(quote_word(Quote::Double)),
         _ => None,
     }
+}
+
+/// The longest word at the front of a text, where that is a symbol of two bytes or an integer of one digit, and the byte
+/// behind it tells so. `None` where it doesn't.
+#[inline(always)]
+pub fn short_word(reads: &mut Reads, text: &str) -> Option<ShortWord>
+    ensures word { IfSome result (λ short. Some (word_view (short_view short)) ≡ language_front text.now) }
+    ensures digit { IfSome result (λ short. HasDigit short text.now) }
+    ensures bang { IfSome result (λ short. is_bang text.now ≡ false) }
+    ensures reads { AreReads (short_len result) (short_len result + 4) reads.old reads.new }
+{
+    let front = reads.front(text.as_bytes(), 3);
+    let first = *front.first()?;
+    if numbers::is_digit_alone(front) {
+        return Some(ShortWord::Digit(first - b'0'));
+    }
+    match marks::mark_of_two(front) {
+        Some(Class::Fixed(terminal)) => Some(ShortWord::Symbol(terminal)),
+        _ => None,
+    }
+}
+
+/// The longest word at the front of a text, where its first two bytes tell that it opens a text literal.
+#[inline(always)]
+pub fn text_opener(reads: &mut Reads, text: &str) -> Option<TextOpener>
+    ensures word { IfSome result (λ opener. Some (opener_view opener) ≡ language_front text.now) }
+    ensures bang { IfSome result (λ opener. is_bang text.now ≡ false) }
+    ensures reads { reads.new ≡ more_reads reads.old 2 }
+{
+    let front = reads.front(text.as_bytes(), 2);
+    openers::text_opener(front)
 }
 
 /// The longest word at the front of a text that doesn't begin with a letter or `_`, and of which the first two bytes were read;

@@ -172,8 +172,8 @@ fn wrong_with_lexemes(lexed: &LexedText<'_>) -> Option<&'static str> {
     None
 }
 
-/// Whether the lines of a lexed text were printed. Of a long text only their number is compared: a code map counts each
-/// column from its line's begin, which would take time quadratic in a line.
+/// Whether the lines of a lexed text were printed. Of a long text only their number is compared, since making the lines
+/// takes longer than lexing it.
 fn is_printed(
     alloc: Global,
     lexed: &LexedText<'_>,

@@ -37,7 +37,7 @@ open-push (w ∷ widths) width =
     go true true false e more h = rw e h
 
 -- what all widths pass the open ones do
-open_all : (test : ℕ → Bool) (widths : List ℕ) → list_all test widths ≡ true → list_all test (open_widths widths) ≡ true
+pub open_all : (test : ℕ → Bool) (widths : List ℕ) → list_all test widths ≡ true → list_all test (open_widths widths) ≡ true
 unfolding open_widths
 open_all test [] h = refl
 open_all test (w ∷ widths) h =

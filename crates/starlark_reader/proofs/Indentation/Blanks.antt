@@ -1,5 +1,5 @@
 -- Blanks, byte by byte.
-use Rattle.std.proofs.Common.{◌≡◌, ℕ, suc, ◌+◌, ◌≤◌, ◌<◌, Bool, true, false, cond, [], ◌∷◌, length, take, drop, refl, ap, ◌∙◌, sym, arith, one-add, zero-add, Some, nat_eq, get_or}
+use Rattle.std.proofs.Common.{◌≡◌, ℕ, suc, ◌+◌, ◌≤◌, ◌<◌, Bool, true, false, cond, [], ◌∷◌, length, take, drop, refl, ap, ◌∙◌, sym, arith, one-add, zero-add, nat_eq, get_or}
 use Rattle.std.specs.Prelude.{◌==◌, ◌||◌, count_by}
 use Rattle.std.specs.List.{list_any}
 use Rattle.std.proofs.Math.Seq.{drop-cons}
@@ -8,7 +8,7 @@ use Rattle.std.proofs.lemmas.List.{length-drop}
 use Rattle.std.proofs.lemmas.List.Sums.{sum_by-cons}
 use Rattle.starlark_grammar.specs.Words.{Text}
 use Rattle.starlark_grammar.specs.Margins.{is_blank, blanks_len}
-use Rattle.starlark_reader.specs.Joints.Layout.{IsBlanks, IsWith}
+use Rattle.starlark_reader.specs.Joints.Layout.{IsBlanks}
 use Rattle.starlark_reader.specs.declared.layout.margins.Blanks.{Blanks}
 
 -- the blanks at the front of a text
@@ -39,21 +39,23 @@ at_front text n b inside e = drop-cons text n 0 inside ∙ ap (λ x. x ∷ drop 
     one : suc n ≡ n + 1
     one = omega arith
 
-pub one_passed : (text : Text) (old new : Blanks) (b : ℕ) → IsPassed text old → old.len < length text → b ≡ get_or text old.len 0 → IsWith old b (Some new) → IsPassed text new
-one_passed text old new b passed less here is =
+pub one_passed : (text : Text) (old new : Blanks) (b : ℕ) → IsPassed text old → old.len < length text → b ≡ get_or text old.len 0 → is_blank b ≡ true →
+    new.len ≡ old.len + 1 → new.width ≡ old.width + cond (b == 32) 1 0 → new.has_tab ≡ (b == 9 || old.has_tab) → IsPassed text new
+one_passed text old new b passed less here blank is_len is_width is_tab =
     let split = at_front text old.len b less here in
-    let front : blanks_at (drop old.len text) ≡ b ∷ blanks_at (drop (old.len + 1) text) = ap blanks_at split ∙ blank_front b (drop (old.len + 1) text) is.0 in
+    let front : blanks_at (drop old.len text) ≡ b ∷ blanks_at (drop (old.len + 1) text) = ap blanks_at split ∙ blank_front b (drop (old.len + 1) text) blank in
     let some : length (drop old.len text) ≡ suc (length (drop (old.len + 1) text)) = ap (λ (t : Text). length t) split in
     let len : length (blanks_at (drop old.len text)) ≡ suc (length (blanks_at (drop (old.len + 1) text))) = ap (λ (t : Text). length t) front in
     let width : count_by (nat_eq 32) (blanks_at (drop old.len text)) ≡ cond (b == 32) 1 0 + count_by (nat_eq 32) (blanks_at (drop (old.len + 1) text)) = ap (count_by (nat_eq 32)) front ∙ sum_by-cons (λ x. cond (nat_eq 32 x) 1 0) b (blanks_at (drop (old.len + 1) text)) ∙ ap (λ t. cond t 1 0 + count_by (nat_eq 32) (blanks_at (drop (old.len + 1) text))) (same b 32) in
     let tab : list_any (nat_eq 9) (blanks_at (drop old.len text)) ≡ (b == 9 || list_any (nat_eq 9) (blanks_at (drop (old.len + 1) text))) = ap (list_any (nat_eq 9)) front ∙ ap (λ t. t || list_any (nat_eq 9) (blanks_at (drop (old.len + 1) text))) (same b 9) in
-    rw is.1 (record {
-      inside = omega (arith, passed.inside, some, length-drop old.len text);
-      few = omega (arith, passed.few, one (b == 32));
-      len = omega (arith, passed.len, len);
-      width = omega (arith, passed.width, width);
-      has_tab = either (b == 9) old.has_tab _ ∙ ap (λ t. old.has_tab || t) (sym tab) ∙ passed.has_tab;
-    })
+    let rest = drop (old.len + 1) text in
+    record {
+      inside = omega (arith, is_len, passed.inside, some, length-drop old.len text);
+      few = omega (arith, is_len, is_width, passed.few, one (b == 32));
+      len = rw is_len (omega (arith, passed.len, len));
+      width = rw (is_len, is_width) (omega (arith, passed.width, width));
+      has_tab = rw (is_len, is_tab) (either (b == 9) old.has_tab (list_any (nat_eq 9) (blanks_at rest)) ∙ ap (λ t. old.has_tab || t) (sym tab) ∙ passed.has_tab);
+    }
   where
     same : (b c : ℕ) → nat_eq c b ≡ (b == c)
     same b c = grind (arith, nat_tests)

@@ -1,15 +1,15 @@
 -- What a margin comes to, and what was done about it.
-use Rattle.std.proofs.Common.{◌≡◌, ℕ, ◌+◌, Bool, true, false, List, [], ◌∷◌, ◌++◌, ap, ◌∙◌, sym, subst, refl, arith, add_assoc, map, zero-add, drop, Some, None, append_assoc}
-use Rattle.std.specs.Prelude.{option_to_list}
+use Rattle.std.proofs.Common.{◌≡◌, ℕ, ◌+◌, Bool, true, false, List, [], ◌∷◌, ◌++◌, ap, ◌∙◌, sym, subst, refl, arith, add_assoc, map, zero-add, drop, append-nil}
 use Rattle.std.specs.Str.{IsUtf8, IsCharBoundary}
 use Rattle.std.proofs.lemmas.List.{map-append}
 use Rattle.std.proofs.lemmas.Str.{IsCharBoundary-start}
 use Rattle.starlark_grammar.specs.Words.{Text}
 use Rattle.starlark_grammar.specs.Tokens.{Indentation, InvalidTab, Lexeme, Newline, moved}
-use Rattle.starlark_grammar.specs.Margins.{Margin, fits, margin_len, margin_of, open_widths}
+use Rattle.starlark_grammar.specs.Margins.{Margin, comments_from, fits, has_tab, margin_len, margin_of, open_widths}
 use Rattle.starlark_grammar.specs.Pieces.{Stands, fault, first_margin, line_end, margin_step}
-use Rattle.starlark_reader.specs.Joints.Layout.{IsDecided, IsMargin, IsRefused, IsTaken, margin_indentation, margin_lexemes, margin_piece, margin_width}
-use Rattle.starlark_reader.specs.Joints.Pending.{IsPending, behind_lexemes, pending_lexemes}
+use Rattle.starlark_reader.specs.Joints.Layout.{IsFaultFound, IsLaidOut, IsLeftOut, IsMargin, IsRefused, IsTaken, margin_fault, margin_indentation, margin_lexemes, margin_piece}
+use Rattle.starlark_reader.specs.Joints.MarginCuts.{IsOfMargin}
+use Rattle.starlark_reader.specs.Joints.Pending.{IsPending, behind_lexemes, lines_between, pending_lexemes}
 use Rattle.starlark_reader.specs.declared.layout.margins.Margin.{Margin as Measured}
 use Rattle.starlark_reader.specs.declared.layout.pending.Behind.{Behind}
 use Rattle.starlark_reader.specs.declared.layout.pending.Pending.{Pending}
@@ -40,6 +40,16 @@ module _ (len : ℕ) (before : List Lexeme) (levels : List ℕ) (seen : Margin) 
       let fitting = sym (ap (λ w. fits w levels) same.blanks.width) ∙ l in
       rw (some, tab, fitting) (ap (fault 0 Indentation) whole)
 
+-- a tab before content
+pub left_tab : (levels : List ℕ) (seen : Margin) (margin : Measured) → IsMargin seen margin → margin.is_content ≡ true → margin.blanks.has_tab ≡ true → (behind : Behind) → IsLeftOut seen levels levels behind behind
+left_tab levels seen margin same some is_tab behind =
+    let tab : has_tab seen ≡ true = sym same.blanks.has_tab ∙ is_tab in
+    record {
+      stands = λ len before. decided_tab len before levels seen margin same some is_tab ∙ rw tab refl;
+      levels = refl;
+      same = refl;
+    }
+
 -- Places
 
 moved_once : (n m : ℕ) (lexeme : Lexeme) → moved n (moved m lexeme) ≡ moved (n + m) lexeme
@@ -55,12 +65,21 @@ moved_none (lexeme ∷ lexemes) = rw (zero-add lexeme.begin, zero-add lexeme.end
 
 -- What is still to be handed out
 
+-- what is behind no lexemes is none
+pub behind_none : (text : Text) (pending : Pending) → pending_lexemes text pending ≡ [] → behind_lexemes pending.behind ≡ []
+unfolding pending_lexemes
+behind_none text pending none = go (comments_from pending.from (lines_between text pending.from pending.to)) none
+  where
+    go : (comments : List Lexeme) → comments ++ behind_lexemes pending.behind ≡ [] → behind_lexemes pending.behind ≡ []
+    go [] h = h
+    go (comment ∷ comments) h = cc
+
 -- of a margin that begins somewhere
 abbrev margin_pending : ℕ → ℕ → Behind → Bool → Pending
 margin_pending begin at behind flat = record { from = begin; to = begin + at; behind = behind; is_flat = flat }
 
 module _ (text : Text) (begin : ℕ) (margin : Measured) (utf8 : IsUtf8 text) (here : IsCharBoundary text begin) (same : IsMargin (margin_of (drop begin text)) margin) where
-  pub margin_waits : (levels : List ℕ) (behind : Behind) (flat : Bool) → behind_lexemes behind ≡ map (moved begin) (margin_indentation levels (margin_of (drop begin text)))
+  margin_waits : (levels : List ℕ) (behind : Behind) (flat : Bool) → behind_lexemes behind ≡ map (moved begin) (margin_indentation levels (margin_of (drop begin text)))
       → IsPending text (margin_pending begin margin.at behind flat) × (map (moved begin) (margin_lexemes levels (margin_of (drop begin text))) ≡ pending_lexemes text (margin_pending begin margin.at behind flat))
   unfolding pending_lexemes
   margin_waits levels behind flat e =
@@ -69,76 +88,85 @@ module _ (text : Text) (begin : ℕ) (margin : Measured) (utf8 : IsUtf8 text) (h
         map-append (moved begin) (margin_of (drop begin text)).comments (margin_indentation levels (margin_of (drop begin text))) ∙ rw (both, e) refl,
       )
 
-  -- the comments alone
-  pub comments_wait : (behind : Behind) (flat : Bool) → behind_lexemes behind ≡ [] → IsPending text (margin_pending begin margin.at behind flat) × (map (moved begin) (margin_of (drop begin text)).comments ≡ pending_lexemes text (margin_pending begin margin.at behind flat))
-  unfolding pending_lexemes
-  comments_wait behind flat none = (
-    are_comments text begin margin.at utf8 here same.at,
-    rw (margin_between text begin margin.at utf8 here same.at, none) (sym (Rattle.std.proofs.Common.append-nil _)),
-  )
-
-pub comments_wait_first : (text : Text) (margin : Measured) → IsUtf8 text → IsMargin (margin_of text) margin → (behind : Behind) (flat : Bool) → behind_lexemes behind ≡ []
-    → IsPending text (record { from = 0; to = margin.at; behind = behind; is_flat = flat }) × (map (moved 0) (margin_of text).comments ≡ pending_lexemes text (record { from = 0; to = margin.at; behind = behind; is_flat = flat }))
-comments_wait_first text margin utf8 same behind flat none =
-    subst (λ n. IsPending text (record { from = 0; to = n; behind = behind; is_flat = flat }) × (map (moved 0) (margin_of text).comments ≡ pending_lexemes text (record { from = 0; to = n; behind = behind; is_flat = flat }))) (zero-add margin.at)
-    (comments_wait text 0 margin utf8 (IsCharBoundary-start text utf8) same behind flat none)
-
 -- What was done
 
-none_open : (levels : List ℕ) → levels ≡ [] → levels ≡ open_widths []
+module _ (text : Text) (begin : ℕ) (pending : Pending) (margin : Measured) (utf8 : IsUtf8 text) (here : IsCharBoundary text begin) (same : IsMargin (margin_of (drop begin text)) margin) (old : List ℕ) (of : IsOfMargin begin margin.at old pending) where
+  of_margin : margin_pending begin margin.at pending.behind pending.is_flat ≡ pending
+  of_margin = go pending.from pending.to of.from of.to
+    where
+      go : (from to : ℕ) → from ≡ begin → to ≡ begin + margin.at → margin_pending begin margin.at pending.behind pending.is_flat ≡ record { from = from; to = to; behind = pending.behind; is_flat = pending.is_flat }
+      go from to e f = rw (e, f) refl
+
+  -- the lexemes of a margin wait, if what stands behind its comments does
+  waits : (levels : List ℕ) → behind_lexemes pending.behind ≡ map (moved begin) (margin_indentation levels (margin_of (drop begin text)))
+      → IsPending text pending × (map (moved begin) (margin_lexemes levels (margin_of (drop begin text))) ≡ pending_lexemes text pending)
+  waits levels e = subst (λ p. IsPending text p × (map (moved begin) (margin_lexemes levels (margin_of (drop begin text))) ≡ pending_lexemes text p)) of_margin
+      (margin_waits text begin margin utf8 here same levels pending.behind pending.is_flat e)
+
+  -- the comments alone, if nothing does
+  comments_wait : behind_lexemes pending.behind ≡ [] → IsPending text pending × (map (moved begin) (margin_of (drop begin text)).comments ≡ pending_lexemes text pending)
+  unfolding pending_lexemes
+  comments_wait none = subst (λ p. IsPending text p × (map (moved begin) (margin_of (drop begin text)).comments ≡ pending_lexemes text p)) of_margin (
+    are_comments text begin margin.at utf8 here same.at,
+    rw (margin_between text begin margin.at utf8 here same.at, none) (sym (append-nil _)),
+  )
+
+pub none_open : (levels : List ℕ) → levels ≡ [] → levels ≡ open_widths []
 unfolding open_widths
 none_open levels e = e
 
-module _ (text : Text) (levels : List ℕ) (margin : Measured) (none : levels ≡ []) (same : IsMargin (margin_of text) margin) where
-  pub first_taken : (now : List ℕ) (pending : Pending) → margin_step 0 [] levels (margin_of text) ≡ Stands (margin_piece 0 [] levels (margin_of text))
-      → IsPending text pending × (map (moved 0) (margin_lexemes levels (margin_of text)) ≡ pending_lexemes text pending) → ((widths : List ℕ) (seen : Margin) → IsMargin seen margin → levels ≡ open_widths widths → now ≡ open_widths (widths ++ option_to_list (margin_width seen)))
-      → IsTaken text 0 (first_margin text) [] [] now pending (margin.at + margin.blanks.len)
-  first_taken now pending decided waits pushed = record {
-    piece = margin_piece 0 [] [] (margin_of text);
-    stands = rw none at decided;
-    whole = omega (arith, same.at, same.blanks.len);
-    is_pending = waits.0;
-    lexemes = moved_twice 0 0 (margin_lexemes [] (margin_of text)) ∙ ap (λ ls. map (moved 0) (margin_lexemes ls (margin_of text))) (sym none) ∙ waits.1;
-    open_now = pushed [] (margin_of text) same (none_open levels none);
-  }
+module _ (text : Text) (levels now : List ℕ) (margin : Measured) (pending : Pending) (utf8 : IsUtf8 text) (same : IsMargin (margin_of text) margin) (of : IsOfMargin 0 margin.at levels pending) where
+  pub first_taken : levels ≡ [] → IsLaidOut 0 (margin_of text) [] levels now pending.behind → IsTaken text 0 (first_margin text) [] [] now pending (margin.at + margin.blanks.len)
+  first_taken none laid =
+      let both = waits text 0 pending margin utf8 (IsCharBoundary-start text utf8) same levels of levels laid.behind_them in
+      record {
+        piece = margin_piece 0 [] [] (margin_of text);
+        stands = rw none at (laid.stands 0 []);
+        whole = omega (arith, same.at, same.blanks.len);
+        is_pending = both.0;
+        lexemes = moved_twice 0 0 (margin_lexemes [] (margin_of text)) ∙ ap (λ ls. map (moved 0) (margin_lexemes ls (margin_of text))) (sym none) ∙ both.1;
+        open_now = laid.open_now;
+      }
 
-  pub first_refused : (error : LexemeError) (end : ℕ) (pending : Pending) → IsDecided (margin_step 0 [] levels (margin_of text)) (margin_piece 0 [] levels (margin_of text)) (Some (error, end))
-      → IsPending text pending × (map (moved 0) (margin_of text).comments ≡ pending_lexemes text pending) → IsRefused text (first_margin text) (margin_of text).comments [] levels pending error end
-  first_refused error end pending decided waits = record {
-    node = decided.0;
-    is = decided.1;
-    stands = rw none at decided.2;
-    is_pending = waits.0;
-    lexemes = sym (moved_none (margin_of text).comments) ∙ waits.1;
-    open_now = none_open levels none;
-  }
+  pub first_refused : levels ≡ [] → (behind : Behind) → IsLeftOut (margin_of text) levels now behind pending.behind → behind_lexemes behind ≡ [] → (error : LexemeError) (end : ℕ) → IsFaultFound (margin_fault 0 (margin_of text)) (error, end)
+      → IsRefused text (first_margin text) (margin_of text).comments [] now pending error end
+  first_refused none behind left idle error end found =
+      let both = comments_wait text 0 pending margin utf8 (IsCharBoundary-start text utf8) same levels of (ap behind_lexemes left.same ∙ idle) in
+      record {
+        node = found.0;
+        is = found.1;
+        stands = ap (λ ls. margin_step 0 [] ls (margin_of text)) (sym none) ∙ left.stands 0 [] ∙ found.2;
+        is_pending = both.0;
+        lexemes = sym (moved_none (margin_of text).comments) ∙ both.1;
+        open_now = left.levels ∙ none_open levels none;
+      }
 
 -- the lexeme of a line end
 abbrev newline : ℕ → Lexeme
 newline len = record { begin = 0; node = Newline; end = len }
 
-module _ (text : Text) (at len : ℕ) (levels widths : List ℕ) (margin : Measured) (open_now : levels ≡ open_widths widths) (same : IsMargin (margin_of (drop (at + len) text)) margin) where
-  pub end_taken : (now : List ℕ) (pending : Pending) → margin_step len (newline len ∷ []) levels (margin_of (drop (at + len) text)) ≡ Stands (margin_piece len (newline len ∷ []) levels (margin_of (drop (at + len) text)))
-      → IsPending text pending × (map (moved (at + len)) (margin_lexemes levels (margin_of (drop (at + len) text))) ≡ pending_lexemes text pending) → ((widths : List ℕ) (seen : Margin) → IsMargin seen margin → levels ≡ open_widths widths → now ≡ open_widths (widths ++ option_to_list (margin_width seen)))
+module _ (text : Text) (at len : ℕ) (levels now widths : List ℕ) (margin : Measured) (pending : Pending) (open_now : levels ≡ open_widths widths) (same : IsMargin (margin_of (drop (at + len) text)) margin) where
+  pub end_taken : IsUtf8 text → IsCharBoundary text (at + len) → IsOfMargin (at + len) margin.at levels pending → IsLaidOut (at + len) (margin_of (drop (at + len) text)) widths levels now pending.behind
       → IsTaken text at (line_end len (open_widths widths) (drop (at + len) text)) (record { begin = at; node = Newline; end = at + len } ∷ []) widths now pending (len + margin.at + margin.blanks.len)
-  end_taken now pending decided waits taken =
+  end_taken utf8 here of laid =
       let start : at + 0 ≡ at = omega arith in
+      let both = waits text (at + len) pending margin utf8 here same levels of levels laid.behind_them in
       record {
         piece = margin_piece len (newline len ∷ []) levels (margin_of (drop (at + len) text));
-        stands = ap (λ ls. margin_step len (newline len ∷ []) ls (margin_of (drop (at + len) text))) (sym open_now) ∙ decided;
+        stands = ap (λ ls. margin_step len (newline len ∷ []) ls (margin_of (drop (at + len) text))) (sym open_now) ∙ laid.stands len (newline len ∷ []);
         whole = omega (arith, same.at, same.blanks.len);
-        is_pending = waits.0;
-        lexemes = ap (λ ls. record { begin = at + 0; node = Newline; end = at + len } ∷ ls) (moved_twice at len (margin_lexemes levels (margin_of (drop (at + len) text))) ∙ waits.1) ∙ ap (λ n. record { begin = n; node = Newline; end = at + len } ∷ pending_lexemes text pending) start;
-        open_now = taken widths (margin_of (drop (at + len) text)) same open_now;
+        is_pending = both.0;
+        lexemes = ap (λ ls. record { begin = at + 0; node = Newline; end = at + len } ∷ ls) (moved_twice at len (margin_lexemes levels (margin_of (drop (at + len) text))) ∙ both.1) ∙ ap (λ n. record { begin = n; node = Newline; end = at + len } ∷ pending_lexemes text pending) start;
+        open_now = laid.open_now;
       }
 
-  pub end_refused : (error : LexemeError) (end : ℕ) (pending : Pending) → IsDecided (margin_step len (newline len ∷ []) levels (margin_of (drop (at + len) text))) (margin_piece len (newline len ∷ []) levels (margin_of (drop (at + len) text))) (Some (error, end))
-      → (pending_lexemes text pending ≡ []) × IsPending text pending → IsRefused text (line_end len (open_widths widths) (drop (at + len) text)) [] widths levels pending error end
-  end_refused error end pending decided none = record {
-    node = decided.0;
-    is = decided.1;
-    stands = ap (λ ls. margin_step len (newline len ∷ []) ls (margin_of (drop (at + len) text))) (sym open_now) ∙ decided.2;
+  pub end_refused : (behind behind_now : Behind) → IsLeftOut (margin_of (drop (at + len) text)) levels now behind behind_now → (pending_lexemes text pending ≡ []) × IsPending text pending → (error : LexemeError) (end : ℕ) → IsFaultFound (margin_fault len (margin_of (drop (at + len) text))) (error, end)
+      → IsRefused text (line_end len (open_widths widths) (drop (at + len) text)) [] widths now pending error end
+  end_refused behind behind_now left none error end found = record {
+    node = found.0;
+    is = found.1;
+    stands = ap (λ ls. margin_step len (newline len ∷ []) ls (margin_of (drop (at + len) text))) (sym open_now) ∙ left.stands len (newline len ∷ []) ∙ found.2;
     is_pending = none.1;
     lexemes = sym none.0;
-    open_now = open_now;
+    open_now = left.levels ∙ open_now;
   }

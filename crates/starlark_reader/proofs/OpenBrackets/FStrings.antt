@@ -15,7 +15,7 @@ use Rattle.starlark_reader.specs.declared.nesting.changes.Change.TheVariants as 
 use Rattle.starlark_reader.specs.declared.nesting.Nesting.{Nesting}
 use Rattle.starlark_reader.specs.declared.nesting.counts.Brackets.{Brackets}
 use Rattle.starlark_reader.specs.declared.nesting.counts.OpenFString.{OpenFString}
-use Rattle.starlark_reader.proofs.OpenBrackets.Counts.{opened_onward, closed_onward}
+use Rattle.starlark_reader.proofs.OpenBrackets.Counts.{opened_onward, closed_onward, fstring_onward}
 
 -- The open f-strings
 
@@ -212,3 +212,24 @@ still_represents tokens old new same h = record {
   opened = ap (λ (brackets : Brackets). brackets.opened) same.1 ∙ h.opened;
   closed = ap (λ (brackets : Brackets). brackets.closed) same.1 ∙ h.closed;
 }
+
+-- A token that changes nothing leaves f-strings and brackets as they are.
+
+same_fstring : (node : Token) → change_by (Whole node) ≡ change.Nothing → (found : Option (Opening × List Token))
+    → option_map fstring_of (option_map (λ (found : Opening × List Token). (found.0, node ∷ found.1)) found) ≡ option_map fstring_of found
+same_fstring node h None = refl
+same_fstring node h (Some found) = ap Some (sym (fstring_onward (fstring_of found) (fstring_of found) change.Nothing found node (sym h) refl (record { opening = refl; expression = refl; rounds = refl; squares = refl })))
+
+same_fstrings : (n : ℕ) (node : Token) (tokens : List Token) → keeps node ≡ true → change_by (Whole node) ≡ change.Nothing → option_map fstring_of (open_fstring n (node ∷ tokens)) ≡ option_map fstring_of (open_fstring n tokens)
+same_fstrings zero node tokens k h = ap (option_map fstring_of) (innermost_onward node tokens k) ∙ same_fstring node h (open_fstring 0 tokens)
+same_fstrings (suc n) node tokens k h = ap (option_map fstring_of) (outer_onward n node tokens k)
+
+pub one_kept : (node : Token) (tokens : List Token) (nesting : Nesting) → keeps node ≡ true → change_by (Whole node) ≡ change.Nothing → Represents tokens nesting → Represents (node ∷ tokens) nesting
+one_kept node tokens nesting k none same =
+    let opened : count_by is_any_opening (node ∷ tokens) ≡ 0 + count_by is_any_opening tokens = opened_onward node tokens ∙ ap (λ c. opens c + count_by is_any_opening tokens) none in
+    let closed : count_by is_any_closing (node ∷ tokens) ≡ 0 + count_by is_any_closing tokens = closed_onward node tokens ∙ ap (λ c. closes c + count_by is_any_closing tokens) none in
+    record {
+      fstrings = λ n. same.fstrings n ∙ sym (same_fstrings n node tokens k none);
+      opened = omega (arith, same.opened, opened);
+      closed = omega (arith, same.closed, closed);
+    }

@@ -9,21 +9,26 @@ use Rattle.starlark_grammar.specs.Reading.{tokens_onto}
 use Rattle.starlark_reader.specs.Joints.Steps.{is_fstring_start, text_end_node}
 use Rattle.starlark_reader.specs.Lexemes.{lexeme_view}
 use Rattle.starlark_reader.specs.Joints.Pending.{IsIdle, IsPending, pending_lexemes}
-use Rattle.starlark_reader.specs.Joints.Nesting.{Represents}
+use Rattle.starlark_reader.specs.Joints.Nesting.{Represents, change_by}
 use Rattle.starlark_token.specs.TokenViews.{Whole, token_view}
 use Rattle.starlark_reader.specs.declared.layout.pending.Pending.{Pending}
 use Rattle.starlark_reader.specs.declared.literal.pieces.TextEnd.{TextEnd}
 use Rattle.starlark_reader.specs.declared.literal.pieces.TextEnd.TheVariants as ends
 use Rattle.starlark_reader.specs.declared.nesting.Nesting.{Nesting}
+use Rattle.starlark_reader.specs.declared.nesting.changes.Change.TheVariants as change
 use Rattle.starlark_token.specs.declared.tokens.Token.{Token}
 use Rattle.starlark_token.specs.declared.tokens.Token.TheVariants as token
-use Rattle.starlark_reader.proofs.Pieces.Taken.{one_kept}
+use Rattle.starlark_reader.proofs.OpenBrackets.FStrings.{one_kept}
 use Rattle.starlark_reader.proofs.Pieces.Here.{shown_at}
 use Rattle.starlark_reader.proofs.Pieces.Waiting.{Hands, hands_first, hands_one}
 
+text_changes : (value : Text) → change_by (Whole (grammar.FStringText value)) ≡ change.Nothing
+unfolding change_by
+text_changes value = refl
+
 pub text_onto : (tokens : List grammar.Token) (len : ℕ) (value : Text) (nesting : Nesting) → Represents tokens nesting → Represents (tokens_onto tokens (chunk_text len value)) nesting
 text_onto tokens len [] nesting kept = kept
-text_onto tokens len (b ∷ bs) nesting kept = one_kept (grammar.FStringText (b ∷ bs)) tokens nesting refl kept
+text_onto tokens len (b ∷ bs) nesting kept = one_kept (grammar.FStringText (b ∷ bs)) tokens nesting refl (text_changes (b ∷ bs)) kept
 
 pub onto_last : (tokens : List grammar.Token) (len : ℕ) (value : Text) (last : Lexeme) → tokens_onto tokens (chunk_text len value ++ last ∷ []) ≡ last.node ∷ tokens_onto tokens (chunk_text len value)
 onto_last tokens len [] last = refl

@@ -1,9 +1,10 @@
 -- What a reader makes of the piece that stands where it is.
-use Rattle.std.proofs.Common.{◌≡◌, ◌≢◌, ℕ, ◌+◌, ◌≤◌, Bool, true, false, List, [], length, drop, refl, sym, ap, ◌∙◌, subst, arith, append-nil, take, None}
+use Rattle.std.proofs.Common.{◌≡◌, ◌≢◌, ℕ, ◌+◌, ◌≤◌, ◌==◌, ◌&&◌, Bool, true, false, List, [], ◌∷◌, length, drop, refl, sym, ap, ◌∙◌, subst, arith, append-nil, take, None}
 use Rattle.std.specs.Prelude.{Option, String, string_bytes, if◌then◌else◌}
 use Rattle.std.specs.Str.{IsUtf8}
 use Rattle.std.specs.declared.alloc.Global.{Global}
 use Rattle.starlark_grammar.specs.Words.{Text, language}
+use Rattle.starlark_grammar.specs.Numbers.{integer_of}
 use Rattle.starlark_grammar.specs.Tokens as Tokens
 use Rattle.starlark_grammar.specs.Tokens.{Fault, Spanned}
 use Rattle.starlark_grammar.specs.declared.class.Class.TheVariants as class
@@ -12,6 +13,7 @@ use Rattle.starlark_grammar.specs.declared.class.Quote.{Quote}
 use Rattle.starlark_grammar.specs.declared.class.Terminal.{Terminal}
 use Rattle.starlark_grammar.specs.Depths.{Mode}
 use Rattle.starlark_scanner.specs.Joints.Literals.{IsPlainBody}
+use Rattle.starlark_scanner.specs.Joints.Words.{IsDigitAt}
 use Rattle.starlark_reader.proofs.Literals.Pieces.{opener_plain}
 use Rattle.starlark_reader.specs.Joints.Steps.{IsStep, is_fstring_start}
 use Rattle.starlark_reader.specs.declared.literal.pieces.Step.TheVariants as step
@@ -22,14 +24,15 @@ use Rattle.starlark_grammar.specs.Margins.{open_widths}
 use Rattle.starlark_grammar.specs.Pieces as pieces
 use Rattle.starlark_grammar.specs.Pieces.{Piece, Situation, Stands, step_at}
 use Rattle.starlark_grammar.specs.Reading.{History, next_step, situation}
-use Rattle.starlark_reader.specs.Joints.Nesting.{Represents, mode_view}
+use Rattle.starlark_reader.specs.Joints.Nesting.{Represents, change_by, mode_view}
 use Rattle.starlark_reader.specs.Joints.Pending.{IsIdle}
 use Rattle.starlark_token.specs.declared.tokens.Token.{Token}
 use Rattle.starlark_scanner.specs.declared.scanner.word.Word.{Word}
-use Rattle.starlark_reader.specs.Joints.Pieces.{IsBehind, IsPiece, nothing_of}
-use Rattle.starlark_reader.specs.Joints.Reader.{IsAhead, IsAheadBehind, IsStateAfter, IsRead, IsWordHere, before_view, left_here, silent_sort, step_here}
+use Rattle.starlark_reader.specs.Joints.Pieces.{IsBehind, IsPiece, is_code, nothing_of}
+use Rattle.starlark_reader.specs.Joints.Reader.{IsAhead, IsAheadBehind, IsInCode, IsStateAfter, IsRead, IsWordHere, before_view, left_here, silent_sort, step_here}
 use Rattle.starlark_token.specs.TokenViews.{TokenView, Whole, token_view}
 use Rattle.starlark_reader.specs.declared.nesting.LexerMode.{LexerMode}
+use Rattle.starlark_reader.specs.declared.nesting.changes.Change.TheVariants as change
 use Rattle.starlark_reader.specs.declared.reading.Piece as code
 use Rattle.starlark_reader.specs.declared.reader.Before as sort
 use Rattle.starlark_reader.specs.declared.reader.Before.TheVariants as before
@@ -62,13 +65,12 @@ behind_sort before.Gap before is = subst (IsBehind true) is refl
 behind_sort before.Other before is = subst (IsBehind false) is refl
 
 -- the same of a gap
-pub gap_read : (text : Text) (history : History) (reader : Reader) (place : LexerMode) (rest : Text) (len : ℕ) → rest ≡ drop reader.at text → IsStateAfter text history reader
-    → ((tokens : List Rattle.starlark_grammar.specs.Tokens.Token) → Represents tokens reader.nesting → mode_view place ≡ mode_after tokens)
-    → ((s : Situation) (follows_gap : Bool) → s.place ≡ mode_view place → IsBehind follows_gap s.before → step_at language s rest ≡ pieces.gap len)
+pub gap_read : (text : Text) (history : History) (reader : Reader) (rest : Text) (len : ℕ) → rest ≡ drop reader.at text → IsStateAfter text history reader → IsInCode reader
+    → ((s : Situation) (follows_gap : Bool) → is_code s.place ≡ true → IsBehind follows_gap s.before → step_at language s rest ≡ pieces.gap len)
     → step_here text history reader ≡ pieces.gap len
 unfolding next_step situation
-gap_read text history reader place rest len e kept here is =
-    subst (λ (t : Text). step_at language (situation history) t ≡ pieces.gap len) e (is (situation history) (is_gap_sort reader.before) (sym (here history.tokens kept.nesting)) (behind_sort reader.before history.before kept.before))
+gap_read text history reader rest len e kept code is =
+    subst (λ (t : Text). step_at language (situation history) t ≡ pieces.gap len) e (is (situation history) (is_gap_sort reader.before) (code history.tokens kept.nesting) (behind_sort reader.before history.before kept.before))
 
 -- what a word here comes to
 pub word_read : (text : Text) (history : History) (reader : Reader) (word : Word) → IsStateAfter text history reader → IsWordHere text reader word
@@ -85,6 +87,37 @@ name_step text history reader len name kept here is = (
   ap (λ t. Whole (Tokens.Identifier t)) is,
   refl,
   word_read text history reader (record { class = class.Identifier; len = len }) kept here ∙ ap (λ n. pieces.token n (Tokens.Identifier (take len (drop reader.at text)))) (word_len (drop reader.at text) class.Identifier len (sym here.front)),
+)
+
+-- names and texts change neither brackets nor f-strings
+pub name_changes : (name : String Global) → change_by (token_view (token.Identifier name)) ≡ change.Nothing
+unfolding token_view change_by
+name_changes name = refl
+
+pub text_changes : (value : String Global) → change_by (token_view (token.String value)) ≡ change.Nothing
+unfolding token_view change_by
+text_changes value = refl
+
+-- nor does an integer of one digit
+pub digit_changes : (found : Token) (digit : ℕ) → token_view found ≡ Whole (Tokens.Int (integer_of 10 ((digit + 48) ∷ []))) → change_by (token_view found) ≡ change.Nothing
+unfolding change_by
+digit_changes found digit view = ap change_by view
+
+-- an integer of one digit
+digit_word : (s : Situation) (digit : ℕ) (word behind : Text) → word ≡ (digit + 48) ∷ [] → pieces.word_step s class.Decimal word behind ≡ pieces.token 1 (Tokens.Int (integer_of 10 word))
+digit_word s digit word behind e = rw e (rw (and_false (digit + 48 == 48)) refl)
+  where
+    and_false : (x : Bool) → (x && false) ≡ false
+    and_false true = refl
+    and_false false = refl
+
+pub digit_step : (text : Text) (history : History) (reader : Reader) (digit : ℕ) (found : Token) → IsStateAfter text history reader → IsWordHere text reader (record { class = class.Decimal; len = 1 })
+    → IsDigitAt digit (drop reader.at text) → token_view found ≡ Whole (Tokens.Int (integer_of 10 ((digit + 48) ∷ []))) → IsStep (step_here text history reader) (step.Token found 1)
+digit_step text history reader digit found kept here at view = (
+  Tokens.Int (integer_of 10 (take 1 (drop reader.at text))),
+  view ∙ ap (λ t. Whole (Tokens.Int (integer_of 10 t))) (sym at.1),
+  refl,
+  word_read text history reader (record { class = class.Decimal; len = 1 }) kept here ∙ digit_word (situation history) digit (take 1 (drop reader.at text)) (drop 1 (drop reader.at text)) at.1,
 )
 
 -- a text literal that one quote closes, and whose characters denote themselves

@@ -12,7 +12,6 @@ use Rattle.starlark_reader.specs.declared.literal.pieces.Step.{Step}
 use Rattle.starlark_reader.specs.declared.literal.pieces.Step.TheVariants as steps
 use Rattle.starlark_reader.specs.declared.reader.Reader.{Reader}
 use Rattle.starlark_reader.specs.declared.reader.Stage.{Stage}
-use Rattle.starlark_token.specs.declared.lexeme_error.LexemeError.{LexemeError}
 use Rattle.starlark_reader.specs.declared.reader.Stage.TheVariants as stages
 
 -- what a reader has read before a place, as numbers
@@ -57,28 +56,6 @@ pending_reads text old new same least most stages.Begin has = (omega (arith, sam
 pending_reads text old new same least most stages.Onward has = (omega (arith, same, has.0, least), omega (arith, same, has.1, most))
 pending_reads text old new same least most (stages.Fault begin fault end) has = omega (arith, has, most)
 pending_reads text old new same least most stages.Closed has = (omega (arith, has.0, least), omega (arith, has.1, most))
-
--- a margin that is taken behind a line end, and one that has a fault
-pub margin_reads : (text : Text) (len whole after owes : ℕ) (old new : Reader) → new.stage ≡ stages.Onward → new.at ≡ old.at + whole → new.reads ≡ after → owed new.pending ≡ owes
-    → AreReads (whole - len) (5 * (whole - len) + 2) old.reads after × (len + owes ≤ whole) → IsMarginRead text len old new new.stage
-margin_reads text len whole after owes old new stage at reads owing margin =
-    subst (IsMarginRead text len old new) (sym stage) ((omega (arith, at, reads, margin.0.0, margin.1), omega (arith, at, reads, margin.0.1, margin.1)), omega (arith, at, owing, margin.1))
-
-pub failed_margin_reads : (text : Text) (len after owes : ℕ) (old new : Reader) (begin : ℕ) (fault : LexemeError) (end : ℕ) → new.stage ≡ stages.Fault begin fault end → new.reads ≡ after → owed new.pending ≡ owes
-    → (after ≤ old.reads + 5 * (length text - (old.at + len)) + 2) × (owes ≤ length text - (old.at + len)) → IsMarginRead text len old new new.stage
-failed_margin_reads text len after owes old new begin fault end stage reads owing margin =
-    subst (IsMarginRead text len old new) (sym stage) (omega (arith, reads, margin.0), omega (arith, owing, margin.1))
-
--- the text's first margin
-pub first_reads : (text : Text) (len after owes : ℕ) (old new : Reader) → HasReadAt text old stages.Begin → new.stage ≡ stages.Onward → new.at ≡ old.at + len → new.reads ≡ after → owed new.pending ≡ owes
-    → AreReads (len - 0) (5 * (len - 0) + 2) old.reads after × (0 + owes ≤ len) → HasRead text new
-first_reads text len after owes old new has stage at reads owing margin =
-    subst (HasReadAt text new) (sym stage) (omega (arith, has.0, at, reads, margin.0.0), omega (arith, has.0, has.1, at, reads, owing, margin.0.1, margin.1))
-
-pub first_failed_reads : (text : Text) (after owes : ℕ) (old new : Reader) (begin : ℕ) (fault : LexemeError) (end : ℕ) → HasReadAt text old stages.Begin → new.stage ≡ stages.Fault begin fault end → new.reads ≡ after → owed new.pending ≡ owes
-    → (after ≤ old.reads + 5 * length text + 2) × (owes ≤ length text) → HasRead text new
-first_failed_reads text after owes old new begin fault end has stage reads owing margin =
-    subst (HasReadAt text new) (sym stage) (omega (arith, has.1, reads, owing, margin.0, margin.1))
 
 -- what is kept of a history doesn't speak of reads
 pub state_reads : (text : Text) (history : History) (reader : Reader) (reads : ℕ) → IsStateAfter text history reader → IsStateAfter text history (record reader { reads = reads })

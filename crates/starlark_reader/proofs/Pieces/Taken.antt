@@ -1,6 +1,6 @@
 -- A reader before and after a piece.
 use Rattle.std.proofs.Common.{◌≡◌, ℕ, zero, suc, ◌+◌, ◌≤◌, ◌<◌, Bool, true, false, not, List, [], ◌∷◌, ◌++◌, length, drop, take, map, refl, ap, ◌∙◌, sym, subst, Option, Some, None, arith, append-nil, length-append, nat_lt}
-use Rattle.std.specs.Prelude.{⊤, ◌==◌, ◌&&◌, if◌then◌else◌, count_by, option_map, option_to_list, replicate, sum_by}
+use Rattle.std.specs.Prelude.{⊤, ◌==◌, ◌&&◌, if◌then◌else◌, count_by, option_to_list, replicate, sum_by}
 use Rattle.std.specs.List.{AllByRecursion}
 use Rattle.std.specs.Str.{IsCharBoundary, IsUtf8}
 use Rattle.std.proofs.lemmas.Bool.{and_parts, eqb-true}
@@ -10,7 +10,6 @@ use Rattle.std.proofs.lemmas.Str.{IsCharBoundary-start, IsUtf8-drop}
 use Rattle.starlark_grammar.specs.Words.{Text, language}
 use Rattle.starlark_grammar.specs.Tokens.{Lexeme, Outcome, Spanned, moved}
 use Rattle.starlark_grammar.specs.Tokens as grammar
-use Rattle.starlark_grammar.specs.Depths.{is_any_closing, is_any_opening, open_fstring}
 use Rattle.starlark_grammar.specs.Margins.{Margin, comment_lines, comments_from, fits, has_tab, indentation, is_content, is_widest, margin_len, margin_of, open_widths, width_of}
 use Rattle.starlark_grammar.specs.Pieces.{Ends, Fails, Layout, Piece, Stands, first_margin, line_end, margin_step}
 use Rattle.starlark_grammar.specs.Cuts.{is_layout}
@@ -18,7 +17,7 @@ use Rattle.starlark_grammar.specs.Reading.{History, IsReading, after, after_all,
 use Rattle.starlark_reader.specs.Lexemes.{fault_view, lexeme_view, shown_lexeme}
 use Rattle.starlark_reader.specs.Joints.Layout.{IsRefused, IsTaken}
 use Rattle.starlark_reader.specs.Joints.Pending.{IsIdle, IsPending, lines_between, pending_lexemes}
-use Rattle.starlark_reader.specs.Joints.Nesting.{Represents, bracket_count, change_by, closes, fstring_of, opens}
+use Rattle.starlark_reader.specs.Joints.Nesting.{Represents, bracket_count, change_by}
 use Rattle.starlark_reader.specs.Joints.MarginCuts.{IsBehindLines, IsCutBefore, IsOfMargin}
 use Rattle.starlark_reader.specs.Joints.Reader.{begins_with_tab, has_read_none, IsAhead, IsAheadBehind, IsCutAhead, HoldsCuts, IsInFlatMargin, IsReached, IsReadTo, IsStateAfter, IsLeft, IsRead, before_view, history_from, history_of, left_here, left_to_read, remaining_outcome, step_here}
 use Rattle.starlark_token.specs.TokenViews.{TokenView, Whole, token_view}
@@ -35,12 +34,11 @@ use Rattle.starlark_grammar.proofs.Order.WholeTexts.{piece_bounded}
 use Rattle.starlark_reader.proofs.Indentation.CommentLines.{margin_comments}
 use Rattle.starlark_grammar.proofs.Order.Edges.{boundary_shift}
 use Rattle.starlark_grammar.proofs.Lists.{drop-sum}
-use Rattle.starlark_reader.proofs.OpenBrackets.Counts.{closed_onward, fstring_onward, opened_onward}
 use Rattle.starlark_reader.proofs.Pieces.Here.{IsHere, behind_some, kept_here}
 use Rattle.starlark_reader.proofs.Pieces.Onward.{GoesOn, first_fails, first_stands, history_ends, history_first, history_onward, margin_first, onward_ends, onward_fails, onward_stands}
-use Rattle.starlark_grammar.proofs.Reading.Readings.{fault_fits, one_least, piece_fits, started}
+use Rattle.starlark_grammar.proofs.Reading.Readings.{one_least, piece_fits, started}
 use Rattle.starlark_grammar.proofs.Joining.Tabs.{margin_tab, tab, tab_of}
-use Rattle.starlark_reader.proofs.OpenBrackets.FStrings.{innermost_onward, keeps, outer_onward}
+use Rattle.starlark_reader.proofs.OpenBrackets.FStrings.{keeps, one_kept}
 use Rattle.starlark_grammar.proofs.Reading.Steps.{Each, is_nothing}
 use Rattle.starlark_grammar.proofs.Choices.{either}
 use Rattle.starlark_reader.proofs.Pieces.MarginCuts.{cut_of_piece, first_ahead_cut, first_cut, line_ahead_cut, line_cut, none_at_end, none_at_fault, read_first, read_more}
@@ -83,31 +81,10 @@ quiet_keeps grammar.Indent h = refl
 quiet_keeps grammar.Dedent h = refl
 quiet_keeps node h = cc
 
--- an f-string is what it was
-same_fstring : (node : grammar.Token) → is_quiet node ≡ true → (found : Option (grammar.Opening × List grammar.Token))
-    → option_map fstring_of (option_map (λ (found : grammar.Opening × List grammar.Token). (found.0, node ∷ found.1)) found) ≡ option_map fstring_of found
-same_fstring node h None = refl
-same_fstring node h (Some found) = ap Some (sym (fstring_onward (fstring_of found) (fstring_of found) change.Nothing found node (sym (quiet_changes node h)) refl (record { opening = refl; expression = refl; rounds = refl; squares = refl })))
-
-same_fstrings : (n : ℕ) (node : grammar.Token) (tokens : List grammar.Token) → is_quiet node ≡ true → option_map fstring_of (open_fstring n (node ∷ tokens)) ≡ option_map fstring_of (open_fstring n tokens)
-same_fstrings zero node tokens h = ap (option_map fstring_of) (innermost_onward node tokens (quiet_keeps node h)) ∙ same_fstring node h (open_fstring 0 tokens)
-same_fstrings (suc n) node tokens h = ap (option_map fstring_of) (outer_onward n node tokens (quiet_keeps node h))
-
-pub one_kept : (node : grammar.Token) (tokens : List grammar.Token) (nesting : Nesting) → is_quiet node ≡ true → Represents tokens nesting → Represents (node ∷ tokens) nesting
-one_kept node tokens nesting h same =
-    let none = quiet_changes node h in
-    let opened : count_by is_any_opening (node ∷ tokens) ≡ 0 + count_by is_any_opening tokens = opened_onward node tokens ∙ ap (λ c. opens c + count_by is_any_opening tokens) none in
-    let closed : count_by is_any_closing (node ∷ tokens) ≡ 0 + count_by is_any_closing tokens = closed_onward node tokens ∙ ap (λ c. closes c + count_by is_any_closing tokens) none in
-    record {
-      fstrings = λ n. same.fstrings n ∙ sym (same_fstrings n node tokens h);
-      opened = omega (arith, same.opened, opened);
-      closed = omega (arith, same.closed, closed);
-    }
-
 -- Such tokens leave brackets and f-strings as they are.
 pub quiet_kept : (lexemes : List Lexeme) (tokens : List grammar.Token) (nesting : Nesting) → AllQuiet lexemes → Represents tokens nesting → Represents (tokens_onto tokens lexemes) nesting
 quiet_kept [] tokens nesting h same = same
-quiet_kept (lexeme ∷ lexemes) tokens nesting h same = quiet_kept lexemes (lexeme.node ∷ tokens) nesting h.1 (one_kept lexeme.node tokens nesting h.0 same)
+quiet_kept (lexeme ∷ lexemes) tokens nesting h same = quiet_kept lexemes (lexeme.node ∷ tokens) nesting h.1 (one_kept lexeme.node tokens nesting (quiet_keeps lexeme.node h.0) (quiet_changes lexeme.node h.0) same)
 
 quiet_both : (one other : List Lexeme) → AllQuiet one → AllQuiet other → AllQuiet (one ++ other)
 quiet_both [] other h k = k
@@ -334,14 +311,6 @@ failed_first text new fault error fails view is hands at before =
     let none : has_read_none new ≡ true = rw (at, before) refl in
     read_fault text (outcome text) 0 (margin_of text).comments new fault error (first_fails text fault fails) view is hands (none ∙ sym tabbed) (λ x behind cut most. none_at_fault text fault fails x behind cut)
 
-pub fault_inside : (text : Text) (history : History) (old : Reader) (fault : Spanned grammar.Fault) → IsStateAfter text history old → step_here text history old ≡ Fails fault → (old.at + fault.begin ≤ length text) × (old.at + fault.end ≤ length text)
-fault_inside text history old fault kept fails =
-    let fits = fault_fits language history (drop old.at text) fault fails in
-    let order = fits.order in
-    let inside = fits.inside in
-    let here = kept.inside in
-    (omega (arith, order, inside, here, length-drop old.at text), omega (arith, inside, here, length-drop old.at text))
-
 -- The text's end
 
 pub closed : (text : Text) (history : History) (old : Reader) (given : Option (ℕ × Token × ℕ)) (new : Reader) → IsHere old new → IsStateAfter text history old → step_here text history old ≡ Ends → Hands text given new.pending (closing old.at history) → new.stage ≡ stage.Closed → IsRead text (left_here text history old) given new
@@ -453,15 +422,6 @@ module _ (text : Text) (history : History) (old : Reader) (len : ℕ) (kept : Is
   -- what stands here, by the text behind the line end
   line_here : step_here text history old ≡ line_end len (open_widths history.widths) (drop (old.at + len) text)
   line_here = here ∙ ap (line_end len (open_widths history.widths)) (sym (drop-sum old.at len text))
-
-  pub line_inside : {levels : List ℕ} {pending : Pending} {whole : ℕ} → IsTaken text old.at (line_end len (open_widths history.widths) (drop (old.at + len) text)) given_line history.widths levels pending whole → (old.at < old.at + whole) × (old.at + whole ≤ length text)
-  line_inside taken =
-      let inside = piece_inside text history old taken.piece kept (line_here ∙ taken.stands) in
-      (omega (arith, inside.0, taken.whole), omega (arith, inside.1, taken.whole))
-
-  pub line_fault_inside : {handed_out : List Lexeme} {levels : List ℕ} {pending : Pending} {error : LexemeError} {end : ℕ} → IsRefused text (line_end len (open_widths history.widths) (drop (old.at + len) text)) handed_out history.widths levels pending error end
-      → (old.at ≤ length text) × (old.at + end ≤ length text)
-  line_fault_inside {end = end} refused = (kept.inside, (fault_inside text history old (record { begin = 0; node = refused.node; end = end }) kept (line_here ∙ refused.stands)).1)
 
   pub line_less : {levels : List ℕ} {pending : Pending} {whole : ℕ} (new : Reader) → IsTaken text old.at (line_end len (open_widths history.widths) (drop (old.at + len) text)) given_line history.widths levels pending whole
       → new.stage ≡ stage.Onward → new.at ≡ old.at + whole → left_to_read text new new.stage < left_to_read text old stage.Onward

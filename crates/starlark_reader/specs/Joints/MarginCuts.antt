@@ -1,12 +1,10 @@
 -- Places where a text may be cut, in margins of which the lexemes are still to be handed out.
 use Rattle.std.specs.Prelude.{◌≡◌, ◌≤◌, ◌<◌, true, ℕ, ◌+◌, ◌==◌, List, ◌∷◌, ◌++◌, length, drop, sum_by, take, Option, Some, None, ⊤, ◌⊎◌}
 use Rattle.starlark_grammar.specs.Words.{Text, language}
-use Rattle.starlark_grammar.specs.Margins.{lines, margin_of}
+use Rattle.starlark_grammar.specs.Margins.{lines}
 use Rattle.starlark_grammar.specs.Reading.{outcome, pieces_len, read}
 use Rattle.starlark_grammar.specs.Cuts.{is_clean_cut, is_kept_cut, without_closing}
 use Rattle.starlark_reader.specs.Joints.Pending.{lines_between}
-use Rattle.starlark_reader.specs.declared.layout.Laid.{Laid}
-use Rattle.starlark_reader.specs.declared.layout.Laid.TheVariants as laid
 use Rattle.starlark_reader.specs.declared.layout.pending.Pending.{Pending}
 use Rattle.starlark_token.specs.declared.tokens.Token.{Token}
 
@@ -34,10 +32,6 @@ pub record IsOfMargin (begin len : ℕ) (levels : List ℕ) (pending : Pending) 
   pub from : pending.from ≡ begin
   pub to : pending.to ≡ begin + len
   pub flat : pending.is_flat ≡ (length levels == 0)
-
-abbrev pub IsLaidOut : Text → ℕ → List ℕ → Laid → Type 0
-IsLaidOut text begin levels (laid.Taken pending len) = IsOfMargin begin (margin_of (drop begin text)).at levels pending
-IsLaidOut text begin levels (laid.Fault pending fault end) = ⊤
 
 -- One of the lines was passed.
 pub record IsPassedLine (text : Text) (old new : Pending) : Type 0 where

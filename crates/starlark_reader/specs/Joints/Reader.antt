@@ -22,6 +22,8 @@ use Rattle.starlark_token.specs.declared.tokens.Token.TheVariants as token
 use Rattle.starlark_reader.specs.declared.reader.Reader.{Reader}
 use Rattle.starlark_reader.specs.declared.reader.Before as code
 use Rattle.starlark_reader.specs.declared.reader.Before.TheVariants as before
+use Rattle.starlark_reader.specs.declared.reader.LineEnd.{LineEnd}
+use Rattle.starlark_reader.specs.declared.reader.LineEnd.TheVariants as line_end
 use Rattle.starlark_reader.specs.declared.reader.Next.{Next}
 use Rattle.starlark_reader.specs.declared.reader.Next.TheVariants as next
 use Rattle.starlark_reader.specs.declared.reader.Stage.{Stage}
@@ -174,11 +176,21 @@ IsNext text lexemes fault (next.Lexeme lexeme) reader = IsAheadBehind text (Some
 IsNext text lexemes fault (next.Fault begin error end) reader = (node : grammar.Fault) × (fault_view error ≡ Some node) × (lexemes ≡ []) × (fault ≡ Some (record { begin = begin; node = node; end = end })) × (has_read_none reader ≡ begins_with_tab text)
 IsNext text lexemes fault next.Nothing reader = (lexemes ≡ []) × (fault ≡ None) × IsAhead text reader reader.stage [] None × IsStateAfter text (history_of text) reader
 
+-- A reader is at a place of code.
+abbrev pub IsInCode : Reader → Type 0
+IsInCode reader = (before : List grammar.Token) → Represents before reader.nesting → is_code (mode_after before) ≡ true
+
+-- The text is to be read on where a reader is, at a place of code, and nothing else is to be handed out before.
+pub record IsAtCode (text : Text) (reader : Reader) : Type 0 where
+  pub stage : reader.stage ≡ stage.Onward
+  pub idle : IsIdle text reader.pending
+  pub code : IsInCode reader
+
 -- A word stands where a reader is, at a place of code, and nothing else is to be handed out before it.
 pub record IsWordHere (text : Text) (reader : Reader) (word : Word) : Type 0 where
   pub stage : reader.stage ≡ stage.Onward
   pub idle : IsIdle text reader.pending
-  pub code : (before : List grammar.Token) → Represents before reader.nesting → is_code (mode_after before) ≡ true
+  pub code : IsInCode reader
   pub front : Some (word_view word) ≡ language_front (drop reader.at text)
   pub bang : is_bang (drop reader.at text) ≡ false
 
@@ -190,3 +202,8 @@ CountsLineEnds reader = (before : List grammar.Token) → Represents before read
 abbrev pub newline_if : Bool → ℕ → ℕ → Option (ℕ × Token × ℕ)
 newline_if true at len = Some (at, token.Newline, at + len)
 newline_if false at len = None
+
+-- The `Newline` of a line end at a place, of so many bytes, by what became of it.
+abbrev pub newline_of : LineEnd → ℕ → ℕ → Option (ℕ × Token × ℕ)
+newline_of line_end.Newline at len = newline_if true at len
+newline_of line_end at len = None

@@ -2,8 +2,6 @@
 use Rattle.std.specs.Prelude.{◌≡◌, ◌≤◌, ◌<◌, ◌+◌, ◌-◌, ◌*◌, ℕ, ⊤, length}
 use Rattle.starlark_grammar.specs.Words.{Text}
 use Rattle.starlark_scanner.specs.Joints.Reads.{AreReads, more_reads}
-use Rattle.starlark_reader.specs.declared.layout.Laid.{Laid}
-use Rattle.starlark_reader.specs.declared.layout.Laid.TheVariants as laid
 use Rattle.starlark_reader.specs.declared.literal.pieces.Step.{Step}
 use Rattle.starlark_reader.specs.declared.literal.pieces.Step.TheVariants as step
 use Rattle.starlark_reader.specs.declared.reading.Piece.{Piece}
@@ -14,12 +12,6 @@ use Rattle.starlark_reader.specs.declared.reader.Reader.{Reader}
 use Rattle.starlark_reader.specs.declared.reader.Stage.{Stage}
 use Rattle.starlark_reader.specs.declared.reader.Stage.TheVariants as stage
 use Rattle.starlark_reader.specs.Joints.Pending.{owed}
-
--- Reads of a margin behind a line end of so many bytes, in a text that goes on for `rest` bytes. A margin that is taken
--- owes its comments.
-abbrev pub AreMarginReads : (len rest : ℕ) → Laid → (before after : ℕ) → Type 0
-AreMarginReads len rest (laid.Taken pending whole) before after = AreReads (whole - len) (5 * (whole - len) + 2) before after × (len + owed pending ≤ whole)
-AreMarginReads len rest (laid.Fault pending fault end) before after = (after ≤ before + 5 * rest + 2) × (owed pending ≤ rest)
 
 -- Reads of a token or a fault behind what was passed of it, in a text that goes on for `rest` bytes: so many a byte.
 abbrev pub AreStepReads : (passed factor rest extra : ℕ) → Step → (before after : ℕ) → Type 0
@@ -73,8 +65,8 @@ IsPassed old (step.Fault begin fault end) new = IsPassedBy old.at old new × (ne
 -- A margin behind a line end of so many bytes was read.
 abbrev pub IsMarginRead : Text → ℕ → Reader → Reader → Stage → Type 0
 IsMarginRead text len old new stage.Onward =
-    AreReads (new.at - (old.at + len)) (5 * (new.at - (old.at + len)) + 2) old.reads new.reads × (old.at + len + owed new.pending ≤ new.at)
-IsMarginRead text len old new (stage.Fault begin fault end) = (new.reads ≤ old.reads + 5 * (length text - (old.at + len)) + 2) × (owed new.pending ≤ length text - (old.at + len))
+    AreReads (new.at - (old.at + len)) (6 * (new.at - (old.at + len)) + 2) old.reads new.reads × (old.at + len + owed new.pending ≤ new.at)
+IsMarginRead text len old new (stage.Fault begin fault end) = (new.reads ≤ old.reads + 6 * (length text - (old.at + len)) + 2) × (owed new.pending ≤ length text - (old.at + len))
 IsMarginRead text len old new stage = ⊥
 
 -- How often a reader has read bytes at a stage: at least once each byte that it passed, and at most sixteen times. What it

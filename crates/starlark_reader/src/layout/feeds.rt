@@ -9,6 +9,9 @@ use starlark_scanner::lanes::{LANES, lowest_bit};
 use starlark_scanner::reads::Reads;
 use std::simd::prelude::*;
 
+/// How many bytes of a line are looked at one by one before sixteen are looked at together.
+const ALONE: usize = 8;
+
 /// The length of the front of some bytes that their first LF ends, looked at one by one.
 #[inline(always)]
 fn short_line_len(reads: &mut Reads, text: &[u8]) -> usize
@@ -36,18 +39,18 @@ fn lanes_line_len(reads: &mut Reads, text: &[u8], at: usize) -> usize
     lowest_bit(lanes.simd_eq(u8x16::splat(b'\n')).to_bitmask())
 }
 
-/// The length of the front of a text that its first LF ends. Sixteen bytes are looked at together once as many were
-/// passed one by one.
+/// The length of the front of a text that its first LF ends. Sixteen bytes are looked at together once eight were passed
+/// one by one.
 pub fn before_feed_len(reads: &mut Reads, text: &[u8]) -> usize
     ensures value { result ≡ prefix_len (λ b. not (grammar.is_feed b)) text.now }
     ensures within { result ≤ length text.now }
-    ensures reads { AreReads (result + 1) (2 * result + 1) reads.old reads.new }
+    ensures reads { AreReads (result + 1) (3 * result + 1) reads.old reads.new }
 {
     if text.len() < LANES {
         return short_line_len(reads, text);
     }
-    let mut at = short_line_len(reads, &text[..LANES]);
-    if at < LANES {
+    let mut at = short_line_len(reads, &text[..ALONE]);
+    if at < ALONE {
         return at;
     }
     while at + LANES <= text.len() {

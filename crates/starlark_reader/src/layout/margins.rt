@@ -2,7 +2,7 @@
 
 ghost use Rattle.std.specs.Prelude.{◌≡◌, ◌+◌, ◌*◌, ◌≤◌, ◌<◌, ◌^◌, ◌∷◌, drop, length, not, take};
 ghost use Rattle.std.specs.List.{prefix_len};
-ghost use Rattle.starlark_reader.specs.Joints.Layout.{IsBlanks, IsMargin, IsWith};
+ghost use Rattle.starlark_reader.specs.Joints.Layout.{IsBlanks, IsMargin};
 ghost use Rattle.starlark_grammar.specs.Margins as grammar;
 ghost use Rattle.starlark_scanner.specs.Joints.Reads.{AreReads, more_reads};
 
@@ -50,50 +50,30 @@ pub fn line_len(text: &[u8], feed: usize) -> usize
     if feed < text.len() { feed + 1 } else { feed }
 }
 
-impl Blanks {
-    /// These blanks and a byte behind them; `None` where that is no blank.
-    fn with(self, byte: u8) -> Option<Blanks>
-        requires len { self.len + 1 < 2 ^ 64 }
-        requires width { self.width + 1 < 2 ^ 64 }
-        ensures { IsWith self byte result }
-    {
-        let len = self.len + 1;
-        match byte {
-            b' ' => Some(Blanks {
-                len,
-                width: self.width + 1,
-                ..self
-            }),
-            b'\t' => Some(Blanks {
-                len,
-                has_tab: true,
-                ..self
-            }),
-            b'\r' => Some(Blanks { len, ..self }),
-            _ => None,
-        }
-    }
-}
-
 /// The blanks at the front of a text.
 fn blanks_of(reads: &mut Reads, text: &[u8]) -> Blanks
     ensures value { IsBlanks (take (grammar.blanks_len text.now) text.now) result }
     ensures within { result.len ≤ length text.now }
     ensures reads { reads.new ≡ more_reads reads.old (result.len + 1) }
 {
-    let mut blanks = Blanks {
-        len: 0,
-        width: 0,
-        has_tab: false,
-    };
-    while let Some(byte) = text.get(blanks.len) {
-        let Some(more) = blanks.with(*byte) else {
-            break;
-        };
-        blanks = more;
+    let mut len = 0;
+    let mut width = 0;
+    let mut has_tab = false;
+    while let Some(byte) = text.get(len) {
+        match *byte {
+            b' ' => width += 1,
+            b'\t' => has_tab = true,
+            b'\r' => {}
+            _ => break,
+        }
+        len += 1;
     }
-    reads.count_run(blanks.len);
-    blanks
+    reads.count_run(len);
+    Blanks {
+        len,
+        width,
+        has_tab,
+    }
 }
 
 fn begins_comment(text: &[u8]) -> bool
@@ -113,7 +93,7 @@ fn is_content(text: &[u8]) -> bool
 pub fn margin_of(reads: &mut Reads, text: &str) -> Margin
     ensures margin { IsMargin (grammar.margin_of text.now) result }
     ensures within { result.at + result.blanks.len ≤ length text.now }
-    ensures reads { AreReads (result.at + result.blanks.len) (5 * result.at + result.blanks.len + 2) reads.old reads.new }
+    ensures reads { AreReads (result.at + result.blanks.len) (6 * result.at + result.blanks.len + 2) reads.old reads.new }
 {
     let bytes = text.as_bytes();
     let mut at = 0;

@@ -94,6 +94,16 @@ impl Pending {
         }
     }
 
+    /// Waits for the comments of comment-only lines, from one place to another, before what it waited for.
+    #[inline(always)]
+    pub fn wait_for_comments(&mut self, from: usize, to: usize, is_flat: bool)
+        ensures { self.new ≡ record self.old { from = from; to = to; is_flat = is_flat } }
+    {
+        self.from = from;
+        self.to = to;
+        self.is_flat = is_flat;
+    }
+
     /// Whether nothing is to be handed out.
     #[inline(always)]
     pub fn is_nothing(&self) -> bool

@@ -18,11 +18,10 @@ pub fn is_code(place: LexerMode) -> bool
     !matches!(place, LexerMode::InText(_))
 }
 
-/// The length of the run of spaces at a place of code, by the text from there on.
+/// The length of the run of spaces at a place, by the text from there on. At each place of code it is a gap.
 #[inline(always)]
-pub fn gap_len(reads: &mut Reads, place: LexerMode, text: &str) -> usize
-    requires { is_code (mode_view place) ≡ true }
-    ensures { 0 < result → (s : grammar.Situation) (follows_gap : Bool) → s.place ≡ mode_view place → IsBehind follows_gap s.before → grammar.step_at language s text.now ≡ grammar.gap result }
+pub fn gap_len(reads: &mut Reads, text: &str) -> usize
+    ensures { 0 < result → (s : grammar.Situation) (follows_gap : Bool) → is_code s.place ≡ true → IsBehind follows_gap s.before → grammar.step_at language s text.now ≡ grammar.gap result }
 {
     spaces_len(reads, text)
 }

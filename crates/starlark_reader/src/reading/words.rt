@@ -1,6 +1,6 @@
 //! Words of many texts as tokens, or their faults. Each is read by its whole text.
 
-ghost use Rattle.std.specs.Prelude.{◌≡◌, ◌≤◌, Some, drop, length, true, IfOk};
+ghost use Rattle.std.specs.Prelude.{◌≡◌, ◌≤◌, ◌<◌, ◌+◌, ◌∷◌, [], Some, drop, length, true, IfOk};
 ghost use Rattle.std.specs.Char.{is_digit};
 ghost use Rattle.starlark_scanner.specs.Joints.Reads.{more_reads};
 ghost use Rattle.starlark_reader.specs.Joints.Reads.{IsOfWord};
@@ -10,11 +10,13 @@ ghost use Rattle.starlark_grammar.specs.Pieces as grammar;
 ghost use Rattle.starlark_grammar.specs.Tokens as tokens;
 ghost use Rattle.starlark_grammar.specs.declared.class.Class.TheVariants as class;
 ghost use Rattle.starlark_grammar.specs.Words.{Text, class_in, is_run, language};
+ghost use Rattle.starlark_token.specs.TokenViews.{Whole, token_view};
 
 use crate::literal::Step;
 use starlark_scanner::reads::Reads;
 use starlark_token::lexeme_error::LexemeError;
 use starlark_token::number_text::number_in;
+use starlark_token::token_int::TokenInt;
 use starlark_token::tokens::Token;
 use std::alloc::{AllocError, Global};
 
@@ -92,6 +94,15 @@ fn integer(alloc: Global, digits: &str, base: u32, len: usize) -> Result<Step, A
         }),
         None => unreachable!(),
     }
+}
+
+/// The integer of one digit, by its value. Takes no memory.
+#[inline(always)]
+pub fn digit_token(digit: u8) -> Token
+    requires { digit < 10 }
+    ensures { token_view result ≡ Whole (tokens.Int (integer_of 10 ((digit + 48) ∷ []))) }
+{
+    Token::Int(TokenInt::I32(i32::from(digit)))
 }
 
 /// Whether a number has more than one digit and the first is 0.

@@ -1,5 +1,5 @@
 -- Escapes by their first byte.
-use Rattle.std.proofs.Common.{◌≡◌, ℕ, ◌==◌, true, false, [], ◌∷◌, drop, refl, ap, sym, subst, Some, None, unwrap_or, nat_eq, arith}
+use Rattle.std.proofs.Common.{◌≡◌, ℕ, ◌==◌, true, false, [], ◌∷◌, drop, refl, ap, sym, subst, ◌∙◌, Some, None, unwrap_or, nat_eq, arith}
 use Rattle.std.proofs.lemmas.Bool.{eqb-true, false_from_ne_true}
 use Rattle.std.proofs.lemmas.Bool.Decides.{nat_tests}
 use Rattle.std.specs.List.{slice_get}
@@ -56,3 +56,21 @@ pub escape_other : (kind : Kind) (text : Text) (b : ℕ) → slice_get text 0 �
     → escape kind text ≡ simple (lookup (nat_eq b) simple_escapes) (first_character text)
 escape_other kind text b first octal feed return x u long =
     subst (λ (t : Text). escape kind t ≡ simple (lookup (nat_eq b) simple_escapes) (first_character t)) (sym (with_first text b first)) (escape_simple kind b (drop 1 text) octal feed return x u long)
+
+-- a byte that denotes nothing else isn't one that does
+differs : (b other value : ℕ) → lookup (nat_eq other) simple_escapes ≡ None → lookup (nat_eq b) simple_escapes ≡ Some value → b ≡ other → ⊥
+differs b other value none some same = cc
+
+no_digit : (b : ℕ) → is_octal_digit b ≡ true → lookup (nat_eq b) simple_escapes ≡ None
+unfolding simple_escapes
+no_digit b h = grind (arith, nat_tests)
+
+not_octal : (b value : ℕ) → lookup (nat_eq b) simple_escapes ≡ Some value → is_octal_digit b ≡ false
+not_octal b value some = false_from_ne_true _ (λ h. differs b b value (no_digit b h) some refl)
+
+-- an escape of two bytes
+pub escape_short : (kind : Kind) (text : Text) (b value : ℕ) → slice_get text 0 ≡ Some b → lookup (nat_eq b) simple_escapes ≡ Some value → escape kind text ≡ goes 2 (value ∷ [])
+unfolding simple_escapes
+escape_short kind text b value first some =
+    escape_other kind text b first (not_octal b value some) (differs b 10 value refl some) (differs b 13 value refl some) (differs b 120 value refl some) (differs b 117 value refl some) (differs b 85 value refl some)
+    ∙ ap (λ found. simple found (first_character text)) some

@@ -5,6 +5,7 @@ use Rattle.std.specs.List.{slice_get, starts_with}
 use Rattle.starlark_grammar.specs.Words.{Text}
 use Rattle.starlark_grammar.specs.declared.class.LiteralKind.{LiteralKind as Kind}
 use Rattle.starlark_grammar.specs.declared.class.Quote.{Quote}
+use Rattle.starlark_grammar.specs.declared.class.Quote.TheVariants.{Single as SingleQuote, Double as DoubleQuote}
 use Rattle.starlark_grammar.specs.Items.{Literal, Stops, Closing, Line, Ended, goes, closing_quotes, escape, raw_pair, drops_backslash, brace, is_brace, found_at}
 use Rattle.starlark_grammar.specs.Characters.{first_character}
 
@@ -41,17 +42,25 @@ unfolding found_at
 at_return literal [] b first stays line return = grind arith
 at_return literal (x ∷ bs) b first stays line return = rw (stays, first_is x b bs first, line, return) refl
 
-pub at_raw : (literal : Literal) (text : Text) (b : ℕ) → slice_get text 0 ≡ Some b → closes literal text ≡ false → ends_line literal b ≡ false → b ≢ 13 → b ≡ 92 → literal.opening.is_raw ≡ true
-    → found_at literal text ≡ raw_pair literal.kind literal.opening.quote (drop 1 text)
-unfolding found_at
-at_raw literal [] b first stays line other backslash raw = grind arith
-at_raw literal (x ∷ bs) b first stays line other backslash raw = rw (stays, first_is x b bs first, line, unequal b 13 other, backslash, raw) refl
+-- a backslash is no quote
+backslash_stays : (literal : Literal) (rest : Text) → closes literal (92 ∷ rest) ≡ false
+backslash_stays literal rest = go literal.opening.is_triple literal.opening.quote
+  where
+    go : (is_triple : Bool) (quote : Quote) → starts_with nat_eq (92 ∷ rest) (closing_quotes (record { is_raw = literal.opening.is_raw; quote = quote; is_triple = is_triple })) ≡ false
+    go true SingleQuote = refl
+    go true DoubleQuote = refl
+    go false SingleQuote = refl
+    go false DoubleQuote = refl
 
-pub at_escape : (literal : Literal) (text : Text) (b : ℕ) → slice_get text 0 ≡ Some b → closes literal text ≡ false → ends_line literal b ≡ false → b ≢ 13 → b ≡ 92 → literal.opening.is_raw ≡ false
-    → found_at literal text ≡ escape literal.kind (drop 1 text)
+pub at_raw : (literal : Literal) (text : Text) (b : ℕ) → slice_get text 0 ≡ Some b → b ≡ 92 → literal.opening.is_raw ≡ true → found_at literal text ≡ raw_pair literal.kind literal.opening.quote (drop 1 text)
 unfolding found_at
-at_escape literal [] b first stays line other backslash raw = grind arith
-at_escape literal (x ∷ bs) b first stays line other backslash raw = rw (stays, first_is x b bs first, line, unequal b 13 other, backslash, raw) refl
+at_raw literal [] b first backslash raw = grind arith
+at_raw literal (x ∷ bs) b first backslash raw = rw (first_is x b bs first, backslash, backslash_stays literal bs, raw) refl
+
+pub at_escape : (literal : Literal) (text : Text) (b : ℕ) → slice_get text 0 ≡ Some b → b ≡ 92 → literal.opening.is_raw ≡ false → found_at literal text ≡ escape literal.kind (drop 1 text)
+unfolding found_at
+at_escape literal [] b first backslash raw = grind arith
+at_escape literal (x ∷ bs) b first backslash raw = rw (first_is x b bs first, backslash, backslash_stays literal bs, raw) refl
 
 pub at_brace : (literal : Literal) (text : Text) (b : ℕ) → slice_get text 0 ≡ Some b → closes literal text ≡ false → ends_line literal b ≡ false → b ≢ 13 → b ≢ 92 → is_brace literal.kind b ≡ true
     → found_at literal text ≡ brace b (drop 1 text)

@@ -10,7 +10,7 @@ use Rattle.starlark_grammar.specs.declared.class.Class.{Class}
 use Rattle.starlark_grammar.specs.declared.class.Class.TheVariants.{Decimal, Hexadecimal, Octal, Binary, Float}
 use Rattle.starlark_grammar.specs.Front.{longest_front, language_front}
 use Rattle.starlark_grammar.specs.Lengths.{longest_len}
-use Rattle.starlark_scanner.specs.Joints.Words.{begins_number, word_view}
+use Rattle.starlark_scanner.specs.Joints.Words.{begins_number, is_digit_alone, may_be_in_number, word_view}
 use Rattle.starlark_grammar.proofs.Words.Tables.{class_in-language}
 use Rattle.starlark_scanner.proofs.Scan.Listed.{all_pass, lookup_fails, begins_otherwise, lookup_elsewhere, each_byte, implied}
 use Rattle.starlark_scanner.proofs.Scan.Residuals.{front_next, front_some, longer_by, or_empty, if_some, if_passes, front_on, front_first, front_same, front_never, front_end, front_into, front_of_some, front_of_test, len_of_test, longer_by_none, front_run, front_on_longest}
@@ -470,3 +470,41 @@ no_base (b ∷ l ∷ rest) e f g =
 pub if_based_word : (class : Class) (n : ℕ) → option_map word_view (if n == 0 then None else Some (record { class = class; len = n + 2 })) ≡ if_based class n
 if_based_word class zero = refl
 if_based_word class (suc n) = rw eqb-suc-zero refl
+
+-- a digit behind which no number goes on
+
+-- a byte that is no digit, no point, and no letter that numbers have
+abbrev ends_digit : ℕ → Bool
+ends_digit c = not (is_ascii_digit c) && (not (is_point c) && (not (is_exponent_letter c) && (not (c == 120 || c == 88) && (not (c == 111 || c == 79) && not (c == 98 || c == 66)))))
+
+other_ends_digit : (c : ℕ) → c < 256 → may_be_in_number c ≡ false → ends_digit c ≡ true
+other_ends_digit c small h = go (may_be_in_number c) h (each_byte (λ c. may_be_in_number c || ends_digit c) c refl small)
+  where
+    go : (inside : Bool) → inside ≡ false → (inside || ends_digit c) ≡ true → ends_digit c ≡ true
+    go true e all = cc
+    go false e all = all
+
+no_letter : (x y : Bool) → y ≡ false → (x && y) ≡ false
+no_letter true y h = h
+no_letter false y h = refl
+
+pub front_of_digit : (text : Text) → ((b : ℕ) (rest : Text) → text ≡ b ∷ rest → b < 256) → ((b c : ℕ) (rest : Text) → text ≡ b ∷ c ∷ rest → c < 256) → is_digit_alone text ≡ true → language_front text ≡ Some (Decimal, 1)
+front_of_digit [] small next h = cc
+front_of_digit (b ∷ []) small next h = number_language (b ∷ []) small h ∙ rw (no_base (b ∷ []) refl refl refl, h, len_nothing makes_float) refl
+front_of_digit (b ∷ c ∷ rest) small next h =
+    let parts = and_parts _ _ h in
+    let digit : is_ascii_digit b ≡ true = parts.0 in
+    let one = and_parts _ _ (other_ends_digit c (next b c rest refl) (not-true _ parts.1)) in
+    let two = and_parts _ _ one.1 in
+    let three = and_parts _ _ two.1 in
+    let four = and_parts _ _ three.1 in
+    let five = and_parts _ _ four.1 in
+    let no_digit : is_ascii_digit c ≡ false = not-true _ one.0 in
+    let no_float : longest_len makes_float (c ∷ rest) ≡ 0 = float_end (c ∷ rest) ∙ rw (fraction_none (c ∷ rest) (not-true _ two.0), exponent_none (c ∷ rest) (not-true _ three.0)) refl in
+    number_language (b ∷ c ∷ rest) small (rw digit refl)
+    ∙ rw (
+      no_base (b ∷ c ∷ rest) (no_letter (b == 48) _ (not-true _ four.0)) (no_letter (b == 48) _ (not-true _ five.0)) (no_letter (b == 48) _ (not-true _ five.1)),
+      digit,
+      no_digit,
+      no_float,
+    ) refl

@@ -3,7 +3,7 @@ use Rattle.std.proofs.Common.{◌≡◌, ℕ, ◌+◌, ◌≤◌, Bool, true, Li
 use Rattle.std.specs.List.{prefix_len, slice_get}
 use Rattle.starlark_grammar.specs.Front.{longest_front}
 use Rattle.starlark_grammar.specs.Words.{Text, begins, has_base, is_in_name, is_name_start, sign_len}
-use Rattle.starlark_scanner.specs.Joints.Words.{begins_number, is_mark_alone}
+use Rattle.starlark_scanner.specs.Joints.Words.{begins_number, is_digit_alone, is_mark_alone, mark_of_two, text_opener}
 use Rattle.starlark_scanner.proofs.Scan.Marks.{front_three, mark_of}
 
 -- the first byte of a text that is read
@@ -32,6 +32,22 @@ pub alone_by_two : (text : Text) → is_mark_alone (take 2 text) ≡ is_mark_alo
 alone_by_two [] = refl
 alone_by_two (a ∷ []) = refl
 alone_by_two (a ∷ b ∷ rest) = refl
+
+pub opener_by_two : (text : Text) → text_opener (take 2 text) ≡ text_opener text
+opener_by_two [] = refl
+opener_by_two (a ∷ []) = refl
+opener_by_two (a ∷ b ∷ rest) = refl
+
+pub digit_by_three : (text : Text) → is_digit_alone (take 3 text) ≡ is_digit_alone text
+digit_by_three [] = refl
+digit_by_three (a ∷ []) = refl
+digit_by_three (a ∷ b ∷ rest) = refl
+
+pub two_by_three : (text : Text) → mark_of_two (take 3 text) ≡ mark_of_two text
+two_by_three [] = refl
+two_by_three (a ∷ []) = refl
+two_by_three (a ∷ b ∷ []) = refl
+two_by_three (a ∷ b ∷ c ∷ rest) = refl
 
 pub first_by_two : (text : Text) → slice_get (take 2 text) 0 ≡ slice_get text 0
 first_by_two [] = refl

@@ -1,20 +1,20 @@
--- Marks of one byte that the byte behind them makes no longer.
-use Rattle.std.proofs.Common.{◌≡◌, ◌≢◌, ℕ, ◌<◌, Bool, true, false, not, ◌&&◌, ◌||◌, ◌==◌, [], ◌∷◌, get_or, refl, sym, subst, ap, ◌∙◌, Option, None, Some}
+-- Marks of one byte or two that the byte behind them makes no longer.
+use Rattle.std.proofs.Common.{◌≡◌, ◌≢◌, ℕ, ◌<◌, Bool, true, false, not, ◌&&◌, ◌||◌, ◌==◌, nat_eq, [], ◌∷◌, get_or, refl, sym, subst, ap, ◌∙◌, Option, None, Some}
 use Rattle.std.proofs.lemmas.Bool.{agree_below, and_parts, both_ways, not-true, eq-eqb}
 use Rattle.std.specs.Char.{is_ascii_digit}
-use Rattle.std.specs.List.{slice_get}
+use Rattle.std.specs.List.{list_any, slice_get}
 use Rattle.std.specs.Option.{option_map}
 use Rattle.std.specs.Prelude.{IfSome}
 use Rattle.starlark_grammar.specs.Front.{longest_front, language_front}
 use Rattle.starlark_grammar.specs.Pieces.{is_bang}
 use Rattle.starlark_grammar.specs.Words.{Text, class_in, is_name_start, line_ends, symbols}
 use Rattle.starlark_grammar.proofs.Words.Fronts.{front_none}
-use Rattle.starlark_scanner.specs.Joints.Words.{begins_number, goes_on, is_lone_mark, is_mark_alone, is_symbol, marks, word_view}
+use Rattle.starlark_scanner.specs.Joints.Words.{begins_number, goes_on, is_lone_mark, is_mark_alone, is_symbol, mark_of_two, marks, word_view}
 use Rattle.starlark_scanner.specs.declared.scanner.word.Word.{Word}
 use Rattle.starlark_grammar.specs.declared.class.Class.{Class}
 use Rattle.starlark_scanner.proofs.Scan.ByFirst.{front_mark}
 use Rattle.starlark_scanner.proofs.Scan.Listed.{all_pass, lookup_fails, each_byte, implied}
-use Rattle.starlark_scanner.proofs.Scan.Marks.{mark_is, mark_of}
+use Rattle.starlark_scanner.proofs.Scan.Marks.{front_three, front_two, mark_is, mark_of}
 
 -- a byte that such a mark may be
 abbrev is_one : ℕ → Bool
@@ -134,6 +134,73 @@ front_alone (x ∷ c ∷ rest) b small e h =
         let ends = not-true _ parts.1 in
         let one = symbol_is_one x parts.0 in
         (front_marks (x ∷ c ∷ rest) x refl (small 0) one (rw (no_digit x (small 0) one, no_digit_goes_on c (small 1) ends) (and_false (x == 46))) ∙ front_of_one x c rest (λ word. short_ends x c word parts.0 ends), one_is_no_bang x (c ∷ rest) (small 0) one)
+
+-- a mark of two bytes, which no `=` behind it makes longer
+
+is_other_start : ℕ → Bool
+is_other_start b = list_any (nat_eq b) (32 ∷ 9 ∷ 35 ∷ 39 ∷ 34 ∷ [])
+
+-- neither another word nor a bang begins with two bytes
+abbrev begins_mark : ℕ → ℕ → Bool
+begins_mark b c = not (is_other_start b) && (not (is_name_start b) && (not (begins_number (b ∷ c ∷ [])) && not (is_bang (b ∷ c ∷ []))))
+
+abbrev begins_so : Text → Bool
+begins_so (x ∷ y ∷ []) = begins_mark x y
+begins_so word = true
+
+two_begin_mark : (b c : ℕ) (class : Class) → mark_of (b ∷ c ∷ []) ≡ Some class → begins_mark b c ≡ true
+unfolding line_ends symbols is_other_start
+two_begin_mark b c class h = go (begins_mark b c) refl
+  where
+    go : (begins : Bool) → begins_mark b c ≡ begins → begins_mark b c ≡ true
+    go true e = e
+    go false e =
+        let none : mark_of (b ∷ c ∷ []) ≡ None = mark_is (b ∷ c ∷ []) ∙ rw (lookup_fails begins_so (b ∷ c ∷ []) line_ends refl e, lookup_fails begins_so (b ∷ c ∷ []) symbols refl e) refl in
+        let never : Some class ≡ None = sym h ∙ none in
+        cc
+
+is_none : Option Class → Bool
+is_none None = true
+is_none (Some class) = false
+
+-- a word of three bytes of which the first two are a mark ends with `=`
+abbrev ends_so : Text → Bool
+ends_so (x ∷ y ∷ z ∷ word) = nat_eq 61 z || is_none (mark_of (x ∷ y ∷ []))
+ends_so word = true
+
+no_third : (b c d : ℕ) (class : Class) → nat_eq 61 d ≡ false → mark_of (b ∷ c ∷ []) ≡ Some class → mark_of (b ∷ c ∷ d ∷ []) ≡ None
+unfolding line_ends symbols is_none class_in
+no_third b c d class other h =
+    let fails : ends_so (b ∷ c ∷ d ∷ []) ≡ false = rw (other, h) refl in
+    mark_is (b ∷ c ∷ d ∷ []) ∙ rw (lookup_fails ends_so (b ∷ c ∷ d ∷ []) line_ends refl fails, lookup_fails ends_so (b ∷ c ∷ d ∷ []) symbols refl fails) refl
+
+is_not : (b k : ℕ) → is_other_start b ≡ false → is_other_start k ≡ true → b ≢ k
+is_not b k h other e = both_ways _ h (ap is_other_start e ∙ other)
+
+-- a text that begins with a mark of two bytes
+two_at_front : (b c : ℕ) (rest : Text) (class : Class) → b < 256 → mark_of (b ∷ c ∷ []) ≡ Some class → (language_front (b ∷ c ∷ rest) ≡ longest_front mark_of (b ∷ c ∷ rest)) × (is_bang (b ∷ c ∷ rest) ≡ false)
+unfolding is_other_start
+two_at_front b c rest class small h =
+    let one = and_parts _ _ (two_begin_mark b c class h) in
+    let two = and_parts _ _ one.1 in
+    let three = and_parts _ _ two.1 in
+    let start = not-true _ one.0 in
+    (front_mark (b ∷ c ∷ rest) b refl small (is_not b 32 start refl) (is_not b 9 start refl) (is_not b 35 start refl) (is_not b 39 start refl) (is_not b 34 start refl) (not-true _ two.0) (not-true _ three.0), not-true _ three.1)
+
+pub front_of_two : (text : Text) (class : Class) → ((i : ℕ) → get_or text i 0 < 256) → mark_of_two text ≡ Some class → (language_front text ≡ Some (class, 2)) × (is_bang text ≡ false)
+front_of_two [] class small h = cc
+front_of_two (b ∷ []) class small h = cc
+front_of_two (b ∷ c ∷ []) class small h =
+    let found = two_at_front b c [] class (small 0) h in
+    (found.0 ∙ front_two b c ∙ rw h refl, found.1)
+front_of_two (b ∷ c ∷ d ∷ rest) class small h = go (nat_eq 61 d) refl h
+  where
+    go : (equal : Bool) → nat_eq 61 d ≡ equal → mark_of_two (b ∷ c ∷ d ∷ rest) ≡ Some class → (language_front (b ∷ c ∷ d ∷ rest) ≡ Some (class, 2)) × (is_bang (b ∷ c ∷ d ∷ rest) ≡ false)
+    go true e h = let none = rw e at h in cc
+    go false e h =
+        let mark : mark_of (b ∷ c ∷ []) ≡ Some class = rw e at h in
+        let found = two_at_front b c (d ∷ rest) class (small 0) mark in
+        (found.0 ∙ front_three b c d rest ∙ rw (no_third b c d class e mark, mark) refl, found.1)
 
 -- a word that was found
 pub single_word : (found : Option Word) (front : Option (Class × ℕ)) → option_map word_view found ≡ front → IfSome found (λ word. Some (word_view word) ≡ front)

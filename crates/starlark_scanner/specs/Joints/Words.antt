@@ -1,13 +1,20 @@
 -- What the scanner finds, and what it looks for.
-use Rattle.std.specs.Prelude.{ℕ, Bool, false, not, ◌&&◌, ◌||◌, ◌==◌, nat_eq, List, [], ◌∷◌, ◌++◌, take, length, codes, Option, None, Some, unwrap_or}
+use Rattle.std.specs.Prelude.{◌≡◌, ℕ, ◌+◌, ◌<◌, ⊤, if◌then◌else◌, Bool, true, false, not, ◌&&◌, ◌||◌, ◌==◌, nat_eq, List, [], ◌∷◌, ◌++◌, take, length, codes, Option, None, Some, unwrap_or}
 use Rattle.std.specs.List.{filter, list_any}
 use Rattle.std.specs.Map.{lookup}
+use Rattle.std.specs.Option.{option_map}
 use Rattle.std.specs.Str.{bytes_eq}
 use Rattle.std.specs.Char.{is_ascii_digit}
 use Rattle.starlark_grammar.specs.Words as grammar
 use Rattle.starlark_grammar.specs.declared.class.Class.{Class}
-use Rattle.starlark_grammar.specs.declared.class.Class.TheVariants.{Identifier}
+use Rattle.starlark_grammar.specs.declared.class.Class.TheVariants.{Decimal, Fixed, Identifier, Opener}
+use Rattle.starlark_grammar.specs.declared.class.LiteralKind.TheVariants.{Text as OfText}
+use Rattle.starlark_grammar.specs.declared.class.Quote.{Quote}
+use Rattle.starlark_grammar.specs.declared.class.Quote.TheVariants.{Single, Double}
 use Rattle.starlark_scanner.specs.declared.scanner.word.Word.{Word}
+use Rattle.starlark_scanner.specs.declared.scanner.word.ShortWord.{ShortWord}
+use Rattle.starlark_scanner.specs.declared.scanner.word.ShortWord.TheVariants.{Symbol, Digit}
+use Rattle.starlark_scanner.specs.declared.scanner.word.TextOpener.{TextOpener}
 
 -- a word at the front of a text, by its class and its length
 abbrev pub word_view : Word → Class × ℕ
@@ -70,3 +77,56 @@ abbrev pub begins_number : grammar.Text → Bool
 begins_number [] = false
 begins_number (a ∷ []) = is_ascii_digit a
 begins_number (a ∷ b ∷ rest) = is_ascii_digit a || (a == 46 && is_ascii_digit b)
+
+-- a short word, as a word
+abbrev pub short_view : ShortWord → Word
+short_view (Symbol terminal) = record { class = Fixed terminal; len = 2 }
+short_view (Digit value) = record { class = Decimal; len = 1 }
+
+-- the length of a short word, and 0 where none stands
+abbrev pub short_len : Option ShortWord → ℕ
+short_len short = word_len (option_map short_view short)
+
+-- a digit of so much stands at the front
+abbrev pub IsDigitAt : ℕ → grammar.Text → Type 0
+IsDigitAt value text = (value < 10) × (take 1 text ≡ (value + 48) ∷ [])
+
+-- the digit of a short word stands at the front, if it is one
+abbrev pub HasDigit : ShortWord → grammar.Text → Type 0
+HasDigit (Symbol terminal) text = ⊤
+HasDigit (Digit value) text = IsDigitAt value text
+
+-- the class of a mark of two bytes, which no `=` behind it can make longer
+abbrev pub mark_of_two : grammar.Text → Option Class
+mark_of_two (a ∷ b ∷ rest) = if grammar.begins (nat_eq 61) rest then None else grammar.class_in marks (a ∷ b ∷ [])
+mark_of_two text = None
+
+-- a byte that may stand in a number
+abbrev pub may_be_in_number : ℕ → Bool
+may_be_in_number c = grammar.is_in_name c || c == 46
+
+-- a digit stands at the front, and behind it no byte that may stand in a number
+abbrev pub is_digit_alone : grammar.Text → Bool
+is_digit_alone [] = false
+is_digit_alone (a ∷ []) = is_ascii_digit a
+is_digit_alone (a ∷ b ∷ rest) = is_ascii_digit a && not (may_be_in_number b)
+
+-- the quote that a byte is
+abbrev pub quote_of : ℕ → Option Quote
+quote_of b = if b == 39 then Some Single else if b == 34 then Some Double else None
+
+-- an opener of a text literal, by its class and its length
+abbrev pub opener_view : TextOpener → Class × ℕ
+opener_view opener = (Opener OfText opener.is_raw opener.quote, opener.len)
+
+abbrev pub plain_opener : Quote → TextOpener
+plain_opener quote = record { is_raw = false; quote = quote; len = 1 }
+
+abbrev pub raw_opener : Quote → TextOpener
+raw_opener quote = record { is_raw = true; quote = quote; len = 2 }
+
+-- the opener of a text literal that the first two bytes of a text are
+abbrev pub text_opener : grammar.Text → Option TextOpener
+text_opener [] = None
+text_opener (a ∷ []) = option_map plain_opener (quote_of a)
+text_opener (a ∷ b ∷ rest) = if a == 114 then option_map raw_opener (quote_of b) else option_map plain_opener (quote_of a)

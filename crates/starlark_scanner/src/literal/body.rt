@@ -1,11 +1,12 @@
 //! Reads a body up to its first stop.
 
-ghost use Rattle.std.specs.Prelude.{◌≡◌, ◌+◌, ◌*◌, ◌++◌, [], not, string_bytes, IfOk, OnOk};
+ghost use Rattle.std.specs.Prelude.{◌≡◌, ◌+◌, ◌*◌, ◌++◌, [], encode_utf8, not, string_bytes, IfOk, OnOk};
 ghost use Rattle.std.specs.Str.{IsCharBoundary};
 ghost use Rattle.starlark_grammar.specs.Items as grammar;
 ghost use Rattle.starlark_scanner.specs.Joints.Literals.{IsBody, IsCharacters, Takes, bytes_of, holds_text, literal_view, stopped_len, value_view};
 ghost use Rattle.starlark_scanner.specs.Joints.Reads.{AreReads};
 
+use super::escapes::simple_escape;
 use super::items::{Found, Literal, Stop, Value, found_at};
 use super::runs::first_run;
 use crate::reads::Reads;
@@ -38,6 +39,22 @@ impl LiteralValue {
         match self {
             LiteralValue::Text(text) => text.push_str(run),
             LiteralValue::Bytes(bytes) => bytes.extend_from_slice(run.as_bytes()),
+        }
+    }
+
+    /// Appends a run, and the character behind it.
+    #[inline(always)]
+    fn append_character(&mut self, run: &str, character: char) -> Result<(), AllocError>
+        ensures bytes { OnOk result (bytes_of self.new ≡ (bytes_of self.old ++ run.now) ++ encode_utf8 character) }
+        ensures kind { OnOk result (holds_text self.new ≡ holds_text self.old) }
+    {
+        match self {
+            LiteralValue::Text(text) => append_character_to_text(text, run, character),
+            LiteralValue::Bytes(bytes) => append_item_to_bytes(
+                bytes,
+                run,
+                Value::Character(character),
+            ),
         }
     }
 
@@ -99,6 +116,15 @@ fn append_to_bytes(bytes: &mut Vec<u8>, value: Value<'_>) -> Result<(), AllocErr
     }
 }
 
+#[inline(always)]
+fn append_character_to_text(text: &mut String, run: &str, character: char) -> Result<(), AllocError>
+    ensures { OnOk result (string_bytes text.new ≡ (string_bytes text.old ++ run.now) ++ encode_utf8 character) }
+{
+    make_room_in_text(text, run.len())?;
+    text.push_str(run)?;
+    text.push(character)
+}
+
 fn append_item_to_text(text: &mut String, run: &str, value: Value<'_>) -> Result<(), AllocError>
     requires { IsCharacters value }
     ensures { OnOk result (string_bytes text.new ≡ (string_bytes text.old ++ run.now) ++ value_view value.entry) }
@@ -141,7 +167,14 @@ pub fn read_body(
     loop {
         let run = first_run(reads, literal, &text[len..]);
         len += run.len();
-        match found_at(reads, literal, &text[len..]) {
+        let rest = &text[len..];
+        let front = reads.front(rest.as_bytes(), 3);
+        if let Some(character) = simple_escape(literal, front) {
+            value.append_character(run, character)?;
+            len += 2;
+            continue;
+        }
+        match found_at(reads, literal, front, rest) {
             Found::Goes(item) => {
                 value.append_item(run, item.value)?;
                 len += item.len;

@@ -1,16 +1,16 @@
 //! Escapes: a backslash and what it takes.
 
-ghost use Rattle.std.specs.Prelude.{◌≡◌, ◌≤◌, ◌<◌, ◌+◌, ◌-◌, ◌∷◌, [], false, true, drop, get_or, nat_eq, take, IfSome};
+ghost use Rattle.std.specs.Prelude.{◌≡◌, ◌≤◌, ◌<◌, ◌+◌, ◌-◌, ◌∷◌, [], false, true, drop, encode_utf8, get_or, nat_eq, take, IfSome};
 ghost use Rattle.std.specs.Char.{is_ascii_hexdigit};
 ghost use Rattle.std.specs.List.{prefix_len};
 ghost use Rattle.std.specs.Map.{lookup};
 ghost use Rattle.starlark_grammar.specs.Characters as characters;
 ghost use Rattle.starlark_grammar.specs.Items as grammar;
-ghost use Rattle.starlark_scanner.specs.Joints.Literals.{IsCharacters, IsText, found_len, found_view, value_view};
+ghost use Rattle.starlark_scanner.specs.Joints.Literals.{IsCharacters, IsText, found_len, found_view, literal_view, value_view};
 ghost use Rattle.starlark_scanner.specs.Joints.Reads.{AreReads, more_reads};
-ghost use Rattle.starlark_grammar.specs.Words.{is_octal_digit};
+ghost use Rattle.starlark_grammar.specs.Words.{Text, is_octal_digit};
 
-use super::items::{Found, Item, Stop, Value, behind_first, part};
+use super::items::{Found, Item, Literal, Stop, Value, behind_first, part};
 use crate::reads::Reads;
 use crate::scanner::LiteralKind;
 
@@ -170,6 +170,7 @@ fn escaped_feed<'a>(reads: &mut Reads, behind: &str) -> Found<'a>
 
 #[tactic(auto, unfolding(starlark_grammar::specs::Items::simple_escapes))]
 /// What one byte behind a backslash denotes, where that is another character.
+#[inline(always)]
 fn simple_value(byte: u8) -> Option<char>
     ensures value { result ≡ lookup (nat_eq byte) grammar.simple_escapes }
     ensures ascii { IfSome result (λ value. value < 128) }
@@ -202,6 +203,21 @@ fn simple<'a>(reads: &mut Reads, first: u8, text: &'a str) -> Found<'a>
     }
     let len = 1 + reads.character_len(behind_first(text));
     part(len, &text[..len])
+}
+
+/// The character that an escape of two bytes denotes, where one stands at the front of the rest of a body, of which the
+/// first three bytes were read.
+#[inline(always)]
+pub fn simple_escape(literal: Literal, front: &[u8]) -> Option<char>
+    ensures { IfSome result (λ value. (text : Text) → front.now ≡ take 3 text → grammar.found_at (literal_view literal) text ≡ grammar.goes 2 (encode_utf8 value)) }
+{
+    let [first, second, ..] = front else {
+        return None;
+    };
+    if *first != b'\\' || literal.opening.is_raw {
+        return None;
+    }
+    simple_value(*second)
 }
 
 fn is_of_bytes(kind: LiteralKind) -> bool

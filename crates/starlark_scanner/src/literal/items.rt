@@ -1,6 +1,6 @@
 //! What stands at a place of a literal's body: an item, or why the body stops.
 
-ghost use Rattle.std.specs.Prelude.{◌≡◌, ◌<◌, ◌≤◌, ◌+◌, ◌==◌, ◌&&◌, ◌∷◌, not, drop, false, get_or, length, nat_eq, true};
+ghost use Rattle.std.specs.Prelude.{◌≡◌, ◌<◌, ◌≤◌, ◌+◌, ◌-◌, ◌==◌, ◌&&◌, ◌∷◌, not, drop, false, get_or, length, nat_eq, take, true};
 ghost use Rattle.std.specs.List.{starts_with};
 ghost use Rattle.starlark_grammar.specs.Characters as characters;
 ghost use Rattle.starlark_grammar.specs.Items as grammar;
@@ -187,17 +187,24 @@ pub fn ends_line(opening: Opening, byte: u8) -> bool
     byte == b'\n' && !opening.is_triple
 }
 
-/// What stands at the front of the rest of a body.
-pub fn found_at<'a>(reads: &mut Reads, literal: Literal, text: &'a str) -> Found<'a>
+/// What stands at the front of the rest of a body, of which the first three bytes were read.
+pub fn found_at<'a>(reads: &mut Reads, literal: Literal, front: &[u8], text: &'a str) -> Found<'a>
+    requires { front.now ≡ take 3 text.now }
     ensures value { found_view result ≡ grammar.found_at (literal_view literal) text.now }
     ensures text { grammar.is_of_bytes literal.kind ≡ false → IsText result }
-    ensures reads { AreReads (least_reads result) (found_len result + 5) reads.old reads.new }
+    ensures reads { AreReads (least_reads result - 3) (found_len result + 2) reads.old reads.new }
 {
-    let front = reads.front(text.as_bytes(), 3);
     let Some(first) = front.first() else {
         return Found::Stops(Stop::Ended);
     };
     let byte = *first;
+    if byte == b'\\' {
+        return if literal.opening.is_raw {
+            raw_pair(reads, literal, text)
+        } else {
+            escape(reads, literal.kind, text)
+        };
+    }
     if closes(literal.opening, front) {
         return Found::Stops(Stop::Closing);
     }
@@ -206,13 +213,6 @@ pub fn found_at<'a>(reads: &mut Reads, literal: Literal, text: &'a str) -> Found
     }
     if byte == b'\r' {
         return part(1, "");
-    }
-    if byte == b'\\' {
-        return if literal.opening.is_raw {
-            raw_pair(reads, literal, text)
-        } else {
-            escape(reads, literal.kind, text)
-        };
     }
     if is_brace(literal.kind, byte) {
         return brace(reads, byte, text);

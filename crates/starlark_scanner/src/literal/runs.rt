@@ -84,14 +84,24 @@ fn long_run_len(reads: &mut Reads, literal: Literal, bytes: &[u8]) -> usize
     at + short_run_len(reads, literal, &bytes[at..])
 }
 
+/// The length of the run at the front of fewer than sixteen bytes, which are left at a text's end alone.
+#[inline(never)]
+fn last_run_len(reads: &mut Reads, literal: Literal, bytes: &[u8]) -> usize
+    ensures value { result ≡ prefix_len (is_in_run (literal_view literal)) bytes.now }
+    ensures reads { reads.new ≡ more_reads reads.old (result + 1) }
+{
+    short_run_len(reads, literal, bytes)
+}
+
 /// The length of the run at the front of some bytes. Sixteen are looked at together once as many were passed one by
 /// one.
+#[inline(always)]
 fn run_len(reads: &mut Reads, literal: Literal, bytes: &[u8]) -> usize
     ensures value { result ≡ prefix_len (is_in_run (literal_view literal)) bytes.now }
     ensures reads { AreReads result (2 * result + 1) reads.old reads.new }
 {
     if bytes.len() < LANES {
-        return short_run_len(reads, literal, bytes);
+        return last_run_len(reads, literal, bytes);
     }
     let len = short_run_len(reads, literal, &bytes[..LANES]);
     if len < LANES {
@@ -101,6 +111,7 @@ fn run_len(reads: &mut Reads, literal: Literal, bytes: &[u8]) -> usize
 }
 
 /// The run at the front of the rest of a body.
+#[inline(always)]
 pub fn first_run<'a>(reads: &mut Reads, literal: Literal, text: &'a str) -> &'a str
     ensures value { result.now ≡ take (prefix_len (is_in_run (literal_view literal)) text.now) text.now }
     ensures boundary { IsCharBoundary text.now (length result.now) }

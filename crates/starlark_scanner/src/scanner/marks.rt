@@ -3,7 +3,7 @@
 ghost use Rattle.std.specs.Prelude.{◌≡◌, ◌≤◌, ◌∷◌, []};
 ghost use Rattle.std.specs.Option.{option_map};
 ghost use Rattle.starlark_grammar.specs.Front.{longest_front};
-ghost use Rattle.starlark_scanner.specs.Joints.Words.{is_mark_alone, marks, word_len, word_view};
+ghost use Rattle.starlark_scanner.specs.Joints.Words.{is_mark_alone, mark_of_two, marks, word_len, word_view};
 ghost use Rattle.starlark_grammar.specs.Words.{class_in};
 
 use super::first::{goes_on, is_lone_mark, is_symbol};
@@ -57,6 +57,7 @@ fn single(byte: u8) -> Option<Class>
 
 #[tactic(auto, unfolding(starlark_grammar::specs::Words::class_in, starlark_grammar::specs::Words::line_ends, starlark_grammar::specs::Words::symbols))]
 /// The class of a mark of two bytes.
+#[inline(always)]
 fn double(first: u8, second: u8) -> Option<Class>
     ensures { result ≡ class_in marks (first ∷ second ∷ []) }
 {
@@ -95,6 +96,19 @@ fn triple(first: u8, second: u8, third: u8) -> Option<Class>
         (b'<', b'<', b'=') => Some(Class::Fixed(Terminal::LessLessEqual)),
         (b'>', b'>', b'=') => Some(Class::Fixed(Terminal::GreaterGreaterEqual)),
         (b'.', b'.', b'.') => Some(Class::Fixed(Terminal::Ellipsis)),
+        _ => None,
+    }
+}
+
+/// The class of the mark of two bytes at the front of a text, where no `=` stands behind it: such a mark is no part of a
+/// longer one.
+#[inline(always)]
+pub fn mark_of_two(text: &[u8]) -> Option<Class>
+    ensures { result ≡ mark_of_two text.now }
+{
+    match text {
+        [_, _, b'=', ..] => None,
+        [first, second, ..] => double(*first, *second),
         _ => None,
     }
 }

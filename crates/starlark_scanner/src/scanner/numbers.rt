@@ -5,9 +5,10 @@ ghost use Rattle.std.specs.Option.{option_map};
 ghost use Rattle.starlark_grammar.specs.Front.{language_front, longest_front};
 ghost use Rattle.starlark_grammar.specs.Lengths.{longest_len};
 ghost use Rattle.starlark_scanner.specs.Joints.Reads.{AreReads, more_reads};
-ghost use Rattle.starlark_scanner.specs.Joints.Words.{begins_number, word_len, word_view};
+ghost use Rattle.starlark_scanner.specs.Joints.Words.{begins_number, is_digit_alone, may_be_in_number, word_len, word_view};
 ghost use Rattle.starlark_grammar.specs.Words as grammar;
 
+use super::first::is_name_start;
 use super::{Class, Word};
 use crate::reads::Reads;
 
@@ -131,6 +132,26 @@ fn based_front(reads: &mut Reads, front: &[u8], text: &[u8]) -> Option<Word>
         return based_word(Class::Binary, reads.binary_len(&text[2..]));
     }
     None
+}
+
+/// Whether a byte may stand in a number.
+#[inline(always)]
+fn may_be_in_number(byte: u8) -> bool
+    ensures { result ≡ may_be_in_number byte }
+{
+    is_name_start(byte) || byte.is_ascii_digit() || byte == b'.'
+}
+
+/// Whether a digit stands at the front of a text, and behind it no byte that may stand in a number.
+#[inline(always)]
+pub fn is_digit_alone(text: &[u8]) -> bool
+    ensures { result ≡ is_digit_alone text.now }
+{
+    match text {
+        [] => false,
+        [first] => first.is_ascii_digit(),
+        [first, next, ..] => first.is_ascii_digit() && !may_be_in_number(*next),
+    }
 }
 
 /// The longest number at the front of a text that begins with one, the first three bytes of which were read.

@@ -6,8 +6,64 @@ ghost use Rattle.std.specs.Option.{option_map};
 ghost use Rattle.std.specs.Str.{bytes_eq};
 ghost use Rattle.starlark_grammar.specs.Words as grammar;
 ghost use Rattle.starlark_grammar.specs.declared.class.Class.TheVariants as class;
+ghost use Rattle.starlark_scanner.specs.Joints.Words.{plain_opener, quote_of, raw_opener, text_opener};
 
-use super::{Class, LiteralKind, Quote};
+use super::{Class, LiteralKind, Quote, TextOpener};
+
+/// The quote that a byte is, if it is one.
+#[inline(always)]
+fn quote_of(byte: u8) -> Option<Quote>
+    ensures { result ≡ quote_of byte }
+{
+    match byte {
+        b'\'' => Some(Quote::Single),
+        b'"' => Some(Quote::Double),
+        _ => None,
+    }
+}
+
+/// The opener of a text literal that a quote is without a prefix.
+#[inline(always)]
+fn plain_opener(quote: u8) -> Option<TextOpener>
+    ensures { result ≡ option_map plain_opener (quote_of quote) }
+{
+    match quote_of(quote) {
+        Some(quote) => Some(TextOpener {
+            is_raw: false,
+            quote,
+            len: 1,
+        }),
+        None => None,
+    }
+}
+
+/// The opener of a text literal that a quote is behind an `r`.
+#[inline(always)]
+fn raw_opener(quote: u8) -> Option<TextOpener>
+    ensures { result ≡ option_map raw_opener (quote_of quote) }
+{
+    match quote_of(quote) {
+        Some(quote) => Some(TextOpener {
+            is_raw: true,
+            quote,
+            len: 2,
+        }),
+        None => None,
+    }
+}
+
+/// The opener of a text literal that the first two bytes of a text are, if they are one.
+#[inline(always)]
+pub fn text_opener(text: &[u8]) -> Option<TextOpener>
+    ensures { result ≡ text_opener text.now }
+{
+    match text {
+        [] => None,
+        [first] => plain_opener(*first),
+        [b'r', second, ..] => raw_opener(*second),
+        [first, ..] => plain_opener(*first),
+    }
+}
 
 /// The opener of a literal of the given kind.
 fn opener(kind: LiteralKind, is_raw: bool, quote: Quote) -> Class

@@ -9,8 +9,8 @@ use starlark_base::codemap::{CodeMap, OrMemory, Pos, SourceTooLong, Span};
 use starlark_base::dialect::Dialect;
 use starlark_error::error::{ErrorKind, ParserMessage, error_from_lexeme};
 use starlark_error::eval_exception::EvalException;
-use starlark_reader::reader::{Next, Reader};
-use starlark_scanner::scanner::{Class, LiteralKind, Word};
+use starlark_reader::reader::{LineEnd, Next, Reader};
+use starlark_scanner::scanner::{Class, LiteralKind, ShortWord, TextOpener, Word};
 use starlark_token::lexeme_error::LexemeError;
 use starlark_token::tokens::Token;
 use std::alloc::{AllocError, Global};
@@ -29,13 +29,14 @@ pub struct Lexer<'a> {
     reader: Reader,
     handed_out: usize,
     has_ended: bool,
+    is_quick: bool,
 }
 
 impl<'a> Model for Lexer<'a> {
-    ghost use Rattle.std.specs.Prelude.{◌≡◌, ◌<◌, ◌≤◌, ◌^◌, false, drop, length, map};
+    ghost use Rattle.std.specs.Prelude.{◌≡◌, ◌<◌, ◌≤◌, ◌^◌, false, true, drop, length, map};
     ghost use Rattle.starlark_reader.specs.Lexemes.{shown_lexeme};
     ghost use Rattle.starlark_syntax.specs.Lexer.{LexerView};
-    ghost use Rattle.starlark_reader.specs.Joints.Reader.{IsAhead};
+    ghost use Rattle.starlark_reader.specs.Joints.Reader.{IsAhead, IsAtCode};
     ghost use Rattle.starlark_grammar.specs.Reading.{outcome};
 
     ghost Value = { LexerView };
@@ -44,7 +45,8 @@ impl<'a> Model for Lexer<'a> {
 
     ghost invariant = { λ lexer. (length lexer.text.now < 2 ^ 32)
         × (lexer.has_ended ≡ false → (lexer.handed_out ≤ length (outcome lexer.text.now).lexemes)
-        × IsAhead lexer.text.now lexer.reader lexer.reader.stage (drop lexer.handed_out (map shown_lexeme (outcome lexer.text.now).lexemes)) (outcome lexer.text.now).fault) };
+        × IsAhead lexer.text.now lexer.reader lexer.reader.stage (drop lexer.handed_out (map shown_lexeme (outcome lexer.text.now).lexemes)) (outcome lexer.text.now).fault)
+        × (lexer.is_quick ≡ true → (lexer.has_ended ≡ false) × IsAtCode lexer.text.now lexer.reader) };
 }
 
 /// A fault of a text as an exception, at its place in a code map.
@@ -89,12 +91,13 @@ impl<'a> Lexer<'a> {
             reader: Reader::new(alloc),
             handed_out: 0,
             has_ended: false,
+            is_quick: false,
         })
     }
 
-    /// The next lexeme of a lexer that no error has ended, whichever it is.
-    #[inline(never)]
-    fn next_of_all(&mut self) -> Option<Lexeme>
+    /// The next lexeme of a lexer that no error has ended, as its reader answers it.
+    #[inline(always)]
+    fn next_of_reader(&mut self) -> Option<Lexeme>
         requires { self.old.has_ended ≡ false }
         ensures item { AnswersNext self.old.code_map (slice_get (items self.old.text) self.old.handed_out) result }
         ensures within { AnswersWithin self.old.text result }
@@ -103,10 +106,12 @@ impl<'a> Lexer<'a> {
         match self.reader.next(self.text) {
             Ok(Next::Lexeme(lexeme)) => {
                 self.handed_out += 1;
+                self.is_quick = self.reader.is_at_code();
                 Some(Ok(lexeme))
             }
             Ok(Next::Fault { begin, fault, end }) => {
                 self.has_ended = true;
+                self.is_quick = false;
                 match exception(self.alloc, begin, fault, end, &self.code_map) {
                     Ok(exception) => {
                         self.handed_out += 1;
@@ -115,12 +120,43 @@ impl<'a> Lexer<'a> {
                     Err(_) => Some(Err(OrMemory::Memory)),
                 }
             }
-            Ok(Next::Nothing) => None,
+            Ok(Next::Nothing) => {
+                self.is_quick = false;
+                None
+            }
             Err(_) => {
                 self.has_ended = true;
+                self.is_quick = false;
                 Some(Err(OrMemory::Memory))
             }
         }
+    }
+
+    /// The next lexeme of a lexer that no error has ended, whichever it is: quickly where it is a symbol of two bytes or an
+    /// integer of one digit.
+    #[inline(never)]
+    fn next_of_all(&mut self) -> Option<Lexeme>
+        requires { self.old.has_ended ≡ false }
+        ensures item { AnswersNext self.old.code_map (slice_get (items self.old.text) self.old.handed_out) result }
+        ensures within { AnswersWithin self.old.text result }
+        ensures after { self.new ≡ record self.old { handed_out = self.old.handed_out + handed_out_by result; has_ended = is_ended_by result } }
+    {
+        if self.is_quick {
+            match self.reader.short_word(self.text) {
+                Some(ShortWord::Symbol(terminal)) => {
+                    self.handed_out += 1;
+                    let lexeme = self.reader.take_terminal(terminal, 2, self.text);
+                    self.is_quick = self.reader.is_in_code();
+                    return Some(Ok(lexeme));
+                }
+                Some(ShortWord::Digit(digit)) => {
+                    self.handed_out += 1;
+                    return Some(Ok(self.reader.take_digit(digit, self.text)));
+                }
+                None => {}
+            }
+        }
+        self.next_of_reader()
     }
 
     /// The next lexeme of a lexer that no error has ended: quickly where it is a text literal whose characters denote
@@ -132,17 +168,10 @@ impl<'a> Lexer<'a> {
         ensures within { AnswersWithin self.old.text result }
         ensures after { self.new ≡ record self.old { handed_out = self.old.handed_out + handed_out_by result; has_ended = is_ended_by result } }
     {
-        let Some(
-            Word {
-                class: Class::Opener {
-                    kind: LiteralKind::Text,
-                    is_raw,
-                    quote,
-                },
-                len,
-            },
-        ) = self.reader.common_word(self.text)
-        else {
+        if !self.is_quick {
+            return self.next_of_all();
+        }
+        let Some(TextOpener { is_raw, quote, len }) = self.reader.text_opener(self.text) else {
             return self.next_of_all();
         };
         match self.reader.take_plain_text(is_raw, quote, len, self.text) {
@@ -153,6 +182,7 @@ impl<'a> Lexer<'a> {
             Ok(None) => self.next_of_all(),
             Err(_) => {
                 self.has_ended = true;
+                self.is_quick = false;
                 Some(Err(OrMemory::Memory))
             }
         }
@@ -188,10 +218,13 @@ impl<'a> Lexer<'a> {
         ensures within { AnswersWithin self.old.text result }
         ensures after { self.new ≡ record self.old { handed_out = self.old.handed_out + handed_out_by result; has_ended = self.old.has_ended || is_ended_by result } }
     {
-        if self.has_ended {
-            return None;
-        }
         let is_text = loop {
+            if !self.is_quick {
+                if self.has_ended {
+                    return None;
+                }
+                break false;
+            }
             let Some(Word { class, len }) = self.reader.common_word(self.text) else {
                 break false;
             };
@@ -204,29 +237,37 @@ impl<'a> Lexer<'a> {
                         }
                         Err(_) => {
                             self.has_ended = true;
+                            self.is_quick = false;
                             Some(Err(OrMemory::Memory))
                         }
                     };
                 }
                 Class::Fixed(terminal) => {
                     self.handed_out += 1;
-                    return Some(Ok(self.reader.take_terminal(terminal, len, self.text)));
+                    let lexeme = self.reader.take_terminal(terminal, len, self.text);
+                    self.is_quick = self.reader.is_in_code();
+                    return Some(Ok(lexeme));
                 }
                 Class::Opener {
                     kind: LiteralKind::Text,
                     ..
                 } => break true,
-                Class::LineEnd if self.reader.pass_line_end(len, self.text) => {}
                 Class::LineEnd => {
                     let begin = self.reader.at();
                     match self.reader.take_line_end(len, self.text) {
-                        Ok(true) => {
+                        Ok(LineEnd::Passed) => {}
+                        Ok(LineEnd::Newline) => {
                             self.handed_out += 1;
+                            self.is_quick = self.reader.is_at_code();
                             return Some(Ok((begin, Token::Newline, begin + len)));
                         }
-                        Ok(false) => break false,
+                        Ok(LineEnd::Fault) => {
+                            self.is_quick = false;
+                            break false;
+                        }
                         Err(_) => {
                             self.has_ended = true;
+                            self.is_quick = false;
                             return Some(Err(OrMemory::Memory));
                         }
                     }

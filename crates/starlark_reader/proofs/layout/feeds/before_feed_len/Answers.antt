@@ -6,21 +6,22 @@ use Rattle.starlark_grammar.specs.Margins.{is_feed}
 use Rattle.starlark_scanner.proofs.Literals.LaneRuns.{run_ends, run_goes_on, run_within}
 use Rattle.starlark_reader.proofs.layout.feeds.before_feed_len.Goals as goal
 
-pub returns-then-at-lt-LANES-clause-value : goal.returns-then-at-lt-LANES-clause-value
-returns-then-at-lt-LANES-clause-value c =
+pub returns-then-at-lt-ALONE-clause-value : goal.returns-then-at-lt-ALONE-clause-value
+returns-then-at-lt-ALONE-clause-value c =
     let counted = c.short_line_len-at.ensures.value in
-    let less = c.if-at-lt-LANES.true in
-    counted ∙ run_ends (λ b. not (is_feed b)) 16 c.args.text.now c.if-text-lt-LANES.false (omega (arith, counted, less))
+    let less = c.if-at-lt-ALONE.true in
+    counted ∙ run_ends (λ b. not (is_feed b)) 8 c.args.text.now (omega (arith, c.if-text-lt-LANES.false)) (omega (arith, counted, less))
 
 pub loop-at-init : goal.loop-at-init
 loop-at-init c =
-    let room = c.if-text-lt-LANES.false in
+    let long = c.if-text-lt-LANES.false in
+    let room : 8 ≤ length c.args.text.now = omega (arith, long) in
     let counted = c.short_line_len-at.ensures.value in
-    let within = run_within (λ b. not (is_feed b)) 16 c.args.text.now room in
-    let whole : c.short_line_len-at.result ≡ 16 = omega (arith, counted, within, c.if-at-lt-LANES.false) in
+    let within = run_within (λ b. not (is_feed b)) 8 c.args.text.now room in
+    let whole : c.short_line_len-at.result ≡ 8 = omega (arith, counted, within, c.if-at-lt-ALONE.false) in
     record {
       within = omega (arith, whole, room);
-      value = run_goes_on (λ b. not (is_feed b)) 16 c.args.text.now room (sym counted ∙ whole) ∙ ap (λ n. n + prefix_len (λ b. not (is_feed b)) (drop n c.args.text.now)) (sym whole);
+      value = run_goes_on (λ b. not (is_feed b)) 8 c.args.text.now room (sym counted ∙ whole) ∙ ap (λ n. n + prefix_len (λ b. not (is_feed b)) (drop n c.args.text.now)) (sym whole);
       some = omega (arith, whole);
       reads = (omega (arith, c.short_line_len-at.ensures.reads, whole), omega (arith, c.short_line_len-at.ensures.reads, whole));
     }

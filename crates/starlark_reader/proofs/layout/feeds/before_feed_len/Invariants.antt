@@ -8,7 +8,7 @@ abbrev pub invariant-loop-at : goal.invariant-loop-at
 invariant-loop-at l = record {
   within : l.at ≤ length l.text;
   value : prefix_len (λ b. not (is_feed b)) l.text ≡ l.at + prefix_len (λ b. not (is_feed b)) (drop l.at l.text);
-  some : 16 ≤ l.at;
+  some : 8 ≤ l.at;
   reads : AreReads (l.at + 1) (l.at + 1) l.fn.reads l.reads;
 }
 

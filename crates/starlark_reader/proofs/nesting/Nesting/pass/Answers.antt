@@ -5,14 +5,20 @@ use Rattle.starlark_reader.specs.Joints.Nesting.{brackets_of, change_by}
 use Rattle.starlark_reader.specs.contracts.nesting.changes.Change.{the_type}
 use Rattle.starlark_reader.specs.declared.nesting.counts.OpenFString.{OpenFString}
 use Rattle.starlark_reader.specs.declared.nesting.changes.Change.TheVariants as change
-use Rattle.starlark_reader.proofs.OpenBrackets.FStrings.{AreOpen, AreCounted, but_last, counted, ends_fstring, keeps_fstrings, last_of, last_set, none_onward, nothing_last, some_onward}
+use Rattle.starlark_reader.proofs.OpenBrackets.FStrings.{AreOpen, AreCounted, but_last, counted, ends_fstring, keeps_fstrings, last_of, last_set, none_onward, nothing_last, one_kept, some_onward}
 use Rattle.starlark_reader.proofs.nesting.Nesting.pass.Goals as goal
 use denote.Enum.Bare.{same_true, same_false}
 
 pub returns-then-eq-clause-passes : goal.returns-then-eq-clause-passes
 returns-then-eq-clause-passes c = λ tokens node e begins h.
     let does : c.change_of-change.result ≡ change_by (Whole node) = c.change_of-change.ensures ∙ ap change_by e in
-    let is : c.change_of-change.result ≡ change.EndsFString = same_true the_type (search rules) c.change_of-change.result change.EndsFString (sym c.if-eq.ensures) in
+    let is : c.change_of-change.result ≡ change.Nothing = same_true the_type (search rules) c.change_of-change.result change.Nothing (sym c.if-eq.ensures) in
+    one_kept node tokens c.args.self.now (keeps_fstrings node begins (λ ends. let other : change.EndsFString ≡ change.Nothing = sym ends ∙ sym does ∙ is in cc)) (sym does ∙ is) h
+
+pub returns-then-eq-2-clause-passes : goal.returns-then-eq-2-clause-passes
+returns-then-eq-2-clause-passes c = λ tokens node e begins h.
+    let does : c.change_of-change.result ≡ change_by (Whole node) = c.change_of-change.ensures ∙ ap change_by e in
+    let is : c.change_of-change.result ≡ change.EndsFString = same_true the_type (search rules) c.change_of-change.result change.EndsFString (sym c.if-eq-2.ensures) in
     let ends = ends_fstring node (sym does ∙ is) in
     let counts : AreCounted c.after-self.result (node ∷ tokens) = counted c.change_of-change.result node tokens c.args.self.now.brackets c.after-self.result does (c.after-self.ensures c.requires.room) h.opened h.closed in
     let size = c.args.self.now.fstrings.ok.0 in
@@ -26,7 +32,7 @@ returns-then-eq-clause-passes c = λ tokens node e begins h.
 pub returns-in-Some-clause-passes : goal.returns-in-Some-clause-passes
 returns-in-Some-clause-passes c = λ tokens node e begins h.
     let does : c.change_of-change.result ≡ change_by (Whole node) = c.change_of-change.ensures ∙ ap change_by e in
-    let differs = same_false the_type c.change_of-change.result change.EndsFString (sym c.if-eq.ensures) in
+    let differs = same_false the_type c.change_of-change.result change.EndsFString (sym c.if-eq-2.ensures) in
     let keeps = keeps_fstrings node begins (λ ends. differs (does ∙ ends)) in
     let counts : AreCounted c.after-self.result (node ∷ tokens) = counted c.change_of-change.result node tokens c.args.self.now.brackets c.after-self.result does (c.after-self.ensures c.requires.room) h.opened h.closed in
     let room : brackets_of tokens + 1 < 2 ^ 64 = rw (← h.opened, ← h.closed) c.requires.room in
@@ -47,7 +53,7 @@ returns-in-Some-clause-passes c = λ tokens node e begins h.
 pub returns-in_default-clause-passes : goal.returns-in_default-clause-passes
 returns-in_default-clause-passes c = λ tokens node e begins h.
     let does : c.change_of-change.result ≡ change_by (Whole node) = c.change_of-change.ensures ∙ ap change_by e in
-    let differs = same_false the_type c.change_of-change.result change.EndsFString (sym c.if-eq.ensures) in
+    let differs = same_false the_type c.change_of-change.result change.EndsFString (sym c.if-eq-2.ensures) in
     let keeps = keeps_fstrings node begins (λ ends. differs (does ∙ ends)) in
     let counts : AreCounted c.after-self.result (node ∷ tokens) = counted c.change_of-change.result node tokens c.args.self.now.brackets c.after-self.result does (c.after-self.ensures c.requires.room) h.opened h.closed in
     let size = c.args.self.now.fstrings.ok.0 in

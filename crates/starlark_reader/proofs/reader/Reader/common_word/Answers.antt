@@ -1,4 +1,4 @@
-use Rattle.std.proofs.Common.{refl, subst, sym}
+use Rattle.std.proofs.Common.{subst, sym}
 use Rattle.starlark_reader.specs.Joints.Reader.{IsAhead}
 use Rattle.starlark_reader.specs.declared.reader.Stage.{Stage}
 use Rattle.starlark_reader.proofs.Pieces.ReaderReads.{reads_ahead}
@@ -8,11 +8,11 @@ use Rattle.starlark_reader.proofs.reader.Reader.common_word.Goals as goal
 pub range_from-requires : goal.range_from-requires
 range_from-requires c = λ some.
     let ready = c.requires.ready in
-    let behind = c.pass_spaces.ensures.ahead ready.0 ready.1 (left_onward c.args.text.now c.args.self.now ready.0 ready.1 (c.if-not-reads_on.ensures.stage refl) ready.2) in
+    let behind = c.pass_spaces.ensures.ahead ready.0 ready.1 (left_onward c.args.text.now c.args.self.now ready.0 ready.1 c.requires.code.stage ready.2) in
     behind.is_left.1.boundary
 
 pub returns-clause-ahead : goal.returns-clause-ahead
 returns-clause-ahead c = λ lexemes fault ahead.
-    let on = c.pass_spaces.ensures.ahead lexemes fault (left_onward c.args.text.now c.args.self.now lexemes fault (c.if-not-reads_on.ensures.stage refl) ahead) in
+    let on = c.pass_spaces.ensures.ahead lexemes fault (left_onward c.args.text.now c.args.self.now lexemes fault c.requires.code.stage ahead) in
     reads_ahead c.args.text.now c.pass_spaces.new.self c.common_word.new.reads c.pass_spaces.new.self.stage lexemes fault
     (subst (λ (s : Stage). IsAhead c.args.text.now c.pass_spaces.new.self s lexemes fault) (sym c.pass_spaces.ensures.same.2) on)

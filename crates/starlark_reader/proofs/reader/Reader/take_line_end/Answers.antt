@@ -1,31 +1,12 @@
-use Rattle.std.proofs.Common.{drop, sym}
-use Rattle.std.proofs.lemmas.Str.{IsUtf8-drop}
-use Rattle.starlark_grammar.specs.declared.class.Class.TheVariants as class
-use Rattle.starlark_grammar.proofs.Order.Edges.{boundary_shift}
-use Rattle.starlark_reader.proofs.Pieces.CodePlaces.{word_cut}
+use Rattle.std.proofs.Common.{refl}
 use Rattle.starlark_reader.proofs.Pieces.NextLexeme.{onward_something}
-use Rattle.starlark_reader.proofs.Pieces.PieceTaken.{counting_line_end, left_onward, onward_ahead}
 use Rattle.starlark_reader.proofs.Pieces.Waiting.{after_error}
-use Rattle.std.proofs.lemmas.Result.{IfOk-weaker}
-use Rattle.starlark_reader.specs.Joints.Reader.{newline_if}
 use Rattle.starlark_reader.proofs.reader.Reader.take_line_end.Goals as goal
 
-pub lay_line_end-requires-clause-stands : goal.lay_line_end-requires-clause-stands
-lay_line_end-requires-clause-stands c =
-    let left = (left_onward c.args.text.now c.args.self.now c.requires.ready.0 c.requires.ready.1 c.requires.stands.stage c.requires.ready.2).is_left in
-    (left.0, left.1, counting_line_end c.args.text.now left.0 c.args.self.now c.args.len left.1 c.requires.stands c.requires.counts)
+pub returns-in_err-take_counting_line_end-clause-memory : goal.returns-in_err-take_counting_line_end-clause-memory
+returns-in_err-take_counting_line_end-clause-memory c = after_error c.from_residual.result _ (λ lexemes fault ahead. onward_something c.args.text.now c.args.self.now lexemes fault c.requires.stands.idle c.requires.stands.stage ahead)
 
-pub lay_line_end-requires-clause-cut : goal.lay_line_end-requires-clause-cut
-lay_line_end-requires-clause-cut c =
-    let left = (left_onward c.args.text.now c.args.self.now c.requires.ready.0 c.requires.ready.1 c.requires.stands.stage c.requires.ready.2).is_left in
-    let rest = IsUtf8-drop c.args.text.now c.args.self.now.at c.utf8.text left.1.boundary in
-    boundary_shift c.args.text.now c.args.self.now.at c.args.len left.1.boundary (word_cut (drop c.args.self.now.at c.args.text.now) class.LineEnd c.args.len rest (sym c.requires.stands.front))
-
-pub returns-clause-ahead : goal.returns-clause-ahead
-returns-clause-ahead c = IfOk-weaker c.lay_line_end.result _ _ (λ is_laid read lexemes fault ahead.
-    onward_ahead c.args.text.now c.args.self.now (newline_if is_laid c.args.self.now.at c.args.len) c.lay_line_end.new.self lexemes fault (λ history kept.
-    read history kept (counting_line_end c.args.text.now history c.args.self.now c.args.len kept c.requires.stands c.requires.counts))
-    c.requires.stands.idle (left_onward c.args.text.now c.args.self.now lexemes fault c.requires.stands.stage ahead)) c.lay_line_end.ensures.read
-
-pub returns-clause-memory : goal.returns-clause-memory
-returns-clause-memory c = after_error c.lay_line_end.result _ (λ lexemes fault ahead. onward_something c.args.text.now c.args.self.now lexemes fault c.requires.stands.idle c.requires.stands.stage ahead)
+pub returns-then-branch-clause-ahead : goal.returns-then-branch-clause-ahead
+returns-then-branch-clause-ahead c = λ lexemes fault ahead.
+    let same = c.if-pass_line_end.ensures.stays refl in
+    rw (same, c.if-branch.true) at (c.in_ok-take_counting_line_end.ensures.ahead lexemes fault (rw same ahead))

@@ -6,7 +6,7 @@ use Rattle.starlark_grammar.specs.declared.class.Class.TheVariants as class
 use Rattle.starlark_token.specs.declared.tokens.Token.TheVariants as token
 use Rattle.starlark_reader.proofs.Pieces.CodePlaces.{word_cut}
 use Rattle.starlark_reader.proofs.Pieces.NextLexeme.{onward_something}
-use Rattle.starlark_reader.proofs.Pieces.PieceTaken.{left_onward, name_step, onward_ahead}
+use Rattle.starlark_reader.proofs.Pieces.PieceTaken.{left_onward, name_changes, name_step, onward_ahead}
 use Rattle.starlark_reader.proofs.Pieces.Waiting.{after_error}
 use Rattle.starlark_reader.proofs.reader.Reader.take_name.Goals as goal
 
@@ -29,3 +29,6 @@ returns-clause-ahead c = λ lexemes fault ahead.
     onward_ahead c.args.text.now c.args.self.now (Some (c.args.self.now.at, token.Identifier c.in_ok-from_str.field-0, c.args.self.now.at + c.args.len)) c.pass_token.new.self lexemes fault
     (λ history kept. c.pass_token.ensures.read history kept (name_step c.args.text.now history c.args.self.now c.args.len c.in_ok-from_str.field-0 kept c.requires.stands name))
     c.requires.stands.idle (left_onward c.args.text.now c.args.self.now lexemes fault c.requires.stands.stage ahead)
+
+pub returns-clause-code : goal.returns-clause-code
+returns-clause-code c = c.pass_token.ensures.onward (c.pass_token.ensures.stays (name_changes c.in_ok-from_str.field-0) c.requires.stands.code)

@@ -8,7 +8,7 @@ use Rattle.starlark_scanner.specs.Joints.Literals.{IsPlainBody}
 use Rattle.starlark_token.specs.declared.tokens.Token.TheVariants as token
 use Rattle.starlark_reader.proofs.Pieces.CodePlaces.{word_cut}
 use Rattle.starlark_reader.proofs.Pieces.NextLexeme.{onward_something}
-use Rattle.starlark_reader.proofs.Pieces.PieceTaken.{left_onward, onward_ahead, text_step}
+use Rattle.starlark_reader.proofs.Pieces.PieceTaken.{left_onward, onward_ahead, text_changes, text_step}
 use Rattle.starlark_reader.proofs.Pieces.ReaderReads.{state_reads}
 use Rattle.starlark_reader.proofs.Pieces.Waiting.{after_error}
 use Rattle.starlark_reader.proofs.reader.Reader.take_plain_text.Goals as goal
@@ -40,3 +40,6 @@ returns-clause-ahead c = λ lexemes fault ahead.
     (λ history kept. c.pass_token.ensures.read history (state_reads c.args.text.now history c.args.self.now c.plain_body_len.new.reads kept)
     (text_step c.args.text.now history c.args.self.now c.args.is_raw c.args.quote c.args.len c.in-Some.body c.in_ok-from_str.field-0 kept c.requires.stands plain value))
     c.requires.stands.idle (left_onward c.args.text.now c.args.self.now lexemes fault c.requires.stands.stage ahead)
+
+pub returns-clause-code : goal.returns-clause-code
+returns-clause-code c = c.pass_token.ensures.onward (c.pass_token.ensures.stays (text_changes c.in_ok-from_str.field-0) c.requires.stands.code)

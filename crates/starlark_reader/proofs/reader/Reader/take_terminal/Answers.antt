@@ -16,10 +16,8 @@ overflow_add-result c =
     let inside : c.args.self.now.at + c.args.len ≤ length c.args.text.now = here.1 in
     search (rules, inside)
 
-pub returns : goal.returns
-returns c = record {
-  ahead = λ lexemes fault ahead.
-      onward_ahead c.args.text.now c.args.self.now (Some (c.args.self.now.at, c.terminal_token-token.result, c.args.self.now.at + c.args.len)) c.pass_token.new.self lexemes fault
-      (λ history kept. c.pass_token.ensures.read history kept (terminal_step c.args.text.now history c.args.self.now c.args.terminal c.args.len c.place.result c.terminal_token-token.result kept c.requires.stands c.place.ensures c.terminal_token-token.ensures.token c.terminal_token-token.ensures.own))
-      c.requires.stands.idle (left_onward c.args.text.now c.args.self.now lexemes fault c.requires.stands.stage ahead);
-}
+pub returns-clause-ahead : goal.returns-clause-ahead
+returns-clause-ahead c = λ lexemes fault ahead.
+    onward_ahead c.args.text.now c.args.self.now (Some (c.args.self.now.at, c.terminal_token-token.result, c.args.self.now.at + c.args.len)) c.pass_token.new.self lexemes fault
+    (λ history kept. c.pass_token.ensures.read history kept (terminal_step c.args.text.now history c.args.self.now c.args.terminal c.args.len c.place.result c.terminal_token-token.result kept c.requires.stands c.place.ensures c.terminal_token-token.ensures.token c.terminal_token-token.ensures.own))
+    c.requires.stands.idle (left_onward c.args.text.now c.args.self.now lexemes fault c.requires.stands.stage ahead)

@@ -1,12 +1,11 @@
-use Rattle.std.proofs.Common.{ap, ◌∙◌}
+use Rattle.std.proofs.Common.{ap, refl, ◌∙◌}
 use Rattle.starlark_grammar.specs.Pieces as grammar
 use Rattle.starlark_grammar.specs.declared.class.Class.TheVariants as class
-use Rattle.starlark_reader.specs.Joints.Nesting.{mode_view}
 use Rattle.starlark_reader.proofs.Pieces.CodePlaces.{word_at, word_len}
 use Rattle.starlark_reader.proofs.reading.code.gap_len.Goals as goal
 
 pub returns : goal.returns
-returns c = λ some s follows_gap here behind.
+returns c = λ some s follows_gap code behind.
     let front = c.spaces_len.ensures.word some in
-    word_at follows_gap s c.args.text.now (mode_view c.args.place) class.Skipped c.spaces_len.result c.requires behind here front (c.spaces_len.ensures.bang some)
+    word_at follows_gap s c.args.text.now s.place class.Skipped c.spaces_len.result code behind refl front (c.spaces_len.ensures.bang some)
     ∙ ap grammar.gap (word_len c.args.text.now class.Skipped c.spaces_len.result front)

@@ -6,13 +6,13 @@ use Rattle.starlark_scanner.proofs.Literals.BodySteps.{IsFront}
 use Rattle.starlark_scanner.specs.Joints.Reads.{AreReads}
 use Rattle.starlark_scanner.proofs.literal.body.read_body.Given as goal
 
-abbrev pub invariant-loop-item : goal.invariant-loop-item
-invariant-loop-item l = record {
+abbrev pub invariant-loop-character : goal.invariant-loop-character
+invariant-loop-character l = record {
   front : IsFront (literal_view l.literal) l.text l.len (bytes_of l.value);
   kind : holds_text l.value ≡ not (grammar.is_of_bytes l.literal.kind);
   boundary : IsCharBoundary l.text l.len;
   reads : AreReads l.len (8 * l.len) l.fn.reads l.reads;
 }
 
-abbrev pub decreases-loop-item : goal.decreases-loop-item
-decreases-loop-item l = length l.text - l.len
+abbrev pub decreases-loop-character : goal.decreases-loop-character
+decreases-loop-character l = length l.text - l.len

@@ -18,24 +18,24 @@ overflow_add-self c =
 pub invariant_of-self-in-Ok-Some : goal.invariant_of-self-in-Ok-Some
 invariant_of-self-in-Ok-Some c =
     let inv = c.self.invariant.1 (ap (λ (lexer : LexerView). lexer.has_ended) c.self.view_is ∙ c.requires) in
-    let is : IsAheadBehind c.self.inside.text.now (Some c.in-Ok-Some.lexeme) c.take_plain_text.new.self (drop c.self.inside.handed_out (map shown_lexeme (outcome c.self.inside.text.now).lexemes)) (outcome c.self.inside.text.now).fault = subst (λ (given : Option (ℕ × Token × ℕ)). IsAheadBehind c.self.inside.text.now given c.take_plain_text.new.self (drop c.self.inside.handed_out (map shown_lexeme (outcome c.self.inside.text.now).lexemes)) (outcome c.self.inside.text.now).fault) c.in-Ok-Some.field-0-is (c.in-Ok-Some.ensures.ahead _ _ (c.common_word.ensures.ahead _ _ inv.1)) in
+    let is : IsAheadBehind c.self.inside.text.now (Some c.in-Ok-Some.lexeme) c.take_plain_text.new.self (drop c.self.inside.handed_out (map shown_lexeme (outcome c.self.inside.text.now).lexemes)) (outcome c.self.inside.text.now).fault = subst (λ (given : Option (ℕ × Token × ℕ)). IsAheadBehind c.self.inside.text.now given c.take_plain_text.new.self (drop c.self.inside.handed_out (map shown_lexeme (outcome c.self.inside.text.now).lexemes)) (outcome c.self.inside.text.now).fault) c.in-Ok-Some.field-0-is (c.in-Ok-Some.ensures.ahead _ _ (c.text_opener.ensures.ahead _ _ inv.1)) in
     let further = one_more (map shown_lexeme (outcome c.self.inside.text.now).lexemes) c.self.inside.handed_out _ is.0 is.1 in
-    (c.self.invariant.0, λ on. (omega (arith, further.0, length-map (outcome c.self.inside.text.now).lexemes shown_lexeme), rw further.1 is.2))
+    (c.self.invariant.0, (λ on. (omega (arith, further.0, length-map (outcome c.self.inside.text.now).lexemes shown_lexeme), rw further.1 is.2)), λ quick. (ap (λ (lexer : LexerView). lexer.has_ended) c.self.view_is ∙ c.requires, c.in-Ok-Some.ensures.code))
 
 pub returns-in-Ok-Some-clause-item : goal.returns-in-Ok-Some-clause-item
 returns-in-Ok-Some-clause-item c =
     let inv = c.self.invariant.1 (ap (λ (lexer : LexerView). lexer.has_ended) c.self.view_is ∙ c.requires) in
-    let is : IsAheadBehind c.self.inside.text.now (Some c.in-Ok-Some.lexeme) c.take_plain_text.new.self (drop c.self.inside.handed_out (map shown_lexeme (outcome c.self.inside.text.now).lexemes)) (outcome c.self.inside.text.now).fault = subst (λ (given : Option (ℕ × Token × ℕ)). IsAheadBehind c.self.inside.text.now given c.take_plain_text.new.self (drop c.self.inside.handed_out (map shown_lexeme (outcome c.self.inside.text.now).lexemes)) (outcome c.self.inside.text.now).fault) c.in-Ok-Some.field-0-is (c.in-Ok-Some.ensures.ahead _ _ (c.common_word.ensures.ahead _ _ inv.1)) in
+    let is : IsAheadBehind c.self.inside.text.now (Some c.in-Ok-Some.lexeme) c.take_plain_text.new.self (drop c.self.inside.handed_out (map shown_lexeme (outcome c.self.inside.text.now).lexemes)) (outcome c.self.inside.text.now).fault = subst (λ (given : Option (ℕ × Token × ℕ)). IsAheadBehind c.self.inside.text.now given c.take_plain_text.new.self (drop c.self.inside.handed_out (map shown_lexeme (outcome c.self.inside.text.now).lexemes)) (outcome c.self.inside.text.now).fault) c.in-Ok-Some.field-0-is (c.in-Ok-Some.ensures.ahead _ _ (c.text_opener.ensures.ahead _ _ inv.1)) in
     rw (← c.self.view_is) (rw (lexeme_item c.self.inside.text.now c.self.inside.handed_out _ is.0 is.1) refl)
 
 pub returns-in-Ok-Some-clause-within : goal.returns-in-Ok-Some-clause-within
 returns-in-Ok-Some-clause-within c =
     let inv = c.self.invariant.1 (ap (λ (lexer : LexerView). lexer.has_ended) c.self.view_is ∙ c.requires) in
-    let is : IsAheadBehind c.self.inside.text.now (Some c.in-Ok-Some.lexeme) c.take_plain_text.new.self (drop c.self.inside.handed_out (map shown_lexeme (outcome c.self.inside.text.now).lexemes)) (outcome c.self.inside.text.now).fault = subst (λ (given : Option (ℕ × Token × ℕ)). IsAheadBehind c.self.inside.text.now given c.take_plain_text.new.self (drop c.self.inside.handed_out (map shown_lexeme (outcome c.self.inside.text.now).lexemes)) (outcome c.self.inside.text.now).fault) c.in-Ok-Some.field-0-is (c.in-Ok-Some.ensures.ahead _ _ (c.common_word.ensures.ahead _ _ inv.1)) in
+    let is : IsAheadBehind c.self.inside.text.now (Some c.in-Ok-Some.lexeme) c.take_plain_text.new.self (drop c.self.inside.handed_out (map shown_lexeme (outcome c.self.inside.text.now).lexemes)) (outcome c.self.inside.text.now).fault = subst (λ (given : Option (ℕ × Token × ℕ)). IsAheadBehind c.self.inside.text.now given c.take_plain_text.new.self (drop c.self.inside.handed_out (map shown_lexeme (outcome c.self.inside.text.now).lexemes)) (outcome c.self.inside.text.now).fault) c.in-Ok-Some.field-0-is (c.in-Ok-Some.ensures.ahead _ _ (c.text_opener.ensures.ahead _ _ inv.1)) in
     rw (← c.self.view_is) (lexeme_within c.self.inside.text.now c.self.inside.handed_out _ is.0 c.self.invariant.0 is.1)
 
 pub returns-in-Err-clause-item : goal.returns-in-Err-clause-item
 returns-in-Err-clause-item c =
     let inv = c.self.invariant.1 (ap (λ (lexer : LexerView). lexer.has_ended) c.self.view_is ∙ c.requires) in
-    let item = some_item c.self.inside.text.now c.self.inside.handed_out inv.0 (c.in-Err.ensures.memory _ _ (c.common_word.ensures.ahead _ _ inv.1)) in
+    let item = some_item c.self.inside.text.now c.self.inside.handed_out inv.0 (c.in-Err.ensures.memory _ _ (c.text_opener.ensures.ahead _ _ inv.1)) in
     rw (← c.self.view_is) (rw item.1 tt)

@@ -1,20 +1,10 @@
--- The open widths as they are kept.
-use Rattle.std.proofs.Common.{◌≡◌, ℕ, zero, suc, ◌+◌, ◌<◌, ◌≤◌, true, false, List, [], ◌∷◌, ◌++◌, ap, ◌∙◌, sym, refl, arith, append-nil, map, nat_lt}
-use Rattle.std.specs.Prelude.{◌&&◌, count_by, filter, replicate}
-use Rattle.std.proofs.lemmas.Bool.{lt-ltb, le-ltb}
-use Rattle.starlark_grammar.specs.Margins.{Margin, indentation, is_widest, margin_len, open_widths, width_of}
+-- `Indent`s and `Dedent`s by the open widths.
+use Rattle.std.proofs.Common.{◌≡◌, ℕ, zero, suc, ◌+◌, true, false, List, [], ◌∷◌, ap, ◌∙◌, sym, refl, arith, map, nat_lt}
+use Rattle.std.specs.Prelude.{◌&&◌, count_by, replicate}
+use Rattle.starlark_grammar.specs.Margins.{Margin, indentation, is_widest, margin_len, width_of}
 use Rattle.starlark_grammar.specs.Tokens.{Dedent, Indent, moved}
 use Rattle.starlark_reader.specs.Joints.Layout.{IsMargin, margin_indentation}
 use Rattle.starlark_reader.specs.declared.layout.margins.Margin.{Margin as Measured}
-use Rattle.starlark_grammar.proofs.Indentation.Widths.{open-push}
-
--- one more positive width
-pub kept_more : (widths kept : List ℕ) (width : ℕ) → 0 < width → kept ≡ filter (λ w. nat_lt w width) (open_widths widths) → kept ++ width ∷ [] ≡ open_widths (widths ++ width ∷ [])
-kept_more widths kept width some e = let positive = lt-ltb 0 width some in rw (e, open-push widths width, positive) refl
-
--- one more width of 0
-pub kept_none : (widths kept : List ℕ) (width : ℕ) → width ≤ 0 → kept ≡ filter (λ w. nat_lt w width) (open_widths widths) → kept ≡ open_widths (widths ++ width ∷ [])
-kept_none widths kept width none e = let zero_width = le-ltb 0 width none in rw (e, open-push widths width, zero_width) (sym (append-nil _))
 
 -- an `Indent`
 pub indented : (levels : List ℕ) (seen : Margin) → (nat_lt 0 (width_of seen) && is_widest (width_of seen) levels) ≡ true → indentation levels seen ≡ record { begin = seen.at; node = Indent; end = margin_len seen } ∷ []
@@ -32,9 +22,6 @@ moved_dedents n zero at = refl
 moved_dedents n (suc count) at = ap (λ lexemes. record { begin = n + at; node = Dedent; end = n + at } ∷ lexemes) (moved_dedents n count at)
 
 -- What stands behind a margin's comments
-
-pub none_indented : (begin : ℕ) (levels : List ℕ) (margin : Measured) (seen : Margin) → IsMargin seen margin → margin.is_content ≡ false → map (moved begin) (margin_indentation levels seen) ≡ []
-none_indented begin levels margin seen same h = let none = sym same.is_content ∙ h in rw none refl
 
 pub one_indented : (begin : ℕ) (levels : List ℕ) (margin : Measured) (seen : Margin) → IsMargin seen margin → margin.is_content ≡ true → (nat_lt 0 margin.blanks.width && is_widest margin.blanks.width levels) ≡ true
     → record { begin = begin + margin.at; node = Indent; end = begin + margin.at + margin.blanks.len } ∷ [] ≡ map (moved begin) (margin_indentation levels seen)
