@@ -679,6 +679,7 @@ impl Reader {
 
     /// What comes next of the text: a lexeme, its fault behind them, or nothing. After an error the reader isn't to be
     /// asked again.
+    #[inline(always)]
     pub fn next(&mut self, text: &str) -> Result<Next, AllocError>
         requires fits { length text.now < 2 ^ 32 }
         requires ready { IsReady text.now self.old self.old.stage }

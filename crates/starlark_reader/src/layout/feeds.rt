@@ -55,10 +55,10 @@ pub fn before_feed_len(reads: &mut Reads, text: &[u8]) -> usize
     }
     while at + LANES <= text.len() {
         let len = lanes_line_len(reads, text, at);
-        at += len;
         if len < LANES {
-            return at;
+            return at + len;
         }
+        at += LANES;
     }
     at + short_line_len(reads, &text[at..])
 }

@@ -76,10 +76,10 @@ fn long_run_len(reads: &mut Reads, literal: Literal, bytes: &[u8]) -> usize
     let mut at = 0;
     while at + LANES <= bytes.len() {
         let len = lanes_run_len(reads, ends, bytes, at);
-        at += len;
         if len < LANES {
-            return at;
+            return at + len;
         }
+        at += LANES;
     }
     at + short_run_len(reads, literal, &bytes[at..])
 }

@@ -26,8 +26,8 @@ loop-at-init c =
       reads = (omega (arith, c.short_line_len-at.ensures.reads, whole), omega (arith, c.short_line_len-at.ensures.reads, whole));
     }
 
-pub overflow_add-at-in-loop-at : goal.overflow_add-at-in-loop-at
-overflow_add-at-in-loop-at c =
+pub overflow_add-result : goal.overflow_add-result
+overflow_add-result c =
     let room : 16 ≤ length (drop c.loop-at.at c.args.text.now) = omega (arith, length-drop c.loop-at.at c.args.text.now, c.loop-at-test.true) in
     let within = run_within (λ b. not (is_feed b)) 16 (drop c.loop-at.at c.args.text.now) room in
     let counted = c.lanes_line_len-len.ensures.value in
@@ -49,7 +49,7 @@ loop-at-preserved c =
     let counted = c.lanes_line_len-len.ensures.value in
     let whole : c.lanes_line_len-len.result ≡ 16 = omega (arith, counted, within, c.if-len-lt-LANES.false) in
     let on = run_goes_on (λ b. not (is_feed b)) 16 (drop c.loop-at.at c.args.text.now) room (sym counted ∙ whole) in
-    let rest : drop 16 (drop c.loop-at.at c.args.text.now) ≡ drop (c.loop-at.at + c.lanes_line_len-len.result) c.args.text.now = drop-drop 16 c.loop-at.at c.args.text.now ∙ ap (λ n. drop (c.loop-at.at + n) c.args.text.now) (sym whole) in
+    let rest : drop 16 (drop c.loop-at.at c.args.text.now) ≡ drop (c.loop-at.at + 16) c.args.text.now = drop-drop 16 c.loop-at.at c.args.text.now in
     record {
       within = omega (arith, whole, c.loop-at-test.true);
       value = omega (arith, c.loop-at.invariant.value, on, whole, ap (prefix_len (λ b. not (is_feed b))) rest);
@@ -57,8 +57,8 @@ loop-at-preserved c =
       reads = (omega (arith, c.loop-at.invariant.reads.0, c.lanes_line_len-len.ensures.reads, whole), omega (arith, c.loop-at.invariant.reads.1, c.lanes_line_len-len.ensures.reads, whole));
     }
 
-pub overflow_add-result : goal.overflow_add-result
-overflow_add-result c =
+pub overflow_add-result-2 : goal.overflow_add-result-2
+overflow_add-result-2 c =
     let within = prefix_len-le-length (λ b. not (is_feed b)) (take (length c.args.text.now - c.loop-at.at) (drop c.loop-at.at c.args.text.now)) in
     let fits = length-take-le (length c.args.text.now - c.loop-at.at) (drop c.loop-at.at c.args.text.now) (omega (arith, length-drop c.loop-at.at c.args.text.now)) in
     let inside : c.loop-at.at + c.short_line_len-2.result ≤ length c.args.text.now = omega (arith, within, fits, c.short_line_len-2.ensures.value, c.loop-at.invariant.within) in

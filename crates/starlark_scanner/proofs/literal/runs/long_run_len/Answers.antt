@@ -8,8 +8,8 @@ use Rattle.starlark_scanner.specs.Joints.Literals.{literal_view}
 use Rattle.starlark_scanner.proofs.Literals.LaneRuns.{run_ends, run_goes_on, run_within}
 use Rattle.starlark_scanner.proofs.literal.runs.long_run_len.Goals as goal
 
-pub overflow_add-at-in-loop-at : goal.overflow_add-at-in-loop-at
-overflow_add-at-in-loop-at c =
+pub overflow_add-result : goal.overflow_add-result
+overflow_add-result c =
     let room : 16 ≤ length (drop c.loop-at.at c.args.bytes.now) = omega (arith, length-drop c.loop-at.at c.args.bytes.now, c.loop-at-test.true) in
     let within = run_within (is_in_run (literal_view c.args.literal)) 16 (drop c.loop-at.at c.args.bytes.now) room in
     let counted = c.lanes_run_len-len.ensures.value ∙ same_run (λ b. not (is_end c.of-ends.result b)) (is_in_run (literal_view c.args.literal)) (λ b. ap not (c.of-ends.ensures b)) (take 16 (drop c.loop-at.at c.args.bytes.now)) in
@@ -31,15 +31,15 @@ loop-at-preserved c =
     let counted = c.lanes_run_len-len.ensures.value ∙ same_run (λ b. not (is_end c.of-ends.result b)) (is_in_run (literal_view c.args.literal)) (λ b. ap not (c.of-ends.ensures b)) (take 16 (drop c.loop-at.at c.args.bytes.now)) in
     let whole : c.lanes_run_len-len.result ≡ 16 = omega (arith, counted, within, c.if-len-lt-LANES.false) in
     let on = run_goes_on (is_in_run (literal_view c.args.literal)) 16 (drop c.loop-at.at c.args.bytes.now) room (sym counted ∙ whole) in
-    let rest : drop 16 (drop c.loop-at.at c.args.bytes.now) ≡ drop (c.loop-at.at + c.lanes_run_len-len.result) c.args.bytes.now = drop-drop 16 c.loop-at.at c.args.bytes.now ∙ ap (λ n. drop (c.loop-at.at + n) c.args.bytes.now) (sym whole) in
+    let rest : drop 16 (drop c.loop-at.at c.args.bytes.now) ≡ drop (c.loop-at.at + 16) c.args.bytes.now = drop-drop 16 c.loop-at.at c.args.bytes.now in
     record {
       within = omega (arith, whole, c.loop-at-test.true);
       value = omega (arith, c.loop-at.invariant.value, on, whole, ap (prefix_len (is_in_run (literal_view c.args.literal))) rest);
       reads = (omega (arith, c.loop-at.invariant.reads.0, c.lanes_run_len-len.ensures.reads, whole), omega (arith, c.loop-at.invariant.reads.1, c.lanes_run_len-len.ensures.reads, whole));
     }
 
-pub overflow_add-result : goal.overflow_add-result
-overflow_add-result c =
+pub overflow_add-result-2 : goal.overflow_add-result-2
+overflow_add-result-2 c =
     let within = prefix_len-le-length (is_in_run (literal_view c.args.literal)) (take (length c.args.bytes.now - c.loop-at.at) (drop c.loop-at.at c.args.bytes.now)) in
     let fits = length-take-le (length c.args.bytes.now - c.loop-at.at) (drop c.loop-at.at c.args.bytes.now) (omega (arith, length-drop c.loop-at.at c.args.bytes.now)) in
     let inside : c.loop-at.at + c.short_run_len.result ≤ length c.args.bytes.now = omega (arith, within, fits, c.short_run_len.ensures.value, c.loop-at.invariant.within) in
