@@ -4,7 +4,7 @@ ghost use Rattle.std.specs.Prelude.{◌≡◌, true, false, ◌<◌, ◌≤◌, 
 ghost use Rattle.std.specs.Str.{IsCharBoundary};
 ghost use Rattle.starlark_reader.specs.Joints.Steps.{IsStep};
 ghost use Rattle.starlark_reader.specs.Lexemes.{shown_lexeme};
-ghost use Rattle.starlark_scanner.specs.Joints.Literals.{opening_view};
+ghost use Rattle.starlark_scanner.specs.Joints.Literals.{IsPlainBody, opening_view};
 ghost use Rattle.starlark_scanner.specs.Joints.Words.{HasDigit, IsDigitAt, short_view};
 ghost use Rattle.starlark_grammar.specs.Margins.{open_widths};
 ghost use Rattle.starlark_grammar.specs.Pieces as grammar;
@@ -617,33 +617,53 @@ impl Reader {
         Ok((begin, token, begin + len))
     }
 
-    /// Takes the text literal here, by its opener of so many bytes, where one quote closes it and each of its characters
-    /// denotes itself. `None` where another literal stands here. After an error the reader isn't to be asked again.
+    /// The length of the body of the text literal that comes next, behind its opener of so many bytes, where one quote
+    /// closes it and each of its characters denotes itself. `None` where another literal stands here.
+    #[inline(always)]
+    pub fn plain_body_len(
+        &mut self,
+        is_raw: bool,
+        quote: Quote,
+        len: usize,
+        text: &str,
+    ) -> Option<usize>
+        requires fits { length text.now < 2 ^ 32 }
+        requires ready { IsReady text.now self.old self.old.stage }
+        requires stands { IsWordHere text.now self.old (record { class = class.Opener kind.Text is_raw quote; len = len }) }
+        ensures ahead { (lexemes : List (Spanned TokenView)) (fault : Option (Spanned Fault)) → IsAhead text.now self.old self.old.stage lexemes fault → IsAhead text.now self.new self.new.stage lexemes fault }
+        ensures stands { IsWordHere text.now self.new (record { class = class.Opener kind.Text is_raw quote; len = len }) }
+        ensures plain { IfSome result (λ body. IsPlainBody is_raw quote (drop len (drop self.new.at text.now)) body) }
+    {
+        let rest = &text[self.at..];
+        plain_body_len(&mut self.reads, is_raw, quote, &rest[len..])
+    }
+
+    /// Takes the text literal here, by its opener and its body of so many bytes, which one quote closes and in which each
+    /// character denotes itself. After an error the reader isn't to be asked again.
     #[inline(always)]
     pub fn take_plain_text(
         &mut self,
         is_raw: bool,
         quote: Quote,
         len: usize,
+        body: usize,
         text: &str,
-    ) -> Result<Option<PlacedToken>, AllocError>
+    ) -> Result<PlacedToken, AllocError>
         requires fits { length text.now < 2 ^ 32 }
         requires ready { IsReady text.now self.old self.old.stage }
         requires stands { IsWordHere text.now self.old (record { class = class.Opener kind.Text is_raw quote; len = len }) }
-        ensures ahead { IfOk result (λ given. (lexemes : List (Spanned TokenView)) (fault : Option (Spanned Fault)) → IsAhead text.now self.old self.old.stage lexemes fault → IsAheadBehind text.now given self.new lexemes fault) }
+        requires plain { IsPlainBody is_raw quote (drop len (drop self.old.at text.now)) body }
+        ensures ahead { IfOk result (λ given. (lexemes : List (Spanned TokenView)) (fault : Option (Spanned Fault)) → IsAhead text.now self.old self.old.stage lexemes fault → IsAheadBehind text.now (Some given) self.new lexemes fault) }
         ensures memory { OnErr result ((lexemes : List (Spanned TokenView)) (fault : Option (Spanned Fault)) → IsAhead text.now self.old self.old.stage lexemes fault → IsSomething lexemes fault) }
         ensures code { OnOk result (IsAtCode text.now self.new) }
     {
         let begin = self.at;
         let rest = &text[begin..];
         let behind = &rest[len..];
-        let Some(body) = plain_body_len(&mut self.reads, is_raw, quote, behind) else {
-            return Ok(None);
-        };
         let whole = len + body + 1;
         let token = Token::String(String::from_str(self.alloc, &behind[..body])?);
         self.pass_token(&token, whole, text);
-        Ok(Some((begin, token, begin + whole)))
+        Ok((begin, token, begin + whole))
     }
 
     /// Takes the keyword or the symbol here, of so many bytes.

@@ -29,6 +29,7 @@ fn comment_end(reads: &mut Reads, text: &[u8], feed: usize) -> usize
 
 /// The comment of the first of the comment-only lines from one place of a text to another, and the length of that
 /// line with its LF.
+#[inline(always)]
 pub fn first_comment(
     reads: &mut Reads,
     alloc: Global,

@@ -174,12 +174,14 @@ impl<'a> Lexer<'a> {
         let Some(TextOpener { is_raw, quote, len }) = self.reader.text_opener(self.text) else {
             return self.next_of_all();
         };
-        match self.reader.take_plain_text(is_raw, quote, len, self.text) {
-            Ok(Some(lexeme)) => {
+        let Some(body) = self.reader.plain_body_len(is_raw, quote, len, self.text) else {
+            return self.next_of_all();
+        };
+        match self.reader.take_plain_text(is_raw, quote, len, body, self.text) {
+            Ok(lexeme) => {
                 self.handed_out += 1;
                 Some(Ok(lexeme))
             }
-            Ok(None) => self.next_of_all(),
             Err(_) => {
                 self.has_ended = true;
                 self.is_quick = false;
