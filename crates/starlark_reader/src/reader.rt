@@ -490,8 +490,8 @@ impl Reader {
         }
     }
 
-    /// The word that comes next, where its first two bytes tell which it is: a name, a symbol of one byte, or a
-    /// quote. The spaces before it are passed. `None` where something else comes. For places of code.
+    /// The word that comes next, where its first two bytes tell which it is: a name, a symbol of one byte, an LF, or
+    /// a quote. The spaces before it are passed. `None` where something else comes. For places of code.
     #[inline(always)]
     pub fn common_word(&mut self, text: &str) -> Option<Word>
         requires fits { length text.now < 2 ^ 32 }
@@ -699,7 +699,6 @@ impl Reader {
 
     /// What comes next of the text: a lexeme, its fault behind them, or nothing. After an error the reader isn't to be
     /// asked again.
-    #[inline(always)]
     pub fn next(&mut self, text: &str) -> Result<Next, AllocError>
         requires fits { length text.now < 2 ^ 32 }
         requires ready { IsReady text.now self.old self.old.stage }

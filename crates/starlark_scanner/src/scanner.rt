@@ -86,7 +86,7 @@ pub fn spaces_len(reads: &mut Reads, text: &str) -> usize
 }
 
 /// The longest word at the front of a text, where its first byte or its first two tell which it is: a name, a
-/// symbol of one byte, or a quote. `None` where they don't.
+/// symbol of one byte, an LF, or a quote. `None` where they don't.
 #[inline(always)]
 pub fn common_word(reads: &mut Reads, text: &str) -> Option<Word>
     ensures word { IfSome result (λ word. Some (word_view word) ≡ language_front text.now) }
