@@ -177,7 +177,10 @@ impl<'a> Lexer<'a> {
         let Some(body) = self.reader.plain_body_len(is_raw, quote, len, self.text) else {
             return self.next_of_all();
         };
-        match self.reader.take_plain_text(is_raw, quote, len, body, self.text) {
+        match self
+            .reader
+            .take_plain_text(is_raw, quote, len, body, self.text)
+        {
             Ok(lexeme) => {
                 self.handed_out += 1;
                 Some(Ok(lexeme))
