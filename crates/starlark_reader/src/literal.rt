@@ -3,6 +3,6 @@
 mod chunks;
 mod pieces;
 
-pub use chunks::chunk_from;
+pub use chunks::{PlainText, chunk_from, plain_text};
 pub use pieces::{Step, TextEnd, literal_piece, opening_of, quotes_of};
 pub use starlark_scanner::literal::Opening;

@@ -1,6 +1,6 @@
 //! Reads a text piece by piece, and keeps what later pieces depend on.
 
-ghost use Rattle.std.specs.Prelude.{◌≡◌, true, false, ◌<◌, ◌≤◌, ◌+◌, ◌^◌, [], ℕ, None, Some, List, Option, drop, length, map, OnErr, OnOk, IfOk, IfSome};
+ghost use Rattle.std.specs.Prelude.{◌≡◌, true, false, ◌<◌, ◌≤◌, ◌+◌, ◌^◌, [], ℕ, None, Some, List, Option, drop, length, map, nat_lt, OnErr, OnOk, IfOk, IfSome};
 ghost use Rattle.std.specs.Str.{IsCharBoundary};
 ghost use Rattle.starlark_reader.specs.Joints.Steps.{IsStep};
 ghost use Rattle.starlark_reader.specs.Lexemes.{shown_lexeme};
@@ -13,7 +13,7 @@ ghost use Rattle.starlark_grammar.specs.declared.class.LiteralKind.TheVariants a
 ghost use Rattle.starlark_reader.specs.Joints.Pending.{IsIdle, IsPending};
 ghost use Rattle.starlark_reader.specs.Joints.MarginCuts.{IsCutBefore};
 ghost use Rattle.starlark_reader.specs.Joints.Reads.{HasRead, HasReadAt, HasReadNext, IsMarginRead, IsPassed, IsPassedBy};
-ghost use Rattle.starlark_reader.specs.Joints.Reader.{CountsLineEnds, has_read_none, IsAhead, IsAheadBehind, IsAtCode, IsInCode, IsInFlatMargin, IsReached, IsStateAfter, IsNext, IsOver, IsRead, IsReady, IsSomething, IsWordHere, before_view, left_here, left_to_read, newline_if, newline_of, silent_sort, step_here};
+ghost use Rattle.starlark_reader.specs.Joints.Reader.{CountsLineEnds, has_read_none, IsAhead, IsAheadBehind, IsAtCode, IsInCode, IsInFlatMargin, IsReached, IsStateAfter, IsNext, IsOver, IsPlainTextHere, IsRead, IsReady, IsSomething, IsWordHere, before_view, left_here, left_to_read, newline_if, newline_of, silent_sort, step_here};
 ghost use Rattle.starlark_reader.specs.Joints.Pieces.{IsBehind};
 ghost use Rattle.starlark_grammar.specs.Cuts.{is_layout, is_settled};
 ghost use Rattle.starlark_grammar.specs.Reading.{History, outcome};
@@ -26,8 +26,8 @@ ghost use Rattle.starlark_grammar.specs.Words.{Text};
 use crate::layout::{
     Behind, IndentStack, Pending, PlacedToken, margin_fault, margin_of, take_margin,
 };
-use crate::literal::{Opening, Step, TextEnd, quotes_of};
-use crate::nesting::Nesting;
+use crate::literal::{Opening, PlainText, Step, TextEnd, plain_text, quotes_of};
+use crate::nesting::{LexerMode, Nesting};
 use crate::reading::code::{gap_len, is_code};
 use crate::reading::terminals::terminal_token;
 use crate::reading::words::digit_token;
@@ -276,6 +276,7 @@ impl Reader {
     }
 
     /// Takes a text of an f-string that was read here, and what ends it. A text that denotes nothing is no lexeme.
+    #[inline(always)]
     fn take_chunk(
         &mut self,
         chunk: String,
@@ -664,6 +665,69 @@ impl Reader {
         let token = Token::String(String::from_str(self.alloc, &behind[..body])?);
         self.pass_token(&token, whole, text);
         Ok((begin, token, begin + whole))
+    }
+
+    /// Whether comments are to be handed out before all else.
+    #[inline(always)]
+    pub fn has_comments(&self) -> bool
+        ensures { result ≡ nat_lt self.now.pending.from self.now.pending.to }
+    {
+        self.pending.has_comments()
+    }
+
+    /// The comment that is to be handed out next. After an error the reader isn't to be asked again.
+    #[inline(always)]
+    pub fn next_comment(&mut self, text: &str) -> Result<PlacedToken, AllocError>
+        requires some { self.old.pending.from < self.old.pending.to }
+        requires ready { IsReady text.now self.old self.old.stage }
+        ensures ahead { IfOk result (λ given. (lexemes : List (Spanned TokenView)) (fault : Option (Spanned Fault)) → IsAhead text.now self.old self.old.stage lexemes fault → IsAheadBehind text.now (Some given) self.new lexemes fault) }
+        ensures memory { OnErr result ((lexemes : List (Spanned TokenView)) (fault : Option (Spanned Fault)) → IsAhead text.now self.old self.old.stage lexemes fault → IsSomething lexemes fault) }
+    {
+        self.pending.next_comment(&mut self.reads, self.alloc, text)
+    }
+
+    /// The lexeme that is to be handed out next of those that were read, where no comments are; `None` where there is none.
+    #[inline(always)]
+    pub fn next_mark(&mut self) -> Option<PlacedToken>
+        requires none { self.old.pending.to ≤ self.old.pending.from }
+        ensures ahead { (text : Text) (lexemes : List (Spanned TokenView)) (fault : Option (Spanned Fault)) → IsAhead text self.old self.old.stage lexemes fault → IsAheadBehind text result self.new lexemes fault }
+        ensures stays { result ≡ None → self.new ≡ self.old }
+    {
+        self.pending.next_mark()
+    }
+
+    /// The text of an f-string that comes next, where each of its characters denotes itself. `None` where something else
+    /// comes.
+    #[inline(always)]
+    pub fn plain_text(&mut self, text: &str) -> Option<PlainText>
+        requires fits { length text.now < 2 ^ 32 }
+        requires ready { IsReady text.now self.old self.old.stage }
+        ensures ahead { (lexemes : List (Spanned TokenView)) (fault : Option (Spanned Fault)) → IsAhead text.now self.old self.old.stage lexemes fault → IsAhead text.now self.new self.new.stage lexemes fault }
+        ensures code { IsAtCode text.now self.old → IsAtCode text.now self.new }
+        ensures stands { IfSome result (λ found. IsPlainTextHere text.now self.new found) }
+    {
+        if !self.reads_on() {
+            return None;
+        }
+        match self.nesting.place() {
+            LexerMode::InText(opening) => plain_text(&mut self.reads, opening, &text[self.at..]),
+            _ => None,
+        }
+    }
+
+    /// Takes the text of an f-string here, in which each character denotes itself. A text of no bytes is no lexeme: then what
+    /// ends it is handed out. After an error the reader isn't to be asked again.
+    #[inline(always)]
+    pub fn take_text(&mut self, found: PlainText, text: &str) -> Result<PlacedToken, AllocError>
+        requires fits { length text.now < 2 ^ 32 }
+        requires ready { IsReady text.now self.old self.old.stage }
+        requires stands { IsPlainTextHere text.now self.old found }
+        ensures ahead { IfOk result (λ given. (lexemes : List (Spanned TokenView)) (fault : Option (Spanned Fault)) → IsAhead text.now self.old self.old.stage lexemes fault → IsAheadBehind text.now (Some given) self.new lexemes fault) }
+        ensures memory { OnErr result ((lexemes : List (Spanned TokenView)) (fault : Option (Spanned Fault)) → IsAhead text.now self.old self.old.stage lexemes fault → IsSomething lexemes fault) }
+    {
+        let rest = &text[self.at..];
+        let value = String::from_str(self.alloc, &rest[..found.len])?;
+        Ok(self.take_chunk(value, found.len, found.stop, found.stop_len, text))
     }
 
     /// Takes the keyword or the symbol here, of so many bytes.

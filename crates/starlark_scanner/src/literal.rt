@@ -9,4 +9,4 @@ mod runs;
 
 pub use body::{Body, LiteralValue, read_body};
 pub use items::{Literal, Opening, Stop, closing_len};
-pub use plain::plain_body_len;
+pub use plain::{plain_body_len, plain_chunk_len};

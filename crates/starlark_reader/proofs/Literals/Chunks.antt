@@ -2,15 +2,12 @@
 use Rattle.std.proofs.Common.{◌≡◌, ℕ, ◌+◌, ◌-◌, ◌≤◌, [], ◌∷◌, ◌++◌, length, drop, refl, sym, subst, arith}
 use Rattle.std.specs.Prelude.{codes}
 use Rattle.starlark_grammar.specs.Words.{Text}
-use Rattle.starlark_grammar.specs.declared.class.LiteralKind.TheVariants.{FString as OfFString}
 use Rattle.starlark_grammar.specs.Tokens.{Opening, Token, FStringExprStart, FStringEnd, InvalidInput, InvalidEscapeSequence, UnfinishedStringLiteral}
-use Rattle.starlark_grammar.specs.Items.{Literal, Stop, Closing, Line, Ended, OpeningBrace, ClosingBrace, BadEscape, body_at, body_len, body_value, closing_quotes}
+use Rattle.starlark_grammar.specs.Items.{Stop, Closing, Line, Ended, OpeningBrace, ClosingBrace, BadEscape, body_at, body_len, body_value, closing_quotes}
 use Rattle.starlark_grammar.specs.Pieces.{Step, piece, fault, chunk, chunk_by, chunk_text}
+use Rattle.starlark_scanner.specs.Joints.Literals.{fstring_literal}
 use Rattle.starlark_grammar.proofs.Literals.Bodies.{StopFits, body_fits}
 use Rattle.std.proofs.lemmas.List.{length-drop}
-
-abbrev pub fstring : Opening → Literal
-fstring opening = record { kind = OfFString; opening = opening }
 
 abbrev pub chunk_piece : ℕ → Text → Token → ℕ → Step
 chunk_piece text_len value node len = piece (text_len + len) (chunk_text text_len value ++ record { begin = text_len; node = node; end = text_len + len } ∷ [])
@@ -24,12 +21,12 @@ chunk_of opening text len value (BadEscape read last) = fault (len + (read - las
 chunk_of opening text len value Line = fault 0 UnfinishedStringLiteral (len + 1)
 chunk_of opening text len value Ended = fault 0 UnfinishedStringLiteral (length text)
 
-pub chunk_is : (opening : Opening) (text : Text) (len : ℕ) (value : Text) (stop : Stop) → len ≡ body_len (body_at (fstring opening) text) → value ≡ body_value (body_at (fstring opening) text) → stop ≡ (body_at (fstring opening) text).stop
+pub chunk_is : (opening : Opening) (text : Text) (len : ℕ) (value : Text) (stop : Stop) → len ≡ body_len (body_at (fstring_literal opening) text) → value ≡ body_value (body_at (fstring_literal opening) text) → stop ≡ (body_at (fstring_literal opening) text).stop
     → chunk opening text ≡ chunk_of opening text len value stop
 unfolding chunk
-chunk_is opening text len value stop same denoted why = rw (same, denoted, why) (by_stop (body_at (fstring opening) text).stop)
+chunk_is opening text len value stop same denoted why = rw (same, denoted, why) (by_stop (body_at (fstring_literal opening) text).stop)
   where
-    by_stop : (stop : Stop) → chunk_by opening text (body_at (fstring opening) text) stop ≡ chunk_of opening text (body_len (body_at (fstring opening) text)) (body_value (body_at (fstring opening) text)) stop
+    by_stop : (stop : Stop) → chunk_by opening text (body_at (fstring_literal opening) text) stop ≡ chunk_of opening text (body_len (body_at (fstring_literal opening) text)) (body_value (body_at (fstring_literal opening) text)) stop
     by_stop OpeningBrace = refl
     by_stop Closing = refl
     by_stop ClosingBrace = refl
@@ -38,9 +35,9 @@ chunk_is opening text len value stop same denoted why = rw (same, denoted, why) 
     by_stop Ended = refl
 
 -- the last character of a bad escape is a part of it, and it lies inside
-pub bad_chunk_fits : (opening : Opening) (text : Text) (len read last : ℕ) → len ≡ body_len (body_at (fstring opening) text) → BadEscape read last ≡ (body_at (fstring opening) text).stop → (last ≤ read) × (len + read ≤ length text)
+pub bad_chunk_fits : (opening : Opening) (text : Text) (len read last : ℕ) → len ≡ body_len (body_at (fstring_literal opening) text) → BadEscape read last ≡ (body_at (fstring_literal opening) text).stop → (last ≤ read) × (len + read ≤ length text)
 bad_chunk_fits opening text len read last same why =
-    let body = body_at (fstring opening) text in
-    let fits = body_fits (fstring opening) text in
+    let body = body_at (fstring_literal opening) text in
+    let fits = body_fits (fstring_literal opening) text in
     let inside : StopFits opening (drop (body_len body) text) (BadEscape read last) = subst (StopFits opening (drop (body_len body) text)) (sym why) fits.1 in
     (inside.1, omega (arith, fits.0, inside.2, same, length-drop (body_len body) text))

@@ -1,10 +1,11 @@
--- What stands at a place of code, by the word there.
+-- What stands at a place: in an f-string's text its next part, and at a place of code what the word there says.
 use Rattle.std.proofs.Common.{◌≡◌, ℕ, ◌≤◌, Bool, true, false, ◌&&◌, [], ◌∷◌, length, take, drop, refl, ap, ◌∙◌, Some}
 use Rattle.std.proofs.lemmas.List.{length-take-le}
 use Rattle.std.specs.Str.{IsUtf8, IsCharBoundary}
 use Rattle.starlark_grammar.specs.Depths.{Mode, Outside, InText, AtTop, Deeper}
 use Rattle.starlark_grammar.specs.Front.{language_front, longest_front}
-use Rattle.starlark_grammar.specs.Pieces.{Situation, Before, Nothing, Layout, Gap, Other, by_place, by_before, in_code, is_bang, takes_bang, step_at, word_step}
+use Rattle.starlark_grammar.specs.Pieces.{Situation, Before, Nothing, Layout, Gap, Other, by_place, by_before, chunk, in_code, is_bang, takes_bang, step_at, word_step}
+use Rattle.starlark_grammar.specs.Tokens.{Opening}
 use Rattle.starlark_grammar.specs.Words.{Text, class_in, language}
 use Rattle.starlark_grammar.specs.declared.class.Class.{Class}
 use Rattle.starlark_grammar.proofs.Order.WholeTexts.{word_edge}
@@ -21,6 +22,10 @@ by_read follows_gap s text behind = go s.before behind
     go Layout h = refl
     go Gap h = refl
     go Other h = refl
+
+-- in the text of an f-string
+pub in_text : (follows_gap : Bool) (s : Situation) (text : Text) (opening : Opening) → IsBehind follows_gap s.before → s.place ≡ InText opening → step_at language s text ≡ chunk opening text
+in_text follows_gap s text opening behind here = by_read follows_gap s text behind ∙ ap (λ p. by_place language s p text) here
 
 -- at a place of code
 pub code_at : (follows_gap : Bool) (s : Situation) (text : Text) (at : Mode) → is_code at ≡ true → IsBehind follows_gap s.before → s.place ≡ at → step_at language s text ≡ in_code language s text

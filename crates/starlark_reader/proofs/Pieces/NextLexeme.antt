@@ -1,6 +1,6 @@
 -- What a reader hands out next.
 use Rattle.std.proofs.Common.{◌≡◌, Bool, true, false, ℕ, zero, suc, ◌+◌, ◌<◌, ◌≤◌, length, length-append, take, arith, List, [], ◌∷◌, ◌++◌, map, drop, refl, sym, ap, subst, ◌∙◌, None, Some, ◌⊎◌, inl, inr}
-use Rattle.std.specs.Prelude.{Option, nat_lt, sum_by}
+use Rattle.std.specs.Prelude.{Option, Result, Ok, Err, IfOk, OnOk, nat_lt, sum_by}
 use Rattle.starlark_grammar.specs.Words.{Text, language}
 use Rattle.starlark_grammar.specs.Tokens.{Fault, Lexeme, Outcome, Spanned}
 use Rattle.starlark_grammar.specs.Pieces.{Piece, Step, Stands, Fails, Ends}
@@ -110,6 +110,18 @@ lexeme_next text old new x lexemes fault here same first lines stays ahead = (
           (same ∙ lies.0.0, here.before ∙ lies.0.1, flat),
           behind_passed text old.pending new.pending at behind (length more) passed (subst (IsBehindLines text old.pending at behind) all lies.1) most,
         )
+
+-- the first comment, where one is to be handed out and memory is there for it
+pub comment_next : {E : Type 0} (result : Result (ℕ × Token × ℕ) E) (text : Text) (old new : Reader) → IsHere old new → new.stage ≡ old.stage → IfOk result (λ x. IsFirst text old.pending new.pending (Some x)) → IfOk result (λ x. IsLinePassed text old.pending new.pending (Some x))
+    → OnOk result (new.pending.is_flat ≡ old.pending.is_flat) → IfOk result (λ x. (lexemes : List (Spanned TokenView)) (fault : Option (Spanned Fault)) → IsAhead text old old.stage lexemes fault → IsAheadBehind text (Some x) new lexemes fault)
+comment_next (Ok x) text old new here same first lines flat = λ lexemes fault ahead. lexeme_next text old new x lexemes fault here same first lines (λ some. flat) ahead
+comment_next (Err e) text old new here same first lines flat = tt
+
+-- what stands behind the comments, where none is to be handed out
+pub mark_next : (text : Text) (old new : Reader) (found : Option (ℕ × Token × ℕ)) (lexemes : List (Spanned TokenView)) (fault : Option (Spanned Fault)) → IsHere old new → new.stage ≡ old.stage → old.pending.to ≤ old.pending.from → IsFirst text old.pending new.pending found
+    → IsLinePassed text old.pending new.pending found → IsAhead text old old.stage lexemes fault → IsAheadBehind text found new lexemes fault
+mark_next text old new None lexemes fault here same none first lines ahead = ahead_here text old new lexemes fault here same first.1 ahead
+mark_next text old new (Some x) lexemes fault here same none first lines ahead = lexeme_next text old new x lexemes fault here same first lines (λ some. absurd (omega (arith, none, some))) ahead
 
 -- what comes behind the last lexeme
 pub fault_next : (text : Text) (reader : Reader) (lexemes : List (Spanned TokenView)) (fault : Option (Spanned Fault)) (begin : ℕ) (error : LexemeError) (end : ℕ) → IsIdle text reader.pending → reader.stage ≡ stage.Fault begin error end → IsAhead text reader reader.stage lexemes fault

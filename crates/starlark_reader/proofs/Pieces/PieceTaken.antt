@@ -1,7 +1,7 @@
 -- What a reader makes of the piece that stands where it is.
-use Rattle.std.proofs.Common.{◌≡◌, ◌≢◌, ℕ, ◌+◌, ◌≤◌, ◌==◌, ◌&&◌, Bool, true, false, List, [], ◌∷◌, length, drop, refl, sym, ap, ◌∙◌, subst, arith, append-nil, take, None}
-use Rattle.std.specs.Prelude.{Option, String, string_bytes, if◌then◌else◌}
-use Rattle.std.specs.Str.{IsUtf8}
+use Rattle.std.proofs.Common.{◌≡◌, ◌≢◌, ℕ, ◌+◌, ◌≤◌, ◌==◌, ◌&&◌, Bool, true, false, List, [], ◌∷◌, length, drop, refl, sym, ap, ◌∙◌, subst, arith, append-nil, take, None, Some}
+use Rattle.std.specs.Prelude.{IfSome, Option, String, string_bytes, if◌then◌else◌}
+use Rattle.std.specs.Str.{IsCharBoundary, IsUtf8}
 use Rattle.std.specs.declared.alloc.Global.{Global}
 use Rattle.starlark_grammar.specs.Words.{Text, language}
 use Rattle.starlark_grammar.specs.Numbers.{integer_of}
@@ -11,11 +11,13 @@ use Rattle.starlark_grammar.specs.declared.class.Class.TheVariants as class
 use Rattle.starlark_grammar.specs.declared.class.LiteralKind.TheVariants.{Text as OfText, FString as OfFString}
 use Rattle.starlark_grammar.specs.declared.class.Quote.{Quote}
 use Rattle.starlark_grammar.specs.declared.class.Terminal.{Terminal}
-use Rattle.starlark_grammar.specs.Depths.{Mode}
-use Rattle.starlark_scanner.specs.Joints.Literals.{IsPlainBody}
+use Rattle.starlark_grammar.specs.Depths.{InText, Mode}
+use Rattle.starlark_scanner.specs.Joints.Literals.{IsPlainBody, opening_view}
+use Rattle.starlark_scanner.specs.declared.literal.items.Opening.{Opening}
 use Rattle.starlark_scanner.specs.Joints.Words.{IsDigitAt}
 use Rattle.starlark_reader.proofs.Literals.Pieces.{opener_plain}
-use Rattle.starlark_reader.specs.Joints.Steps.{IsStep, is_fstring_start}
+use Rattle.starlark_reader.specs.Joints.Steps.{IsPlainText, IsStep, is_fstring_start, text_step}
+use Rattle.starlark_reader.specs.declared.literal.chunks.PlainText.{PlainText}
 use Rattle.starlark_reader.specs.declared.literal.pieces.Step.TheVariants as step
 use Rattle.starlark_reader.specs.declared.reader.Stage.{Stage}
 use Rattle.starlark_token.specs.declared.tokens.Token.TheVariants as token
@@ -29,16 +31,17 @@ use Rattle.starlark_reader.specs.Joints.Pending.{IsIdle}
 use Rattle.starlark_token.specs.declared.tokens.Token.{Token}
 use Rattle.starlark_scanner.specs.declared.scanner.word.Word.{Word}
 use Rattle.starlark_reader.specs.Joints.Pieces.{IsBehind, IsPiece, is_code, nothing_of}
-use Rattle.starlark_reader.specs.Joints.Reader.{IsAhead, IsAheadBehind, IsInCode, IsStateAfter, IsRead, IsWordHere, before_view, left_here, silent_sort, step_here}
+use Rattle.starlark_reader.specs.Joints.Reader.{IsAhead, IsAheadBehind, IsInCode, IsPlainTextHere, IsStateAfter, IsRead, IsWordHere, before_view, left_here, silent_sort, step_here}
 use Rattle.starlark_token.specs.TokenViews.{TokenView, Whole, token_view}
 use Rattle.starlark_reader.specs.declared.nesting.LexerMode.{LexerMode}
+use Rattle.starlark_reader.specs.declared.nesting.LexerMode.TheVariants as mode
 use Rattle.starlark_reader.specs.declared.nesting.changes.Change.TheVariants as change
 use Rattle.starlark_reader.specs.declared.reading.Piece as code
 use Rattle.starlark_reader.specs.declared.reader.Before as sort
 use Rattle.starlark_reader.specs.declared.reader.Before.TheVariants as before
 use Rattle.starlark_reader.specs.declared.reader.Reader.{Reader}
 use Rattle.starlark_reader.specs.declared.reader.Stage.TheVariants as stage
-use Rattle.starlark_reader.proofs.Pieces.CodePlaces.{word_at, word_len}
+use Rattle.starlark_reader.proofs.Pieces.CodePlaces.{in_text, word_at, word_len}
 use Rattle.starlark_reader.proofs.Pieces.Here.{piece_here}
 use Rattle.starlark_reader.proofs.Pieces.Taken.{none_before, read_ahead, took}
 use Rattle.starlark_reader.proofs.Pieces.Waiting.{hands_none}
@@ -71,6 +74,24 @@ pub gap_read : (text : Text) (history : History) (reader : Reader) (rest : Text)
 unfolding next_step situation
 gap_read text history reader rest len e kept code is =
     subst (λ (t : Text). step_at language (situation history) t ≡ pieces.gap len) e (is (situation history) (is_gap_sort reader.before) (code history.tokens kept.nesting) (behind_sort reader.before history.before kept.before))
+
+-- the same of a text of an f-string that denotes itself
+plain_read : (text rest : Text) (history : History) (reader : Reader) (opening : Opening) (found : PlainText) → rest ≡ drop reader.at text → IsStateAfter text history reader → mode_after history.tokens ≡ InText (opening_view opening)
+    → IsPlainText opening rest found → step_here text history reader ≡ text_step found.len (take found.len (drop reader.at text)) found.stop found.stop_len
+unfolding next_step situation
+plain_read text rest history reader opening found e kept place is =
+    subst (λ (t : Text). step_at language (situation history) t ≡ text_step found.len (take found.len t) found.stop found.stop_len) e
+    (in_text (is_gap_sort reader.before) (situation history) rest (opening_view opening) (behind_sort reader.before history.before kept.before) place ∙ is.stands)
+
+pub plain_here : (text rest : Text) (reader : Reader) (place : LexerMode) (opening : Opening) (found : Option PlainText) → rest ≡ drop reader.at text → reader.stage ≡ stage.Onward → IsIdle text reader.pending → place ≡ mode.InText opening
+    → ((tokens : List Tokens.Token) → Represents tokens reader.nesting → mode_view place ≡ mode_after tokens) → IfSome found (IsPlainText opening rest) → IfSome found (IsPlainTextHere text reader)
+plain_here text rest reader place opening None e on idle in_text here is = tt
+plain_here text rest reader place opening (Some found) e on idle in_text here is = record {
+  stage = on;
+  idle = idle;
+  boundary = subst (λ (t : Text). IsCharBoundary t found.len) e is.boundary;
+  stands = λ history kept. plain_read text rest history reader opening found e kept (sym (here history.tokens kept.nesting) ∙ ap mode_view in_text) is;
+}
 
 -- what a word here comes to
 pub word_read : (text : Text) (history : History) (reader : Reader) (word : Word) → IsStateAfter text history reader → IsWordHere text reader word
@@ -138,11 +159,11 @@ plain_opener place is_raw quote begin count behind plain =
     closed : pieces.literal place OfText single begin behind ≡ pieces.token (begin + count + 1) (Tokens.String (take count behind))
     closed = rw (plain.stop, plain.len, plain.value) refl
 
-pub text_step : (text : Text) (history : History) (reader : Reader) (is_raw : Bool) (quote : Quote) (len count : ℕ) (value : String Global) → IsStateAfter text history reader
+pub literal_step : (text : Text) (history : History) (reader : Reader) (is_raw : Bool) (quote : Quote) (len count : ℕ) (value : String Global) → IsStateAfter text history reader
     → IsWordHere text reader (record { class = class.Opener OfText is_raw quote; len = len }) → IsPlainBody is_raw quote (drop len (drop reader.at text)) count
     → string_bytes value ≡ take count (drop len (drop reader.at text)) → IsStep (step_here text history reader) (step.Token (token.String value) (len + count + 1))
 unfolding token_view situation
-text_step text history reader is_raw quote len count value kept here plain is = (
+literal_step text history reader is_raw quote len count value kept here plain is = (
   Tokens.String (take count (drop len (drop reader.at text))),
   ap (λ t. Whole (Tokens.String t)) is,
   refl,

@@ -1,5 +1,5 @@
 -- What the reader of a text has in front of it, as the grammar sees it.
-use Rattle.std.specs.Prelude.{◌≡◌, ◌==◌, ◌&&◌, not, Bool, true, false, ℕ, ◌+◌, ◌-◌, ◌≤◌, ◌<◌, List, [], ◌∷◌, ◌++◌, map, length, drop, Option, Some, None, option_to_list, ⊤}
+use Rattle.std.specs.Prelude.{◌≡◌, ◌==◌, ◌&&◌, not, Bool, true, false, ℕ, ◌+◌, ◌-◌, ◌≤◌, ◌<◌, List, [], ◌∷◌, ◌++◌, map, length, drop, take, Option, Some, None, option_to_list, ⊤}
 use Rattle.std.specs.Str.{IsCharBoundary}
 use Rattle.starlark_grammar.specs.Words.{Text, language}
 use Rattle.starlark_grammar.specs.Tokens as grammar
@@ -16,6 +16,8 @@ use Rattle.starlark_reader.specs.Joints.MarginCuts.{IsBehindLines, IsCutBefore, 
 use Rattle.starlark_reader.specs.Joints.Pending.{IsIdle, IsPending, pending_lexemes}
 use Rattle.starlark_reader.specs.Joints.Nesting.{Represents, bracket_count}
 use Rattle.starlark_reader.specs.Joints.Pieces.{is_code}
+use Rattle.starlark_reader.specs.Joints.Steps.{text_step}
+use Rattle.starlark_reader.specs.declared.literal.chunks.PlainText.{PlainText}
 use Rattle.starlark_token.specs.TokenViews.{TokenView}
 use Rattle.starlark_token.specs.declared.tokens.Token.{Token}
 use Rattle.starlark_token.specs.declared.tokens.Token.TheVariants as token
@@ -193,6 +195,13 @@ pub record IsWordHere (text : Text) (reader : Reader) (word : Word) : Type 0 whe
   pub code : IsInCode reader
   pub front : Some (word_view word) ≡ language_front (drop reader.at text)
   pub bang : is_bang (drop reader.at text) ≡ false
+
+-- A text of an f-string that denotes itself stands where a reader is, and nothing else is to be handed out before it.
+pub record IsPlainTextHere (text : Text) (reader : Reader) (found : PlainText) : Type 0 where
+  pub stage : reader.stage ≡ stage.Onward
+  pub idle : IsIdle text reader.pending
+  pub boundary : IsCharBoundary (drop reader.at text) found.len
+  pub stands : (history : History) → IsStateAfter text history reader → step_here text history reader ≡ text_step found.len (take found.len (drop reader.at text)) found.stop found.stop_len
 
 -- Line ends count where a reader is: all brackets are closed, and no f-string is open.
 abbrev pub CountsLineEnds : Reader → Type 0

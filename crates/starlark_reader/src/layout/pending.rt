@@ -1,6 +1,6 @@
 //! Lexemes that were read, and are made when they are asked for.
 
-ghost use Rattle.std.specs.Prelude.{◌≡◌, ◌<◌, ◌≤◌, ◌+◌, ◌*◌, [], true, OnErr, OnOk, IfOk};
+ghost use Rattle.std.specs.Prelude.{◌≡◌, ◌<◌, ◌≤◌, ◌+◌, ◌*◌, [], nat_lt, true, None, Some, OnErr, OnOk, IfOk};
 ghost use Rattle.starlark_reader.specs.Joints.Pending.{IsFirst, IsFirstBehind, IsPending, behind_lexemes, owed, pending_lexemes};
 ghost use Rattle.starlark_reader.specs.Joints.MarginCuts.{IsLinePassed};
 ghost use Rattle.starlark_grammar.specs.Words.{Text};
@@ -115,6 +115,50 @@ impl Pending {
         }
     }
 
+    /// Whether comments are to be handed out before all else.
+    #[inline(always)]
+    pub fn has_comments(&self) -> bool
+        ensures { result ≡ nat_lt self.now.from self.now.to }
+    {
+        self.from < self.to
+    }
+
+    /// The first comment, which is then no longer to be handed out. A refused call changes nothing.
+    #[inline(always)]
+    pub fn next_comment(
+        &mut self,
+        reads: &mut Reads,
+        alloc: Global,
+        text: &str,
+    ) -> Result<PlacedToken, AllocError>
+        requires some { self.old.from < self.old.to }
+        requires pending { IsPending text.now self.old }
+        ensures next { IfOk result (λ first. IsFirst text.now self.old self.new (Some first)) }
+        ensures lines { IfOk result (λ first. IsLinePassed text.now self.old self.new (Some first)) }
+        ensures flat { OnOk result (self.new.is_flat ≡ self.old.is_flat) }
+        ensures reads { IfOk result (λ first. (more_reads reads.old 0 ≤ reads.new) × (reads.new + 6 * owed self.new ≤ reads.old + 6 * owed self.old)) }
+    {
+        let (comment, len) = first_comment(reads, alloc, text, self.from, self.to)?;
+        self.from += len;
+        Ok(comment)
+    }
+
+    /// The first lexeme where no comments are, which is then no longer to be handed out; `None` where there is none.
+    #[inline(always)]
+    pub fn next_mark(&mut self) -> Option<PlacedToken>
+        requires none { self.old.to ≤ self.old.from }
+        ensures next { (text : Text) → IsPending text self.old → IsFirst text self.old self.new result }
+        ensures lines { (text : Text) → IsLinePassed text self.old self.new result }
+        ensures place { (self.new.from ≡ self.old.from) × (self.new.to ≡ self.old.to) }
+        ensures stays { result ≡ None → self.new ≡ self.old }
+    {
+        let Some(first) = self.behind.next() else {
+            return None;
+        };
+        self.is_flat = false;
+        Some(first)
+    }
+
     /// The first lexeme, which is then no longer to be handed out; `None` where there is none. A refused call changes
     /// nothing.
     pub fn next(
@@ -130,15 +174,10 @@ impl Pending {
         ensures flat { OnOk result (self.old.from < self.old.to → self.new.is_flat ≡ self.old.is_flat) }
         ensures reads { IfOk result (λ first. (more_reads reads.old 0 ≤ reads.new) × (reads.new + 6 * owed self.new ≤ reads.old + 6 * owed self.old)) }
     {
-        if self.from < self.to {
-            let (comment, len) = first_comment(reads, alloc, text, self.from, self.to)?;
-            self.from += len;
-            return Ok(Some(comment));
+        if self.has_comments() {
+            Ok(Some(self.next_comment(reads, alloc, text)?))
+        } else {
+            Ok(self.next_mark())
         }
-        let Some(first) = self.behind.next() else {
-            return Ok(None);
-        };
-        self.is_flat = false;
-        Ok(Some(first))
     }
 }

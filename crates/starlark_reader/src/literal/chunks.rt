@@ -1,14 +1,14 @@
 //! Texts of f-strings, up to an expression or the closing quotes.
 
-ghost use Rattle.std.specs.Prelude.{IfOk, length};
+ghost use Rattle.std.specs.Prelude.{IfOk, IfSome, length};
 ghost use Rattle.starlark_reader.specs.Joints.Reads.{AreStepReads};
-ghost use Rattle.starlark_reader.specs.Joints.Steps.{IsStep};
+ghost use Rattle.starlark_reader.specs.Joints.Steps.{IsPlainText, IsStep};
 ghost use Rattle.starlark_scanner.specs.Joints.Literals.{opening_view};
 ghost use Rattle.starlark_grammar.specs.Pieces as grammar;
 
 use super::pieces::{Step, TextEnd};
 use starlark_scanner::literal::{
-    Body, Literal, LiteralValue, Opening, Stop, closing_len, read_body,
+    Body, Literal, LiteralValue, Opening, Stop, closing_len, plain_chunk_len, read_body,
 };
 use starlark_scanner::reads::Reads;
 use starlark_scanner::scanner::LiteralKind;
@@ -70,5 +70,36 @@ pub fn chunk_from(
             fault: LexemeError::UnfinishedStringLiteral,
             end: text.len(),
         }),
+    }
+}
+
+/// A text of an f-string in which each character denotes itself: its length, what ends it, and the length of that. Lengths
+/// are in bytes.
+#[derive(Clone, Copy, Debug, PartialEq, Eq)]
+pub struct PlainText {
+    pub len: usize,
+    pub stop: TextEnd,
+    pub stop_len: usize,
+}
+
+/// The text of an f-string up to its first stop, where each of its characters denotes itself. `None` where another text
+/// stands there, or a fault.
+#[inline(always)]
+pub fn plain_text(reads: &mut Reads, opening: Opening, text: &str) -> Option<PlainText>
+    ensures { IfSome result (IsPlainText opening text.now) }
+{
+    let (len, stop) = plain_chunk_len(reads, opening, text)?;
+    match stop {
+        Stop::OpeningBrace => Some(PlainText {
+            len,
+            stop: TextEnd::Expression,
+            stop_len: 1,
+        }),
+        Stop::Closing => Some(PlainText {
+            len,
+            stop: TextEnd::FString,
+            stop_len: closing_len(opening),
+        }),
+        _ => None,
     }
 }

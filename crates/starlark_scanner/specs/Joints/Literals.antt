@@ -3,7 +3,7 @@ use Rattle.std.specs.Prelude.{◌≡◌, ℕ, Bool, true, false, [], ◌∷◌, 
 use Rattle.std.specs.Str.{IsCharBoundary}
 use Rattle.starlark_grammar.specs.Words.{Text}
 use Rattle.starlark_grammar.specs.declared.class.Quote.{Quote}
-use Rattle.starlark_grammar.specs.declared.class.LiteralKind.TheVariants.{Text as OfText}
+use Rattle.starlark_grammar.specs.declared.class.LiteralKind.TheVariants.{Text as OfText, FString as OfFString}
 use Rattle.starlark_grammar.specs.Pieces.{opening_of}
 use Rattle.starlark_grammar.specs.Tokens as grammar
 use Rattle.starlark_grammar.specs.Items as items
@@ -98,3 +98,14 @@ pub record IsPlainBody (is_raw : Bool) (quote : Quote) (text : Text) (count : �
   pub len : items.body_len (items.body_at (single_literal is_raw quote) text) ≡ count
   pub value : items.body_value (items.body_at (single_literal is_raw quote) text) ≡ take count text
   pub stop : (items.body_at (single_literal is_raw quote) text).stop ≡ items.Closing
+
+-- an f-string, as far as its texts are read by it
+abbrev pub fstring_literal : grammar.Opening → items.Literal
+fstring_literal opening = record { kind = OfFString; opening = opening }
+
+-- The text of an f-string at the front of a text has so many bytes, which denote themselves, and stops for this reason.
+pub record IsPlainChunk (opening : grammar.Opening) (text : Text) (count : ℕ) (why : items.Stop) : Type 0 where
+  pub boundary : IsCharBoundary text count
+  pub len : items.body_len (items.body_at (fstring_literal opening) text) ≡ count
+  pub value : items.body_value (items.body_at (fstring_literal opening) text) ≡ take count text
+  pub stop : (items.body_at (fstring_literal opening) text).stop ≡ why

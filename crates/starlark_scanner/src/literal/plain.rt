@@ -1,10 +1,11 @@
-//! Bodies of text literals in which each character denotes itself.
+//! Bodies of literals in which each character denotes itself.
 
-ghost use Rattle.std.specs.Prelude.{◌≡◌, ◌==◌, get_or, IfSome};
-ghost use Rattle.starlark_grammar.specs.Items.{quote_byte};
-ghost use Rattle.starlark_scanner.specs.Joints.Literals.{IsPlainBody};
+ghost use Rattle.std.specs.Prelude.{◌≡◌, ◌==◌, get_or, take, IfSome};
+ghost use Rattle.starlark_grammar.specs.Items.{Stops, found_at, quote_byte};
+ghost use Rattle.starlark_grammar.specs.Words.{Text};
+ghost use Rattle.starlark_scanner.specs.Joints.Literals.{IsPlainBody, IsPlainChunk, fstring_literal, opening_view, stop_view};
 
-use super::items::{Literal, Opening, is_quote};
+use super::items::{Literal, Opening, Stop, closes, is_quote};
 use super::runs::first_run;
 use crate::reads::Reads;
 use crate::scanner::{LiteralKind, Quote};
@@ -43,4 +44,39 @@ pub fn plain_body_len(reads: &mut Reads, is_raw: bool, quote: Quote, text: &str)
         return None;
     }
     Some(len)
+}
+
+/// Why a text of an f-string stops at a place, of which the first three bytes were read, where its closing quotes stand
+/// there or an expression begins. `None` where something else stands there.
+#[inline(always)]
+fn stop_by(opening: Opening, front: &[u8]) -> Option<Stop>
+    ensures { IfSome result (λ stop. (text : Text) → front.now ≡ take 3 text → found_at (fstring_literal (opening_view opening)) text ≡ Stops (stop_view stop)) }
+{
+    if closes(opening, front) {
+        return Some(Stop::Closing);
+    }
+    let [first, second, ..] = front else {
+        return None;
+    };
+    if *first == b'{' && *second != b'{' {
+        Some(Stop::OpeningBrace)
+    } else {
+        None
+    }
+}
+
+/// The length of the text of an f-string at the front of a text, and why it stops, where each of its characters denotes
+/// itself and it goes up to the closing quotes or to an expression. `None` where another stands there.
+#[inline(always)]
+pub fn plain_chunk_len(reads: &mut Reads, opening: Opening, text: &str) -> Option<(usize, Stop)>
+    ensures { IfSome result (λ found. IsPlainChunk (opening_view opening) text.now found.0 (stop_view found.1)) }
+{
+    let literal = Literal {
+        kind: LiteralKind::FString,
+        opening,
+    };
+    let len = first_run(reads, literal, text).len();
+    let rest = &text.as_bytes()[len..];
+    let stop = stop_by(opening, reads.front(rest, 3))?;
+    Some((len, stop))
 }

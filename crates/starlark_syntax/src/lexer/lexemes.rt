@@ -132,6 +132,51 @@ impl<'a> Lexer<'a> {
         }
     }
 
+    /// The next lexeme of a lexer that no error has ended, whichever it is: quickly where it was read before and waits, or is
+    /// a text of an f-string whose characters denote themselves.
+    #[inline(never)]
+    fn next_waiting(&mut self) -> Option<Lexeme>
+        requires { self.old.has_ended ≡ false }
+        ensures item { AnswersNext self.old.code_map (slice_get (items self.old.text) self.old.handed_out) result }
+        ensures within { AnswersWithin self.old.text result }
+        ensures after { self.new ≡ record self.old { handed_out = self.old.handed_out + handed_out_by result; has_ended = is_ended_by result } }
+    {
+        if self.reader.has_comments() {
+            return match self.reader.next_comment(self.text) {
+                Ok(lexeme) => {
+                    self.handed_out += 1;
+                    self.is_quick = self.reader.is_at_code();
+                    Some(Ok(lexeme))
+                }
+                Err(_) => {
+                    self.has_ended = true;
+                    self.is_quick = false;
+                    Some(Err(OrMemory::Memory))
+                }
+            };
+        }
+        if let Some(lexeme) = self.reader.next_mark() {
+            self.handed_out += 1;
+            self.is_quick = self.reader.is_at_code();
+            return Some(Ok(lexeme));
+        }
+        let Some(found) = self.reader.plain_text(self.text) else {
+            return self.next_of_reader();
+        };
+        match self.reader.take_text(found, self.text) {
+            Ok(lexeme) => {
+                self.handed_out += 1;
+                self.is_quick = self.reader.is_at_code();
+                Some(Ok(lexeme))
+            }
+            Err(_) => {
+                self.has_ended = true;
+                self.is_quick = false;
+                Some(Err(OrMemory::Memory))
+            }
+        }
+    }
+
     /// The next lexeme of a lexer that no error has ended, whichever it is: quickly where it is a symbol of two bytes or an
     /// integer of one digit.
     #[inline(never)]
@@ -141,22 +186,22 @@ impl<'a> Lexer<'a> {
         ensures within { AnswersWithin self.old.text result }
         ensures after { self.new ≡ record self.old { handed_out = self.old.handed_out + handed_out_by result; has_ended = is_ended_by result } }
     {
-        if self.is_quick {
-            match self.reader.short_word(self.text) {
-                Some(ShortWord::Symbol(terminal)) => {
-                    self.handed_out += 1;
-                    let lexeme = self.reader.take_terminal(terminal, 2, self.text);
-                    self.is_quick = self.reader.is_in_code();
-                    return Some(Ok(lexeme));
-                }
-                Some(ShortWord::Digit(digit)) => {
-                    self.handed_out += 1;
-                    return Some(Ok(self.reader.take_digit(digit, self.text)));
-                }
-                None => {}
-            }
+        if !self.is_quick {
+            return self.next_waiting();
         }
-        self.next_of_reader()
+        match self.reader.short_word(self.text) {
+            Some(ShortWord::Symbol(terminal)) => {
+                self.handed_out += 1;
+                let lexeme = self.reader.take_terminal(terminal, 2, self.text);
+                self.is_quick = self.reader.is_in_code();
+                Some(Ok(lexeme))
+            }
+            Some(ShortWord::Digit(digit)) => {
+                self.handed_out += 1;
+                Some(Ok(self.reader.take_digit(digit, self.text)))
+            }
+            None => self.next_of_reader(),
+        }
     }
 
     /// The next lexeme of a lexer that no error has ended: quickly where it is a text literal whose characters denote

@@ -1,27 +1,23 @@
 use Rattle.std.proofs.Common.{◌≡◌, ◌<◌, Bool, true, false, [], ◌∷◌, length, refl, ap, sym, ◌∙◌, arith}
 use Rattle.std.specs.Prelude.{◌&&◌, ◌==◌}
-use Rattle.starlark_grammar.specs.Depths.{Mode, InText}
+use Rattle.starlark_grammar.specs.Depths.{Mode}
 use Rattle.starlark_grammar.specs.Front.{language_front}
 use Rattle.starlark_scanner.specs.Joints.Literals.{opening_view}
 use Rattle.starlark_reader.specs.Joints.Nesting.{mode_view}
-use Rattle.starlark_grammar.specs.Pieces.{Situation, Ends, token, chunk, front_step, takes_bang, is_bang, in_code, by_place, step_at}
+use Rattle.starlark_grammar.specs.Pieces.{Situation, Ends, token, front_step, takes_bang, is_bang, in_code, by_place, step_at}
 use Rattle.starlark_reader.specs.Joints.Pieces.{IsBehind}
 use Rattle.starlark_token.specs.TokenViews.{token_view}
-use Rattle.starlark_grammar.specs.Tokens.{Opening, FStringBang}
+use Rattle.starlark_grammar.specs.Tokens.{FStringBang}
 use Rattle.starlark_grammar.specs.Words.{Text, language}
 use Rattle.starlark_scanner.specs.declared.literal.items.Opening as code
 use Rattle.starlark_reader.specs.declared.nesting.LexerMode.{LexerMode}
 use Rattle.starlark_reader.specs.declared.nesting.LexerMode.TheVariants as place
 use Rattle.starlark_reader.proofs.Literals.Pieces.{if_ok}
 use Rattle.starlark_reader.proofs.Pieces.PieceReads.{chunk_reads, code_reads}
-use Rattle.starlark_reader.proofs.Pieces.CodePlaces.{by_read}
+use Rattle.starlark_reader.proofs.Pieces.CodePlaces.{by_read, in_text}
 use Rattle.starlark_reader.proofs.reading.piece_at.Goals as goal
 
--- in the text of an f-string
-in_text : (follows_gap : Bool) (s : Situation) (text : Text) (opening : Opening) → IsBehind follows_gap s.before → s.place ≡ InText opening → step_at language s text ≡ chunk opening text
-in_text follows_gap s text opening behind here = by_read follows_gap s text behind ∙ ap (λ p. by_place language s p text) here
-
--- and elsewhere
+-- elsewhere than in the text of an f-string
 elsewhere : (follows_gap : Bool) (s : Situation) (text : Text) (at : LexerMode) → ((opening : code.Opening) → at ≡ place.InText opening → ⊥) → IsBehind follows_gap s.before → s.place ≡ mode_view at → step_at language s text ≡ in_code language s text
 elsewhere follows_gap s text at other behind here = by_read follows_gap s text behind ∙ ap (λ p. by_place language s p text) here ∙ go at other
   where

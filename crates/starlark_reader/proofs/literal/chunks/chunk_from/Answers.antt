@@ -1,66 +1,66 @@
 use Rattle.std.proofs.Common.{◌≡◌, ◌∙◌, ◌+◌, ◌-◌, ◌≤◌, ap, arith, length, refl, rules, sym}
 use Rattle.std.specs.Prelude.{codes, string_bytes}
 use Rattle.starlark_grammar.specs.Items as items
-use Rattle.starlark_scanner.specs.Joints.Literals.{bytes_of, opening_view, stop_view, stopped_len}
+use Rattle.starlark_scanner.specs.Joints.Literals.{bytes_of, fstring_literal, opening_view, stop_view, stopped_len}
 use Rattle.starlark_grammar.specs.Tokens.{InvalidInput, InvalidEscapeSequence, UnfinishedStringLiteral}
-use Rattle.starlark_reader.proofs.Literals.Chunks.{bad_chunk_fits, chunk_is, fstring}
+use Rattle.starlark_reader.proofs.Literals.Chunks.{bad_chunk_fits, chunk_is}
 use Rattle.starlark_reader.proofs.Literals.StepReads.{closing_some}
 use Rattle.starlark_reader.proofs.literal.chunks.chunk_from.Goals as goal
 
 pub overflow_sub-result : goal.overflow_sub-result
 overflow_sub-result c =
-    let why : (items.BadEscape c.in-BadEscape.len c.in-BadEscape.last) ≡ (items.body_at (fstring (opening_view c.args.opening)) c.args.text.now).stop = sym (ap stop_view c.in-BadEscape.is) ∙ c.in_ok-text_len.ensures.body.stop in
+    let why : (items.BadEscape c.in-BadEscape.len c.in-BadEscape.last) ≡ (items.body_at (fstring_literal (opening_view c.args.opening)) c.args.text.now).stop = sym (ap stop_view c.in-BadEscape.is) ∙ c.in_ok-text_len.ensures.body.stop in
     let fits = bad_chunk_fits (opening_view c.args.opening) c.args.text.now c.in_ok-text_len.field-0.len c.in-BadEscape.len c.in-BadEscape.last c.in_ok-text_len.ensures.body.len why in
     fits.0
 
 pub overflow_add-result-in-BadEscape : goal.overflow_add-result-in-BadEscape
 overflow_add-result-in-BadEscape c =
-    let why : (items.BadEscape c.in-BadEscape.len c.in-BadEscape.last) ≡ (items.body_at (fstring (opening_view c.args.opening)) c.args.text.now).stop = sym (ap stop_view c.in-BadEscape.is) ∙ c.in_ok-text_len.ensures.body.stop in
+    let why : (items.BadEscape c.in-BadEscape.len c.in-BadEscape.last) ≡ (items.body_at (fstring_literal (opening_view c.args.opening)) c.args.text.now).stop = sym (ap stop_view c.in-BadEscape.is) ∙ c.in_ok-text_len.ensures.body.stop in
     let fits = bad_chunk_fits (opening_view c.args.opening) c.args.text.now c.in_ok-text_len.field-0.len c.in-BadEscape.len c.in-BadEscape.last c.in_ok-text_len.ensures.body.len why in
     let inside : c.in_ok-text_len.field-0.len + (c.in-BadEscape.len - c.in-BadEscape.last) ≤ length c.args.text.now = omega (arith, fits.0, fits.1) in
     search (rules, inside)
 
 pub overflow_add-result-in-BadEscape-2 : goal.overflow_add-result-in-BadEscape-2
 overflow_add-result-in-BadEscape-2 c =
-    let why : (items.BadEscape c.in-BadEscape.len c.in-BadEscape.last) ≡ (items.body_at (fstring (opening_view c.args.opening)) c.args.text.now).stop = sym (ap stop_view c.in-BadEscape.is) ∙ c.in_ok-text_len.ensures.body.stop in
+    let why : (items.BadEscape c.in-BadEscape.len c.in-BadEscape.last) ≡ (items.body_at (fstring_literal (opening_view c.args.opening)) c.args.text.now).stop = sym (ap stop_view c.in-BadEscape.is) ∙ c.in_ok-text_len.ensures.body.stop in
     let fits = bad_chunk_fits (opening_view c.args.opening) c.args.text.now c.in_ok-text_len.field-0.len c.in-BadEscape.len c.in-BadEscape.last c.in_ok-text_len.ensures.body.len why in
     let inside : c.in_ok-text_len.field-0.len + c.in-BadEscape.len ≤ length c.args.text.now = fits.1 in
     search (rules, inside)
 
 pub returns-in-OpeningBrace-clause-step : goal.returns-in-OpeningBrace-clause-step
 returns-in-OpeningBrace-clause-step c =
-    let why : items.OpeningBrace ≡ (items.body_at (fstring (opening_view c.args.opening)) c.args.text.now).stop = sym (ap stop_view c.in-OpeningBrace.is) ∙ c.in_ok-text_len.ensures.body.stop in
-    let denoted : string_bytes c.in-Text.value ≡ items.body_value (items.body_at (fstring (opening_view c.args.opening)) c.args.text.now) = sym (ap bytes_of c.in-Text.is) ∙ c.in_ok-text_len.ensures.body.value in
+    let why : items.OpeningBrace ≡ (items.body_at (fstring_literal (opening_view c.args.opening)) c.args.text.now).stop = sym (ap stop_view c.in-OpeningBrace.is) ∙ c.in_ok-text_len.ensures.body.stop in
+    let denoted : string_bytes c.in-Text.value ≡ items.body_value (items.body_at (fstring_literal (opening_view c.args.opening)) c.args.text.now) = sym (ap bytes_of c.in-Text.is) ∙ c.in_ok-text_len.ensures.body.value in
     chunk_is (opening_view c.args.opening) c.args.text.now c.in_ok-text_len.field-0.len (string_bytes c.in-Text.value) items.OpeningBrace c.in_ok-text_len.ensures.body.len denoted why
 
 pub returns-in-Closing-clause-step : goal.returns-in-Closing-clause-step
 returns-in-Closing-clause-step c =
-    let why : items.Closing ≡ (items.body_at (fstring (opening_view c.args.opening)) c.args.text.now).stop = sym (ap stop_view c.in-Closing.is) ∙ c.in_ok-text_len.ensures.body.stop in
-    let denoted : string_bytes c.in-Text.value ≡ items.body_value (items.body_at (fstring (opening_view c.args.opening)) c.args.text.now) = sym (ap bytes_of c.in-Text.is) ∙ c.in_ok-text_len.ensures.body.value in
+    let why : items.Closing ≡ (items.body_at (fstring_literal (opening_view c.args.opening)) c.args.text.now).stop = sym (ap stop_view c.in-Closing.is) ∙ c.in_ok-text_len.ensures.body.stop in
+    let denoted : string_bytes c.in-Text.value ≡ items.body_value (items.body_at (fstring_literal (opening_view c.args.opening)) c.args.text.now) = sym (ap bytes_of c.in-Text.is) ∙ c.in_ok-text_len.ensures.body.value in
     rw c.closing_len.ensures (chunk_is (opening_view c.args.opening) c.args.text.now c.in_ok-text_len.field-0.len (string_bytes c.in-Text.value) items.Closing c.in_ok-text_len.ensures.body.len denoted why)
 
 pub returns-in_ok-from_str-in-ClosingBrace-clause-step : goal.returns-in_ok-from_str-in-ClosingBrace-clause-step
 returns-in_ok-from_str-in-ClosingBrace-clause-step c =
-    let why : items.ClosingBrace ≡ (items.body_at (fstring (opening_view c.args.opening)) c.args.text.now).stop = sym (ap stop_view c.in-ClosingBrace.is) ∙ c.in_ok-text_len.ensures.body.stop in
-    let denoted : string_bytes c.in-Text.value ≡ items.body_value (items.body_at (fstring (opening_view c.args.opening)) c.args.text.now) = sym (ap bytes_of c.in-Text.is) ∙ c.in_ok-text_len.ensures.body.value in
+    let why : items.ClosingBrace ≡ (items.body_at (fstring_literal (opening_view c.args.opening)) c.args.text.now).stop = sym (ap stop_view c.in-ClosingBrace.is) ∙ c.in_ok-text_len.ensures.body.stop in
+    let denoted : string_bytes c.in-Text.value ≡ items.body_value (items.body_at (fstring_literal (opening_view c.args.opening)) c.args.text.now) = sym (ap bytes_of c.in-Text.is) ∙ c.in_ok-text_len.ensures.body.value in
     rw c.in_ok-from_str-in-ClosingBrace.ensures.ok (InvalidInput (codes "}"), refl, chunk_is (opening_view c.args.opening) c.args.text.now c.in_ok-text_len.field-0.len (string_bytes c.in-Text.value) items.ClosingBrace c.in_ok-text_len.ensures.body.len denoted why)
 
 pub returns-in_ok-from_str-in-BadEscape-clause-step : goal.returns-in_ok-from_str-in-BadEscape-clause-step
 returns-in_ok-from_str-in-BadEscape-clause-step c =
-    let why : (items.BadEscape c.in-BadEscape.len c.in-BadEscape.last) ≡ (items.body_at (fstring (opening_view c.args.opening)) c.args.text.now).stop = sym (ap stop_view c.in-BadEscape.is) ∙ c.in_ok-text_len.ensures.body.stop in
-    let denoted : string_bytes c.in-Text.value ≡ items.body_value (items.body_at (fstring (opening_view c.args.opening)) c.args.text.now) = sym (ap bytes_of c.in-Text.is) ∙ c.in_ok-text_len.ensures.body.value in
+    let why : (items.BadEscape c.in-BadEscape.len c.in-BadEscape.last) ≡ (items.body_at (fstring_literal (opening_view c.args.opening)) c.args.text.now).stop = sym (ap stop_view c.in-BadEscape.is) ∙ c.in_ok-text_len.ensures.body.stop in
+    let denoted : string_bytes c.in-Text.value ≡ items.body_value (items.body_at (fstring_literal (opening_view c.args.opening)) c.args.text.now) = sym (ap bytes_of c.in-Text.is) ∙ c.in_ok-text_len.ensures.body.value in
     rw c.in_ok-from_str-in-BadEscape.ensures.ok (InvalidEscapeSequence (codes "\\"), refl, chunk_is (opening_view c.args.opening) c.args.text.now c.in_ok-text_len.field-0.len (string_bytes c.in-Text.value) (items.BadEscape c.in-BadEscape.len c.in-BadEscape.last) c.in_ok-text_len.ensures.body.len denoted why)
 
 pub returns-in-Line-clause-step : goal.returns-in-Line-clause-step
 returns-in-Line-clause-step c =
-    let why : items.Line ≡ (items.body_at (fstring (opening_view c.args.opening)) c.args.text.now).stop = sym (ap stop_view c.in-Line.is) ∙ c.in_ok-text_len.ensures.body.stop in
-    let denoted : string_bytes c.in-Text.value ≡ items.body_value (items.body_at (fstring (opening_view c.args.opening)) c.args.text.now) = sym (ap bytes_of c.in-Text.is) ∙ c.in_ok-text_len.ensures.body.value in
+    let why : items.Line ≡ (items.body_at (fstring_literal (opening_view c.args.opening)) c.args.text.now).stop = sym (ap stop_view c.in-Line.is) ∙ c.in_ok-text_len.ensures.body.stop in
+    let denoted : string_bytes c.in-Text.value ≡ items.body_value (items.body_at (fstring_literal (opening_view c.args.opening)) c.args.text.now) = sym (ap bytes_of c.in-Text.is) ∙ c.in_ok-text_len.ensures.body.value in
     (UnfinishedStringLiteral, refl, chunk_is (opening_view c.args.opening) c.args.text.now c.in_ok-text_len.field-0.len (string_bytes c.in-Text.value) items.Line c.in_ok-text_len.ensures.body.len denoted why)
 
 pub returns-in-Ended-clause-step : goal.returns-in-Ended-clause-step
 returns-in-Ended-clause-step c =
-    let why : items.Ended ≡ (items.body_at (fstring (opening_view c.args.opening)) c.args.text.now).stop = sym (ap stop_view c.in-Ended.is) ∙ c.in_ok-text_len.ensures.body.stop in
-    let denoted : string_bytes c.in-Text.value ≡ items.body_value (items.body_at (fstring (opening_view c.args.opening)) c.args.text.now) = sym (ap bytes_of c.in-Text.is) ∙ c.in_ok-text_len.ensures.body.value in
+    let why : items.Ended ≡ (items.body_at (fstring_literal (opening_view c.args.opening)) c.args.text.now).stop = sym (ap stop_view c.in-Ended.is) ∙ c.in_ok-text_len.ensures.body.stop in
+    let denoted : string_bytes c.in-Text.value ≡ items.body_value (items.body_at (fstring_literal (opening_view c.args.opening)) c.args.text.now) = sym (ap bytes_of c.in-Text.is) ∙ c.in_ok-text_len.ensures.body.value in
     (UnfinishedStringLiteral, refl, chunk_is (opening_view c.args.opening) c.args.text.now c.in_ok-text_len.field-0.len (string_bytes c.in-Text.value) items.Ended c.in_ok-text_len.ensures.body.len denoted why)
 
 pub returns-in-OpeningBrace-clause-reads : goal.returns-in-OpeningBrace-clause-reads
@@ -99,6 +99,6 @@ pub returns-in_ok-from_str-in-BadEscape-clause-reads : goal.returns-in_ok-from_s
 returns-in_ok-from_str-in-BadEscape-clause-reads c =
     let stopped = ap stopped_len c.in-BadEscape.is in
     let reads = c.in_ok-text_len.ensures.reads in
-    let why : (items.BadEscape c.in-BadEscape.len c.in-BadEscape.last) ≡ (items.body_at (fstring (opening_view c.args.opening)) c.args.text.now).stop = sym (ap stop_view c.in-BadEscape.is) ∙ c.in_ok-text_len.ensures.body.stop in
+    let why : (items.BadEscape c.in-BadEscape.len c.in-BadEscape.last) ≡ (items.body_at (fstring_literal (opening_view c.args.opening)) c.args.text.now).stop = sym (ap stop_view c.in-BadEscape.is) ∙ c.in_ok-text_len.ensures.body.stop in
     let fits = bad_chunk_fits (opening_view c.args.opening) c.args.text.now c.in_ok-text_len.field-0.len c.in-BadEscape.len c.in-BadEscape.last c.in_ok-text_len.ensures.body.len why in
     omega (arith, fits.1, stopped, reads.1)

@@ -7,7 +7,7 @@ use Rattle.starlark_grammar.specs.declared.class.LiteralKind.TheVariants as kind
 use Rattle.starlark_token.specs.declared.tokens.Token.TheVariants as token
 use Rattle.starlark_reader.proofs.Pieces.CodePlaces.{word_cut}
 use Rattle.starlark_reader.proofs.Pieces.NextLexeme.{onward_something}
-use Rattle.starlark_reader.proofs.Pieces.PieceTaken.{left_onward, onward_ahead, text_changes, text_step}
+use Rattle.starlark_reader.proofs.Pieces.PieceTaken.{left_onward, onward_ahead, literal_step, text_changes}
 use Rattle.starlark_reader.proofs.Pieces.Waiting.{after_error}
 use Rattle.starlark_reader.proofs.reader.Reader.take_plain_text.Goals as goal
 
@@ -25,7 +25,7 @@ pass_token-requires-clause-stands c =
     let value : string_bytes c.in_ok-from_str.field-0 ≡ take c.args.body (drop c.args.len (drop c.args.self.now.at c.args.text.now)) = c.in_ok-from_str.ensures.ok ∙ c.range.ensures.value ∙ ap (λ n. take n c.range_from-behind.result.now) (sub-zero _) ∙ ap (take c.args.body) behind in (
       left.0,
       left.1,
-      text_step c.args.text.now left.0 c.args.self.now c.args.is_raw c.args.quote c.args.len c.args.body c.in_ok-from_str.field-0 left.1 c.requires.stands c.requires.plain value,
+      literal_step c.args.text.now left.0 c.args.self.now c.args.is_raw c.args.quote c.args.len c.args.body c.in_ok-from_str.field-0 left.1 c.requires.stands c.requires.plain value,
     )
 
 pub returns-clause-ahead : goal.returns-clause-ahead
@@ -34,7 +34,7 @@ returns-clause-ahead c = λ lexemes fault ahead.
     let value : string_bytes c.in_ok-from_str.field-0 ≡ take c.args.body (drop c.args.len (drop c.args.self.now.at c.args.text.now)) = c.in_ok-from_str.ensures.ok ∙ c.range.ensures.value ∙ ap (λ n. take n c.range_from-behind.result.now) (sub-zero _) ∙ ap (take c.args.body) behind in
     onward_ahead c.args.text.now c.args.self.now (Some (c.args.self.now.at, token.String c.in_ok-from_str.field-0, c.args.self.now.at + (c.args.len + c.args.body + 1))) c.pass_token.new.self lexemes fault
     (λ history kept. c.pass_token.ensures.read history kept
-    (text_step c.args.text.now history c.args.self.now c.args.is_raw c.args.quote c.args.len c.args.body c.in_ok-from_str.field-0 kept c.requires.stands c.requires.plain value))
+    (literal_step c.args.text.now history c.args.self.now c.args.is_raw c.args.quote c.args.len c.args.body c.in_ok-from_str.field-0 kept c.requires.stands c.requires.plain value))
     c.requires.stands.idle (left_onward c.args.text.now c.args.self.now lexemes fault c.requires.stands.stage ahead)
 
 pub returns-clause-code : goal.returns-clause-code
