@@ -81,7 +81,7 @@ impl Nesting {
         if change == Change::EndsFString {
             self.fstrings.pop();
         } else if let Some(innermost) = self.fstrings.last_mut() {
-            *innermost = innermost.after(change);
+            innermost.pass(change);
         }
     }
 

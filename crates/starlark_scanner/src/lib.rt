@@ -3,6 +3,7 @@
 
 pub mod lanes;
 pub mod laws;
+pub mod lines;
 pub mod literal;
 pub mod one_identifier;
 pub mod reads;

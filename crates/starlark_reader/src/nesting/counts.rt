@@ -100,45 +100,22 @@ impl OpenFString {
         }
     }
 
-    /// The f-string with one more token.
-    pub fn after(self, change: Change) -> Self
+    /// Goes on behind one more of its tokens.
+    #[inline(always)]
+    pub fn pass(&mut self, change: Change)
         ensures { (found : grammar.Opening × List grammar.Token) (node : grammar.Token) → change ≡ change_by (Whole node) → brackets_of found.1 + 1 < 2 ^ 64 →
-            fstring_view self ≡ fstring_of found → fstring_view result ≡ fstring_of (found.0, node ∷ found.1) }
+            fstring_view self.old ≡ fstring_of found → fstring_view self.new ≡ fstring_of (found.0, node ∷ found.1) }
     {
         match change {
-            Change::OpensRound => OpenFString {
-                rounds: self.rounds.saturating_add(1),
-                ..self
-            },
-            Change::ClosesRound => OpenFString {
-                rounds: self.rounds.saturating_sub(1),
-                ..self
-            },
-            Change::OpensSquare => OpenFString {
-                squares: self.squares.saturating_add(1),
-                ..self
-            },
-            Change::ClosesSquare => OpenFString {
-                squares: self.squares.saturating_sub(1),
-                ..self
-            },
-            Change::OpensCurly => OpenFString {
-                expression: self.expression.map(Brackets::add_opening),
-                ..self
-            },
-            Change::ClosesCurly => OpenFString {
-                expression: self.expression.map(Brackets::add_closing),
-                ..self
-            },
-            Change::BeginsExpression => OpenFString {
-                expression: Some(Brackets::new()),
-                ..self
-            },
-            Change::EndsExpression => OpenFString {
-                expression: None,
-                ..self
-            },
-            Change::EndsFString | Change::Nothing => self,
+            Change::OpensRound => self.rounds = self.rounds.saturating_add(1),
+            Change::ClosesRound => self.rounds = self.rounds.saturating_sub(1),
+            Change::OpensSquare => self.squares = self.squares.saturating_add(1),
+            Change::ClosesSquare => self.squares = self.squares.saturating_sub(1),
+            Change::OpensCurly => self.expression = self.expression.map(Brackets::add_opening),
+            Change::ClosesCurly => self.expression = self.expression.map(Brackets::add_closing),
+            Change::BeginsExpression => self.expression = Some(Brackets::new()),
+            Change::EndsExpression => self.expression = None,
+            Change::EndsFString | Change::Nothing => {}
         }
     }
 }

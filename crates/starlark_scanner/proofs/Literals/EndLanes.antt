@@ -23,6 +23,10 @@ nested false false true d e f = refl
 nested false false false true e f = refl
 nested false false false false e f = refl
 
+-- the lanes of v that are equal to one of two bytes
+pub two_lanes : (x y : ℕ) (v : List ℕ) → length v ≡ 16 → zip2 bit_or (equals v x) (equals v y) ≡ map (λ b. lane_of (eqb b x || eqb b y)) v
+two_lanes x y v long = either_lanes (λ b. eqb b x) (λ b. eqb b y) v _ _ (zip2_splat equal v 16 x long) (zip2_splat equal v 16 y long)
+
 pub end_lanes : (ends : Ends) (v : List ℕ) → length v ≡ 16
     → zip2 bit_or (zip2 bit_or (zip2 bit_or (zip2 bit_or (zip2 bit_or (equals v ends.quote) (equals v ends.feed)) (equals v ends.opening_brace)) (equals v ends.closing_brace)) (equals v 92)) (equals v 13) ≡ map (λ x. lane_of (is_end ends x)) v
 end_lanes ends v long =

@@ -1,4 +1,4 @@
--- Runs of a literal's body in which each character denotes itself.
+-- Runs of a literal's body in which each character denotes itself, and the front of a line.
 use Rattle.std.specs.Prelude.{ℕ, Bool, ◌&&◌, ◌||◌, ◌==◌, not}
 use Rattle.std.specs.Str.{byte}
 use Rattle.starlark_grammar.specs.Items.{Literal, is_brace, quote_byte}
@@ -16,3 +16,7 @@ is_in_run literal b = not (is_special literal b)
 -- the bytes that end a run, as the code keeps them
 abbrev pub is_end : Ends → ℕ → Bool
 is_end ends b = b == ends.quote || (b == ends.feed || (b == ends.opening_brace || (b == ends.closing_brace || (b == byte "\\" || b == byte "\r"))))
+
+-- a byte that stands before what ends a line: an LF, or another byte
+abbrev pub is_in_front : ℕ → ℕ → Bool
+is_in_front other b = not (b == other) && not (b == byte "\n")

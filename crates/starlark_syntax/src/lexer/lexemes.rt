@@ -194,14 +194,15 @@ impl<'a> Lexer<'a> {
                 self.handed_out += 1;
                 let lexeme = self.reader.take_terminal(terminal, 2, self.text);
                 self.is_quick = self.reader.is_in_code();
-                Some(Ok(lexeme))
+                return Some(Ok(lexeme));
             }
             Some(ShortWord::Digit(digit)) => {
                 self.handed_out += 1;
-                Some(Ok(self.reader.take_digit(digit, self.text)))
+                return Some(Ok(self.reader.take_digit(digit, self.text)));
             }
-            None => self.next_of_reader(),
+            None => {}
         }
+        self.next_of_reader()
     }
 
     /// The next lexeme of a lexer that no error has ended: quickly where it is a text literal whose characters denote

@@ -40,10 +40,10 @@ returns-in-Some-clause-passes c = λ tokens node e begins h.
     let some = c.in-Some.ensures.variant.0 refl in
     let len : vec_len c.args.self.now.fstrings - 1 + 1 ≡ length c.args.self.now.fstrings.items = omega (arith, size, some) in
     let last = last_of c.args.self.now.fstrings.items (vec_len c.args.self.now.fstrings - 1) c.in-Some.innermost.now len c.in-Some.ensures.value in
-    let written = last_set c.args.self.now.fstrings.items (vec_len c.args.self.now.fstrings - 1) c.after.result len in
+    let written = last_set c.args.self.now.fstrings.items (vec_len c.args.self.now.fstrings - 1) c.pass.new.self len in
     let rest : List OpenFString = reverse (take (vec_len c.args.self.now.fstrings - 1) c.args.self.now.fstrings.items) in
     let innermost : AreOpen (c.in-Some.innermost.now ∷ rest) tokens = subst (λ (fstrings : List OpenFString). AreOpen fstrings tokens) last h.fstrings in
-    let more = some_onward node tokens c.in-Some.innermost.now c.after.result rest keeps room (λ found few view. c.after.ensures found node does few view) innermost in
+    let more = some_onward node tokens c.in-Some.innermost.now c.pass.new.self rest keeps room (λ found few view. c.pass.ensures found node does few view) innermost in
     record {
       fstrings = subst (λ (fstrings : List OpenFString). AreOpen fstrings (node ∷ tokens)) (sym written) more;
       opened = counts.opened;

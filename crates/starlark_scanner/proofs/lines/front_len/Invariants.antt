@@ -1,13 +1,13 @@
-use Rattle.std.proofs.Common.{not, length, ◌+◌, ◌-◌, ◌≡◌, ◌≤◌, drop}
+use Rattle.std.proofs.Common.{length, ◌+◌, ◌-◌, ◌≡◌, ◌≤◌, drop}
 use Rattle.std.specs.List.{prefix_len}
-use Rattle.starlark_grammar.specs.Margins.{is_feed}
 use Rattle.starlark_scanner.specs.Joints.Reads.{AreReads}
-use Rattle.starlark_reader.proofs.layout.feeds.before_feed_len.Given as goal
+use Rattle.starlark_scanner.specs.Joints.Runs.{is_in_front}
+use Rattle.starlark_scanner.proofs.lines.front_len.Given as goal
 
 abbrev pub invariant-loop-at : goal.invariant-loop-at
 invariant-loop-at l = record {
   within : l.at ≤ length l.text;
-  value : prefix_len (λ b. not (is_feed b)) l.text ≡ l.at + prefix_len (λ b. not (is_feed b)) (drop l.at l.text);
+  value : prefix_len (is_in_front l.other) l.text ≡ l.at + prefix_len (is_in_front l.other) (drop l.at l.text);
   some : 8 ≤ l.at;
   reads : AreReads (l.at + 1) (l.at + 1) l.fn.reads l.reads;
 }
