@@ -35,7 +35,7 @@ use crate::reading::{Piece, is_outside, line_end_counts, piece_at};
 use starlark_scanner::literal::plain_body_len;
 use starlark_scanner::reads::Reads;
 use starlark_scanner::scanner::{
-    Quote, ShortWord, Terminal, TextOpener, Word, common_word, short_word, text_opener,
+    Quote, ShortWord, Terminal, TextOpener, Word, comment_len, common_word, short_word, text_opener,
 };
 use starlark_token::lexeme_error::LexemeError;
 use starlark_token::tokens::Token;
@@ -538,6 +538,19 @@ impl Reader {
         text_opener(&mut self.reads, &text[self.at..])
     }
 
+    /// The length of the comment that comes next. `None` where something else comes. For places of code, behind their spaces.
+    #[inline(always)]
+    pub fn comment_len(&mut self, text: &str) -> Option<usize>
+        requires fits { length text.now < 2 ^ 32 }
+        requires ready { IsReady text.now self.old self.old.stage }
+        requires code { IsAtCode text.now self.old }
+        ensures ahead { (lexemes : List (Spanned TokenView)) (fault : Option (Spanned Fault)) → IsAhead text.now self.old self.old.stage lexemes fault → IsAhead text.now self.new self.new.stage lexemes fault }
+        ensures code { IsAtCode text.now self.new }
+        ensures stands { IfSome result (λ len. IsWordHere text.now self.new (record { class = class.Comment; len = len })) }
+    {
+        comment_len(&mut self.reads, &text[self.at..])
+    }
+
     /// The place up to which the text is read, in bytes.
     #[inline(always)]
     pub fn at(&self) -> usize
@@ -614,6 +627,24 @@ impl Reader {
         let begin = self.at;
         let rest = &text[begin..];
         let token = Token::Identifier(String::from_str(self.alloc, &rest[..len])?);
+        self.pass_token(&token, len, text);
+        Ok((begin, token, begin + len))
+    }
+
+    /// Takes the comment here, of so many bytes. After an error the reader isn't to be asked again.
+    #[inline(always)]
+    pub fn take_comment(&mut self, len: usize, text: &str) -> Result<PlacedToken, AllocError>
+        requires fits { length text.now < 2 ^ 32 }
+        requires ready { IsReady text.now self.old self.old.stage }
+        requires stands { IsWordHere text.now self.old (record { class = class.Comment; len = len }) }
+        ensures ahead { IfOk result (λ given. (lexemes : List (Spanned TokenView)) (fault : Option (Spanned Fault)) → IsAhead text.now self.old self.old.stage lexemes fault → IsAheadBehind text.now (Some given) self.new lexemes fault) }
+        ensures memory { OnErr result ((lexemes : List (Spanned TokenView)) (fault : Option (Spanned Fault)) → IsAhead text.now self.old self.old.stage lexemes fault → IsSomething lexemes fault) }
+        ensures code { OnOk result (IsAtCode text.now self.new) }
+    {
+        let begin = self.at;
+        let rest = &text[begin..];
+        let word = &rest[..len];
+        let token = Token::Comment(String::from_str(self.alloc, &word[1..])?);
         self.pass_token(&token, len, text);
         Ok((begin, token, begin + len))
     }

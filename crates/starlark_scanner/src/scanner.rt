@@ -18,6 +18,7 @@ mod numbers;
 mod openers;
 mod word;
 
+use crate::lines::front_len;
 use crate::reads::Reads;
 use first::is_name_start;
 pub use starlark_grammar::class::{Class, LiteralKind, Quote, Terminal};
@@ -139,6 +140,19 @@ pub fn text_opener(reads: &mut Reads, text: &str) -> Option<TextOpener>
 {
     let front = reads.front(text.as_bytes(), 2);
     openers::text_opener(front)
+}
+
+/// The length of the comment at the front of a text. `None` where something else stands there.
+#[inline(always)]
+pub fn comment_len(reads: &mut Reads, text: &str) -> Option<usize>
+    ensures word { IfSome result (λ len. Some (class.Comment, len) ≡ language_front text.now) }
+    ensures bang { IfSome result (λ len. is_bang text.now ≡ false) }
+{
+    let bytes = text.as_bytes();
+    match reads.at(bytes, 0) {
+        Some(b'#') => Some(front_len(reads, bytes, b'\r')),
+        _ => None,
+    }
 }
 
 /// The longest word at the front of a text that doesn't begin with a letter or `_`, and of which the first two bytes were read;

@@ -58,6 +58,11 @@ word_len text class len front =
     let inside : len ≤ length text = (front_sound (class_in language) text class len front).1 in
     length-take-le len text inside
 
+-- and it is of its class
+pub word_class : (text : Text) (class : Class) (len : ℕ) → language_front text ≡ Some (class, len) → class_in language (take len text) ≡ Some class
+unfolding language_front
+word_class text class len front = (front_sound (class_in language) text class len front).2
+
 pub word_cut : (text : Text) (class : Class) (len : ℕ) → IsUtf8 text → language_front text ≡ Some (class, len) → IsCharBoundary text len
 unfolding language_front
 word_cut text class len utf8 front = word_edge text class len utf8 front

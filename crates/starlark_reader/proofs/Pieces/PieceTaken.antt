@@ -110,7 +110,17 @@ name_step text history reader len name kept here is = (
   word_read text history reader (record { class = class.Identifier; len = len }) kept here ∙ ap (λ n. pieces.token n (Tokens.Identifier (take len (drop reader.at text)))) (word_len (drop reader.at text) class.Identifier len (sym here.front)),
 )
 
--- names and texts change neither brackets nor f-strings
+pub comment_step : (text : Text) (history : History) (reader : Reader) (len : ℕ) (value : String Global) → IsStateAfter text history reader → IsWordHere text reader (record { class = class.Comment; len = len })
+    → string_bytes value ≡ drop 1 (take len (drop reader.at text)) → IsStep (step_here text history reader) (step.Token (token.Comment value) len)
+unfolding token_view
+comment_step text history reader len value kept here is = (
+  Tokens.Comment (drop 1 (take len (drop reader.at text))),
+  ap (λ t. Whole (Tokens.Comment t)) is,
+  refl,
+  word_read text history reader (record { class = class.Comment; len = len }) kept here ∙ ap (λ n. pieces.token n (Tokens.Comment (drop 1 (take len (drop reader.at text))))) (word_len (drop reader.at text) class.Comment len (sym here.front)),
+)
+
+-- names, texts and comments change neither brackets nor f-strings
 pub name_changes : (name : String Global) → change_by (token_view (token.Identifier name)) ≡ change.Nothing
 unfolding token_view change_by
 name_changes name = refl
@@ -118,6 +128,10 @@ name_changes name = refl
 pub text_changes : (value : String Global) → change_by (token_view (token.String value)) ≡ change.Nothing
 unfolding token_view change_by
 text_changes value = refl
+
+pub comment_changes : (value : String Global) → change_by (token_view (token.Comment value)) ≡ change.Nothing
+unfolding token_view change_by
+comment_changes value = refl
 
 -- nor does an integer of one digit
 pub digit_changes : (found : Token) (digit : ℕ) → token_view found ≡ Whole (Tokens.Int (integer_of 10 ((digit + 48) ∷ []))) → change_by (token_view found) ≡ change.Nothing

@@ -177,8 +177,8 @@ impl<'a> Lexer<'a> {
         }
     }
 
-    /// The next lexeme of a lexer that no error has ended, whichever it is: quickly where it is a symbol of two bytes or an
-    /// integer of one digit.
+    /// The next lexeme of a lexer that no error has ended, whichever it is: quickly where it is a symbol of two bytes, an
+    /// integer of one digit or a comment.
     #[inline(never)]
     fn next_of_all(&mut self) -> Option<Lexeme>
         requires { self.old.has_ended ≡ false }
@@ -202,7 +202,20 @@ impl<'a> Lexer<'a> {
             }
             None => {}
         }
-        self.next_of_reader()
+        let Some(len) = self.reader.comment_len(self.text) else {
+            return self.next_of_reader();
+        };
+        match self.reader.take_comment(len, self.text) {
+            Ok(lexeme) => {
+                self.handed_out += 1;
+                Some(Ok(lexeme))
+            }
+            Err(_) => {
+                self.has_ended = true;
+                self.is_quick = false;
+                Some(Err(OrMemory::Memory))
+            }
+        }
     }
 
     /// The next lexeme of a lexer that no error has ended: quickly where it is a text literal whose characters denote

@@ -1,4 +1,4 @@
-use Rattle.std.proofs.Common.{◌≡◌, ◌∙◌, ◌&&◌, ◌||◌, Bool, ℕ, true, false, eqb, length, not, refl}
+use Rattle.std.proofs.Common.{◌≡◌, ◌∙◌, ◌&&◌, ◌||◌, Bool, true, false, eqb, length, not, refl}
 use Rattle.std.proofs.lemmas.Simd.{length-chunk}
 use Rattle.std.specs.List.{prefix_len}
 use lib.Lanes.{chunk}
