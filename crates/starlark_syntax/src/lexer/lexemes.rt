@@ -134,7 +134,7 @@ impl<'a> Lexer<'a> {
 
     /// The next lexeme of a lexer that no error has ended, whichever it is: quickly where it was read before and waits, or is
     /// a text of an f-string whose characters denote themselves.
-    #[inline(never)]
+    #[inline(always)]
     fn next_waiting(&mut self) -> Option<Lexeme>
         requires { self.old.has_ended ≡ false }
         ensures item { AnswersNext self.old.code_map (slice_get (items self.old.text) self.old.handed_out) result }
