@@ -1,6 +1,6 @@
 //! Texts of which each byte is edited.
 
-use crate::lexed_texts::{both_texts, lex, relex, relex_joined};
+use crate::lexed_texts::{Wanted, both_texts, lex, relex, relex_joined};
 use crate::rows::Answer;
 use std::alloc::{AllocError, Global};
 
@@ -20,7 +20,7 @@ fn with_byte(alloc: Global, text: &str, at: usize, byte: u8) -> Result<String, A
 /// A text lexed again behind an edit. It was lexed as one text, or joined of two.
 fn lexed_again(alloc: Global, first: &str, second: &str, at: u32, edited: &str) -> Answer {
     if second.is_empty() {
-        return relex(alloc, first, at, edited);
+        return relex(alloc, first, at, edited, Wanted::Lexemes);
     }
     relex_joined(alloc, first, second, at, edited)
 }

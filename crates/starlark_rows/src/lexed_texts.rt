@@ -65,11 +65,10 @@ fn joined<'a>(
     }
 }
 
-/// The lexemes of a lexed text, its fault, and whether it is a clean cut.
-fn printed(alloc: Global, lexed: &LexedText<'_>) -> Answer {
-    let mut list = String::new(alloc);
+/// Adds the lexemes of a lexed text, its fault, and whether it is a clean cut.
+fn add(alloc: Global, list: &mut String, lexed: &LexedText<'_>) -> Result<(), AllocError> {
     for (begin, token, end) in lexed.lexemes() {
-        add_placed(alloc, &mut list, *begin, token, *end)?;
+        add_placed(alloc, list, *begin, token, *end)?;
     }
     if let Some(fault) = lexed.fault() {
         write!(list, "{fault}; ")?;
@@ -78,7 +77,13 @@ fn printed(alloc: Global, lexed: &LexedText<'_>) -> Answer {
         "clean"
     } else {
         "open"
-    })?;
+    })
+}
+
+/// A lexed text, as it prints.
+fn printed(alloc: Global, lexed: &LexedText<'_>) -> Answer {
+    let mut list = String::new(alloc);
+    add(alloc, &mut list, lexed)?;
     Ok(list)
 }
 
@@ -86,8 +91,25 @@ fn printed(alloc: Global, lexed: &LexedText<'_>) -> Answer {
 fn both_printed(alloc: Global, first: &LexedText<'_>, second: &LexedText<'_>) -> Answer {
     let mut list = printed(alloc, first)?;
     list.push_str(", ")?;
-    list.push_str(printed(alloc, second)?.as_str())?;
+    add(alloc, &mut list, second)?;
     Ok(list)
+}
+
+/// What a row wants to know of a text that was joined, or lexed again.
+#[derive(Clone, Copy)]
+pub enum Wanted {
+    /// How it prints.
+    Lexemes,
+    /// How often bytes were read for it.
+    Reads,
+}
+
+/// What a row wants to know of a lexed text.
+fn wanted_of(alloc: Global, lexed: &LexedText<'_>, wanted: Wanted) -> Answer {
+    match wanted {
+        Wanted::Lexemes => printed(alloc, lexed),
+        Wanted::Reads => shown(alloc, &lexed.reads()),
+    }
 }
 
 /// Want of memory where two lexed texts that were handed back are as they were.
@@ -96,17 +118,30 @@ fn both_kept(alloc: Global, before: &str, handed_back: &(LexedText<'_>, LexedTex
     unchanged(alloc, before, &after)
 }
 
-/// Two texts joined, as they print. Where that is refused, both are handed back.
-pub fn join(alloc: Global, first: &str, second: &str) -> Answer {
-    let both = both_texts(alloc, first, second)?;
-    let first = lexed(alloc, first)?;
-    let second = lexed(alloc, second)?;
+/// What is wanted of two lexed texts joined. Where that is refused, both are handed back.
+fn join_or_keep<'a>(
+    alloc: Global,
+    first: LexedText<'a>,
+    second: LexedText<'a>,
+    both: &'a str,
+    wanted: Wanted,
+) -> Answer
+    requires { both.now ≡ first.text ++ second.text }
+{
     let before = both_printed(alloc, &first, &second)?;
-    match join_lexed(first, second, both.as_str()) {
-        Some(Ok(joined)) => printed(alloc, &joined),
+    match join_lexed(first, second, both) {
+        Some(Ok(joined)) => wanted_of(alloc, &joined, wanted),
         Some(Err(handed_back)) => both_kept(alloc, before.as_str(), &handed_back),
         None => String::from_str(alloc, "not joined"),
     }
+}
+
+/// What is wanted of two texts joined.
+pub fn join(alloc: Global, first: &str, second: &str, wanted: Wanted) -> Answer {
+    let both = both_texts(alloc, first, second)?;
+    let first = lexed(alloc, first)?;
+    let second = lexed(alloc, second)?;
+    join_or_keep(alloc, first, second, both.as_str(), wanted)
 }
 
 /// Whether two texts have the same bytes up to a place between characters of both.
@@ -135,38 +170,33 @@ fn kept(alloc: Global, before: &str, old: &LexedText<'_>) -> Answer {
     unchanged(alloc, before, &after)
 }
 
-/// A lexed text that is lexed again behind an edit, as it prints. Where that is refused, the text is handed back.
-fn relexed<'a>(alloc: Global, old: LexedText<'a>, from: usize, edited: &'a str) -> Answer {
+/// What is wanted of a lexed text that is lexed again behind an edit. Where that is refused, the text is handed back.
+fn relexed<'a>(
+    alloc: Global,
+    old: LexedText<'a>,
+    from: usize,
+    edited: &'a str,
+    wanted: Wanted,
+) -> Answer {
     let map = code_map(alloc, "f", edited)?;
     let before = printed(alloc, &old)?;
     match relex_lexed(old, from, edited, &map) {
-        Some(Ok(new)) => printed(alloc, &new),
+        Some(Ok(new)) => wanted_of(alloc, &new, wanted),
         Some(Err(old)) => kept(alloc, before.as_str(), &old),
         None => String::from_str(alloc, "no edit"),
     }
 }
 
-/// A text lexed again behind an edit, as it prints.
-pub fn relex(alloc: Global, text: &str, from: u32, edited: &str) -> Answer {
-    relexed(alloc, lexed(alloc, text)?, from as usize, edited)
-}
-
-/// How often bytes were read to lex a text again behind an edit.
-fn relex_reads(alloc: Global, text: &str, from: usize, edited: &str) -> Answer {
-    let old = lexed(alloc, text)?;
-    let map = code_map(alloc, "f", edited)?;
-    match relex_lexed(old, from, edited, &map) {
-        Some(Ok(new)) => shown(alloc, &new.reads()),
-        Some(Err(_)) => Err(AllocError),
-        None => String::from_str(alloc, "no edit"),
-    }
+/// What is wanted of a text that is lexed again behind an edit.
+pub fn relex(alloc: Global, text: &str, from: u32, edited: &str, wanted: Wanted) -> Answer {
+    relexed(alloc, lexed(alloc, text)?, from as usize, edited, wanted)
 }
 
 /// Two texts joined, and lexed again behind an edit, as they print.
 pub fn relex_joined(alloc: Global, first: &str, second: &str, from: u32, edited: &str) -> Answer {
     let both = both_texts(alloc, first, second)?;
     match joined(alloc, first, second, both.as_str())? {
-        Some(old) => relexed(alloc, old, from as usize, edited),
+        Some(old) => relexed(alloc, old, from as usize, edited, Wanted::Lexemes),
         None => String::from_str(alloc, "not joined"),
     }
 }
@@ -204,15 +234,6 @@ fn marks(alloc: Global, row: &Row) -> Answer {
     Ok(marks)
 }
 
-/// How often bytes were read to join two texts.
-fn join_reads(alloc: Global, first: &str, second: &str) -> Answer {
-    let both = both_texts(alloc, first, second)?;
-    match joined(alloc, first, second, both.as_str())? {
-        Some(joined) => shown(alloc, &joined.reads()),
-        None => String::from_str(alloc, "not joined"),
-    }
-}
-
 /// The answer to a call with lexed texts.
 pub fn answer(alloc: Global, row: &Row) -> Answer {
     let text = row.text(2);
@@ -220,11 +241,11 @@ pub fn answer(alloc: Global, row: &Row) -> Answer {
         "lex" => lex(alloc, text),
         "is_clean_cut" => shown(alloc, &lexed(alloc, text)?.is_clean_cut()),
         "reads" => shown(alloc, &lexed(alloc, text)?.reads()),
-        "join_reads" => join_reads(alloc, text, row.text(3)),
-        "join" => join(alloc, text, row.text(3)),
+        "join_reads" => join(alloc, text, row.text(3), Wanted::Reads),
+        "join" => join(alloc, text, row.text(3), Wanted::Lexemes),
         "join_each" => marks(alloc, row),
-        "relex_reads" => relex_reads(alloc, text, row.count(3) as usize, row.text(4)),
-        "relex" => relex(alloc, text, row.count(3), row.text(4)),
+        "relex_reads" => relex(alloc, text, row.count(3), row.text(4), Wanted::Reads),
+        "relex" => relex(alloc, text, row.count(3), row.text(4), Wanted::Lexemes),
         "each_byte" => each_byte(alloc, text, row.text(3)),
         "relex_joined" => relex_joined(alloc, text, row.text(3), row.count(4), row.text(5)),
         _ => unknown(alloc, row),

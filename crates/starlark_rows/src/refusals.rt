@@ -4,14 +4,15 @@
 use crate::code_maps::code_map;
 use crate::errors::{first, forms, kind, one_call, placed, shown_error, tab};
 use crate::lexed_texts;
+use crate::lexed_texts::Wanted;
 use crate::rows::{Answer, Row, given, unknown};
-use crate::words::{add_lexeme, lexer};
+use crate::words::lexemes;
 use starlark_syntax::call_stack::CallStack;
-use starlark_syntax::codemap::{CodeMap, CodeMapId, CodeMaps, OrMemory};
+use starlark_syntax::codemap::{CodeMap, CodeMapId, CodeMaps};
 use starlark_syntax::diagnostic::WithDiagnostic;
 use starlark_syntax::error::{Error, error_from_diagnostic, error_from_lexeme};
 use starlark_syntax::eval_exception::EvalException;
-use starlark_syntax::lexer::{LexemeError, Lexer};
+use starlark_syntax::lexer::LexemeError;
 use std::alloc::{AllocError, Global};
 use std::fmt::{Debug, Display, Write};
 
@@ -209,30 +210,6 @@ fn map_value(alloc: Global, map: &CodeMap) -> Answer {
     }
 }
 
-/// What a lexer handed out before want of memory, behind which it has to hand out nothing.
-fn handed_out(mut list: String, lexer: &mut Lexer<'_>) -> Answer {
-    let end = match lexer.next() {
-        None => "out of memory",
-        Some(_) => "more behind want of memory",
-    };
-    list.push_str(end)?;
-    Ok(list)
-}
-
-/// The lexemes of a text, or those before want of memory.
-fn lexemes(alloc: Global, text: &str) -> Answer {
-    let mut lexer = lexer(alloc, text, text)?;
-    let mut list = String::new(alloc);
-    for _ in 0..u64::MAX {
-        match lexer.next() {
-            None => break,
-            Some(Err(OrMemory::Memory)) => return handed_out(list, &mut lexer),
-            Some(lexeme) => add_lexeme(alloc, &mut list, &lexeme)?,
-        }
-    }
-    Ok(list)
-}
-
 /// The answer to a call that hands back what it was given, or leaves it unchanged, over a file.
 fn of_file(alloc: Global, row: &Row) -> Answer {
     let map = code_map(alloc, "f", "ab")?;
@@ -256,10 +233,13 @@ pub fn answer(alloc: Global, row: &Row) -> Answer {
         "add_all" => add_all(alloc),
         "new_kind" => new_kind(alloc),
         "error_from_lexeme" => of_lexeme(alloc),
-        "lexemes" => lexemes(alloc, row.text(2)),
+        "lexemes" => lexemes(alloc, row.text(2), row.text(2)),
         "lex" => lexed_texts::lex(alloc, row.text(2)),
-        "join" => lexed_texts::join(alloc, row.text(2), row.text(3)),
-        "relex" => lexed_texts::relex(alloc, row.text(2), row.count(3), row.text(4)),
+        "join" => lexed_texts::join(alloc, row.text(2), row.text(3), Wanted::Lexemes),
+        "relex" => {
+            let (text, from, edited) = (row.text(2), row.count(3), row.text(4));
+            lexed_texts::relex(alloc, text, from, edited, Wanted::Lexemes)
+        }
         _ => of_file(alloc, row),
     }
 }

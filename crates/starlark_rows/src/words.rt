@@ -4,7 +4,7 @@ use crate::code_maps::code_map;
 use crate::rows::{Answer, Row, both, given, shown, unknown};
 use starlark_syntax::codemap::OrMemory;
 use starlark_syntax::dialect::Dialect;
-use starlark_syntax::lexer::{Lexeme, Lexer, Token, TokenInt, lex_exactly_one_identifier};
+use starlark_syntax::lexer::{Lexer, Token, TokenInt, lex_exactly_one_identifier};
 use std::alloc::{AllocError, Global};
 use std::fmt::{Display, Write};
 
@@ -57,26 +57,42 @@ pub fn add_placed(
     add_token(list, copy.kind(), &copy)
 }
 
-/// Adds a lexeme, or a fault as it prints.
-pub fn add_lexeme(alloc: Global, list: &mut String, lexeme: &Lexeme) -> Result<(), AllocError> {
-    match lexeme {
-        Ok((begin, token, end)) => add_placed(alloc, list, *begin, token, *end),
-        Err(OrMemory::Error(exception)) => write!(list, "{exception}; "),
-        Err(OrMemory::Memory) => Err(AllocError),
+/// What is said where memory was wanting: behind that a lexer has to hand out nothing.
+fn behind_memory(lexer: &mut Lexer<'_>) -> &'static str {
+    match lexer.next() {
+        None => "out of memory",
+        Some(_) => "more behind want of memory",
     }
 }
 
+/// Adds the next lexeme, a fault as it prints, or that memory was wanting. Answers whether the lexer may have more.
+fn add_next(alloc: Global, list: &mut String, lexer: &mut Lexer<'_>) -> Result<bool, AllocError> {
+    match lexer.next() {
+        None => return Ok(false),
+        Some(Ok((begin, token, end))) => add_placed(alloc, list, begin, &token, end)?,
+        Some(Err(OrMemory::Error(exception))) => write!(list, "{exception}; ")?,
+        Some(Err(OrMemory::Memory)) => {
+            list.push_str(behind_memory(lexer))?;
+            return Ok(false);
+        }
+    }
+    Ok(true)
+}
+
 /// A lexer of a text, over a code map that has this source.
-pub fn lexer<'a>(alloc: Global, text: &'a str, source: &str) -> Result<Lexer<'a>, AllocError> {
+fn lexer<'a>(alloc: Global, text: &'a str, source: &str) -> Result<Lexer<'a>, AllocError> {
     let map = code_map(alloc, "f", source)?;
     given(Lexer::new(alloc, text, &Dialect::Standard, map))
 }
 
-/// The lexemes of a text, over a code map that has this source.
-fn lexemes(alloc: Global, text: &str, source: &str) -> Answer {
+/// The lexemes of a text, or those before want of memory, over a code map that has this source.
+pub fn lexemes(alloc: Global, text: &str, source: &str) -> Answer {
+    let mut lexer = lexer(alloc, text, source)?;
     let mut list = String::new(alloc);
-    for lexeme in lexer(alloc, text, source)? {
-        add_lexeme(alloc, &mut list, &lexeme)?;
+    for _ in 0..u64::MAX {
+        if !add_next(alloc, &mut list, &mut lexer)? {
+            break;
+        }
     }
     Ok(list)
 }
