@@ -105,7 +105,7 @@ def is_row_kept(run, whole, row):
     """Whether a run of one row answered as with ample memory, or want of memory."""
     if is_all_or_nothing(run, whole):
         return True
-    if row.startswith(b"refusals\tlexemes\t") and run.status == 0:
+    if row.startswith((b"refusals\tlexemes\t", b"words\tlexemes")) and run.status == 0:
         front = run.output.removesuffix(WANT_OF_MEMORY + b"\n")
         return front != run.output and whole.startswith(front)
     return False
