@@ -31,10 +31,8 @@ pub fn update<'a>(
     if !agree(old.text(), new.source(), from) {
         return opened(alloc, new);
     }
-    match old.relex(from, new.source(), new) {
-        Ok(lexed) => Ok(lexed),
-        Err(_) => Err(SourceError::Memory),
-    }
+    old.relex(from, new.source(), new)
+        .map_err(|_| SourceError::Memory)
 }
 
 /// The line and the column of a place, both from 0, with columns in UTF-16 units; `None` where the file has no such place.

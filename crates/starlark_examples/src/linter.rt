@@ -43,7 +43,7 @@ pub fn line_of(alloc: Global, file: &CodeMap, finding: Finding) -> Result<String
 
 /// Whether a text is an address that is read in the clear.
 fn is_clear_address(text: &str) -> bool {
-    text.as_bytes().starts_with(b"http://")
+    text.starts_with("http://")
 }
 
 /// The rule that a token breaks. Of an indent the width is given, and that of the block round it.

@@ -70,13 +70,15 @@ fn expression_of(token: &Token) -> Option<Expression<'_>> {
     }
 }
 
-/// An error that says that something is missing.
-fn missing_error<D: fmt::Display>(alloc: Global, wanted: &D) -> Result<Error, AllocError> {
-    let message = ParserMessage::Text(format!(in alloc; "Parse error: {wanted} is missing")?);
-    match Error::new_kind(alloc, ErrorKind::Parser(message)) {
-        Ok(error) => Ok(error),
-        Err(_) => Err(AllocError),
-    }
+/// What is said where something is missing.
+fn missing_text<D: fmt::Display>(alloc: Global, wanted: &D) -> Result<String, AllocError> {
+    format!(in alloc; "Parse error: {wanted} is missing")
+}
+
+/// A parser's error that says a text.
+fn parser_error(alloc: Global, text: String) -> Result<Error, AllocError> {
+    let kind = ErrorKind::Parser(ParserMessage::Text(text));
+    Error::new_kind(alloc, kind).map_err(|_| AllocError)
 }
 
 /// A fault at a place of a file: something is missing there.
@@ -86,11 +88,8 @@ fn missing_at<D: fmt::Display>(
     span: Span,
     wanted: &D,
 ) -> Result<EvalException, AllocError> {
-    let error = missing_error(alloc, wanted)?;
-    match EvalException::new(error, span, file) {
-        Ok(fault) => Ok(fault),
-        Err(_) => Err(AllocError),
-    }
+    let error = parser_error(alloc, missing_text(alloc, wanted)?)?;
+    EvalException::new(error, span, file).map_err(|_| AllocError)
 }
 
 /// A parser: the lexemes that it hasn't taken yet.

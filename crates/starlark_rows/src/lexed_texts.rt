@@ -19,10 +19,7 @@ fn lexed<'a>(alloc: Global, text: &'a str) -> Result<LexedText<'a>, AllocError>
     ensures { IfOk result (λ lexed. lexed.text ≡ text.now) }
 {
     let map = code_map(alloc, "f", text)?;
-    match LexedText::lex(alloc, text, &Dialect::Standard, map) {
-        Ok(lexed) => Ok(lexed),
-        Err(_) => Err(AllocError),
-    }
+    LexedText::lex(alloc, text, &Dialect::Standard, map).map_err(|_| AllocError)
 }
 
 /// One text behind another.
@@ -47,6 +44,21 @@ fn join_lexed<'a>(first: LexedText<'a>, second: LexedText<'a>, both: &'a str) ->
     Some(first.join(second, both))
 }
 
+/// Two lexed texts joined, where they may be. The third text is both.
+fn joined_lexed<'a>(
+    first: LexedText<'a>,
+    second: LexedText<'a>,
+    both: &'a str,
+) -> Result<Option<LexedText<'a>>, AllocError>
+    requires { both.now ≡ first.text ++ second.text }
+{
+    match join_lexed(first, second, both) {
+        Some(Ok(joined)) => Ok(Some(joined)),
+        Some(Err(_)) => Err(AllocError),
+        None => Ok(None),
+    }
+}
+
 /// Two texts joined, where they may be. The third text is both.
 fn joined<'a>(
     alloc: Global,
@@ -57,12 +69,7 @@ fn joined<'a>(
     requires { both.now ≡ first.now ++ second.now }
 {
     let first = lexed(alloc, first)?;
-    let second = lexed(alloc, second)?;
-    match join_lexed(first, second, both) {
-        Some(Ok(joined)) => Ok(Some(joined)),
-        Some(Err(_)) => Err(AllocError),
-        None => Ok(None),
-    }
+    joined_lexed(first, lexed(alloc, second)?, both)
 }
 
 /// Adds the lexemes of a lexed text, its fault, and whether it is a clean cut.
@@ -87,11 +94,22 @@ fn printed(alloc: Global, lexed: &LexedText<'_>) -> Answer {
     Ok(list)
 }
 
+/// Adds two lexed texts, as they print.
+fn add_both(
+    alloc: Global,
+    list: &mut String,
+    first: &LexedText<'_>,
+    second: &LexedText<'_>,
+) -> Result<(), AllocError> {
+    add(alloc, list, first)?;
+    list.push_str(", ")?;
+    add(alloc, list, second)
+}
+
 /// Two lexed texts, as they print.
 fn both_printed(alloc: Global, first: &LexedText<'_>, second: &LexedText<'_>) -> Answer {
-    let mut list = printed(alloc, first)?;
-    list.push_str(", ")?;
-    add(alloc, &mut list, second)?;
+    let mut list = String::new(alloc);
+    add_both(alloc, &mut list, first, second)?;
     Ok(list)
 }
 
@@ -148,7 +166,10 @@ pub fn join(alloc: Global, first: &str, second: &str, wanted: Wanted) -> Answer 
 fn agree(first: &str, second: &str, from: usize) -> bool
     ensures { result ≡ true → IsCharBoundary first.now from × IsCharBoundary second.now from × (take from first.now ≡ take from second.now) }
 {
-    first.is_char_boundary(from) && second.is_char_boundary(from) && first[..from] == second[..from]
+    if !first.is_char_boundary(from) || !second.is_char_boundary(from) {
+        return false;
+    }
+    first[..from] == second[..from]
 }
 
 /// A lexed text that is lexed again behind an edit, or as it was; none where the two texts aren't the same up to the edit.

@@ -40,7 +40,8 @@ fn kept_place<T: Display + Debug>(alloc: Global, before: &str, value: &T) -> Ans
 /// The code map of a file of a number, whose name is given and whose source is empty.
 fn numbered(alloc: Global, id: u64, name: &str) -> Result<CodeMap, AllocError> {
     let name = String::from_str(alloc, name)?;
-    given(CodeMap::new(alloc, CodeMapId::new(id), name, String::new(alloc)))
+    let source = String::new(alloc);
+    given(CodeMap::new(alloc, CodeMapId::new(id), name, source))
 }
 
 /// The names of the code maps that there are, of the numbers 1 to 14.

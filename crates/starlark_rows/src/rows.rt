@@ -81,10 +81,7 @@ impl Row {
 
 /// What a call gave that only want of memory can refuse: no row has a text that is too long.
 pub fn given<T, E: Drop>(answer: Result<T, E>) -> Result<T, AllocError> {
-    match answer {
-        Ok(value) => Ok(value),
-        Err(_) => Err(AllocError),
-    }
+    answer.map_err(|_| AllocError)
 }
 
 /// A value as `{:?}` shows it.
