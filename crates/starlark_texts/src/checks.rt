@@ -96,7 +96,9 @@ fn are_reads_bounded(lexed: &LexedText<'_>) -> bool {
 /// Whether a lexer handed out this lexeme.
 fn is_lexeme(next: &Option<Lexeme>, wanted: &(usize, Token, usize)) -> bool {
     match next {
-        Some(Ok(lexeme)) => lexeme == wanted,
+        Some(Ok((begin, token, end))) => {
+            *begin == wanted.0 && *token == wanted.1 && *end == wanted.2
+        }
         _ => false,
     }
 }

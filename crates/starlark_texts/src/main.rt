@@ -22,6 +22,19 @@ use std::io::{BufWriter, ErrorKind, Read, Write};
 /// How many bytes are printed for an edited text at most, so that the writer, which has room for them, takes no memory.
 const MOST_PRINTED: usize = 65_536;
 
+/// Prints how a run over a text ended.
+fn print_ending<W: Write>(
+    out: &mut W,
+    number: u64,
+    outcome: &Result<RunStatus, RunFault>,
+) -> io::Result<()> {
+    match outcome {
+        Ok(RunStatus::Clean) => write!(out, "text {number}: clean\n"),
+        Ok(RunStatus::Fault) => write!(out, "text {number}: fault\n"),
+        Err(fault) => write!(out, "text {number}: {fault}\n"),
+    }
+}
+
 /// Prints how a run over a text ended, and what it printed.
 fn print_outcome<W: Write>(
     out: &mut W,
@@ -29,11 +42,7 @@ fn print_outcome<W: Write>(
     outcome: &Result<RunStatus, RunFault>,
     printed: &[u8],
 ) -> io::Result<()> {
-    match outcome {
-        Ok(RunStatus::Clean) => write!(out, "text {number}: clean\n")?,
-        Ok(RunStatus::Fault) => write!(out, "text {number}: fault\n")?,
-        Err(fault) => write!(out, "text {number}: {fault}\n")?,
-    }
+    print_ending(out, number, outcome)?;
     out.write_all(printed)
 }
 

@@ -26,21 +26,33 @@ pub struct Record<'b> {
     pub text: &'b [u8],
 }
 
+/// The number that a word is, if there is a word and it is one.
+fn number(word: Option<&str>) -> Option<usize> {
+    word?.parse().ok()
+}
+
+/// What is done with a text, by the words behind its length: a name, and up to two numbers.
+fn task_of(name: Option<&str>, first: Option<usize>, second: Option<usize>) -> Option<Task> {
+    match name {
+        None => Some(Task::Lines),
+        Some("fronts") => Some(Task::Fronts),
+        Some("times") => Some(Task::Repeated(u32::try_from(first?).ok()?)),
+        Some("edit") => Some(Task::Edit {
+            from: first?,
+            to: second?,
+        }),
+        Some("edited") => Some(Task::Edited),
+        Some(_) => None,
+    }
+}
+
 /// The length of a text and what is done with it, as a record's first line says them.
 fn header(line: &str) -> Option<(usize, Task)> {
     let mut words = line.split(' ');
-    let len = words.next()?.parse().ok()?;
-    let task = match words.next() {
-        None => Task::Lines,
-        Some("fronts") => Task::Fronts,
-        Some("times") => Task::Repeated(words.next()?.parse().ok()?),
-        Some("edit") => Task::Edit {
-            from: words.next()?.parse().ok()?,
-            to: words.next()?.parse().ok()?,
-        },
-        Some("edited") => Task::Edited,
-        Some(_) => return None,
-    };
+    let len = number(words.next())?;
+    let name = words.next();
+    let first = number(words.next());
+    let task = task_of(name, first, number(words.next()))?;
     Some((len, task))
 }
 
