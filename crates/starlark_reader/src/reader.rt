@@ -1,18 +1,18 @@
 //! Reads a text piece by piece, and keeps what later pieces depend on.
 
-ghost use Rattle.std.specs.Prelude.{◌≡◌, true, false, ◌<◌, ◌≤◌, ◌+◌, ◌^◌, [], ℕ, None, Some, List, Option, drop, length, map, nat_lt, OnErr, OnOk, IfOk, IfSome};
+ghost use Rattle.std.specs.Prelude.{◌≡◌, ◌≢◌, true, false, ◌<◌, ◌≤◌, ◌+◌, ◌*◌, ◌^◌, [], ℕ, None, Some, List, Option, drop, length, map, nat_lt, OnErr, OnOk, IfErr, IfOk, IfSome};
 ghost use Rattle.std.specs.Str.{IsCharBoundary};
 ghost use Rattle.starlark_reader.specs.Joints.Steps.{IsStep};
 ghost use Rattle.starlark_reader.specs.Lexemes.{shown_lexeme};
 ghost use Rattle.starlark_scanner.specs.Joints.Literals.{IsPlainBody, opening_view};
-ghost use Rattle.starlark_scanner.specs.Joints.Words.{HasDigit, IsDigitAt, short_view};
+ghost use Rattle.starlark_scanner.specs.Joints.Words.{HasDigit, IsDigitAt, short_view, word_len};
 ghost use Rattle.starlark_grammar.specs.Margins.{open_widths};
 ghost use Rattle.starlark_grammar.specs.Pieces as grammar;
 ghost use Rattle.starlark_grammar.specs.declared.class.Class.TheVariants as class;
 ghost use Rattle.starlark_grammar.specs.declared.class.LiteralKind.TheVariants as kind;
 ghost use Rattle.starlark_reader.specs.Joints.Pending.{IsIdle, IsPending};
 ghost use Rattle.starlark_reader.specs.Joints.MarginCuts.{IsCutBefore};
-ghost use Rattle.starlark_reader.specs.Joints.Reads.{HasRead, HasReadAt, HasReadNext, IsMarginRead, IsPassed, IsPassedBy};
+ghost use Rattle.starlark_reader.specs.Joints.Reads.{HasLooked, HasLookedHere, HasRead, HasReadAt, HasReadNext, IsMarginRead, IsPassed, IsPassedBy, IsTaken};
 ghost use Rattle.starlark_reader.specs.Joints.Reader.{CountsLineEnds, has_read_none, IsAhead, IsAheadBehind, IsAtCode, IsInCode, IsInFlatMargin, IsReached, IsStateAfter, IsNext, IsOver, IsPlainTextHere, IsRead, IsReady, IsSomething, IsWordHere, before_view, left_here, left_to_read, newline_if, newline_of, silent_sort, step_here};
 ghost use Rattle.starlark_reader.specs.Joints.Pieces.{IsBehind};
 ghost use Rattle.starlark_grammar.specs.Cuts.{is_layout, is_settled};
@@ -110,7 +110,7 @@ impl Reader {
     /// A reader at a text's begin. Takes no memory.
     pub fn new(alloc: Global) -> Self
         ensures ahead { (text : Text) → IsAhead text result result.stage (map shown_lexeme (outcome text).lexemes) (outcome text).fault }
-        ensures reads { (text : Text) → HasRead text result }
+        ensures reads { (text : Text) → HasRead text 0 result }
     {
         Reader {
             alloc,
@@ -162,7 +162,7 @@ impl Reader {
         requires idle { IsIdle text.now self.old.pending }
         ensures ahead { OnOk result ((lexemes : List (Spanned TokenView)) (fault : Option (Spanned Fault)) → IsAhead text.now self.old Stage.Begin lexemes fault → IsAhead text.now self.new self.new.stage lexemes fault) }
         ensures less { OnOk result (left_to_read text.now self.new self.new.stage < left_to_read text.now self.old Stage.Begin) }
-        ensures reads { OnOk result (HasReadAt text.now self.old Stage.Begin → HasRead text.now self.new) }
+        ensures reads { OnOk result ((beside : ℕ) → HasReadAt text.now beside self.old Stage.Begin → HasRead text.now beside self.new) }
     {
         let margin = margin_of(&mut self.reads, text);
         if take_margin(&mut self.levels, &mut self.pending, 0, margin)? {
@@ -251,7 +251,7 @@ impl Reader {
         ensures read { (history : History) → IsStateAfter text.now history self.old → IsStep (step_here text.now history self.old) (Step.Token token.now len) →
             IsRead text.now (left_here text.now history self.old) (Some (self.old.at, token.now, self.old.at + len)) self.new }
         ensures less { left_to_read text.now self.new self.new.stage < left_to_read text.now self.old Stage.Onward }
-        ensures passed { IsPassedBy (self.old.at + len) self.old self.new × (self.new.stage ≡ Stage.Onward) }
+        ensures taken { IsTaken len self.old self.new }
         ensures onward { IsInCode self.new → IsAtCode text.now self.new }
         ensures stays { change_by (token_view token.now) ≡ change.Nothing → IsInCode self.old → IsInCode self.new }
     {
@@ -419,7 +419,7 @@ impl Reader {
         requires idle { IsIdle text.now self.old.pending }
         ensures ahead { IfOk result (λ given. (lexemes : List (Spanned TokenView)) (fault : Option (Spanned Fault)) → IsAhead text.now self.old Stage.Onward lexemes fault → IsAheadBehind text.now given self.new lexemes fault) }
         ensures less { OnOk result (left_to_read text.now self.new self.new.stage < left_to_read text.now self.old Stage.Onward) }
-        ensures reads { OnOk result (HasReadAt text.now self.old Stage.Onward → HasRead text.now self.new) }
+        ensures reads { OnOk result ((beside : ℕ) → HasReadAt text.now beside self.old Stage.Onward → HasRead text.now beside self.new) }
     {
         let place = self.nesting.place();
         let is_balanced = self.nesting.is_balanced();
@@ -442,7 +442,7 @@ impl Reader {
     /// What stands behind the last lexeme of a text that is read: its fault, which isn't answered again, or nothing.
     fn last(&mut self) -> Next
         ensures next { (text : Text) (lexemes : List (Spanned TokenView)) (fault : Option (Spanned Fault)) → IsIdle text self.old.pending → IsOver self.old.stage → IsAhead text self.old self.old.stage lexemes fault → IsNext text lexemes fault result self.new }
-        ensures reads { (text : Text) → IsOver self.old.stage → HasReadAt text self.old self.old.stage → HasReadNext text result self.new }
+        ensures reads { (text : Text) (beside : ℕ) → IsOver self.old.stage → HasReadAt text beside self.old self.old.stage → HasReadNext text beside result self.new }
     {
         match mem::replace(&mut self.stage, Stage::Closed) {
             Stage::Fault { begin, fault, end } => Next::Fault { begin, fault, end },
@@ -452,7 +452,7 @@ impl Reader {
 
     /// Whether the text is to be read on, and nothing else is to be handed out before.
     #[inline(always)]
-    fn reads_on(&self) -> bool
+    pub fn reads_on(&self) -> bool
         ensures stage { result ≡ true → self.now.stage ≡ Stage.Onward }
         ensures idle { result ≡ true → (text : Text) → IsPending text self.now.pending → IsIdle text self.now.pending }
     {
@@ -484,6 +484,7 @@ impl Reader {
         ensures ahead { (lexemes : List (Spanned TokenView)) (fault : Option (Spanned Fault)) → IsAhead text.now self.old Stage.Onward lexemes fault → IsAhead text.now self.new Stage.Onward lexemes fault }
         ensures same { (self.new.nesting ≡ self.old.nesting) × (self.new.pending ≡ self.old.pending) × (self.new.stage ≡ Stage.Onward) }
         ensures onward { self.old.at ≤ self.new.at }
+        ensures looked { HasLooked 0 1 self.old self.new }
     {
         let len = gap_len(&mut self.reads, &text[self.at..]);
         if len > 0 {
@@ -502,6 +503,7 @@ impl Reader {
         ensures onward { left_to_read text.now self.new self.new.stage ≤ left_to_read text.now self.old self.old.stage }
         ensures code { IsAtCode text.now self.new }
         ensures stands { IfSome result (λ word. IsWordHere text.now self.new word) }
+        ensures looked { HasLooked (word_len result) (word_len result + 5) self.old self.new }
     {
         self.pass_spaces(text);
         common_word(&mut self.reads, &text[self.at..])
@@ -519,6 +521,7 @@ impl Reader {
         ensures code { IsAtCode text.now self.new }
         ensures stands { IfSome result (λ short. IsWordHere text.now self.new (short_view short)) }
         ensures digit { IfSome result (λ short. HasDigit short (drop self.new.at text.now)) }
+        ensures looked { HasLookedHere 3 3 self.old self.new }
     {
         short_word(&mut self.reads, &text[self.at..])
     }
@@ -534,6 +537,7 @@ impl Reader {
         ensures onward { left_to_read text.now self.new self.new.stage ≤ left_to_read text.now self.old self.old.stage }
         ensures code { IsAtCode text.now self.new }
         ensures stands { IfSome result (λ opener. IsWordHere text.now self.new (record { class = class.Opener kind.Text opener.is_raw opener.quote; len = opener.len })) }
+        ensures looked { HasLookedHere 2 2 self.old self.new }
     {
         text_opener(&mut self.reads, &text[self.at..])
     }
@@ -547,6 +551,8 @@ impl Reader {
         ensures ahead { (lexemes : List (Spanned TokenView)) (fault : Option (Spanned Fault)) → IsAhead text.now self.old self.old.stage lexemes fault → IsAhead text.now self.new self.new.stage lexemes fault }
         ensures code { IsAtCode text.now self.new }
         ensures stands { IfSome result (λ len. IsWordHere text.now self.new (record { class = class.Comment; len = len })) }
+        ensures looked { IfSome result (λ len. HasLookedHere len (3 * len + 2) self.old self.new) }
+        ensures none { result ≡ None → HasLookedHere 1 1 self.old self.new }
     {
         comment_len(&mut self.reads, &text[self.at..])
     }
@@ -570,6 +576,7 @@ impl Reader {
         ensures stays { result ≡ false → self.new ≡ self.old }
         ensures counts { result ≡ false → CountsLineEnds self.new }
         ensures code { result ≡ true → IsAtCode text.now self.new }
+        ensures taken { result ≡ true → IsTaken len self.old self.new }
     {
         if line_end_counts(self.nesting.place(), self.nesting.is_balanced()) {
             return false;
@@ -588,6 +595,7 @@ impl Reader {
         requires counts { CountsLineEnds self.old }
         ensures ahead { IfOk result (λ is_laid. (lexemes : List (Spanned TokenView)) (fault : Option (Spanned Fault)) → IsAhead text.now self.old self.old.stage lexemes fault → IsAheadBehind text.now (newline_if is_laid self.old.at len) self.new lexemes fault) }
         ensures memory { OnErr result ((lexemes : List (Spanned TokenView)) (fault : Option (Spanned Fault)) → IsAhead text.now self.old self.old.stage lexemes fault → IsSomething lexemes fault) }
+        ensures reads { OnOk result (IsMarginRead text.now len self.old self.new self.new.stage) }
     {
         self.lay_line_end(text, len)
     }
@@ -603,6 +611,8 @@ impl Reader {
         ensures memory { OnErr result ((lexemes : List (Spanned TokenView)) (fault : Option (Spanned Fault)) → IsAhead text.now self.old self.old.stage lexemes fault → IsSomething lexemes fault) }
         ensures less { IfOk result (λ line_end. line_end ≡ LineEnd.Passed → left_to_read text.now self.new self.new.stage < left_to_read text.now self.old self.old.stage) }
         ensures code { IfOk result (λ line_end. line_end ≡ LineEnd.Passed → IsAtCode text.now self.new) }
+        ensures taken { IfOk result (λ line_end. line_end ≡ LineEnd.Passed → IsTaken len self.old self.new) }
+        ensures reads { IfOk result (λ line_end. line_end ≢ LineEnd.Passed → IsMarginRead text.now len self.old self.new self.new.stage) }
     {
         if self.pass_line_end(len, text) {
             return Ok(LineEnd::Passed);
@@ -623,6 +633,7 @@ impl Reader {
         ensures ahead { IfOk result (λ given. (lexemes : List (Spanned TokenView)) (fault : Option (Spanned Fault)) → IsAhead text.now self.old self.old.stage lexemes fault → IsAheadBehind text.now (Some given) self.new lexemes fault) }
         ensures memory { OnErr result ((lexemes : List (Spanned TokenView)) (fault : Option (Spanned Fault)) → IsAhead text.now self.old self.old.stage lexemes fault → IsSomething lexemes fault) }
         ensures code { OnOk result (IsAtCode text.now self.new) }
+        ensures taken { OnOk result (IsTaken len self.old self.new) }
     {
         let begin = self.at;
         let rest = &text[begin..];
@@ -640,6 +651,7 @@ impl Reader {
         ensures ahead { IfOk result (λ given. (lexemes : List (Spanned TokenView)) (fault : Option (Spanned Fault)) → IsAhead text.now self.old self.old.stage lexemes fault → IsAheadBehind text.now (Some given) self.new lexemes fault) }
         ensures memory { OnErr result ((lexemes : List (Spanned TokenView)) (fault : Option (Spanned Fault)) → IsAhead text.now self.old self.old.stage lexemes fault → IsSomething lexemes fault) }
         ensures code { OnOk result (IsAtCode text.now self.new) }
+        ensures taken { OnOk result (IsTaken len self.old self.new) }
     {
         let begin = self.at;
         let rest = &text[begin..];
@@ -650,7 +662,8 @@ impl Reader {
     }
 
     /// The length of the body of the text literal that comes next, behind its opener of so many bytes, where one quote
-    /// closes it and each of its characters denotes itself. `None` where another literal stands here.
+    /// closes it and each of its characters denotes itself. Where another literal stands here, how many bytes in front
+    /// denote themselves.
     #[inline(always)]
     pub fn plain_body_len(
         &mut self,
@@ -658,13 +671,15 @@ impl Reader {
         quote: Quote,
         len: usize,
         text: &str,
-    ) -> Option<usize>
+    ) -> Result<usize, usize>
         requires fits { length text.now < 2 ^ 32 }
         requires ready { IsReady text.now self.old self.old.stage }
         requires stands { IsWordHere text.now self.old (record { class = class.Opener kind.Text is_raw quote; len = len }) }
         ensures ahead { (lexemes : List (Spanned TokenView)) (fault : Option (Spanned Fault)) → IsAhead text.now self.old self.old.stage lexemes fault → IsAhead text.now self.new self.new.stage lexemes fault }
         ensures stands { IsWordHere text.now self.new (record { class = class.Opener kind.Text is_raw quote; len = len }) }
-        ensures plain { IfSome result (λ body. IsPlainBody is_raw quote (drop len (drop self.new.at text.now)) body) }
+        ensures plain { IfOk result (λ body. IsPlainBody is_raw quote (drop len (drop self.new.at text.now)) body) }
+        ensures looked { IfOk result (λ body. HasLookedHere (body + 1) (2 * body + 3) self.old self.new) }
+        ensures other { IfErr result (λ run. (run ≤ length text.now) × HasLookedHere 0 (2 * run + 3) self.old self.new) }
     {
         let rest = &text[self.at..];
         plain_body_len(&mut self.reads, is_raw, quote, &rest[len..])
@@ -688,6 +703,7 @@ impl Reader {
         ensures ahead { IfOk result (λ given. (lexemes : List (Spanned TokenView)) (fault : Option (Spanned Fault)) → IsAhead text.now self.old self.old.stage lexemes fault → IsAheadBehind text.now (Some given) self.new lexemes fault) }
         ensures memory { OnErr result ((lexemes : List (Spanned TokenView)) (fault : Option (Spanned Fault)) → IsAhead text.now self.old self.old.stage lexemes fault → IsSomething lexemes fault) }
         ensures code { OnOk result (IsAtCode text.now self.new) }
+        ensures taken { OnOk result (IsTaken (len + body + 1) self.old self.new) }
     {
         let begin = self.at;
         let rest = &text[begin..];
@@ -713,6 +729,7 @@ impl Reader {
         requires ready { IsReady text.now self.old self.old.stage }
         ensures ahead { IfOk result (λ given. (lexemes : List (Spanned TokenView)) (fault : Option (Spanned Fault)) → IsAhead text.now self.old self.old.stage lexemes fault → IsAheadBehind text.now (Some given) self.new lexemes fault) }
         ensures memory { OnErr result ((lexemes : List (Spanned TokenView)) (fault : Option (Spanned Fault)) → IsAhead text.now self.old self.old.stage lexemes fault → IsSomething lexemes fault) }
+        ensures reads { OnOk result ((beside : ℕ) → HasReadAt text.now beside self.old self.old.stage → HasRead text.now beside self.new) }
     {
         self.pending.next_comment(&mut self.reads, self.alloc, text)
     }
@@ -723,26 +740,30 @@ impl Reader {
         requires none { self.old.pending.to ≤ self.old.pending.from }
         ensures ahead { (text : Text) (lexemes : List (Spanned TokenView)) (fault : Option (Spanned Fault)) → IsAhead text self.old self.old.stage lexemes fault → IsAheadBehind text result self.new lexemes fault }
         ensures stays { result ≡ None → self.new ≡ self.old }
+        ensures reads { (text : Text) (beside : ℕ) → HasReadAt text beside self.old self.old.stage → HasRead text beside self.new }
     {
         self.pending.next_mark()
     }
 
-    /// The text of an f-string that comes next, where each of its characters denotes itself. `None` where something else
-    /// comes.
+    /// The text of an f-string that comes next, where each of its characters denotes itself. Where something else comes, how
+    /// many bytes of such a text were looked at.
     #[inline(always)]
-    pub fn plain_text(&mut self, text: &str) -> Option<PlainText>
+    pub fn plain_text(&mut self, text: &str) -> Result<PlainText, usize>
         requires fits { length text.now < 2 ^ 32 }
         requires ready { IsReady text.now self.old self.old.stage }
         ensures ahead { (lexemes : List (Spanned TokenView)) (fault : Option (Spanned Fault)) → IsAhead text.now self.old self.old.stage lexemes fault → IsAhead text.now self.new self.new.stage lexemes fault }
         ensures code { IsAtCode text.now self.old → IsAtCode text.now self.new }
-        ensures stands { IfSome result (λ found. IsPlainTextHere text.now self.new found) }
+        ensures stands { IfOk result (λ found. IsPlainTextHere text.now self.new found) }
+        ensures some { IfOk result (λ found. (0 < found.stop_len) × (found.stop_len ≤ 3)) }
+        ensures looked { IfOk result (λ found. HasLookedHere (found.len + 3) (2 * found.len + 4) self.old self.new) }
+        ensures other { IfErr result (λ run. (run ≤ length text.now) × HasLookedHere 0 (2 * run + 4) self.old self.new) }
     {
         if !self.reads_on() {
-            return None;
+            return Err(0);
         }
         match self.nesting.place() {
             LexerMode::InText(opening) => plain_text(&mut self.reads, opening, &text[self.at..]),
-            _ => None,
+            _ => Err(0),
         }
     }
 
@@ -755,6 +776,7 @@ impl Reader {
         requires stands { IsPlainTextHere text.now self.old found }
         ensures ahead { IfOk result (λ given. (lexemes : List (Spanned TokenView)) (fault : Option (Spanned Fault)) → IsAhead text.now self.old self.old.stage lexemes fault → IsAheadBehind text.now (Some given) self.new lexemes fault) }
         ensures memory { OnErr result ((lexemes : List (Spanned TokenView)) (fault : Option (Spanned Fault)) → IsAhead text.now self.old self.old.stage lexemes fault → IsSomething lexemes fault) }
+        ensures passed { OnOk result (IsPassedBy (self.old.at + (found.len + found.stop_len)) self.old self.new × (self.new.stage ≡ Stage.Onward)) }
     {
         let rest = &text[self.at..];
         let value = String::from_str(self.alloc, &rest[..found.len])?;
@@ -769,6 +791,7 @@ impl Reader {
         requires stands { IsWordHere text.now self.old (record { class = class.Fixed terminal; len = len }) }
         ensures ahead { (lexemes : List (Spanned TokenView)) (fault : Option (Spanned Fault)) → IsAhead text.now self.old self.old.stage lexemes fault → IsAheadBehind text.now (Some result) self.new lexemes fault }
         ensures code { IsInCode self.new → IsAtCode text.now self.new }
+        ensures taken { IsTaken len self.old self.new }
     {
         let begin = self.at;
         let token = terminal_token(self.nesting.place(), terminal);
@@ -785,6 +808,7 @@ impl Reader {
         requires digit { IsDigitAt digit (drop self.old.at text.now) }
         ensures ahead { (lexemes : List (Spanned TokenView)) (fault : Option (Spanned Fault)) → IsAhead text.now self.old self.old.stage lexemes fault → IsAheadBehind text.now (Some result) self.new lexemes fault }
         ensures code { IsAtCode text.now self.new }
+        ensures taken { IsTaken 1 self.old self.new }
     {
         let begin = self.at;
         let token = digit_token(digit);
@@ -799,7 +823,7 @@ impl Reader {
         requires ready { IsReady text.now self.old self.old.stage }
         ensures next { IfOk result (λ next. (lexemes : List (Spanned TokenView)) (fault : Option (Spanned Fault)) → IsAhead text.now self.old self.old.stage lexemes fault → IsNext text.now lexemes fault next self.new) }
         ensures memory { OnErr result ((lexemes : List (Spanned TokenView)) (fault : Option (Spanned Fault)) → IsAhead text.now self.old self.old.stage lexemes fault → IsSomething lexemes fault) }
-        ensures reads { IfOk result (λ next. HasReadAt text.now self.old self.old.stage → HasReadNext text.now next self.new) }
+        ensures reads { IfOk result (λ next. (beside : ℕ) → HasReadAt text.now beside self.old self.old.stage → HasReadNext text.now beside next self.new) }
     {
         loop {
             if let Some(lexeme) = self.pending.next(&mut self.reads, self.alloc, text)? {

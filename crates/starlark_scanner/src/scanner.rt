@@ -1,11 +1,11 @@
 //! Finds the longest word at the front of a text.
 
-ghost use Rattle.std.specs.Prelude.{◌≡◌, false, ◌<◌, ◌≤◌, ◌==◌, ◌+◌, ◌-◌, ◌∷◌, IfSome, None, Some, length, nat_eq, take, true};
+ghost use Rattle.std.specs.Prelude.{◌≡◌, false, ◌<◌, ◌≤◌, ◌==◌, ◌+◌, ◌-◌, ◌*◌, ◌∷◌, IfSome, None, Some, length, nat_eq, take, true};
 ghost use Rattle.std.specs.List.{prefix_len, slice_get};
 ghost use Rattle.std.specs.Option.{option_map};
 ghost use Rattle.starlark_grammar.specs.Front.{language_front};
 ghost use Rattle.starlark_scanner.specs.Joints.Reads.{AreReads, more_reads};
-ghost use Rattle.starlark_scanner.specs.Joints.Words.{HasDigit, begins_number, opener_view, short_len, short_view, word_len, word_view};
+ghost use Rattle.starlark_scanner.specs.Joints.Words.{HasDigit, begins_number, opener_view, short_view, word_len, word_view};
 ghost use Rattle.starlark_grammar.specs.Pieces.{is_bang};
 ghost use Rattle.starlark_grammar.specs.Words as grammar;
 ghost use Rattle.starlark_grammar.specs.declared.class.Class.TheVariants as class;
@@ -118,7 +118,7 @@ pub fn short_word(reads: &mut Reads, text: &str) -> Option<ShortWord>
     ensures word { IfSome result (λ short. Some (word_view (short_view short)) ≡ language_front text.now) }
     ensures digit { IfSome result (λ short. HasDigit short text.now) }
     ensures bang { IfSome result (λ short. is_bang text.now ≡ false) }
-    ensures reads { AreReads (short_len result) (short_len result + 4) reads.old reads.new }
+    ensures reads { reads.new ≡ more_reads reads.old 3 }
 {
     let front = reads.front(text.as_bytes(), 3);
     let first = *front.first()?;
@@ -147,6 +147,8 @@ pub fn text_opener(reads: &mut Reads, text: &str) -> Option<TextOpener>
 pub fn comment_len(reads: &mut Reads, text: &str) -> Option<usize>
     ensures word { IfSome result (λ len. Some (class.Comment, len) ≡ language_front text.now) }
     ensures bang { IfSome result (λ len. is_bang text.now ≡ false) }
+    ensures reads { IfSome result (λ len. AreReads len (3 * len + 2) reads.old reads.new) }
+    ensures none { result ≡ None → reads.new ≡ more_reads reads.old 1 }
 {
     let bytes = text.as_bytes();
     match reads.at(bytes, 0) {

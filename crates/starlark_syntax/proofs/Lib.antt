@@ -1,3 +1,4 @@
 pub mod LexerItems
 pub mod LexedTexts
 pub mod Held
+pub mod LexerReads

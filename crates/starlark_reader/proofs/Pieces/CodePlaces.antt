@@ -58,6 +58,11 @@ word_len text class len front =
     let inside : len ≤ length text = (front_sound (class_in language) text class len front).1 in
     length-take-le len text inside
 
+-- it has a byte at least
+pub word_some : (text : Text) (class : Class) (len : ℕ) → language_front text ≡ Some (class, len) → 1 ≤ len
+unfolding language_front
+word_some text class len front = (front_sound (class_in language) text class len front).0
+
 -- and it is of its class
 pub word_class : (text : Text) (class : Class) (len : ℕ) → language_front text ≡ Some (class, len) → class_in language (take len text) ≡ Some class
 unfolding language_front

@@ -1,6 +1,6 @@
 -- What a reader makes of the piece that stands where it is.
 use Rattle.std.proofs.Common.{◌≡◌, ◌≢◌, ℕ, ◌+◌, ◌≤◌, ◌==◌, ◌&&◌, Bool, true, false, List, [], ◌∷◌, length, drop, refl, sym, ap, ◌∙◌, subst, arith, append-nil, take, None, Some}
-use Rattle.std.specs.Prelude.{IfSome, Option, String, string_bytes, if◌then◌else◌}
+use Rattle.std.specs.Prelude.{IfOk, Ok, Err, Result, Option, String, string_bytes, if◌then◌else◌}
 use Rattle.std.specs.Str.{IsCharBoundary, IsUtf8}
 use Rattle.std.specs.declared.alloc.Global.{Global}
 use Rattle.starlark_grammar.specs.Words.{Text, language}
@@ -83,10 +83,10 @@ plain_read text rest history reader opening found e kept place is =
     subst (λ (t : Text). step_at language (situation history) t ≡ text_step found.len (take found.len t) found.stop found.stop_len) e
     (in_text (is_gap_sort reader.before) (situation history) rest (opening_view opening) (behind_sort reader.before history.before kept.before) place ∙ is.stands)
 
-pub plain_here : (text rest : Text) (reader : Reader) (place : LexerMode) (opening : Opening) (found : Option PlainText) → rest ≡ drop reader.at text → reader.stage ≡ stage.Onward → IsIdle text reader.pending → place ≡ mode.InText opening
-    → ((tokens : List Tokens.Token) → Represents tokens reader.nesting → mode_view place ≡ mode_after tokens) → IfSome found (IsPlainText opening rest) → IfSome found (IsPlainTextHere text reader)
-plain_here text rest reader place opening None e on idle in_text here is = tt
-plain_here text rest reader place opening (Some found) e on idle in_text here is = record {
+pub plain_here : (text rest : Text) (reader : Reader) (place : LexerMode) (opening : Opening) (found : Result PlainText ℕ) → rest ≡ drop reader.at text → reader.stage ≡ stage.Onward → IsIdle text reader.pending → place ≡ mode.InText opening
+    → ((tokens : List Tokens.Token) → Represents tokens reader.nesting → mode_view place ≡ mode_after tokens) → IfOk found (IsPlainText opening rest) → IfOk found (IsPlainTextHere text reader)
+plain_here text rest reader place opening (Err run) e on idle in_text here is = tt
+plain_here text rest reader place opening (Ok found) e on idle in_text here is = record {
   stage = on;
   idle = idle;
   boundary = subst (λ (t : Text). IsCharBoundary t found.len) e is.boundary;

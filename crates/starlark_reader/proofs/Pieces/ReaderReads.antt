@@ -1,5 +1,5 @@
 -- How often a reader has read bytes, behind each of its steps.
-use Rattle.std.proofs.Common.{◌≡◌, ◌≤◌, ◌<◌, ◌+◌, ◌-◌, ◌*◌, ℕ, List, Option, length, subst, sym, arith}
+use Rattle.std.proofs.Common.{◌≡◌, ◌≤◌, ◌<◌, ◌+◌, ◌-◌, ◌*◌, ◌∙◌, ℕ, List, Option, length, subst, sym, arith}
 use Rattle.starlark_grammar.specs.Reading.{History}
 use Rattle.starlark_grammar.specs.Words.{Text}
 use Rattle.starlark_grammar.specs.Tokens.{Fault, Spanned}
@@ -7,7 +7,7 @@ use Rattle.starlark_token.specs.TokenViews.{TokenView}
 use Rattle.starlark_reader.specs.Joints.Reader.{IsAhead, IsLeft, IsStateAfter, history_of}
 use Rattle.starlark_scanner.specs.Joints.Reads.{AreReads, more_reads}
 use Rattle.starlark_reader.specs.Joints.Pending.{owed}
-use Rattle.starlark_reader.specs.Joints.Reads.{AreStepReads, HasRead, HasReadAt, IsMarginRead, IsPassed, IsPassedBy}
+use Rattle.starlark_reader.specs.Joints.Reads.{AreStepReads, HasLooked, HasLookedHere, HasRead, HasReadAt, IsMarginRead, IsPassed, IsPassedBy}
 use Rattle.starlark_reader.specs.declared.literal.pieces.Step.{Step}
 use Rattle.starlark_reader.specs.declared.literal.pieces.Step.TheVariants as steps
 use Rattle.starlark_reader.specs.declared.reader.Reader.{Reader}
@@ -15,47 +15,93 @@ use Rattle.starlark_reader.specs.declared.reader.Stage.{Stage}
 use Rattle.starlark_reader.specs.declared.reader.Stage.TheVariants as stages
 
 -- what a reader has read before a place, as numbers
-abbrev pub IsReadBefore : (before at owes : ℕ) → Type 0
-IsReadBefore before at owes = (more_reads 0 at ≤ before) × (before + 6 * owes ≤ 16 * at + 8)
+abbrev pub IsReadBefore : (beside before at owes : ℕ) → Type 0
+IsReadBefore beside before at owes = (more_reads 0 at ≤ before) × (before + 6 * owes ≤ beside + 16 * at + 8)
 
 -- behind a piece of so many bytes
-pub onward_reads : (text : Text) (len before : ℕ) (old new : Reader) → IsReadBefore before old.at (owed old.pending) → AreReads len (16 * len) before old.reads
-    → IsPassedBy (old.at + len) old new × (new.stage ≡ stages.Onward) → HasRead text new
-onward_reads text len before old new has read passed =
-    subst (HasReadAt text new) (sym passed.1) (omega (arith, has.0, read.0, passed.0.0, passed.0.1), omega (arith, has.1, read.1, passed.0.0, passed.0.1, passed.0.2))
+pub onward_reads : (text : Text) (beside len before : ℕ) (old new : Reader) → IsReadBefore beside before old.at (owed old.pending) → AreReads len (16 * len) before old.reads
+    → IsPassedBy (old.at + len) old new × (new.stage ≡ stages.Onward) → HasRead text beside new
+onward_reads text beside len before old new has read passed =
+    subst (HasReadAt text beside new) (sym passed.1) (omega (arith, has.0, read.0, passed.0.0, passed.0.1), omega (arith, has.1, read.1, passed.0.0, passed.0.1, passed.0.2))
 
 -- behind a token, a text of an f-string, or at a fault
-pub step_reads : (text : Text) (rest before : ℕ) (step : Step) (old new : Reader) → length text ≡ old.at + rest → IsReadBefore before old.at (owed old.pending)
-    → AreStepReads 0 16 rest 8 step before old.reads → IsPassed old step new → HasRead text new
-step_reads text rest before (steps.Token token len) old new whole has read passed = onward_reads text len before old new has (omega (arith, read.0.0), omega (arith, read.0.1)) passed
-step_reads text rest before (steps.Text chunk chunk_len stop len) old new whole has read passed = onward_reads text (chunk_len + len) before old new has (omega (arith, read.0.0), omega (arith, read.0.1)) passed
-step_reads text rest before (steps.Fault begin fault end) old new whole has read passed =
-    subst (HasReadAt text new) (sym passed.1) (omega (arith, whole, has.1, read, passed.0.1, passed.0.2))
+pub step_reads : (text : Text) (beside rest before : ℕ) (step : Step) (old new : Reader) → length text ≡ old.at + rest → IsReadBefore beside before old.at (owed old.pending)
+    → AreStepReads 0 16 rest 8 step before old.reads → IsPassed old step new → HasRead text beside new
+step_reads text beside rest before (steps.Token token len) old new whole has read passed = onward_reads text beside len before old new has (omega (arith, read.0.0), omega (arith, read.0.1)) passed
+step_reads text beside rest before (steps.Text chunk chunk_len stop len) old new whole has read passed = onward_reads text beside (chunk_len + len) before old new has (omega (arith, read.0.0), omega (arith, read.0.1)) passed
+step_reads text beside rest before (steps.Fault begin fault end) old new whole has read passed =
+    subst (HasReadAt text beside new) (sym passed.1) (omega (arith, whole, has.1, read, passed.0.1, passed.0.2))
 
 -- behind a line end and its margin
-pub line_reads : (text : Text) (len before : ℕ) (old new : Reader) → old.at + len ≤ length text → IsReadBefore before old.at (owed old.pending) → AreReads len (16 * len - 2) before old.reads → 0 < len
-    → IsMarginRead text len old new new.stage → HasRead text new
-line_reads text len before old new inside has read some margin = go new.stage margin
+pub line_reads : (text : Text) (beside len before : ℕ) (old new : Reader) → old.at + len ≤ length text → IsReadBefore beside before old.at (owed old.pending) → AreReads len (16 * len - 2) before old.reads → 0 < len
+    → IsMarginRead text len old new new.stage → HasRead text beside new
+line_reads text beside len before old new inside has read some margin = go new.stage margin
   where
-    go : (stage : Stage) → IsMarginRead text len old new stage → HasReadAt text new stage
+    go : (stage : Stage) → IsMarginRead text len old new stage → HasReadAt text beside new stage
     go stages.Begin margin = absurd margin
     go stages.Onward margin = (omega (arith, has.0, read.0, margin.0.0, margin.1), omega (arith, has.1, read.1, some, margin.0.1, margin.1))
     go (stages.Fault begin fault end) margin = omega (arith, inside, has.1, read.1, some, margin.0, margin.1)
     go stages.Closed margin = absurd margin
 
 -- at the text's end
-pub end_reads : (text : Text) (rest before : ℕ) (old new : Reader) → length text ≡ old.at + rest → IsReadBefore before old.at (owed old.pending) → (old.reads ≡ before) × (rest ≡ 0)
-    → IsPassedBy old.at old new × (new.stage ≡ stages.Closed) → HasRead text new
-end_reads text rest before old new whole has read passed =
-    subst (HasReadAt text new) (sym passed.1) (omega (arith, whole, has.0, read.0, read.1, passed.0.1), omega (arith, whole, has.1, read.0, passed.0.1, passed.0.2))
+pub end_reads : (text : Text) (beside rest before : ℕ) (old new : Reader) → length text ≡ old.at + rest → IsReadBefore beside before old.at (owed old.pending) → (old.reads ≡ before) × (rest ≡ 0)
+    → IsPassedBy old.at old new × (new.stage ≡ stages.Closed) → HasRead text beside new
+end_reads text beside rest before old new whole has read passed =
+    subst (HasReadAt text beside new) (sym passed.1) (omega (arith, whole, has.0, read.0, read.1, passed.0.1), omega (arith, whole, has.1, read.0, passed.0.1, passed.0.2))
 
 -- behind a lexeme that was handed out
-pub pending_reads : (text : Text) (old new : Reader) → new.at ≡ old.at → more_reads old.reads 0 ≤ new.reads → new.reads + 6 * owed new.pending ≤ old.reads + 6 * owed old.pending
-    → (stage : Stage) → HasReadAt text old stage → HasReadAt text new stage
-pending_reads text old new same least most stages.Begin has = (omega (arith, same, has.0), omega (arith, has.1, most))
-pending_reads text old new same least most stages.Onward has = (omega (arith, same, has.0, least), omega (arith, same, has.1, most))
-pending_reads text old new same least most (stages.Fault begin fault end) has = omega (arith, has, most)
-pending_reads text old new same least most stages.Closed has = (omega (arith, has.0, least), omega (arith, has.1, most))
+pub pending_reads : (text : Text) (beside : ℕ) (old new : Reader) → new.at ≡ old.at → more_reads old.reads 0 ≤ new.reads → new.reads + 6 * owed new.pending ≤ old.reads + 6 * owed old.pending
+    → (stage : Stage) → HasReadAt text beside old stage → HasReadAt text beside new stage
+pending_reads text beside old new same least most stages.Begin has = (omega (arith, same, has.0), omega (arith, has.1, most))
+pending_reads text beside old new same least most stages.Onward has = (omega (arith, same, has.0, least), omega (arith, same, has.1, most))
+pending_reads text beside old new same least most (stages.Fault begin fault end) has = omega (arith, has, most)
+pending_reads text beside old new same least most stages.Closed has = (omega (arith, has.0, least), omega (arith, has.1, most))
+
+-- more may be beside the walk
+pub read_more : (text : Text) (beside more : ℕ) (reader : Reader) → beside ≤ more → (stage : Stage) → HasReadAt text beside reader stage → HasReadAt text more reader stage
+read_more text beside more reader less stages.Begin has = (has.0, omega (arith, less, has.1))
+read_more text beside more reader less stages.Onward has = (has.0, omega (arith, less, has.1))
+read_more text beside more reader less (stages.Fault begin fault end) has = omega (arith, less, has)
+read_more text beside more reader less stages.Closed has = (has.0, omega (arith, less, has.1))
+
+-- what is looked at in vain is beside it
+pub looked_reads : (text : Text) (beside least most : ℕ) (old new : Reader) → old.stage ≡ stages.Onward → HasRead text beside old → HasLooked least most old new → HasRead text (beside + most) new
+looked_reads text beside least most old new onward has looked =
+    let on : HasReadAt text beside old stages.Onward = subst (HasReadAt text beside old) onward has in
+    subst (HasReadAt text (beside + most) new) (sym (looked.1 ∙ onward)) (omega (arith, looked.0, looked.3.0, on.0), omega (arith, looked.0, looked.2, looked.3.1, on.1))
+
+pub here_reads : (text : Text) (beside least most : ℕ) (old new : Reader) → HasRead text beside old → HasLookedHere least most old new → HasRead text (beside + most) new
+here_reads text beside least most old new has looked = subst (HasReadAt text (beside + most) new) (sym looked.1) (by_stage old.stage has)
+  where
+    by_stage : (stage : Stage) → HasReadAt text beside old stage → HasReadAt text (beside + most) new stage
+    by_stage stages.Begin has = (omega (arith, looked.0, has.0), omega (arith, looked.2, looked.3.1, has.1))
+    by_stage stages.Onward has = (omega (arith, looked.0, looked.3.0, has.0), omega (arith, looked.0, looked.2, looked.3.1, has.1))
+    by_stage (stages.Fault begin fault end) has = omega (arith, looked.2, looked.3.1, has)
+    by_stage stages.Closed has = (omega (arith, looked.3.0, has.0), omega (arith, looked.2, looked.3.1, has.1))
+
+-- what is looked at and then taken is part of it
+pub taken_reads : (text : Text) (beside least most len : ℕ) (old mid new : Reader) → old.stage ≡ stages.Onward → HasRead text beside old → HasLooked least most old mid → len ≤ least → most ≤ 16 * len
+    → IsPassedBy (mid.at + len) mid new × (new.stage ≡ stages.Onward) → HasRead text beside new
+taken_reads text beside least most len old mid new onward has looked enough few passed =
+    let on : HasReadAt text beside old stages.Onward = subst (HasReadAt text beside old) onward has in
+    subst (HasReadAt text beside new) (sym passed.1)
+    (omega (arith, enough, looked.0, looked.3.0, on.0, passed.0.0, passed.0.1), omega (arith, few, looked.0, looked.2, looked.3.1, on.1, passed.0.0, passed.0.1, passed.0.2))
+
+pub here_taken_reads : (text : Text) (beside least most len : ℕ) (old mid new : Reader) → old.stage ≡ stages.Onward → HasRead text beside old → HasLookedHere least most old mid → len ≤ least → most ≤ 16 * len
+    → IsPassedBy (mid.at + len) mid new × (new.stage ≡ stages.Onward) → HasRead text beside new
+here_taken_reads text beside least most len old mid new onward has looked enough few passed =
+    let on : HasReadAt text beside old stages.Onward = subst (HasReadAt text beside old) onward has in
+    subst (HasReadAt text beside new) (sym passed.1)
+    (omega (arith, enough, looked.0, looked.3.0, on.0, passed.0.0, passed.0.1), omega (arith, few, looked.0, looked.2, looked.3.1, on.1, passed.0.0, passed.0.1, passed.0.2))
+
+-- and so is a line end with its margin
+pub margin_reads : (text : Text) (beside len : ℕ) (old mid new : Reader) → mid.at + len ≤ length text → 1 ≤ len → old.stage ≡ stages.Onward → HasRead text beside old → HasLooked len (len + 5) old mid
+    → IsMarginRead text len mid new new.stage → HasRead text beside new
+margin_reads text beside len old mid new inside some onward has looked margin =
+    let on : HasReadAt text beside old stages.Onward = subst (HasReadAt text beside old) onward has in
+    let before : IsReadBefore beside (old.reads + (mid.at - old.at)) mid.at (owed mid.pending) = (omega (arith, looked.0, on.0), omega (arith, looked.0, looked.2, on.1)) in
+    let read : AreReads len (16 * len - 2) (old.reads + (mid.at - old.at)) mid.reads = (omega (arith, looked.0, looked.3.0), omega (arith, some, looked.0, looked.3.1)) in
+    line_reads text beside len (old.reads + (mid.at - old.at)) mid new inside before read some margin
 
 -- what is kept of a history doesn't speak of reads
 pub state_reads : (text : Text) (history : History) (reader : Reader) (reads : ℕ) → IsStateAfter text history reader → IsStateAfter text history (record reader { reads = reads })

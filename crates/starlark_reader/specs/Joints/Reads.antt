@@ -56,6 +56,19 @@ AreReadsBehind passed factor rest extra piece.End before after = ⊥
 abbrev pub IsPassedBy : ℕ → Reader → Reader → Type 0
 IsPassedBy at old new = (new.at ≡ at) × (new.reads ≡ old.reads) × (owed new.pending ≤ owed old.pending)
 
+-- A reader took a piece of so many bytes, and read nothing.
+abbrev pub IsTaken : ℕ → Reader → Reader → Type 0
+IsTaken len old new = (0 < len) × IsPassedBy (old.at + len) old new × (new.stage ≡ stage.Onward)
+
+-- A reader looked at bytes, at least and at most so often, and once more at each byte that it went on by.
+abbrev pub HasLooked : (least most : ℕ) → Reader → Reader → Type 0
+HasLooked least most old new =
+    (old.at ≤ new.at) × (new.stage ≡ old.stage) × (owed new.pending ≤ owed old.pending) × AreReads (new.at - old.at + least) (new.at - old.at + most) old.reads new.reads
+
+-- A reader looked at bytes, at least and at most so often, and stays where it was.
+abbrev pub HasLookedHere : (least most : ℕ) → Reader → Reader → Type 0
+HasLookedHere least most old new = (new.at ≡ old.at) × (new.stage ≡ old.stage) × (owed new.pending ≤ owed old.pending) × AreReads least most old.reads new.reads
+
 -- A reader went on behind a token of so many bytes, or stopped at a fault, and read nothing.
 abbrev pub IsPassed : Reader → Step → Reader → Type 0
 IsPassed old (step.Token token len) new = IsPassedBy (old.at + len) old new × (new.stage ≡ stage.Onward)
@@ -69,19 +82,19 @@ IsMarginRead text len old new stage.Onward =
 IsMarginRead text len old new (stage.Fault begin fault end) = (new.reads ≤ old.reads + 6 * (length text - (old.at + len)) + 2) × (owed new.pending ≤ length text - (old.at + len))
 IsMarginRead text len old new stage = ⊥
 
--- How often a reader has read bytes at a stage: at least once each byte that it passed, and at most sixteen times. What it
--- owes, it may read six times more.
-abbrev pub HasReadAt : Text → Reader → Stage → Type 0
-HasReadAt text reader stage.Begin = (reader.at ≡ 0) × (reader.reads + 6 * owed reader.pending ≡ 0)
-HasReadAt text reader stage.Onward = (more_reads 0 reader.at ≤ reader.reads) × (reader.reads + 6 * owed reader.pending ≤ 16 * reader.at + 8)
-HasReadAt text reader (stage.Fault begin fault end) = reader.reads + 6 * owed reader.pending ≤ 16 * length text + 16
-HasReadAt text reader stage.Closed = (more_reads 0 (length text) ≤ reader.reads) × (reader.reads + 6 * owed reader.pending ≤ 16 * length text + 15)
+-- How often a reader has read bytes at a stage: at least once each byte that it passed, and at most sixteen times, and so
+-- many times beside. What it owes, it may read six times more.
+abbrev pub HasReadAt : (text : Text) (beside : ℕ) → Reader → Stage → Type 0
+HasReadAt text beside reader stage.Begin = (reader.at ≡ 0) × (reader.reads + 6 * owed reader.pending ≤ beside)
+HasReadAt text beside reader stage.Onward = (more_reads 0 reader.at ≤ reader.reads) × (reader.reads + 6 * owed reader.pending ≤ beside + 16 * reader.at + 8)
+HasReadAt text beside reader (stage.Fault begin fault end) = reader.reads + 6 * owed reader.pending ≤ beside + 16 * length text + 16
+HasReadAt text beside reader stage.Closed = (more_reads 0 (length text) ≤ reader.reads) × (reader.reads + 6 * owed reader.pending ≤ beside + 16 * length text + 15)
 
-abbrev pub HasRead : Text → Reader → Type 0
-HasRead text reader = HasReadAt text reader reader.stage
+abbrev pub HasRead : (text : Text) (beside : ℕ) → Reader → Type 0
+HasRead text beside reader = HasReadAt text beside reader reader.stage
 
 -- the same behind a lexeme that was handed out, behind a fault, and at the text's end
-abbrev pub HasReadNext : Text → Next → Reader → Type 0
-HasReadNext text (next.Lexeme lexeme) reader = HasRead text reader
-HasReadNext text (next.Fault begin fault end) reader = reader.reads ≤ 16 * (length text + 1)
-HasReadNext text next.Nothing reader = (more_reads 0 (length text) ≤ reader.reads) × (reader.reads < 16 * (length text + 1))
+abbrev pub HasReadNext : (text : Text) (beside : ℕ) → Next → Reader → Type 0
+HasReadNext text beside (next.Lexeme lexeme) reader = HasRead text beside reader
+HasReadNext text beside (next.Fault begin fault end) reader = reader.reads ≤ beside + 16 * (length text + 1)
+HasReadNext text beside next.Nothing reader = HasRead text beside reader × (more_reads 0 (length text) ≤ reader.reads) × (reader.reads < beside + 16 * (length text + 1))

@@ -1,6 +1,7 @@
 //! Texts of f-strings, up to an expression or the closing quotes.
 
-ghost use Rattle.std.specs.Prelude.{IfOk, IfSome, length};
+ghost use Rattle.std.specs.Prelude.{◌<◌, ◌≤◌, ◌+◌, ◌*◌, IfErr, IfOk, length};
+ghost use Rattle.starlark_scanner.specs.Joints.Reads.{AreReads};
 ghost use Rattle.starlark_reader.specs.Joints.Reads.{AreStepReads};
 ghost use Rattle.starlark_reader.specs.Joints.Steps.{IsPlainText, IsStep};
 ghost use Rattle.starlark_scanner.specs.Joints.Literals.{opening_view};
@@ -82,24 +83,27 @@ pub struct PlainText {
     pub stop_len: usize,
 }
 
-/// The text of an f-string up to its first stop, where each of its characters denotes itself. `None` where another text
-/// stands there, or a fault.
+/// The text of an f-string up to its first stop, where each of its characters denotes itself. Where another text stands
+/// there, or a fault, how many bytes in front denote themselves.
 #[inline(always)]
-pub fn plain_text(reads: &mut Reads, opening: Opening, text: &str) -> Option<PlainText>
-    ensures { IfSome result (IsPlainText opening text.now) }
+pub fn plain_text(reads: &mut Reads, opening: Opening, text: &str) -> Result<PlainText, usize>
+    ensures plain { IfOk result (IsPlainText opening text.now) }
+    ensures some { IfOk result (λ found. (0 < found.stop_len) × (found.stop_len ≤ 3)) }
+    ensures reads { IfOk result (λ found. AreReads (found.len + 3) (2 * found.len + 4) reads.old reads.new) }
+    ensures other { IfErr result (λ run. (run ≤ length text.now) × AreReads 0 (2 * run + 4) reads.old reads.new) }
 {
     let (len, stop) = plain_chunk_len(reads, opening, text)?;
     match stop {
-        Stop::OpeningBrace => Some(PlainText {
+        Stop::OpeningBrace => Ok(PlainText {
             len,
             stop: TextEnd::Expression,
             stop_len: 1,
         }),
-        Stop::Closing => Some(PlainText {
+        Stop::Closing => Ok(PlainText {
             len,
             stop: TextEnd::FString,
             stop_len: closing_len(opening),
         }),
-        _ => None,
+        _ => Err(len),
     }
 }

@@ -1,10 +1,11 @@
 //! Places of code, and the spaces there.
 
-ghost use Rattle.std.specs.Prelude.{◌≡◌, ◌<◌, Bool, true};
+ghost use Rattle.std.specs.Prelude.{◌≡◌, ◌<◌, ◌+◌, Bool, true};
 ghost use Rattle.starlark_grammar.specs.Pieces as grammar;
 ghost use Rattle.starlark_grammar.specs.Words.{language};
 ghost use Rattle.starlark_reader.specs.Joints.Nesting.{mode_view};
 ghost use Rattle.starlark_reader.specs.Joints.Pieces.{IsBehind, is_code};
+ghost use Rattle.starlark_scanner.specs.Joints.Reads.{more_reads};
 
 use crate::nesting::LexerMode;
 use starlark_scanner::reads::Reads;
@@ -21,7 +22,8 @@ pub fn is_code(place: LexerMode) -> bool
 /// The length of the run of spaces at a place, by the text from there on. At each place of code it is a gap.
 #[inline(always)]
 pub fn gap_len(reads: &mut Reads, text: &str) -> usize
-    ensures { 0 < result → (s : grammar.Situation) (follows_gap : Bool) → is_code s.place ≡ true → IsBehind follows_gap s.before → grammar.step_at language s text.now ≡ grammar.gap result }
+    ensures gap { 0 < result → (s : grammar.Situation) (follows_gap : Bool) → is_code s.place ≡ true → IsBehind follows_gap s.before → grammar.step_at language s text.now ≡ grammar.gap result }
+    ensures reads { reads.new ≡ more_reads reads.old (result + 1) }
 {
     spaces_len(reads, text)
 }

@@ -83,10 +83,6 @@ abbrev pub short_view : ShortWord → Word
 short_view (Symbol terminal) = record { class = Fixed terminal; len = 2 }
 short_view (Digit value) = record { class = Decimal; len = 1 }
 
--- the length of a short word, and 0 where none stands
-abbrev pub short_len : Option ShortWord → ℕ
-short_len short = word_len (option_map short_view short)
-
 -- a digit of so much stands at the front
 abbrev pub IsDigitAt : ℕ → grammar.Text → Type 0
 IsDigitAt value text = (value < 10) × (take 1 text ≡ (value + 48) ∷ [])

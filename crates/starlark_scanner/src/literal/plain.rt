@@ -1,8 +1,9 @@
 //! Bodies of literals in which each character denotes itself.
 
-ghost use Rattle.std.specs.Prelude.{◌≡◌, ◌==◌, get_or, take, IfSome};
+ghost use Rattle.std.specs.Prelude.{◌≡◌, ◌≤◌, ◌==◌, ◌+◌, ◌*◌, get_or, length, take, IfErr, IfOk, IfSome};
 ghost use Rattle.starlark_grammar.specs.Items.{Stops, found_at, quote_byte};
 ghost use Rattle.starlark_grammar.specs.Words.{Text};
+ghost use Rattle.starlark_scanner.specs.Joints.Reads.{AreReads, more_reads};
 ghost use Rattle.starlark_scanner.specs.Joints.Literals.{IsPlainBody, IsPlainChunk, fstring_literal, opening_view, stop_view};
 
 use super::items::{Literal, Opening, Stop, closes, is_quote};
@@ -13,7 +14,8 @@ use crate::scanner::{LiteralKind, Quote};
 /// Whether a quote stands at a place of a text.
 #[inline(always)]
 fn is_quote_at(reads: &mut Reads, quote: Quote, text: &[u8], at: usize) -> bool
-    ensures { result ≡ (get_or text.now at 0 == quote_byte quote) }
+    ensures value { result ≡ (get_or text.now at 0 == quote_byte quote) }
+    ensures reads { reads.new ≡ more_reads reads.old 1 }
 {
     match reads.at(text, at) {
         Some(byte) => is_quote(quote, byte),
@@ -22,9 +24,16 @@ fn is_quote_at(reads: &mut Reads, quote: Quote, text: &[u8], at: usize) -> bool
 }
 
 /// The length of the body of a text literal that one quote closes, where each of its characters denotes itself, by the
-/// text behind its opener. `None` where another literal stands there.
-pub fn plain_body_len(reads: &mut Reads, is_raw: bool, quote: Quote, text: &str) -> Option<usize>
-    ensures { IfSome result (λ len. IsPlainBody is_raw quote text.now len) }
+/// text behind its opener. Where another literal stands there, how many bytes in front denote themselves.
+pub fn plain_body_len(
+    reads: &mut Reads,
+    is_raw: bool,
+    quote: Quote,
+    text: &str,
+) -> Result<usize, usize>
+    ensures plain { IfOk result (λ len. IsPlainBody is_raw quote text.now len) }
+    ensures reads { IfOk result (λ len. AreReads (len + 1) (2 * len + 3) reads.old reads.new) }
+    ensures other { IfErr result (λ run. (run ≤ length text.now) × AreReads 0 (2 * run + 3) reads.old reads.new) }
 {
     let opening = Opening {
         is_raw,
@@ -38,12 +47,12 @@ pub fn plain_body_len(reads: &mut Reads, is_raw: bool, quote: Quote, text: &str)
     let len = first_run(reads, literal, text).len();
     let bytes = text.as_bytes();
     if !is_quote_at(reads, quote, bytes, len) {
-        return None;
+        return Err(len);
     }
     if len == 0 && is_quote_at(reads, quote, bytes, 1) {
-        return None;
+        return Err(len);
     }
-    Some(len)
+    Ok(len)
 }
 
 /// Why a text of an f-string stops at a place, of which the first three bytes were read, where its closing quotes stand
@@ -66,10 +75,17 @@ fn stop_by(opening: Opening, front: &[u8]) -> Option<Stop>
 }
 
 /// The length of the text of an f-string at the front of a text, and why it stops, where each of its characters denotes
-/// itself and it goes up to the closing quotes or to an expression. `None` where another stands there.
+/// itself and it goes up to the closing quotes or to an expression. Where another stands there, how many bytes in front denote
+/// themselves.
 #[inline(always)]
-pub fn plain_chunk_len(reads: &mut Reads, opening: Opening, text: &str) -> Option<(usize, Stop)>
-    ensures { IfSome result (λ found. IsPlainChunk (opening_view opening) text.now found.0 (stop_view found.1)) }
+pub fn plain_chunk_len(
+    reads: &mut Reads,
+    opening: Opening,
+    text: &str,
+) -> Result<(usize, Stop), usize>
+    ensures plain { IfOk result (λ found. IsPlainChunk (opening_view opening) text.now found.0 (stop_view found.1)) }
+    ensures reads { IfOk result (λ found. AreReads (found.0 + 3) (2 * found.0 + 4) reads.old reads.new) }
+    ensures other { IfErr result (λ run. (run ≤ length text.now) × AreReads 0 (2 * run + 4) reads.old reads.new) }
 {
     let literal = Literal {
         kind: LiteralKind::FString,
@@ -77,6 +93,8 @@ pub fn plain_chunk_len(reads: &mut Reads, opening: Opening, text: &str) -> Optio
     };
     let len = first_run(reads, literal, text).len();
     let rest = &text.as_bytes()[len..];
-    let stop = stop_by(opening, reads.front(rest, 3))?;
-    Some((len, stop))
+    let Some(stop) = stop_by(opening, reads.front(rest, 3)) else {
+        return Err(len);
+    };
+    Ok((len, stop))
 }

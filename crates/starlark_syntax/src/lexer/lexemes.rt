@@ -3,6 +3,7 @@
 ghost use Rattle.std.specs.Prelude.{◌≡◌, ◌<◌, ◌≤◌, ◌+◌, ◌*◌, ◌^◌, ◌↔◌, ◌||◌, None, length, true, false, IfOk, IsErr};
 ghost use Rattle.std.specs.List.{slice_get};
 ghost use Rattle.starlark_base.specs.Diagnostics.{place_in, unplaced, with_span};
+ghost use Rattle.starlark_syntax.specs.Joints.Looked.{IsFoundInCode, IsFoundOut, is_begun, is_front, is_nothing};
 ghost use Rattle.starlark_syntax.specs.Lexer.{AnswersBetween, AnswersNext, AnswersWithin, handed_out_by, is_ended_by, items};
 
 use starlark_base::codemap::{CodeMap, OrMemory, Pos, SourceTooLong, Span};
@@ -29,14 +30,93 @@ pub struct Lexer<'a> {
     reader: Reader,
     handed_out: usize,
     has_ended: bool,
-    is_quick: bool,
+    looked: Looked,
+    looked_to: usize,
+}
+
+/// How far the quick ways have looked at what comes next.
+#[derive(Clone, Copy, Debug, PartialEq, Eq)]
+enum Looked {
+    /// Not at all; and the text is read on, at a place of code, with nothing that waits.
+    Nothing,
+    /// At its first two bytes there, which don't tell it, or open a text literal.
+    Front,
+    /// And at its opener: no text literal stands there whose characters denote themselves.
+    Opener,
+    /// As far as they go, or it is at no such place: it comes from the reader.
+    All,
+}
+
+/// The same behind a symbol that was told by its first two bytes, by the brackets alone.
+#[inline(always)]
+fn looked_in_code(reader: &Reader) -> Looked
+    ensures { IsFoundInCode reader.now result }
+{
+    if reader.is_in_code() {
+        Looked::Nothing
+    } else {
+        Looked::All
+    }
+}
+
+impl Looked {
+    /// Whether nothing was looked at.
+    #[inline(always)]
+    fn is_nothing(self) -> bool
+        ensures { result ≡ is_nothing self }
+    {
+        matches!(self, Looked::Nothing)
+    }
+
+    /// Whether the first two bytes alone were looked at.
+    #[inline(always)]
+    fn is_front(self) -> bool
+        ensures { result ≡ is_front self }
+    {
+        matches!(self, Looked::Front)
+    }
+
+    /// Whether the first two bytes were looked at, and not all that there is to look at.
+    #[inline(always)]
+    fn is_begun(self) -> bool
+        ensures { result ≡ is_begun self }
+    {
+        matches!(self, Looked::Front | Looked::Opener)
+    }
+}
+
+/// Whether a word of a class opens a text literal.
+#[inline(always)]
+fn is_text_opener(class: Class) -> bool {
+    matches!(
+        class,
+        Class::Opener {
+            kind: LiteralKind::Text,
+            ..
+        }
+    )
+}
+
+/// How far what comes behind a lexeme has been looked at. From where the quick ways have looked in vain before, it comes
+/// from the reader, so that they look at no place twice.
+#[inline(always)]
+fn looked_behind(reader: &Reader, looked_to: usize) -> Looked
+    ensures { IsFoundOut reader.now looked_to result }
+{
+    if looked_to <= reader.at() && reader.is_at_code() {
+        Looked::Nothing
+    } else {
+        Looked::All
+    }
 }
 
 impl<'a> Model for Lexer<'a> {
     ghost use Rattle.std.specs.Prelude.{◌≡◌, ◌<◌, ◌≤◌, ◌^◌, false, true, drop, length, map};
     ghost use Rattle.starlark_reader.specs.Lexemes.{shown_lexeme};
     ghost use Rattle.starlark_syntax.specs.Lexer.{LexerView};
-    ghost use Rattle.starlark_reader.specs.Joints.Reader.{IsAhead, IsAtCode};
+    ghost use Rattle.std.specs.Prelude.{◌*◌, ◌+◌};
+    ghost use Rattle.starlark_reader.specs.Joints.Reader.{IsAhead};
+    ghost use Rattle.starlark_syntax.specs.Joints.Looked.{GoesOn, IsLooked};
     ghost use Rattle.starlark_grammar.specs.Reading.{outcome};
 
     ghost Value = { LexerView };
@@ -46,7 +126,9 @@ impl<'a> Model for Lexer<'a> {
     ghost invariant = { λ lexer. (length lexer.text.now < 2 ^ 32)
         × (lexer.has_ended ≡ false → (lexer.handed_out ≤ length (outcome lexer.text.now).lexemes)
         × IsAhead lexer.text.now lexer.reader lexer.reader.stage (drop lexer.handed_out (map shown_lexeme (outcome lexer.text.now).lexemes)) (outcome lexer.text.now).fault)
-        × (lexer.is_quick ≡ true → (lexer.has_ended ≡ false) × IsAtCode lexer.text.now lexer.reader) };
+        × GoesOn lexer.looked lexer.has_ended
+        × (lexer.has_ended ≡ false → IsLooked lexer.text.now lexer.reader lexer.looked_to lexer.looked)
+        × (lexer.looked_to ≤ 2 * length lexer.text.now + 1) };
 }
 
 /// A fault of a text as an exception, at its place in a code map.
@@ -91,7 +173,8 @@ impl<'a> Lexer<'a> {
             reader: Reader::new(alloc),
             handed_out: 0,
             has_ended: false,
-            is_quick: false,
+            looked: Looked::All,
+            looked_to: 0,
         })
     }
 
@@ -106,12 +189,12 @@ impl<'a> Lexer<'a> {
         match self.reader.next(self.text) {
             Ok(Next::Lexeme(lexeme)) => {
                 self.handed_out += 1;
-                self.is_quick = self.reader.is_at_code();
+                self.looked = looked_behind(&self.reader, self.looked_to);
                 Some(Ok(lexeme))
             }
             Ok(Next::Fault { begin, fault, end }) => {
                 self.has_ended = true;
-                self.is_quick = false;
+                self.looked = Looked::All;
                 match exception(self.alloc, begin, fault, end, &self.code_map) {
                     Ok(exception) => {
                         self.handed_out += 1;
@@ -121,12 +204,12 @@ impl<'a> Lexer<'a> {
                 }
             }
             Ok(Next::Nothing) => {
-                self.is_quick = false;
+                self.looked = Looked::All;
                 None
             }
             Err(_) => {
                 self.has_ended = true;
-                self.is_quick = false;
+                self.looked = Looked::All;
                 Some(Err(OrMemory::Memory))
             }
         }
@@ -145,33 +228,41 @@ impl<'a> Lexer<'a> {
             return match self.reader.next_comment(self.text) {
                 Ok(lexeme) => {
                     self.handed_out += 1;
-                    self.is_quick = self.reader.is_at_code();
+                    self.looked = looked_behind(&self.reader, self.looked_to);
                     Some(Ok(lexeme))
                 }
                 Err(_) => {
                     self.has_ended = true;
-                    self.is_quick = false;
+                    self.looked = Looked::All;
                     Some(Err(OrMemory::Memory))
                 }
             };
         }
         if let Some(lexeme) = self.reader.next_mark() {
             self.handed_out += 1;
-            self.is_quick = self.reader.is_at_code();
+            self.looked = looked_behind(&self.reader, self.looked_to);
             return Some(Ok(lexeme));
         }
-        let Some(found) = self.reader.plain_text(self.text) else {
+        if self.reader.at() < self.looked_to || !self.reader.reads_on() {
             return self.next_of_reader();
+        }
+        let found = match self.reader.plain_text(self.text) {
+            Ok(found) => found,
+            Err(run) => {
+                self.looked_to = self.reader.at() + run + 1;
+                self.looked = Looked::All;
+                return self.next_of_reader();
+            }
         };
         match self.reader.take_text(found, self.text) {
             Ok(lexeme) => {
                 self.handed_out += 1;
-                self.is_quick = self.reader.is_at_code();
+                self.looked = looked_behind(&self.reader, self.looked_to);
                 Some(Ok(lexeme))
             }
             Err(_) => {
                 self.has_ended = true;
-                self.is_quick = false;
+                self.looked = Looked::All;
                 Some(Err(OrMemory::Memory))
             }
         }
@@ -186,33 +277,37 @@ impl<'a> Lexer<'a> {
         ensures within { AnswersWithin self.old.text result }
         ensures after { self.new ≡ record self.old { handed_out = self.old.handed_out + handed_out_by result; has_ended = is_ended_by result } }
     {
-        if !self.is_quick {
+        if !self.looked.is_begun() {
             return self.next_waiting();
         }
         match self.reader.short_word(self.text) {
             Some(ShortWord::Symbol(terminal)) => {
                 self.handed_out += 1;
                 let lexeme = self.reader.take_terminal(terminal, 2, self.text);
-                self.is_quick = self.reader.is_in_code();
+                self.looked = looked_behind(&self.reader, self.looked_to);
                 return Some(Ok(lexeme));
             }
             Some(ShortWord::Digit(digit)) => {
                 self.handed_out += 1;
-                return Some(Ok(self.reader.take_digit(digit, self.text)));
+                let lexeme = self.reader.take_digit(digit, self.text);
+                self.looked = looked_behind(&self.reader, self.looked_to);
+                return Some(Ok(lexeme));
             }
             None => {}
         }
         let Some(len) = self.reader.comment_len(self.text) else {
+            self.looked = Looked::All;
             return self.next_of_reader();
         };
         match self.reader.take_comment(len, self.text) {
             Ok(lexeme) => {
                 self.handed_out += 1;
+                self.looked = looked_behind(&self.reader, self.looked_to);
                 Some(Ok(lexeme))
             }
             Err(_) => {
                 self.has_ended = true;
-                self.is_quick = false;
+                self.looked = Looked::All;
                 Some(Err(OrMemory::Memory))
             }
         }
@@ -227,14 +322,20 @@ impl<'a> Lexer<'a> {
         ensures within { AnswersWithin self.old.text result }
         ensures after { self.new ≡ record self.old { handed_out = self.old.handed_out + handed_out_by result; has_ended = is_ended_by result } }
     {
-        if !self.is_quick {
+        if !self.looked.is_front() {
             return self.next_of_all();
         }
         let Some(TextOpener { is_raw, quote, len }) = self.reader.text_opener(self.text) else {
+            self.looked = Looked::Opener;
             return self.next_of_all();
         };
-        let Some(body) = self.reader.plain_body_len(is_raw, quote, len, self.text) else {
-            return self.next_of_all();
+        let body = match self.reader.plain_body_len(is_raw, quote, len, self.text) {
+            Ok(body) => body,
+            Err(run) => {
+                self.looked_to += run;
+                self.looked = Looked::Opener;
+                return self.next_of_all();
+            }
         };
         match self
             .reader
@@ -242,11 +343,12 @@ impl<'a> Lexer<'a> {
         {
             Ok(lexeme) => {
                 self.handed_out += 1;
+                self.looked = looked_behind(&self.reader, self.looked_to);
                 Some(Ok(lexeme))
             }
             Err(_) => {
                 self.has_ended = true;
-                self.is_quick = false;
+                self.looked = Looked::All;
                 Some(Err(OrMemory::Memory))
             }
         }
@@ -283,13 +385,15 @@ impl<'a> Lexer<'a> {
         ensures after { self.new ≡ record self.old { handed_out = self.old.handed_out + handed_out_by result; has_ended = self.old.has_ended || is_ended_by result } }
     {
         let is_text = loop {
-            if !self.is_quick {
+            if !self.looked.is_nothing() {
                 if self.has_ended {
                     return None;
                 }
                 break false;
             }
             let Some(Word { class, len }) = self.reader.common_word(self.text) else {
+                self.looked_to = self.reader.at() + 1;
+                self.looked = Looked::Front;
                 break false;
             };
             match class {
@@ -301,7 +405,7 @@ impl<'a> Lexer<'a> {
                         }
                         Err(_) => {
                             self.has_ended = true;
-                            self.is_quick = false;
+                            self.looked = Looked::All;
                             Some(Err(OrMemory::Memory))
                         }
                     };
@@ -309,34 +413,34 @@ impl<'a> Lexer<'a> {
                 Class::Fixed(terminal) => {
                     self.handed_out += 1;
                     let lexeme = self.reader.take_terminal(terminal, len, self.text);
-                    self.is_quick = self.reader.is_in_code();
+                    self.looked = looked_in_code(&self.reader);
                     return Some(Ok(lexeme));
                 }
-                Class::Opener {
-                    kind: LiteralKind::Text,
-                    ..
-                } => break true,
                 Class::LineEnd => {
                     let begin = self.reader.at();
                     match self.reader.take_line_end(len, self.text) {
                         Ok(LineEnd::Passed) => {}
                         Ok(LineEnd::Newline) => {
                             self.handed_out += 1;
-                            self.is_quick = self.reader.is_at_code();
+                            self.looked = looked_behind(&self.reader, self.looked_to);
                             return Some(Ok((begin, Token::Newline, begin + len)));
                         }
                         Ok(LineEnd::Fault) => {
-                            self.is_quick = false;
+                            self.looked = Looked::All;
                             break false;
                         }
                         Err(_) => {
                             self.has_ended = true;
-                            self.is_quick = false;
+                            self.looked = Looked::All;
                             return Some(Err(OrMemory::Memory));
                         }
                     }
                 }
-                _ => break false,
+                _ => {
+                    self.looked_to = self.reader.at() + len;
+                    self.looked = Looked::Front;
+                    break is_text_opener(class);
+                }
             }
         };
         if is_text {

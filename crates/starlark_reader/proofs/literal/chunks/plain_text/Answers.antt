@@ -4,17 +4,17 @@ use Rattle.starlark_scanner.specs.Joints.Literals.{opening_view, stop_view}
 use Rattle.starlark_reader.proofs.Literals.Chunks.{chunk_is}
 use Rattle.starlark_reader.proofs.literal.chunks.plain_text.Goals as goal
 
-pub returns-in-OpeningBrace : goal.returns-in-OpeningBrace
-returns-in-OpeningBrace c =
-    let plain = c.in_ok-len.ensures in
+pub returns-in-OpeningBrace-clause-plain : goal.returns-in-OpeningBrace-clause-plain
+returns-in-OpeningBrace-clause-plain c =
+    let plain = c.in_ok-len.ensures.plain in
     record {
       boundary = plain.boundary;
       stands = chunk_is (opening_view c.args.opening) c.args.text.now c.in_ok-len.len (take c.in_ok-len.len c.args.text.now) items.OpeningBrace (sym plain.len) (sym plain.value) (sym (ap stop_view c.in-OpeningBrace.is) ∙ sym plain.stop);
     }
 
-pub returns-in-Closing : goal.returns-in-Closing
-returns-in-Closing c =
-    let plain = c.in_ok-len.ensures in
+pub returns-in-Closing-clause-plain : goal.returns-in-Closing-clause-plain
+returns-in-Closing-clause-plain c =
+    let plain = c.in_ok-len.ensures.plain in
     record {
       boundary = plain.boundary;
       stands = rw c.closing_len.ensures (chunk_is (opening_view c.args.opening) c.args.text.now c.in_ok-len.len (take c.in_ok-len.len c.args.text.now) items.Closing (sym plain.len) (sym plain.value) (sym (ap stop_view c.in-Closing.is) ∙ sym plain.stop));

@@ -51,8 +51,8 @@ loop-lexeme-preserved c =
     record {
       ready = (ready.0, ready.1, on ready.0 ready.1 ready.2);
       ahead = λ lexemes fault ahead. on lexemes fault (c.loop-lexeme.invariant.ahead lexemes fault ahead);
-      reads = λ has. c.in_ok-lexeme-in-Onward.ensures.reads (pending_reads c.args.text.now c.loop-lexeme.self (record c.loop-lexeme.self { pending = c.next.new.self; reads = c.next.new.reads }) refl c.in_ok-lexeme.ensures.reads.0 c.in_ok-lexeme.ensures.reads.1 stage.Onward
-          (subst (HasReadAt c.args.text.now c.loop-lexeme.self) c.in-Onward.is (c.loop-lexeme.invariant.reads has)));
+      reads = λ beside has. c.in_ok-lexeme-in-Onward.ensures.reads beside (pending_reads c.args.text.now beside c.loop-lexeme.self (record c.loop-lexeme.self { pending = c.next.new.self; reads = c.next.new.reads }) refl c.in_ok-lexeme.ensures.reads.0 c.in_ok-lexeme.ensures.reads.1 stage.Onward
+          (subst (HasReadAt c.args.text.now beside c.loop-lexeme.self) c.in-Onward.is (c.loop-lexeme.invariant.reads beside has)));
     }
 
 pub read_piece-requires-clause-ready : goal.read_piece-requires-clause-ready
@@ -70,6 +70,20 @@ loop-lexeme-preserved-in-Continue-branch-3 c =
     record {
       ready = (ready.0, ready.1, on ready.0 ready.1 ready.2);
       ahead = λ lexemes fault ahead. on lexemes fault (c.loop-lexeme.invariant.ahead lexemes fault ahead);
-      reads = λ has. c.in_ok-read_first_margin-in-Begin.ensures.reads (pending_reads c.args.text.now c.loop-lexeme.self (record c.loop-lexeme.self { pending = c.next.new.self; reads = c.next.new.reads }) refl c.in_ok-lexeme.ensures.reads.0 c.in_ok-lexeme.ensures.reads.1 stage.Begin
-          (subst (HasReadAt c.args.text.now c.loop-lexeme.self) c.in-Begin.is (c.loop-lexeme.invariant.reads has)));
+      reads = λ beside has. c.in_ok-read_first_margin-in-Begin.ensures.reads beside (pending_reads c.args.text.now beside c.loop-lexeme.self (record c.loop-lexeme.self { pending = c.next.new.self; reads = c.next.new.reads }) refl c.in_ok-lexeme.ensures.reads.0 c.in_ok-lexeme.ensures.reads.1 stage.Begin
+          (subst (HasReadAt c.args.text.now beside c.loop-lexeme.self) c.in-Begin.is (c.loop-lexeme.invariant.reads beside has)));
     }
+
+pub returns-in-Some-clause-reads : goal.returns-in-Some-clause-reads
+returns-in-Some-clause-reads c = λ beside has.
+    pending_reads c.args.text.now beside c.loop-lexeme.self (record c.loop-lexeme.self { pending = c.next.new.self; reads = c.next.new.reads }) refl c.in_ok-lexeme.ensures.reads.0 c.in_ok-lexeme.ensures.reads.1 c.loop-lexeme.self.stage (c.loop-lexeme.invariant.reads beside has)
+
+pub returns-in-Some-2-clause-reads : goal.returns-in-Some-2-clause-reads
+returns-in-Some-2-clause-reads c = λ beside has.
+    c.in_ok-lexeme-in-Onward.ensures.reads beside (pending_reads c.args.text.now beside c.loop-lexeme.self (record c.loop-lexeme.self { pending = c.next.new.self; reads = c.next.new.reads }) refl c.in_ok-lexeme.ensures.reads.0 c.in_ok-lexeme.ensures.reads.1 stage.Onward
+    (subst (HasReadAt c.args.text.now beside c.loop-lexeme.self) c.in-Onward.is (c.loop-lexeme.invariant.reads beside has)))
+
+pub returns-in-Fault-clause-reads : goal.returns-in-Fault-clause-reads
+returns-in-Fault-clause-reads c = λ beside has.
+    c.last.ensures.reads c.args.text.now beside (over c.loop-lexeme.self.stage c.in-Fault.is)
+    (pending_reads c.args.text.now beside c.loop-lexeme.self (record c.loop-lexeme.self { pending = c.next.new.self; reads = c.next.new.reads }) refl c.in_ok-lexeme.ensures.reads.0 c.in_ok-lexeme.ensures.reads.1 c.loop-lexeme.self.stage (c.loop-lexeme.invariant.reads beside has))

@@ -1,4 +1,4 @@
-use Rattle.std.proofs.Common.{List}
+use Rattle.std.proofs.Common.{List, ℕ}
 use Rattle.std.specs.Prelude.{Option}
 use Rattle.starlark_reader.specs.Joints.Reader.{IsAhead, IsReady, left_to_read}
 use Rattle.starlark_reader.specs.Joints.Reads.{HasReadAt}
@@ -10,7 +10,7 @@ abbrev pub invariant-loop-lexeme : goal.invariant-loop-lexeme
 invariant-loop-lexeme l = record {
   ready : IsReady l.text l.self l.self.stage;
   ahead : (lexemes : List (Spanned TokenView)) (fault : Option (Spanned Fault)) → IsAhead l.text l.initial.self l.initial.self.stage lexemes fault → IsAhead l.text l.self l.self.stage lexemes fault;
-  reads : HasReadAt l.text l.initial.self l.initial.self.stage → HasReadAt l.text l.self l.self.stage;
+  reads : (beside : ℕ) → HasReadAt l.text beside l.initial.self l.initial.self.stage → HasReadAt l.text beside l.self l.self.stage;
 }
 
 abbrev pub decreases-loop-lexeme : goal.decreases-loop-lexeme

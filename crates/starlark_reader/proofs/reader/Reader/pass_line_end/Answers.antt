@@ -1,4 +1,5 @@
 use Rattle.std.proofs.Common.{◌∙◌, ap, arith, false, sym, None}
+use Rattle.starlark_reader.specs.Joints.Pending.{owed}
 use Rattle.starlark_reader.specs.declared.reader.Reader.{Reader}
 use Rattle.starlark_reader.proofs.Pieces.Here.{less_onward}
 use Rattle.starlark_reader.proofs.Pieces.PieceTaken.{left_onward, nothing_here, nothing_taken, onward_ahead, silent_line_end}
@@ -24,3 +25,11 @@ returns-clause-less c = λ passed.
     let here = nothing_here c.args.text.now left.0 c.args.self.now c.args.len false left.1 stands in
     let is = c.step_over.ensures in
     rw c.requires.stands.stage (less_onward c.args.text.now c.args.self.now c.step_over.new.self c.args.len (ap (λ (reader : Reader). reader.stage) is) (ap (λ (reader : Reader). reader.at) is) here.0 here.1)
+
+pub returns-clause-taken : goal.returns-clause-taken
+returns-clause-taken c = λ passed.
+    let left = (left_onward c.args.text.now c.args.self.now c.requires.ready.0 c.requires.ready.1 c.requires.stands.stage c.requires.ready.2).is_left in
+    let stands = silent_line_end c.args.text.now left.0 c.args.self.now c.args.len c.place.result c.is_balanced.result left.1 c.requires.stands c.place.ensures c.is_balanced.ensures (sym c.line_end_counts.ensures ∙ c.if-line_end_counts.false) in
+    let here = nothing_here c.args.text.now left.0 c.args.self.now c.args.len false left.1 stands in
+    let is = c.step_over.ensures in
+    (here.0, (ap (λ (reader : Reader). reader.at) is, ap (λ (reader : Reader). reader.reads) is, omega (arith, ap (λ (reader : Reader). owed reader.pending) is)), ap (λ (reader : Reader). reader.stage) is)

@@ -3,6 +3,7 @@ use Rattle.starlark_grammar.specs.Margins.{open_widths}
 use Rattle.starlark_grammar.specs.Pieces as grammar
 use Rattle.starlark_grammar.specs.Pieces.{Piece}
 use Rattle.starlark_grammar.specs.Tokens.{Token}
+use Rattle.starlark_reader.specs.Joints.Pending.{owed}
 use Rattle.starlark_reader.specs.declared.reader.Reader.{Reader}
 use Rattle.starlark_reader.proofs.Pieces.Here.{less_onward, piece_here, shown_here}
 use Rattle.starlark_reader.proofs.Pieces.Taken.{took}
@@ -36,3 +37,10 @@ returns-clause-less c =
     let here = piece_here c.args.text.now stands.0 c.args.self.now (one c.args.len stands.2.0) stands.1 stands.2.3 in
     let is = c.step_over.ensures in
     less_onward c.args.text.now c.args.self.now c.step_over.new.self c.args.len (ap (λ (reader : Reader). reader.stage) is) (ap (λ (reader : Reader). reader.at) is) here.0 here.1
+
+pub returns-clause-taken : goal.returns-clause-taken
+returns-clause-taken c =
+    let stands = c.requires.stands in
+    let here = piece_here c.args.text.now stands.0 c.args.self.now (one c.args.len stands.2.0) stands.1 stands.2.3 in
+    let is = c.step_over.ensures in
+    (here.0, (ap (λ (reader : Reader). reader.at) is, ap (λ (reader : Reader). reader.reads) is, omega (arith, ap (λ (reader : Reader). owed reader.pending) is)), ap (λ (reader : Reader). reader.stage) is)

@@ -14,3 +14,6 @@ overflow_add-result c =
     let here = piece_here c.args.text.now stands.0 c.args.self.now (one c.args.len stands.2.0) stands.1 stands.2.3 in
     let inside : c.args.self.now.at + c.args.len ≤ length c.args.text.now = here.1 in
     search (rules, inside)
+
+pub returns-clause-passed : goal.returns-clause-passed
+returns-clause-passed c = (c.pass_token.ensures.taken.1, c.pass_token.ensures.taken.2)

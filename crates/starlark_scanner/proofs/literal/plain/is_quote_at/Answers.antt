@@ -9,7 +9,7 @@ no_quote : (quote : Quote) → false ≡ (0 == quote_byte quote)
 no_quote Single = refl
 no_quote Double = refl
 
-pub returns-in-None : goal.returns-in-None
-returns-in-None c =
+pub returns-in-None-clause-value : goal.returns-in-None-clause-value
+returns-in-None-clause-value c =
     no_quote c.args.quote
     ∙ ap (λ (byte : Option ℕ). unwrap_or byte 0 == quote_byte c.args.quote) c.in-None.ensures.byte ∙ ap (λ b. b == quote_byte c.args.quote) (unwrap_or-slice_get c.args.text.now c.args.at 0)

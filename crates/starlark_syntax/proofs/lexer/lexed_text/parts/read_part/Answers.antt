@@ -43,7 +43,7 @@ loop-lexemes-preserved c =
     record {
       collected = collected;
       cuts = subst (λ n. AreCutsSoFar c.args.text.now n c.push_cut.new.cuts.items) (sym one) (subst (AreCutsSoFar c.args.text.now (length c.loop-lexemes.lexemes.items + 1)) (sym (c.in_ok-push_cut-in-Lexeme.ensures ∙ ap (λ n. c.loop-lexemes.cuts.items ++ cuts_at c.cut.result n) counted)) cuts);
-      reads = subst (λ (n : Next). HasReadNext c.args.text.now n c.next.new.self) c.in-Lexeme.is (c.in_ok-lexeme.ensures.reads c.loop-lexemes.invariant.reads);
+      reads = subst (λ (n : Next). HasReadNext c.args.text.now 0 n c.next.new.self) c.in-Lexeme.is (c.in_ok-lexeme.ensures.reads 0 c.loop-lexemes.invariant.reads);
     }
 
 pub returns-in-Fault-clause-part : goal.returns-in-Fault-clause-part
@@ -69,16 +69,16 @@ returns-in-Nothing-clause-part c =
 
 pub returns-in-Fault-clause-most : goal.returns-in-Fault-clause-most
 returns-in-Fault-clause-most c =
-    let read = subst (λ (n : Next). HasReadNext c.args.text.now n c.next.new.self) c.in-Fault.is (c.in_ok-lexeme.ensures.reads c.loop-lexemes.invariant.reads) in
+    let read = subst (λ (n : Next). HasReadNext c.args.text.now 0 n c.next.new.self) c.in-Fault.is (c.in_ok-lexeme.ensures.reads 0 c.loop-lexemes.invariant.reads) in
     omega (arith, read, c.reads.ensures)
 
 pub returns-in-Nothing-clause-most : goal.returns-in-Nothing-clause-most
 returns-in-Nothing-clause-most c =
-    let read = subst (λ (n : Next). HasReadNext c.args.text.now n c.next.new.self) c.in-Nothing.is (c.in_ok-lexeme.ensures.reads c.loop-lexemes.invariant.reads) in
+    let read = subst (λ (n : Next). HasReadNext c.args.text.now 0 n c.next.new.self) c.in-Nothing.is (c.in_ok-lexeme.ensures.reads 0 c.loop-lexemes.invariant.reads) in
     let once : c.if-is_settled.reads ≤ 1 = elim c.if-is_settled.branch [ then-is_settled w ↦ omega (arith, w.reads-is, w.ends_with_feed-is_cut.ensures.reads, c.new-reads.ensures) | else-is_settled w ↦ omega (arith, w.reads-is, c.new-reads.ensures) ] in
-    omega (arith, read.1, once, c.reads-in-Nothing.ensures, c.count.ensures)
+    omega (arith, read.2, once, c.reads-in-Nothing.ensures, c.count.ensures)
 
 pub returns-in-Nothing-clause-least : goal.returns-in-Nothing-clause-least
 returns-in-Nothing-clause-least c = λ none.
-    let read = subst (λ (n : Next). HasReadNext c.args.text.now n c.next.new.self) c.in-Nothing.is (c.in_ok-lexeme.ensures.reads c.loop-lexemes.invariant.reads) in
-    omega (arith, read.0, c.requires, c.reads-in-Nothing.ensures)
+    let read = subst (λ (n : Next). HasReadNext c.args.text.now 0 n c.next.new.self) c.in-Nothing.is (c.in_ok-lexeme.ensures.reads 0 c.loop-lexemes.invariant.reads) in
+    omega (arith, read.1, c.requires, c.reads-in-Nothing.ensures)
