@@ -1,2 +1,1 @@
-pub mod Lexemes
 pub mod Joints

@@ -6,7 +6,7 @@ mod counts;
 ghost use Rattle.std.specs.Prelude.{◌≡◌, ◌+◌, ◌<◌, ◌≤◌, ◌^◌, ◌∷◌, [], List, false, OnErr, OnOk};
 ghost use Rattle.starlark_grammar.specs.Depths.{is_balanced, mode_after};
 ghost use Rattle.starlark_reader.specs.Joints.Steps.{is_fstring_start};
-ghost use Rattle.starlark_scanner.specs.Joints.Literals.{opening_view};
+ghost use Rattle.starlark_literals.specs.Joints.Literals.{opening_view};
 ghost use Rattle.starlark_reader.specs.Joints.Nesting.{IsUnchanged, Represents, bracket_count, change_by, mode_view};
 ghost use Rattle.starlark_token.specs.TokenViews.{Whole, token_view};
 ghost use Rattle.starlark_grammar.specs.Tokens as grammar;

@@ -3,8 +3,8 @@
 ghost use Rattle.std.specs.Prelude.{◌≡◌, ◌≢◌, true, false, ◌<◌, ◌≤◌, ◌+◌, ◌*◌, ◌^◌, [], ℕ, None, Some, List, Option, drop, length, map, nat_lt, OnErr, OnOk, IfErr, IfOk, IfSome};
 ghost use Rattle.std.specs.Str.{IsCharBoundary};
 ghost use Rattle.starlark_reader.specs.Joints.Steps.{IsStep};
-ghost use Rattle.starlark_reader.specs.Lexemes.{shown_lexeme};
-ghost use Rattle.starlark_scanner.specs.Joints.Literals.{IsPlainBody, opening_view};
+ghost use Rattle.starlark_token.specs.Lexemes.{shown_lexeme};
+ghost use Rattle.starlark_literals.specs.Joints.Literals.{IsPlainBody, opening_view};
 ghost use Rattle.starlark_scanner.specs.Joints.Words.{HasDigit, IsDigitAt, short_view, word_len};
 ghost use Rattle.starlark_grammar.specs.Margins.{open_widths};
 ghost use Rattle.starlark_grammar.specs.Pieces as grammar;
@@ -32,8 +32,8 @@ use crate::reading::code::{gap_len, is_code};
 use crate::reading::terminals::terminal_token;
 use crate::reading::words::digit_token;
 use crate::reading::{Piece, is_outside, line_end_counts, piece_at};
-use starlark_scanner::literal::plain_body_len;
-use starlark_scanner::reads::Reads;
+use starlark_literals::plain_body_len;
+use starlark_bytes::reads::Reads;
 use starlark_scanner::scanner::{
     Quote, ShortWord, Terminal, TextOpener, Word, comment_len, common_word, short_word, text_opener,
 };

@@ -3,7 +3,7 @@
 ghost use Rattle.std.specs.Prelude.{◌≡◌, ℕ, ◌+◌, ◌<◌, ◌^◌, ◌&&◌, if◌then◌else◌, Some, drop, length, IfOk};
 ghost use Rattle.std.specs.Str.{IsCharBoundary};
 ghost use Rattle.starlark_grammar.specs.Front.{language_front};
-ghost use Rattle.starlark_scanner.specs.Joints.Reads.{AreReads, more_reads};
+ghost use Rattle.starlark_bytes.specs.Joints.Reads.{AreReads, more_reads};
 ghost use Rattle.starlark_reader.specs.Joints.Reads.{ArePieceReads, AreReadsBehind, AreStepReads};
 ghost use Rattle.starlark_reader.specs.Joints.Steps.{IsStep};
 ghost use Rattle.starlark_grammar.specs.Cuts.{is_outside};
@@ -23,7 +23,7 @@ pub mod words;
 
 use crate::literal::{Opening, Step, chunk_from, literal_piece, opening_of};
 use crate::nesting::LexerMode;
-use starlark_scanner::reads::Reads;
+use starlark_bytes::reads::Reads;
 use starlark_scanner::scanner::{Class, LiteralKind, Quote, first_word};
 use starlark_token::lexeme_error::LexemeError;
 use starlark_token::tokens::Token;

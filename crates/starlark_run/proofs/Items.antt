@@ -26,7 +26,7 @@ use Rattle.starlark_grammar.specs.Tokens as token
 use Rattle.starlark_grammar.specs.Tokens.{Fault, Lexeme, Spanned}
 use Rattle.starlark_token.specs.TokenViews.{TokenView}
 use Rattle.starlark_syntax.specs.LexedTexts.{IsFaultIn}
-use Rattle.starlark_reader.specs.Lexemes.{fault_view, lexeme_view, shown_lexeme}
+use Rattle.starlark_token.specs.Lexemes.{fault_view, lexeme_view, shown_lexeme}
 use Rattle.starlark_syntax.specs.Lexer.{AnswersNext, Given, IsException, LexerItem, Refused, items}
 use Rattle.starlark_token.specs.declared.tokens.Token.{Token}
 use Rattle.starlark_grammar.proofs.Order.WholeTexts.{outcome_edges, fault_edges}

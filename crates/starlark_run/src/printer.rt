@@ -12,7 +12,7 @@ ghost use Rattle.starlark_run.specs.Writing.{Writes};
 ghost use Rattle.starlark_run.specs.declared.runs.RunFault.TheVariants.{Memory};
 ghost use Rattle.starlark_run.specs.declared.runs.TheConstants.{GREATEST_LEN};
 ghost use Rattle.starlark_syntax.specs.LexedTexts.{IsFaultIn, IsLexed};
-ghost use Rattle.starlark_reader.specs.Lexemes.{lexeme_view};
+ghost use Rattle.starlark_token.specs.Lexemes.{lexeme_view};
 ghost use Rattle.starlark_syntax.specs.Lexer.{Given};
 ghost use Rattle.starlark_grammar.specs.Reading.{outcome};
 

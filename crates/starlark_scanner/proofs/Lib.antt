@@ -1,3 +1,2 @@
 pub mod Scan
 pub mod Identifiers
-pub mod Literals

@@ -8,4 +8,3 @@ pub mod Numbers
 pub mod ByFirst
 pub mod ShortMarks
 pub mod Openers
-pub mod FirstCharacter

@@ -6,7 +6,7 @@ ghost use Rattle.starlark_grammar.specs.Front.{language_front};
 ghost use Rattle.starlark_scanner.specs.OneIdentifier as spec;
 ghost use Rattle.starlark_grammar.specs.Words.{Text};
 
-use crate::reads::Reads;
+use starlark_bytes::reads::Reads;
 use crate::scanner::{Class, Word, first_word};
 use std::alloc::{AllocError, Global};
 

@@ -4,7 +4,7 @@ ghost use Rattle.std.specs.Prelude.{◌≡◌, false, ◌<◌, ◌≤◌, ◌==�
 ghost use Rattle.std.specs.List.{prefix_len, slice_get};
 ghost use Rattle.std.specs.Option.{option_map};
 ghost use Rattle.starlark_grammar.specs.Front.{language_front};
-ghost use Rattle.starlark_scanner.specs.Joints.Reads.{AreReads, more_reads};
+ghost use Rattle.starlark_bytes.specs.Joints.Reads.{AreReads, more_reads};
 ghost use Rattle.starlark_scanner.specs.Joints.Words.{HasDigit, begins_number, opener_view, short_view, word_len, word_view};
 ghost use Rattle.starlark_grammar.specs.Pieces.{is_bang};
 ghost use Rattle.starlark_grammar.specs.Words as grammar;
@@ -18,8 +18,8 @@ mod numbers;
 mod openers;
 mod word;
 
-use crate::lines::front_len;
-use crate::reads::Reads;
+use starlark_bytes::lines::front_len;
+use starlark_bytes::reads::Reads;
 use first::is_name_start;
 pub use starlark_grammar::class::{Class, LiteralKind, Quote, Terminal};
 pub use word::{ShortWord, TextOpener, Word};

@@ -16,7 +16,7 @@ use Rattle.starlark_grammar.specs.Tokens.{Fault, Lexeme, Spanned}
 use Rattle.std.specs.List.{AllByRecursion}
 use Rattle.starlark_grammar.specs.Cuts.{InOrder}
 use Rattle.starlark_grammar.specs.Reading.{outcome}
-use Rattle.starlark_reader.specs.Lexemes.{shown_lexeme}
+use Rattle.starlark_token.specs.Lexemes.{shown_lexeme}
 use Rattle.starlark_syntax.specs.Lexer.{IsWithin, LexerItem, Given, Refused, items, AnswersNext, AnswersBetween}
 use Rattle.starlark_reader.specs.Joints.Reader.{IsSomething}
 use Rattle.starlark_token.specs.TokenViews.{TokenView}

@@ -3,7 +3,7 @@ pub mod LexedTexts
 pub mod Held
 pub mod SourceErrors
 pub mod Joints
-pub use Rattle.starlark_reader.specs.Lexemes
+pub use Rattle.starlark_token.specs.Lexemes
 pub use Rattle.starlark_grammar.specs.Words
 pub use Rattle.starlark_grammar.specs.Front
 pub use Rattle.starlark_grammar.specs.Lengths

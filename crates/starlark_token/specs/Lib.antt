@@ -1,6 +1,7 @@
 pub mod BigIntegers
 pub mod TokenInts
 pub mod TokenViews
+pub mod Lexemes
 pub mod TokenTexts
 pub mod NumberRefusals
 pub mod FaultTexts

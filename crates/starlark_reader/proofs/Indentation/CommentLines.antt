@@ -11,7 +11,7 @@ use Rattle.starlark_grammar.specs.Words.{Text}
 use Rattle.starlark_grammar.specs.Margins.{begins_comment, blanks_len, comment_lines, comment_of, comment_part, comments_from, is_comment_only, lines, margin_of, without_return}
 use Rattle.starlark_grammar.specs.Tokens.{Comment}
 use Rattle.starlark_token.specs.TokenViews.{Whole, token_view}
-use Rattle.starlark_reader.specs.Lexemes.{lexeme_view, shown_lexeme}
+use Rattle.starlark_token.specs.Lexemes.{lexeme_view, shown_lexeme}
 use Rattle.starlark_token.specs.declared.tokens.Token.{Token}
 use Rattle.starlark_grammar.proofs.Lists.{drop-sum, take_fits}
 use Rattle.starlark_reader.proofs.Indentation.Margins.{is_other}

@@ -7,7 +7,7 @@ use Rattle.starlark_grammar.specs.Tokens.{Lexeme, moved}
 use Rattle.starlark_grammar.specs.Pieces.{chunk_text}
 use Rattle.starlark_grammar.specs.Reading.{tokens_onto}
 use Rattle.starlark_reader.specs.Joints.Steps.{is_fstring_start, text_end_node}
-use Rattle.starlark_reader.specs.Lexemes.{lexeme_view}
+use Rattle.starlark_token.specs.Lexemes.{lexeme_view}
 use Rattle.starlark_reader.specs.Joints.Pending.{IsIdle, IsPending, pending_lexemes}
 use Rattle.starlark_reader.specs.Joints.Nesting.{Represents, change_by}
 use Rattle.starlark_token.specs.TokenViews.{Whole, token_view}

@@ -5,7 +5,7 @@ use Rattle.starlark_grammar.specs.Words.{Text, language}
 use Rattle.starlark_grammar.specs.Tokens.{Fault, Lexeme, Outcome, Spanned}
 use Rattle.starlark_grammar.specs.Pieces.{Piece, Step, Stands, Fails, Ends}
 use Rattle.starlark_grammar.specs.Reading.{History, lexemes_along, outcome, outcome_in, outcome_of, read, read_from}
-use Rattle.starlark_reader.specs.Lexemes.{fault_view, shown_lexeme}
+use Rattle.starlark_token.specs.Lexemes.{fault_view, shown_lexeme}
 use Rattle.starlark_reader.specs.Joints.MarginCuts.{IsBehindLines, IsCutBefore, IsLinePassed, IsMarginAhead, IsPassedLine}
 use Rattle.starlark_reader.specs.Joints.Nesting.{bracket_count}
 use Rattle.starlark_reader.specs.Joints.Pending.{IsFirst, IsIdle, lines_between, pending_lexemes}

@@ -14,7 +14,7 @@ use Rattle.starlark_grammar.specs.Margins.{Margin, comment_lines, comments_from,
 use Rattle.starlark_grammar.specs.Pieces.{Ends, Fails, Layout, Piece, Stands, first_margin, line_end, margin_step}
 use Rattle.starlark_grammar.specs.Cuts.{is_layout}
 use Rattle.starlark_grammar.specs.Reading.{History, IsReading, after, after_all, closing, next_step, pieces_len, nothing, outcome, tokens_onto}
-use Rattle.starlark_reader.specs.Lexemes.{fault_view, lexeme_view, shown_lexeme}
+use Rattle.starlark_token.specs.Lexemes.{fault_view, lexeme_view, shown_lexeme}
 use Rattle.starlark_reader.specs.Joints.Layout.{IsRefused, IsTaken}
 use Rattle.starlark_reader.specs.Joints.Pending.{IsIdle, IsPending, lines_between, pending_lexemes}
 use Rattle.starlark_reader.specs.Joints.Nesting.{Represents, bracket_count, change_by}

@@ -4,7 +4,7 @@ use Rattle.std.specs.Prelude.{Option, Result, Ok, Err, OnErr, option_to_list}
 use Rattle.starlark_grammar.specs.Words.{Text}
 use Rattle.starlark_grammar.specs.Margins.{comment_of, comments_from}
 use Rattle.starlark_grammar.specs.Tokens.{Lexeme}
-use Rattle.starlark_reader.specs.Lexemes.{lexeme_view, shown_lexeme}
+use Rattle.starlark_token.specs.Lexemes.{lexeme_view, shown_lexeme}
 use Rattle.starlark_reader.specs.Joints.Pending.{IsFirst, IsFirstBehind, IsFirstComment, IsIdle, IsPending, behind_lexemes, lines_between, pending_lexemes}
 use Rattle.starlark_reader.specs.declared.layout.pending.Behind.{Behind}
 use Rattle.starlark_reader.specs.declared.layout.pending.Pending.{Pending}

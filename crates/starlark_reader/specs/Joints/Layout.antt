@@ -7,7 +7,7 @@ use Rattle.starlark_grammar.specs.Tokens as grammar
 use Rattle.starlark_grammar.specs.Margins as margins
 use Rattle.starlark_grammar.specs.Margins.{indentation, is_content, margin_len, open_widths, width_of}
 use Rattle.starlark_grammar.specs.Pieces as pieces
-use Rattle.starlark_reader.specs.Lexemes.{fault_view}
+use Rattle.starlark_token.specs.Lexemes.{fault_view}
 use Rattle.starlark_reader.specs.Joints.Pending.{IsPending, behind_lexemes, pending_lexemes}
 use Rattle.starlark_reader.specs.declared.layout.margins.Blanks.{Blanks}
 use Rattle.starlark_reader.specs.declared.layout.margins.Margin.{Margin}

@@ -5,7 +5,7 @@ use Rattle.starlark_grammar.specs.Words.{Text}
 use Rattle.starlark_grammar.specs.Tokens as grammar
 use Rattle.starlark_grammar.specs.Laws.{AtBoundaries}
 use Rattle.starlark_grammar.specs.Margins.{comment_of, comments_from, is_comment_only, lines}
-use Rattle.starlark_reader.specs.Lexemes.{lexeme_view, shown_lexeme}
+use Rattle.starlark_token.specs.Lexemes.{lexeme_view, shown_lexeme}
 use Rattle.starlark_reader.specs.Joints.Steps.{text_end_node}
 use Rattle.starlark_reader.specs.declared.layout.pending.Behind.{Behind}
 use Rattle.starlark_reader.specs.declared.layout.pending.Behind.TheVariants as behind

@@ -11,7 +11,7 @@ use Rattle.starlark_grammar.specs.Pieces.{Before, Gap, Layout, Other, Step, Piec
 use Rattle.starlark_scanner.specs.Joints.Words.{word_view}
 use Rattle.starlark_scanner.specs.declared.scanner.word.Word.{Word}
 use Rattle.starlark_grammar.specs.Reading.{History, IsReading, Reading, after_all, nothing, pieces_len, lexemes_along, closing, next_step, read, read_from, outcome}
-use Rattle.starlark_reader.specs.Lexemes.{fault_view, lexeme_view, shown_lexeme}
+use Rattle.starlark_token.specs.Lexemes.{fault_view, lexeme_view, shown_lexeme}
 use Rattle.starlark_reader.specs.Joints.MarginCuts.{IsBehindLines, IsCutBefore, IsMarginAhead}
 use Rattle.starlark_reader.specs.Joints.Pending.{IsIdle, IsPending, pending_lexemes}
 use Rattle.starlark_reader.specs.Joints.Nesting.{Represents, bracket_count}

@@ -1,7 +1,7 @@
 -- How often the bytes of what was read are read.
 use Rattle.std.specs.Prelude.{◌≡◌, ◌≤◌, ◌<◌, ◌+◌, ◌-◌, ◌*◌, ℕ, ⊤, length}
 use Rattle.starlark_grammar.specs.Words.{Text}
-use Rattle.starlark_scanner.specs.Joints.Reads.{AreReads, more_reads}
+use Rattle.starlark_bytes.specs.Joints.Reads.{AreReads, more_reads}
 use Rattle.starlark_reader.specs.declared.literal.pieces.Step.{Step}
 use Rattle.starlark_reader.specs.declared.literal.pieces.Step.TheVariants as step
 use Rattle.starlark_reader.specs.declared.reading.Piece.{Piece}

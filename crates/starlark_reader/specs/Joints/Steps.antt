@@ -5,9 +5,9 @@ use Rattle.starlark_grammar.specs.Words.{Text}
 use Rattle.starlark_grammar.specs.Tokens as grammar
 use Rattle.starlark_grammar.specs.Pieces as pieces
 use Rattle.starlark_token.specs.TokenViews.{Whole, token_view}
-use Rattle.starlark_reader.specs.Lexemes.{fault_view}
-use Rattle.starlark_scanner.specs.Joints.Literals.{opening_view}
-use Rattle.starlark_scanner.specs.declared.literal.items.Opening.{Opening}
+use Rattle.starlark_token.specs.Lexemes.{fault_view}
+use Rattle.starlark_literals.specs.Joints.Literals.{opening_view}
+use Rattle.starlark_literals.specs.declared.items.Opening.{Opening}
 use Rattle.starlark_reader.specs.declared.literal.chunks.PlainText.{PlainText}
 use Rattle.starlark_reader.specs.declared.literal.pieces.Step.{Step}
 use Rattle.starlark_reader.specs.declared.literal.pieces.Step.TheVariants as step

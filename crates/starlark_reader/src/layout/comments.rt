@@ -4,12 +4,12 @@ ghost use Rattle.std.specs.Prelude.{◌≡◌, ◌+◌, ◌-◌, ◌<◌, ◌≤
 ghost use Rattle.std.specs.List.{prefix_len};
 ghost use Rattle.starlark_reader.specs.Joints.Pending.{IsComments, IsFirstComment};
 ghost use Rattle.starlark_grammar.specs.Margins as grammar;
-ghost use Rattle.starlark_scanner.specs.Joints.Reads.{AreReads, more_reads};
+ghost use Rattle.starlark_bytes.specs.Joints.Reads.{AreReads, more_reads};
 
 use super::PlacedToken;
 use super::feeds::before_feed_len;
 use super::margins::{blanks_len, line_len};
-use starlark_scanner::reads::Reads;
+use starlark_bytes::reads::Reads;
 use starlark_token::tokens::Token;
 use std::alloc::{AllocError, Global};
 

@@ -3,10 +3,10 @@
 ghost use Rattle.std.specs.Prelude.{◌≡◌, ◌+◌, ◌*◌, ◌≤◌, length, not};
 ghost use Rattle.std.specs.List.{prefix_len};
 ghost use Rattle.starlark_grammar.specs.Margins as grammar;
-ghost use Rattle.starlark_scanner.specs.Joints.Reads.{AreReads};
+ghost use Rattle.starlark_bytes.specs.Joints.Reads.{AreReads};
 
-use starlark_scanner::lines::front_len;
-use starlark_scanner::reads::Reads;
+use starlark_bytes::lines::front_len;
+use starlark_bytes::reads::Reads;
 
 /// The length of the front of a text that its first LF ends.
 pub fn before_feed_len(reads: &mut Reads, text: &[u8]) -> usize

@@ -4,10 +4,10 @@ ghost use Rattle.std.specs.Prelude.{◌≡◌, ◌+◌, ◌*◌, ◌≤◌, ◌<
 ghost use Rattle.std.specs.List.{prefix_len};
 ghost use Rattle.starlark_reader.specs.Joints.Layout.{IsBlanks, IsMargin};
 ghost use Rattle.starlark_grammar.specs.Margins as grammar;
-ghost use Rattle.starlark_scanner.specs.Joints.Reads.{AreReads, more_reads};
+ghost use Rattle.starlark_bytes.specs.Joints.Reads.{AreReads, more_reads};
 
 use super::feeds::before_feed_len;
-use starlark_scanner::reads::Reads;
+use starlark_bytes::reads::Reads;
 
 /// The blanks at the front of a text: how many, how many of them are spaces, and whether one is a tab.
 #[derive(Clone, Copy, Debug, PartialEq, Eq)]

@@ -4,12 +4,12 @@ ghost use Rattle.std.specs.Prelude.{◌≡◌, ◌<◌, ◌≤◌, ◌+◌, ◌*
 ghost use Rattle.starlark_reader.specs.Joints.Pending.{IsFirst, IsFirstBehind, IsPending, behind_lexemes, owed, pending_lexemes};
 ghost use Rattle.starlark_reader.specs.Joints.MarginCuts.{IsLinePassed};
 ghost use Rattle.starlark_grammar.specs.Words.{Text};
-ghost use Rattle.starlark_scanner.specs.Joints.Reads.{more_reads};
+ghost use Rattle.starlark_bytes.specs.Joints.Reads.{more_reads};
 
 use super::PlacedToken;
 use super::comments::first_comment;
 use crate::literal::TextEnd;
-use starlark_scanner::reads::Reads;
+use starlark_bytes::reads::Reads;
 use starlark_token::tokens::Token;
 use std::alloc::{AllocError, Global};
 

@@ -1,17 +1,17 @@
 //! Texts of f-strings, up to an expression or the closing quotes.
 
 ghost use Rattle.std.specs.Prelude.{◌<◌, ◌≤◌, ◌+◌, ◌*◌, IfErr, IfOk, length};
-ghost use Rattle.starlark_scanner.specs.Joints.Reads.{AreReads};
+ghost use Rattle.starlark_bytes.specs.Joints.Reads.{AreReads};
 ghost use Rattle.starlark_reader.specs.Joints.Reads.{AreStepReads};
 ghost use Rattle.starlark_reader.specs.Joints.Steps.{IsPlainText, IsStep};
-ghost use Rattle.starlark_scanner.specs.Joints.Literals.{opening_view};
+ghost use Rattle.starlark_literals.specs.Joints.Literals.{opening_view};
 ghost use Rattle.starlark_grammar.specs.Pieces as grammar;
 
 use super::pieces::{Step, TextEnd};
-use starlark_scanner::literal::{
+use starlark_literals::{
     Body, Literal, LiteralValue, Opening, Stop, closing_len, plain_chunk_len, read_body,
 };
-use starlark_scanner::reads::Reads;
+use starlark_bytes::reads::Reads;
 use starlark_scanner::scanner::LiteralKind;
 use starlark_token::lexeme_error::LexemeError;
 use std::alloc::{AllocError, Global};

@@ -2,7 +2,7 @@
 
 ghost use Rattle.std.specs.Prelude.{◌≡◌, ◌+◌, ◌<◌, ◌^◌, ◌∷◌, [], List};
 ghost use Rattle.starlark_grammar.specs.Depths as depths;
-ghost use Rattle.starlark_scanner.specs.Joints.Literals.{opening_view};
+ghost use Rattle.starlark_literals.specs.Joints.Literals.{opening_view};
 ghost use Rattle.starlark_reader.specs.Joints.Nesting.{brackets_of, change_by, closes, fstring_of, fstring_view, opens, mode_view};
 ghost use Rattle.starlark_token.specs.TokenViews.{Whole};
 ghost use Rattle.starlark_grammar.specs.Tokens as grammar;

@@ -5,10 +5,10 @@ ghost use Rattle.starlark_grammar.specs.Pieces as grammar;
 ghost use Rattle.starlark_grammar.specs.Words.{language};
 ghost use Rattle.starlark_reader.specs.Joints.Nesting.{mode_view};
 ghost use Rattle.starlark_reader.specs.Joints.Pieces.{IsBehind, is_code};
-ghost use Rattle.starlark_scanner.specs.Joints.Reads.{more_reads};
+ghost use Rattle.starlark_bytes.specs.Joints.Reads.{more_reads};
 
 use crate::nesting::LexerMode;
-use starlark_scanner::reads::Reads;
+use starlark_bytes::reads::Reads;
 use starlark_scanner::scanner::spaces_len;
 
 /// Whether a place is one of code, and not in the text of an f-string.

@@ -6,10 +6,6 @@ use Rattle.starlark_grammar.specs.Words.{Text, begins, has_base, is_in_name, is_
 use Rattle.starlark_scanner.specs.Joints.Words.{begins_number, is_digit_alone, is_mark_alone, mark_of_two, text_opener}
 use Rattle.starlark_scanner.proofs.Scan.Marks.{front_three, mark_of}
 
--- the first byte of a text that is read
-pub first_of : (bytes text : Text) (b : Option ℕ) → bytes ≡ text → b ≡ slice_get bytes 0 → slice_get text 0 ≡ b
-first_of bytes text b same is = sym (ap (λ (t : Text). slice_get t 0) same) ∙ sym is
-
 pub begins_by_one : (test : ℕ → Bool) (text : Text) → begins test (take 1 text) ≡ begins test text
 begins_by_one test [] = refl
 begins_by_one test (b ∷ rest) = refl
@@ -53,21 +49,12 @@ pub first_by_two : (text : Text) → slice_get (take 2 text) 0 ≡ slice_get tex
 first_by_two [] = refl
 first_by_two (a ∷ rest) = refl
 
-pub first_by_three : (text : Text) → slice_get (take 3 text) 0 ≡ slice_get text 0
-first_by_three [] = refl
-first_by_three (a ∷ rest) = refl
-
 -- a mark has at most three bytes
 pub mark_by_three : (text : Text) → longest_front mark_of (take 3 text) ≡ longest_front mark_of text
 mark_by_three [] = refl
 mark_by_three (a ∷ []) = refl
 mark_by_three (a ∷ b ∷ []) = refl
 mark_by_three (a ∷ b ∷ c ∷ rest) = front_three a b c [] ∙ sym (front_three a b c rest)
-
--- the first byte of a text is that of its front
-pub at_front : (text bytes front : Text) (b : Option ℕ) → front ≡ take 3 bytes → bytes ≡ text → b ≡ slice_get front 0 → slice_get text 0 ≡ b
-at_front text bytes front b read same is =
-    sym (first_by_three text) ∙ sym (ap (λ (t : List ℕ). slice_get (take 3 t) 0) same) ∙ sym (ap (λ (t : List ℕ). slice_get t 0) read) ∙ sym is
 
 -- a name has a first byte, behind which its run goes on
 pub name_some : (text : Text) → begins is_name_start text ≡ true → 1 ≤ length text

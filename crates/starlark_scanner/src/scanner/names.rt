@@ -6,14 +6,14 @@ ghost use Rattle.std.specs.Map.{lookup};
 ghost use Rattle.std.specs.Option.{option_map};
 ghost use Rattle.std.specs.Str.{bytes_eq};
 ghost use Rattle.starlark_grammar.specs.Front.{language_front};
-ghost use Rattle.starlark_scanner.specs.Joints.Reads.{AreReads, more_reads};
+ghost use Rattle.starlark_bytes.specs.Joints.Reads.{AreReads, more_reads};
 ghost use Rattle.starlark_scanner.specs.Joints.Words.{begin_listed_name, class_by_length, is_other_length, is_quote, may_be_listed, word_view};
 ghost use Rattle.starlark_grammar.specs.Words as grammar;
 ghost use Rattle.starlark_grammar.specs.declared.class.Class.TheVariants as class;
 
 use super::openers::opener_class;
 use super::{Class, Terminal, Word};
-use crate::reads::Reads;
+use starlark_bytes::reads::Reads;
 
 /// The greatest length of a literal's prefix.
 const PREFIX_LEN: usize = 2;

@@ -5,7 +5,7 @@ use Rattle.std.specs.Str.{IsCharBoundary, IsUtf8}
 use Rattle.starlark_grammar.specs.Words.{Text}
 use Rattle.starlark_grammar.specs.Reading.{outcome}
 use Rattle.starlark_grammar.proofs.Order.WholeTexts.{outcome_edges}
-use Rattle.starlark_reader.specs.Lexemes.{lexeme_view, shown_lexeme}
+use Rattle.starlark_token.specs.Lexemes.{lexeme_view, shown_lexeme}
 use Rattle.starlark_syntax.proofs.LexedTexts.Within.{by_index, found_all}
 use Rattle.starlark_token.specs.declared.tokens.Token.{Token}
 

@@ -7,7 +7,7 @@ use Rattle.std.proofs.lemmas.List.{length-map, map-append}
 use Rattle.starlark_grammar.specs.Words.{Text}
 use Rattle.starlark_grammar.specs.Tokens.{Fault, Spanned}
 use Rattle.starlark_grammar.specs.Reading.{outcome}
-use Rattle.starlark_reader.specs.Lexemes.{lexeme_view, shown_lexeme}
+use Rattle.starlark_token.specs.Lexemes.{lexeme_view, shown_lexeme}
 use Rattle.starlark_grammar.specs.Cuts.{is_clean_cut, is_kept_cut, without_closing}
 use Rattle.starlark_grammar.proofs.Joining.KeptPlaces.{cut_some}
 use Rattle.starlark_grammar.proofs.Joining.Laws.{kept_cuts_keep}

@@ -17,7 +17,7 @@ use Rattle.starlark_grammar.proofs.Joining.Laws.{cuts_of_joined}
 use Rattle.starlark_grammar.proofs.Joining.Tabs.{HasTab, first_margin_is, margin_tab, tab}
 use Rattle.starlark_syntax.specs.LexedTexts as texts
 use Rattle.starlark_syntax.specs.LexedTexts.{IsFaultIn, IsLexed, LexedView}
-use Rattle.starlark_reader.specs.Lexemes.{lexeme_view, shown_lexeme}
+use Rattle.starlark_token.specs.Lexemes.{lexeme_view, shown_lexeme}
 use Rattle.starlark_syntax.specs.Joints.LexedTexts.{later}
 use Rattle.starlark_reader.proofs.Pieces.Onward.{first_fails}
 use Rattle.starlark_token.specs.declared.tokens.Token.{Token}

@@ -9,7 +9,7 @@ use Rattle.starlark_grammar.specs.Words.{Text}
 use Rattle.starlark_grammar.specs.Tokens.{Fault, Spanned, moved}
 use Rattle.starlark_grammar.specs.Reading.{outcome}
 use Rattle.starlark_syntax.specs.LexedTexts.{IsFaultIn, IsLexed}
-use Rattle.starlark_reader.specs.Lexemes.{lexeme_view}
+use Rattle.starlark_token.specs.Lexemes.{lexeme_view}
 use Rattle.starlark_syntax.specs.Joints.LexedTexts.{AllNear, IsPart, IsPlacedFault}
 use Rattle.starlark_syntax.specs.declared.lexer.lexed_text.parts.Part.{Part}
 use Rattle.starlark_syntax.proofs.LexedTexts.Within.{lexemes_near}

@@ -8,7 +8,7 @@ use Rattle.starlark_grammar.specs.Reading.{outcome}
 use Rattle.starlark_grammar.specs.Cuts.{is_clean_cut, is_kept_cut}
 use Rattle.starlark_token.specs.TokenViews.{TokenView, Whole}
 use Rattle.starlark_token.specs.declared.tokens.Token.{Token}
-use Rattle.starlark_reader.specs.Lexemes.{fault_view, lexeme_view, shown_lexeme}
+use Rattle.starlark_token.specs.Lexemes.{fault_view, lexeme_view, shown_lexeme}
 use Rattle.starlark_reader.specs.Joints.MarginCuts.{lexemes_before}
 use Rattle.starlark_reader.specs.Joints.Reader.{begins_with_tab}
 use Rattle.starlark_syntax.specs.declared.lexer.lexed_text.cuts.Begin.{Begin}

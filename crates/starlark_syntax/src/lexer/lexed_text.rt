@@ -8,7 +8,7 @@ ghost use Rattle.starlark_base.specs.Sources.{SourceFile};
 ghost use Rattle.starlark_grammar.specs.Cuts.{is_clean_cut};
 ghost use Rattle.starlark_syntax.specs.LexedTexts.{IsLexed, IsReadFrom};
 ghost use Rattle.starlark_syntax.specs.LexedTexts as texts;
-ghost use Rattle.starlark_reader.specs.Lexemes.{lexeme_view};
+ghost use Rattle.starlark_token.specs.Lexemes.{lexeme_view};
 ghost use Rattle.starlark_syntax.specs.Lexer.{IsWithin};
 
 mod cuts;
@@ -44,7 +44,7 @@ impl<'a> Model for LexedText<'a> {
     ghost use Rattle.starlark_grammar.specs.Cuts.{is_clean_cut};
     ghost use Rattle.starlark_syntax.specs.Joints.LexedTexts.{AreCuts};
     ghost use Rattle.starlark_syntax.specs.LexedTexts.{IsLexed, LexedView};
-    ghost use Rattle.starlark_reader.specs.Lexemes.{lexeme_view};
+    ghost use Rattle.starlark_token.specs.Lexemes.{lexeme_view};
 
     ghost Value = { LexedView };
 

@@ -112,7 +112,7 @@ fn looked_behind(reader: &Reader, looked_to: usize) -> Looked
 
 impl<'a> Model for Lexer<'a> {
     ghost use Rattle.std.specs.Prelude.{◌≡◌, ◌<◌, ◌≤◌, ◌^◌, false, true, drop, length, map};
-    ghost use Rattle.starlark_reader.specs.Lexemes.{shown_lexeme};
+    ghost use Rattle.starlark_token.specs.Lexemes.{shown_lexeme};
     ghost use Rattle.starlark_syntax.specs.Lexer.{LexerView};
     ghost use Rattle.std.specs.Prelude.{◌*◌, ◌+◌};
     ghost use Rattle.starlark_reader.specs.Joints.Reader.{IsAhead};

@@ -5,7 +5,8 @@ use Rattle.std.specs.List.{slice_get}
 use Rattle.starlark_grammar.specs.Words.{Text, begins, class_in, is_name_start}
 use Rattle.starlark_grammar.specs.Front.{longest_front}
 use Rattle.starlark_scanner.specs.Joints.Words.{begins_number, marks}
-use Rattle.starlark_scanner.proofs.Scan.ReadFronts.{at_front, mark_by_three, number_by_three}
+use Rattle.starlark_bytes.proofs.Fronts.{at_front}
+use Rattle.starlark_scanner.proofs.Scan.ReadFronts.{mark_by_three, number_by_three}
 use Rattle.starlark_scanner.proofs.Scan.ByFirst.{front_empty, front_blank, front_tab, front_hash, front_single_quote, front_double_quote, front_mark}
 use Rattle.starlark_scanner.proofs.scanner.unnamed_word.Goals as goal
 

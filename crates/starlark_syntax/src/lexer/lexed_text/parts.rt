@@ -2,7 +2,7 @@
 
 ghost use Rattle.std.specs.Prelude.{◌≡◌, ◌<◌, ◌≤◌, ◌+◌, ◌*◌, ◌^◌, ◌++◌, Option, None, IfOk, IfSome, OnOk, codes, length, nat_eq, option_map};
 ghost use Rattle.std.specs.List.{ends_with};
-ghost use Rattle.starlark_scanner.specs.Joints.Reads.{more_reads};
+ghost use Rattle.starlark_bytes.specs.Joints.Reads.{more_reads};
 ghost use Rattle.starlark_grammar.specs.Tokens.{Fault, Spanned, moved};
 ghost use Rattle.starlark_syntax.specs.Joints.LexedTexts.{IsPart, IsPlacedFault, cuts_at, end_cuts};
 ghost use Rattle.starlark_syntax.specs.LexedTexts.{IsFaultIn};
@@ -13,7 +13,7 @@ use starlark_base::codemap::CodeMap;
 use starlark_error::eval_exception::EvalException;
 use starlark_reader::PlacedToken;
 use starlark_reader::reader::{Next, Reader};
-use starlark_scanner::reads::Reads;
+use starlark_bytes::reads::Reads;
 use starlark_token::lexeme_error::LexemeError;
 use std::alloc::{AllocError, Global};
 

@@ -2,7 +2,7 @@
 
 ghost use Rattle.std.specs.Prelude.{◌≡◌, ◌<◌, ◌≤◌, ◌+◌, ◌++◌, ◌^◌, [], ℕ, None, IfSome, OnOk, Some, if◌then◌else◌, false, length, map, take, true, vec_capacity, vec_len};
 ghost use Rattle.starlark_syntax.specs.Joints.LexedTexts.{AllNear, IsTakenBack, is_newline_view, last_newline_of, later};
-ghost use Rattle.starlark_reader.specs.Lexemes.{lexeme_view};
+ghost use Rattle.starlark_token.specs.Lexemes.{lexeme_view};
 ghost use Rattle.starlark_token.specs.TokenViews.{token_view};
 
 use super::cuts::{Begin, Cut, cuts_up_to};

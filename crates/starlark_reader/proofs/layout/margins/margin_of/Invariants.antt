@@ -1,5 +1,5 @@
 use Rattle.std.proofs.Common.{◌-◌, ◌*◌, length}
-use Rattle.starlark_scanner.specs.Joints.Reads.{AreReads}
+use Rattle.starlark_bytes.specs.Joints.Reads.{AreReads}
 use Rattle.starlark_reader.proofs.Indentation.Margins.{ArePassed}
 use Rattle.starlark_reader.proofs.layout.margins.margin_of.Given as goal
 

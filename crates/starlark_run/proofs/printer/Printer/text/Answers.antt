@@ -1,7 +1,7 @@
 use Rattle.std.proofs.Common.{◌≡◌, ◌+◌, ◌≤◌, ◌++◌, Ok, append-nil, ap, arith, drop, false, length, refl, subst, sym, ◌∙◌}
 use Rattle.std.proofs.lemmas.Result.{err_from_is_err_and}
 use Rattle.starlark_grammar.specs.Cuts.{InOrder}
-use Rattle.starlark_reader.specs.Lexemes.{lexeme_view}
+use Rattle.starlark_token.specs.Lexemes.{lexeme_view}
 use Rattle.starlark_syntax.specs.Lexer.{Given, LexerView, items}
 use Rattle.starlark_grammar.specs.Reading.{outcome}
 use Rattle.starlark_grammar.proofs.Order.Lexemes.{outcome_order}

@@ -6,7 +6,7 @@ use Rattle.starlark_grammar.specs.Cuts.{is_clean_cut, without_closing}
 use Rattle.starlark_grammar.specs.Reading.{outcome}
 use Rattle.starlark_syntax.specs.LexedTexts as texts
 use Rattle.starlark_syntax.specs.LexedTexts.{IsLexed, LexedView}
-use Rattle.starlark_reader.specs.Lexemes.{lexeme_view, shown_lexeme}
+use Rattle.starlark_token.specs.Lexemes.{lexeme_view, shown_lexeme}
 use Rattle.starlark_syntax.specs.Joints.LexedTexts.{AreCuts, later, later_cut}
 use Rattle.starlark_syntax.proofs.LexedTexts.Joined.{begun, cut_joined, joined_lexed, list_joined, no_fault}
 use Rattle.starlark_syntax.proofs.LexedTexts.KeptCuts.{count_is}

@@ -1,6 +1,6 @@
 use Rattle.std.proofs.Common.{◌≡◌, ◌-◌, arith, suc, ap, map, sym, take, ◌∙◌}
 use Rattle.starlark_syntax.specs.Joints.LexedTexts.{last_newline_of}
-use Rattle.starlark_reader.specs.Lexemes.{lexeme_view}
+use Rattle.starlark_token.specs.Lexemes.{lexeme_view}
 use Rattle.starlark_syntax.proofs.LexedTexts.Newlines.{one_more_is, one_more_not}
 use Rattle.starlark_syntax.proofs.lexer.lexed_text.tails.last_newline.Goals as goal
 

@@ -1,6 +1,6 @@
 use Rattle.std.proofs.Common.{◌≡◌, ◌≤◌, length, map, take}
 use Rattle.starlark_syntax.specs.Joints.LexedTexts.{last_newline_of}
-use Rattle.starlark_reader.specs.Lexemes.{lexeme_view}
+use Rattle.starlark_token.specs.Lexemes.{lexeme_view}
 use Rattle.starlark_syntax.proofs.lexer.lexed_text.tails.last_newline.Given as goal
 
 abbrev pub invariant-loop-at : goal.invariant-loop-at

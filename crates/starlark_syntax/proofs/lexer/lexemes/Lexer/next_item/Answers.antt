@@ -1,7 +1,7 @@
 use Rattle.std.proofs.Common.{◌∙◌, ◌+◌, ◌≤◌, ◌^◌, arith, map, refl, rules, sym}
 use Rattle.std.proofs.lemmas.List.{length-map}
 use Rattle.starlark_reader.specs.Joints.Reads.{HasLooked}
-use Rattle.starlark_reader.specs.Lexemes.{shown_lexeme}
+use Rattle.starlark_token.specs.Lexemes.{shown_lexeme}
 use Rattle.starlark_grammar.specs.Reading.{outcome}
 use Rattle.starlark_syntax.proofs.LexerItems.{lexeme_item, lexeme_within, lexemes_few, one_more, some_item}
 use Rattle.starlark_reader.proofs.Pieces.ReaderReads.{looked_reads, margin_reads, taken_reads}

@@ -1,7 +1,7 @@
 use Rattle.std.proofs.Common.{◌≡◌, ◌≤◌, ◌+◌, ◌*◌, drop, false, length, map}
 use Rattle.starlark_grammar.specs.Reading.{outcome}
 use Rattle.starlark_reader.specs.Joints.Reader.{IsAhead, left_to_read}
-use Rattle.starlark_reader.specs.Lexemes.{shown_lexeme}
+use Rattle.starlark_token.specs.Lexemes.{shown_lexeme}
 use Rattle.starlark_syntax.specs.Joints.Looked.{GoesOn, IsLooked}
 use Rattle.starlark_syntax.proofs.lexer.lexemes.Lexer.next_item.Given as goal
 

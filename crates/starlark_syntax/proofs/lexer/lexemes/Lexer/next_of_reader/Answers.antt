@@ -1,6 +1,6 @@
 use Rattle.std.proofs.Common.{ap, ◌∙◌, sym, IfSome, ◌+◌, ◌≤◌, ◌^◌, arith, drop, map, refl, rules, subst}
 use Rattle.std.proofs.lemmas.List.{length-map}
-use Rattle.starlark_reader.specs.Lexemes.{shown_lexeme}
+use Rattle.starlark_token.specs.Lexemes.{shown_lexeme}
 use Rattle.starlark_grammar.specs.Reading.{outcome}
 use Rattle.starlark_reader.specs.Joints.Reader.{IsNext}
 use Rattle.starlark_reader.specs.Joints.Reads.{HasReadNext}

@@ -1,6 +1,6 @@
 use Rattle.std.proofs.Common.{drop, sym, ◌∙◌, ◌*◌, ◌+◌, ◌≤◌, ◌^◌, ap, arith, map, refl, rules}
 use Rattle.std.proofs.lemmas.List.{length-map}
-use Rattle.starlark_reader.specs.Lexemes.{shown_lexeme}
+use Rattle.starlark_token.specs.Lexemes.{shown_lexeme}
 use Rattle.starlark_syntax.specs.Lexer.{LexerView}
 use Rattle.starlark_grammar.specs.Reading.{outcome}
 use Rattle.starlark_syntax.proofs.LexerItems.{lexeme_item, lexeme_within, lexemes_few, one_more, some_item}

@@ -1,7 +1,7 @@
 use Rattle.std.proofs.Common.{◌≡◌, ◌∙◌, ◌+◌, ◌*◌, ◌≤◌, ◌^◌, ap, arith, map, refl, rules, subst, sym}
 use Rattle.std.proofs.lemmas.List.{length-map}
 use Rattle.starlark_reader.specs.Joints.Reader.{IsAtCode}
-use Rattle.starlark_reader.specs.Lexemes.{shown_lexeme}
+use Rattle.starlark_token.specs.Lexemes.{shown_lexeme}
 use Rattle.starlark_reader.specs.declared.reader.Reader.{Reader}
 use Rattle.starlark_syntax.specs.Lexer.{LexerView}
 use Rattle.starlark_grammar.specs.Reading.{outcome}

@@ -1,0 +1,17 @@
+-- The first bytes of a text, as they are read.
+use Rattle.std.proofs.Common.{◌≡◌, ℕ, ◌+◌, ◌<◌, ◌≤◌, List, [], ◌∷◌, Option, length, take, drop, refl, sym, ap, ◌∙◌, arith}
+use Rattle.std.specs.List.{slice_get}
+use Rattle.starlark_grammar.specs.Words.{Text}
+
+-- the first byte of a text that is read
+pub first_of : (bytes text : Text) (b : Option ℕ) → bytes ≡ text → b ≡ slice_get bytes 0 → slice_get text 0 ≡ b
+first_of bytes text b same is = sym (ap (λ (t : Text). slice_get t 0) same) ∙ sym is
+
+first_by_three : (text : Text) → slice_get (take 3 text) 0 ≡ slice_get text 0
+first_by_three [] = refl
+first_by_three (a ∷ rest) = refl
+
+-- the first byte of a text is that of its front
+pub at_front : (text bytes front : Text) (b : Option ℕ) → front ≡ take 3 bytes → bytes ≡ text → b ≡ slice_get front 0 → slice_get text 0 ≡ b
+at_front text bytes front b read same is =
+    sym (first_by_three text) ∙ sym (ap (λ (t : List ℕ). slice_get (take 3 t) 0) same) ∙ sym (ap (λ (t : List ℕ). slice_get t 0) read) ∙ sym is

@@ -1,0 +1,4 @@
+pub mod FirstCharacter
+pub mod Fronts
+pub mod LaneRuns
+pub mod EqualLanes

@@ -1,0 +1,12 @@
+-- Bodies of literals, item by item and run by run.
+pub mod DigitRuns
+pub mod Escapes
+pub mod Found
+pub mod ReadFronts
+pub mod ItemEdges
+pub mod BodySteps
+pub mod BodyReads
+pub mod EndLanes
+pub mod RunBytes
+pub mod BodyRuns
+pub mod PlainBodies

@@ -1,0 +1,3 @@
+-- What only contracts of inner functions, of the reader too, and proofs speak of.
+pub mod Literals
+pub mod Runs

@@ -1,0 +1,252 @@
+//! Escapes: a backslash and what it takes.
+
+ghost use Rattle.std.specs.Prelude.{◌≡◌, ◌≤◌, ◌<◌, ◌+◌, ◌-◌, ◌∷◌, [], false, true, drop, encode_utf8, get_or, nat_eq, take, IfSome};
+ghost use Rattle.std.specs.Char.{is_ascii_hexdigit};
+ghost use Rattle.std.specs.List.{prefix_len};
+ghost use Rattle.std.specs.Map.{lookup};
+ghost use Rattle.starlark_grammar.specs.Characters as characters;
+ghost use Rattle.starlark_grammar.specs.Items as grammar;
+ghost use Rattle.starlark_literals.specs.Joints.Literals.{IsCharacters, IsText, found_len, found_view, literal_view, value_view};
+ghost use Rattle.starlark_bytes.specs.Joints.Reads.{AreReads, more_reads};
+ghost use Rattle.starlark_grammar.specs.Words.{Text, is_octal_digit};
+
+use super::items::{Found, Item, Literal, Stop, Value, behind_first, part};
+use starlark_bytes::reads::Reads;
+use starlark_grammar::class::LiteralKind;
+
+/// An escape that is a bad one as a whole, of so many bytes, the last of which has one.
+fn ended<'a>(len: usize) -> Found<'a>
+    ensures value { found_view result ≡ grammar.broken len [] }
+    ensures text { IsText result }
+    ensures len { found_len result ≡ len }
+{
+    Found::Stops(Stop::BadEscape { len, last: 1 })
+}
+
+/// An escape that goes no further behind so many bytes: the character behind them is the last that is read.
+fn broken<'a>(reads: &mut Reads, good: usize, behind: &str) -> Found<'a>
+    requires { good ≤ 10 }
+    ensures value { found_view result ≡ grammar.broken good behind.now }
+    ensures text { IsText result }
+    ensures reads { AreReads (found_len result - good) (found_len result - good) reads.old reads.new }
+    ensures len { good ≤ found_len result }
+{
+    let last = reads.character_len(behind);
+    if last == 0 {
+        Found::Stops(Stop::BadEscape { len: good, last: 1 })
+    } else {
+        Found::Stops(Stop::BadEscape {
+            len: good + last,
+            last,
+        })
+    }
+}
+
+fn item<'a>(len: usize, value: Value<'a>) -> Found<'a>
+    ensures value { found_view result ≡ grammar.goes len (value_view value.entry) }
+    ensures text { IsCharacters value.entry → IsText result }
+    ensures len { found_len result ≡ len }
+{
+    Found::Goes(Item { len, value })
+}
+
+/// The byte that a number is, and where it is none a bad escape.
+fn byte_of<'a>(len: usize, number: u32) -> Found<'a>
+    requires { len ≤ 10 }
+    ensures value { found_view result ≡ grammar.numbered len true number }
+    ensures len { found_len result ≡ len }
+{
+    match u8::try_from(number) {
+        Ok(value) => item(len, Value::Byte(value)),
+        Err(_) => ended(len),
+    }
+}
+
+/// The character of a number, and where there is none a bad escape.
+fn character_of<'a>(len: usize, number: u32) -> Found<'a>
+    requires { len ≤ 10 }
+    ensures value { found_view result ≡ grammar.numbered len false number }
+    ensures text { IsText result }
+    ensures len { found_len result ≡ len }
+{
+    match char::from_u32(number) {
+        Some(value) => item(len, Value::Character(value)),
+        None => ended(len),
+    }
+}
+
+/// What a number denotes: a byte, or a character.
+fn numbered<'a>(len: usize, is_byte: bool, number: u32) -> Found<'a>
+    requires { len ≤ 10 }
+    ensures value { found_view result ≡ grammar.numbered len is_byte number }
+    ensures text { is_byte ≡ false → IsText result }
+    ensures len { found_len result ≡ len }
+{
+    if is_byte {
+        byte_of(len, number)
+    } else {
+        character_of(len, number)
+    }
+}
+
+/// How many hexadecimal digits stand at the front of a text, up to some number of them.
+fn hexadecimal_len(reads: &mut Reads, text: &[u8], wanted: usize) -> usize
+    ensures value { result ≡ prefix_len is_ascii_hexdigit (take wanted text.now) }
+    ensures reads { reads.new ≡ more_reads reads.old (result + 1) }
+{
+    let len = text
+        .iter()
+        .take(wanted)
+        .take_while(|byte| byte.is_ascii_hexdigit())
+        .count();
+    reads.count_run(len);
+    len
+}
+
+fn is_octal_digit(byte: u8) -> bool
+    ensures { result ≡ is_octal_digit byte }
+{
+    matches!(byte, b'0'..=b'7')
+}
+
+/// How many octal digits stand at the front of a text, up to three.
+fn octal_len(reads: &mut Reads, text: &[u8]) -> usize
+    ensures value { result ≡ prefix_len is_octal_digit (take 3 text.now) }
+    ensures reads { reads.new ≡ more_reads reads.old (result + 1) }
+{
+    let len = text
+        .iter()
+        .take(3)
+        .take_while(|byte| is_octal_digit(**byte))
+        .count();
+    reads.count_run(len);
+    len
+}
+
+/// An escape of so many hexadecimal digits, by the text behind its letter.
+fn hexadecimal<'a>(reads: &mut Reads, wanted: usize, is_byte: bool, text: &str) -> Found<'a>
+    requires least { 1 ≤ wanted }
+    requires most { wanted ≤ 8 }
+    ensures value { found_view result ≡ grammar.hexadecimal wanted is_byte text.now }
+    ensures text { is_byte ≡ false → IsText result }
+    ensures reads { AreReads (found_len result - 2) (found_len result) reads.old reads.new }
+{
+    let len = hexadecimal_len(reads, text.as_bytes(), wanted);
+    let digits = &text[..len];
+    if len != wanted {
+        return broken(reads, 2 + len, &text[len..]);
+    }
+    match u32::from_str_radix(digits, 16) {
+        Ok(number) => numbered(2 + len, is_byte, number),
+        Err(_) => unreachable!(),
+    }
+}
+
+/// An escape of octal digits, by the text from them on.
+fn octal<'a>(reads: &mut Reads, is_byte: bool, text: &str) -> Found<'a>
+    requires { is_octal_digit (get_or text.now 0 0) ≡ true }
+    ensures value { found_view result ≡ grammar.octal is_byte text.now }
+    ensures text { is_byte ≡ false → IsText result }
+    ensures reads { AreReads (found_len result - 2) (found_len result) reads.old reads.new }
+{
+    let len = octal_len(reads, text.as_bytes());
+    match u32::from_str_radix(&text[..len], 8) {
+        Ok(number) => numbered(1 + len, is_byte, number),
+        Err(_) => unreachable!(),
+    }
+}
+
+/// A CR behind a backslash, which an LF has to follow.
+fn escaped_feed<'a>(reads: &mut Reads, behind: &str) -> Found<'a>
+    ensures value { found_view result ≡ grammar.escaped_feed behind.now }
+    ensures text { IsText result }
+    ensures reads { AreReads (found_len result - 2) (found_len result) reads.old reads.new }
+{
+    match reads.at(behind.as_bytes(), 0) {
+        Some(b'\n') => part(3, ""),
+        _ => broken(reads, 2, behind),
+    }
+}
+
+#[tactic(auto, unfolding(starlark_grammar::specs::Items::simple_escapes))]
+/// What one byte behind a backslash denotes, where that is another character.
+#[inline(always)]
+fn simple_value(byte: u8) -> Option<char>
+    ensures value { result ≡ lookup (nat_eq byte) grammar.simple_escapes }
+    ensures ascii { IfSome result (λ value. value < 128) }
+{
+    match byte {
+        b'n' => Some('\n'),
+        b'r' => Some('\r'),
+        b't' => Some('\t'),
+        b'a' => Some('\x07'),
+        b'b' => Some('\x08'),
+        b'f' => Some('\x0c'),
+        b'v' => Some('\x0b'),
+        b'\'' => Some('\''),
+        b'"' => Some('"'),
+        b'\\' => Some('\\'),
+        _ => None,
+    }
+}
+
+/// An escape of one character, by the text from its backslash on. Where it denotes nothing else, the backslash and
+/// the character stand for themselves.
+fn simple<'a>(reads: &mut Reads, first: u8, text: &'a str) -> Found<'a>
+    requires { text.now ≡ 92 ∷ first ∷ drop 2 text.now }
+    ensures value { found_view result ≡ grammar.simple (lookup (nat_eq first) grammar.simple_escapes) (characters.first_character (drop 1 text.now)) }
+    ensures text { IsText result }
+    ensures reads { AreReads (found_len result - 2) (found_len result) reads.old reads.new }
+{
+    if let Some(value) = simple_value(first) {
+        return item(2, Value::Character(value));
+    }
+    let len = 1 + reads.character_len(behind_first(text));
+    part(len, &text[..len])
+}
+
+/// The character that an escape of two bytes denotes, where one stands at the front of the rest of a body, of which the
+/// first three bytes were read.
+#[inline(always)]
+pub fn simple_escape(literal: Literal, front: &[u8]) -> Option<char>
+    ensures { IfSome result (λ value. (text : Text) → front.now ≡ take 3 text → grammar.found_at (literal_view literal) text ≡ grammar.goes 2 (encode_utf8 value)) }
+{
+    let [first, second, ..] = front else {
+        return None;
+    };
+    if *first != b'\\' || literal.opening.is_raw {
+        return None;
+    }
+    simple_value(*second)
+}
+
+fn is_of_bytes(kind: LiteralKind) -> bool
+    ensures { result ≡ grammar.is_of_bytes kind }
+{
+    matches!(kind, LiteralKind::Bytes)
+}
+
+/// An escape, by the text from its backslash on.
+pub fn escape<'a>(reads: &mut Reads, kind: LiteralKind, text: &'a str) -> Found<'a>
+    requires { text.now ≡ 92 ∷ drop 1 text.now }
+    ensures value { found_view result ≡ grammar.escape kind (drop 1 text.now) }
+    ensures text { grammar.is_of_bytes kind ≡ false → IsText result }
+    ensures reads { AreReads (found_len result - 2) (found_len result + 2) reads.old reads.new }
+{
+    let behind = behind_first(text);
+    let Some(first) = reads.at(behind.as_bytes(), 0) else {
+        return broken(reads, 1, behind);
+    };
+    let is_byte = is_of_bytes(kind);
+    if is_octal_digit(first) {
+        return octal(reads, is_byte, behind);
+    }
+    match first {
+        b'\n' => part(2, ""),
+        b'\r' => escaped_feed(reads, behind_first(behind)),
+        b'x' => hexadecimal(reads, 2, is_byte, behind_first(behind)),
+        b'u' => hexadecimal(reads, 4, false, behind_first(behind)),
+        b'U' => hexadecimal(reads, 8, false, behind_first(behind)),
+        _ => simple(reads, first, text),
+    }
+}

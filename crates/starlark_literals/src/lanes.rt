@@ -1,0 +1,74 @@
+//! Runs of sixteen bytes that are looked at together.
+
+ghost use Rattle.std.specs.Prelude.{◌≡◌, ℕ, ◌+◌, ◌≤◌, drop, length, not, take};
+ghost use Rattle.std.specs.List.{prefix_len};
+ghost use Rattle.starlark_grammar.specs.Items.{quote_byte};
+ghost use Rattle.starlark_literals.specs.Joints.Literals.{literal_view};
+ghost use Rattle.starlark_bytes.specs.Joints.Reads.{more_reads};
+ghost use Rattle.starlark_literals.specs.Joints.Runs.{is_end, is_special};
+
+use super::items::Literal;
+use starlark_bytes::lanes::lowest_bit;
+use starlark_bytes::reads::Reads;
+use starlark_grammar::class::{LiteralKind, Quote};
+use std::simd::prelude::*;
+
+/// The bytes that end a run in a literal, beside a backslash and a CR. Where a rule speaks of no LF or of no braces,
+/// the quote stands in their place.
+#[derive(Clone, Copy, Debug, PartialEq, Eq)]
+pub struct Ends {
+    quote: u8,
+    feed: u8,
+    opening_brace: u8,
+    closing_brace: u8,
+}
+
+fn quote_byte(quote: Quote) -> u8
+    ensures { result ≡ quote_byte quote }
+{
+    match quote {
+        Quote::Single => b'\'',
+        Quote::Double => b'"',
+    }
+}
+
+impl Ends {
+    /// The bytes that end a run in such a literal.
+    pub fn of(literal: Literal) -> Self
+        ensures { (b : ℕ) → is_end result b ≡ is_special (literal_view literal) b }
+    {
+        let quote = quote_byte(literal.opening.quote);
+        let (opening_brace, closing_brace) = match literal.kind {
+            LiteralKind::FString => (b'{', b'}'),
+            _ => (quote, quote),
+        };
+        Ends {
+            quote,
+            feed: if literal.opening.is_triple {
+                quote
+            } else {
+                b'\n'
+            },
+            opening_brace,
+            closing_brace,
+        }
+    }
+}
+
+/// The length of the run at the front of the sixteen bytes from `at` on.
+#[inline(always)]
+pub fn lanes_run_len(reads: &mut Reads, ends: Ends, bytes: &[u8], at: usize) -> usize
+    requires { at + 16 ≤ length bytes.now }
+    ensures value { result ≡ prefix_len (λ b. not (is_end ends b)) (take 16 (drop at bytes.now)) }
+    ensures reads { reads.new ≡ more_reads reads.old 16 }
+{
+    reads.count_lanes();
+    let lanes = u8x16::from_slice(&bytes[at..]);
+    let ends = lanes.simd_eq(u8x16::splat(ends.quote))
+        | lanes.simd_eq(u8x16::splat(ends.feed))
+        | lanes.simd_eq(u8x16::splat(ends.opening_brace))
+        | lanes.simd_eq(u8x16::splat(ends.closing_brace))
+        | lanes.simd_eq(u8x16::splat(b'\\'))
+        | lanes.simd_eq(u8x16::splat(b'\r'));
+    lowest_bit(ends.to_bitmask())
+}
