@@ -3,6 +3,7 @@
 
 pub mod error;
 pub mod eval_exception;
+pub mod fault_exception;
 
 pub use starlark_base::{
     call_stack, codemap, convert_indices, cursors, diagnostic, dialect, dot_format_parser,

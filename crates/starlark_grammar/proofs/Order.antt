@@ -4,3 +4,4 @@ pub mod Lexemes
 pub mod Edges
 pub mod Boundaries
 pub mod WholeTexts
+pub mod Inside

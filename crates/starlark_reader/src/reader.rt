@@ -32,8 +32,8 @@ use crate::reading::code::{gap_len, is_code};
 use crate::reading::terminals::terminal_token;
 use crate::reading::words::digit_token;
 use crate::reading::{Piece, is_outside, line_end_counts, piece_at};
-use starlark_literals::plain_body_len;
 use starlark_bytes::reads::Reads;
+use starlark_literals::plain_body_len;
 use starlark_scanner::scanner::{
     Quote, ShortWord, Terminal, TextOpener, Word, comment_len, common_word, short_word, text_opener,
 };

@@ -25,14 +25,15 @@ use Rattle.starlark_grammar.specs.Reading.{outcome}
 use Rattle.starlark_grammar.specs.Tokens as token
 use Rattle.starlark_grammar.specs.Tokens.{Fault, Lexeme, Spanned}
 use Rattle.starlark_token.specs.TokenViews.{TokenView}
-use Rattle.starlark_syntax.specs.LexedTexts.{IsFaultIn}
+use Rattle.starlark_lexed_text.specs.LexedTexts.{IsFaultIn}
 use Rattle.starlark_token.specs.Lexemes.{fault_view, lexeme_view, shown_lexeme}
-use Rattle.starlark_syntax.specs.Lexer.{AnswersNext, Given, IsException, LexerItem, Refused, items}
+use Rattle.starlark_lexer.specs.Lexer.{AnswersNext, Given, LexerItem, Refused, items}
+use Rattle.starlark_error.specs.Exceptions.{IsException}
 use Rattle.starlark_token.specs.declared.tokens.Token.{Token}
 use Rattle.starlark_grammar.proofs.Order.WholeTexts.{outcome_edges, fault_edges}
 use Rattle.starlark_grammar.proofs.Reading.Faults.{outcome_fault}
 use Rattle.starlark_grammar.specs.Words.{language}
-use Rattle.starlark_syntax.proofs.LexerItems.{one_more}
+use Rattle.starlark_lexer.proofs.LexerItems.{one_more}
 use Rattle.starlark_run.specs.Joints.Lines.{fault_items, fault_lines}
 use Rattle.starlark_run.specs.Output as output
 use Rattle.starlark_run.specs.Output.{item_line, lines_of, message_of, place_text}

@@ -5,7 +5,7 @@ use Rattle.std.proofs.Math.Utf8.{encode}
 use Rattle.std.specs.Str.{chars}
 use Rattle.std.specs.Fmt.{digits}
 use Rattle.starlark_base.specs.Places.{Text, place_after, span_text}
-use Rattle.starlark_syntax.specs.Lexer.{items}
+use Rattle.starlark_lexer.specs.Lexer.{items}
 use Rattle.starlark_grammar.specs.Tokens as grammar
 use Rattle.starlark_token.specs.TokenTexts.{kind_of, terminal_kind, whole_kind}
 use Rattle.starlark_run.specs.Output.{fault_text, hex, lexeme_text, lines_of, message_of, output, value_text}

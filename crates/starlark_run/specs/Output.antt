@@ -10,7 +10,7 @@ use Rattle.starlark_grammar.specs.Tokens as grammar
 use Rattle.starlark_token.specs.TokenInts.{integer_text}
 use Rattle.starlark_token.specs.TokenTexts.{kind_of}
 use Rattle.starlark_token.specs.TokenViews.{TokenView, Whole}
-use Rattle.starlark_syntax.specs.Lexer.{LexerItem, Given, Refused, items}
+use Rattle.starlark_lexer.specs.Lexer.{LexerItem, Given, Refused, items}
 
 -- each byte as two hexadecimal digits
 abbrev pub hex : Text → Text

@@ -10,7 +10,8 @@ ghost use Rattle.starlark_token.specs.TokenViews.{fstring_quote_view, token_view
 use crate::place::Place;
 use starlark_base::codemap::ResolvedSpan;
 use starlark_error::error::ErrorKind;
-use starlark_syntax::lexer::{FStringQuote, Token};
+use starlark_token::fstring_style::FStringQuote;
+use starlark_token::tokens::Token;
 use std::alloc::AllocError;
 
 /// The digit of a number below 16.

@@ -11,9 +11,9 @@ ghost use Rattle.starlark_run.specs.Runs.{status_of};
 ghost use Rattle.starlark_run.specs.Writing.{Writes};
 ghost use Rattle.starlark_run.specs.declared.runs.RunFault.TheVariants.{Memory};
 ghost use Rattle.starlark_run.specs.declared.runs.TheConstants.{GREATEST_LEN};
-ghost use Rattle.starlark_syntax.specs.LexedTexts.{IsFaultIn, IsLexed};
+ghost use Rattle.starlark_lexed_text.specs.LexedTexts.{IsFaultIn, IsLexed};
 ghost use Rattle.starlark_token.specs.Lexemes.{lexeme_view};
-ghost use Rattle.starlark_syntax.specs.Lexer.{Given};
+ghost use Rattle.starlark_lexer.specs.Lexer.{Given};
 ghost use Rattle.starlark_grammar.specs.Reading.{outcome};
 
 use crate::buffer::Buffer;
@@ -24,8 +24,10 @@ use crate::watched::Watched;
 use starlark_base::codemap::{CodeMap, CodeMapId, FileSpan, OrMemory, SourceTooLong, Span};
 use starlark_error::error::ErrorKind;
 use starlark_error::eval_exception::EvalException;
-use starlark_syntax::lexer::{LexedText, Lexer, Token};
+use starlark_lexed_text::LexedText;
+use starlark_lexer::Lexer;
 use starlark_text::dialect::Dialect;
+use starlark_token::tokens::Token;
 use std::alloc::{AllocError, Global};
 use std::io::Write;
 

@@ -6,8 +6,8 @@ ghost use Rattle.starlark_grammar.specs.Front.{language_front};
 ghost use Rattle.starlark_scanner.specs.OneIdentifier as spec;
 ghost use Rattle.starlark_grammar.specs.Words.{Text};
 
-use starlark_bytes::reads::Reads;
 use crate::scanner::{Class, Word, first_word};
+use starlark_bytes::reads::Reads;
 use std::alloc::{AllocError, Global};
 
 /// The length of the skipped piece at the front of a text, if one stands there.

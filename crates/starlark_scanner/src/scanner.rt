@@ -18,9 +18,9 @@ mod numbers;
 mod openers;
 mod word;
 
+use first::is_name_start;
 use starlark_bytes::lines::front_len;
 use starlark_bytes::reads::Reads;
-use first::is_name_start;
 pub use starlark_grammar::class::{Class, LiteralKind, Quote, Terminal};
 pub use word::{ShortWord, TextOpener, Word};
 

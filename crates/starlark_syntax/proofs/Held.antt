@@ -10,7 +10,7 @@ use Rattle.starlark_grammar.specs.Laws.{AtBoundaries}
 use Rattle.starlark_grammar.proofs.Order.WholeTexts.{outcome_edges, fault_edges}
 use Rattle.starlark_grammar.proofs.Reading.Faults.{outcome_fault}
 use Rattle.starlark_syntax.specs.Held.{FaultHeld, IsHeld, LexemesHeld}
-use Rattle.starlark_syntax.proofs.LexerItems.{all_within}
+use Rattle.starlark_grammar.proofs.Order.Inside.{all_within}
 
 held : {A : Type 0} (text : Text) (x : Spanned A) → x.begin ≤ x.end → AtBoundaries text x → IsHeld text x
 unfolding place_after

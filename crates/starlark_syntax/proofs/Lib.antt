@@ -1,4 +1,1 @@
-pub mod LexerItems
-pub mod LexedTexts
 pub mod Held
-pub mod LexerReads

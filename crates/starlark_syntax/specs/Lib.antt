@@ -1,8 +1,7 @@
-pub mod Lexer
-pub mod LexedTexts
 pub mod Held
 pub mod SourceErrors
-pub mod Joints
+pub use Rattle.starlark_lexer.specs.Lexer
+pub use Rattle.starlark_lexed_text.specs.LexedTexts
 pub use Rattle.starlark_token.specs.Lexemes
 pub use Rattle.starlark_grammar.specs.Words
 pub use Rattle.starlark_grammar.specs.Front

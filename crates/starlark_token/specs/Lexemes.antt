@@ -1,6 +1,7 @@
 -- What stands at a place of a text, as the code and as the grammar say it.
-use Rattle.std.specs.Prelude.{ℕ, false, Option, Some, None, string_bytes}
+use Rattle.std.specs.Prelude.{◌≤◌, ◌<◌, ◌^◌, ℕ, false, length, Option, Some, None, string_bytes}
 use Rattle.starlark_grammar.specs.Tokens as grammar
+use Rattle.starlark_grammar.specs.Words.{Text}
 use Rattle.starlark_token.specs.declared.lexeme_error.LexemeError.{LexemeError}
 use Rattle.starlark_token.specs.declared.lexeme_error.LexemeError.TheVariants as fault
 use Rattle.starlark_token.specs.TokenViews.{TokenView, Whole, token_view}
@@ -32,3 +33,7 @@ shown_lexeme lexeme = record { begin = lexeme.begin; node = Whole (shown lexeme.
 
 abbrev pub lexeme_view : ℕ × Token × ℕ → grammar.Spanned TokenView
 lexeme_view lexeme = record { begin = lexeme.0; node = token_view lexeme.1; end = lexeme.2 }
+
+-- both ends of something lie in order in a text whose bytes positions can count
+abbrev pub IsWithin : Text → ℕ → ℕ → Type 0
+IsWithin text begin end = (begin ≤ end) × (end ≤ length text) × (length text < 2 ^ 32)

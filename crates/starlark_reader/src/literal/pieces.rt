@@ -14,8 +14,8 @@ ghost use Rattle.starlark_token.specs.TokenViews.{Whole, fstring_quote_view, tok
 ghost use Rattle.starlark_grammar.specs.declared.class.LiteralKind.{LiteralKind as Kind};
 ghost use Rattle.starlark_grammar.specs.declared.class.LiteralKind.TheVariants.{FString as OfFString};
 
-use starlark_literals::{Literal, LiteralValue, Opening, Stop, closing_len, read_body};
 use starlark_bytes::reads::Reads;
+use starlark_literals::{Literal, LiteralValue, Opening, Stop, closing_len, read_body};
 use starlark_scanner::scanner::{LiteralKind, Quote};
 use starlark_token::fstring_style::FStringQuote;
 use starlark_token::lexeme_error::LexemeError;

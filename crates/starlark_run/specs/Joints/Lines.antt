@@ -2,7 +2,7 @@
 use Rattle.std.specs.Prelude.{List, map, option_to_list}
 use Rattle.starlark_base.specs.Places.{Text}
 use Rattle.starlark_grammar.specs.Reading.{outcome}
-use Rattle.starlark_syntax.specs.Lexer.{LexerItem, Refused}
+use Rattle.starlark_lexer.specs.Lexer.{LexerItem, Refused}
 use Rattle.starlark_run.specs.Output.{lines_of}
 
 -- the item that a text's fault is, where there is one

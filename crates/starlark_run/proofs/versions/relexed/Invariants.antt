@@ -1,7 +1,7 @@
 use Rattle.std.proofs.Common.{◌≡◌, drop}
 use Rattle.starlark_base.specs.Sources.{SourceFile}
 use Rattle.starlark_run.specs.Joints.Versions.{AreVersions, newest_text}
-use Rattle.starlark_syntax.specs.LexedTexts.{IsLexed}
+use Rattle.starlark_lexed_text.specs.LexedTexts.{IsLexed}
 use Rattle.starlark_run.proofs.versions.relexed.Given as goal
 
 -- the versions that are left follow on the text that is lexed

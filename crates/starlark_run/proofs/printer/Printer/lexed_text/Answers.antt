@@ -1,7 +1,7 @@
 use Rattle.std.proofs.Common.{◌≡◌, ◌+◌, ◌++◌, [], None, append-nil, ap, arith, drop, map, option_to_list, sym, ◌∙◌}
 use Rattle.std.proofs.lemmas.Result.{err_from_is_err_and}
 use Rattle.starlark_token.specs.Lexemes.{lexeme_view, shown_lexeme}
-use Rattle.starlark_syntax.specs.Lexer.{Given, Refused, items}
+use Rattle.starlark_lexer.specs.Lexer.{Given, Refused, items}
 use Rattle.starlark_grammar.specs.Reading.{outcome}
 use Rattle.starlark_grammar.proofs.Order.Lexemes.{outcome_order}
 use Rattle.starlark_run.specs.Joints.Lines.{fault_items}

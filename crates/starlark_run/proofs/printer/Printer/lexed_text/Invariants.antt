@@ -1,6 +1,6 @@
 use Rattle.std.proofs.Common.{◌++◌, ℕ, drop, Ok}
 use Rattle.starlark_grammar.specs.Cuts.{InOrder}
-use Rattle.starlark_syntax.specs.Lexer.{items}
+use Rattle.starlark_lexer.specs.Lexer.{items}
 use Rattle.starlark_grammar.specs.Reading.{outcome}
 use Rattle.starlark_run.specs.Output.{lines_of, output}
 use Rattle.starlark_run.specs.Places.{IsPlace}

@@ -2,7 +2,7 @@ use Rattle.std.proofs.Common.{◌≡◌, ◌+◌, ◌≤◌, ◌++◌, Ok, appen
 use Rattle.std.proofs.lemmas.Result.{err_from_is_err_and}
 use Rattle.starlark_grammar.specs.Cuts.{InOrder}
 use Rattle.starlark_token.specs.Lexemes.{lexeme_view}
-use Rattle.starlark_syntax.specs.Lexer.{Given, LexerView, items}
+use Rattle.starlark_lexer.specs.Lexer.{Given, LexerView, items}
 use Rattle.starlark_grammar.specs.Reading.{outcome}
 use Rattle.starlark_grammar.proofs.Order.Lexemes.{outcome_order}
 use Rattle.starlark_run.specs.Output.{item_line, lines_of, output}

@@ -1,0 +1,15 @@
+-- The exception of a text's fault.
+use Rattle.std.specs.Prelude.{◌≡◌, Some}
+use Rattle.starlark_base.specs.Sources.{SourceFile}
+use Rattle.starlark_base.specs.Diagnostics.{Diagnosed, place_in, unplaced, with_span}
+use Rattle.starlark_error.specs.declared.error.kinds.ErrorKind.{ErrorKind}
+use Rattle.starlark_error.specs.declared.error.kinds.ErrorKind.TheVariants.{Parser}
+use Rattle.starlark_error.specs.declared.error.kinds.ParserMessage.TheVariants.{Lexeme}
+use Rattle.starlark_grammar.specs.Tokens as grammar
+use Rattle.starlark_token.specs.Lexemes.{fault_view}
+use Rattle.starlark_token.specs.declared.lexeme_error.LexemeError.{LexemeError}
+
+-- The exception of a fault: the fault of the lexer, at its place in the code map, with no calls.
+abbrev pub IsException : SourceFile → grammar.Spanned grammar.Fault → Diagnosed ErrorKind → Type 0
+IsException file fault exception = (error : LexemeError) × (fault_view error ≡ Some fault.node)
+    × (exception ≡ with_span (unplaced (Parser (Lexeme error))) (place_in file (record { begin = fault.begin; end = fault.end })))

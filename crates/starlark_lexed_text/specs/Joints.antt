@@ -1,0 +1,2 @@
+-- What only contracts of inner functions and proofs speak of: what a lexed text keeps.
+pub mod LexedTexts

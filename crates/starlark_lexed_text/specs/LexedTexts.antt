@@ -1,0 +1,55 @@
+-- What a lexed text is to its user.
+use Rattle.std.specs.Prelude.{◌≡◌, ◌≤◌, ◌+◌, ◌*◌, ◌-◌, ◌⊎◌, true, ℕ, List, ◌++◌, map, take, length, Option, Some, None, ⊤}
+use Rattle.std.specs.List.{AllByRecursion}
+use Rattle.starlark_base.specs.Sources.{SourceFile}
+use Rattle.starlark_base.specs.Diagnostics.{Diagnosed}
+use Rattle.starlark_error.specs.declared.error.kinds.ErrorKind.{ErrorKind}
+use Rattle.starlark_grammar.specs.Words.{Text}
+use Rattle.starlark_grammar.specs.Tokens as grammar
+use Rattle.starlark_grammar.specs.Reading.{outcome}
+use Rattle.starlark_grammar.specs.Cuts.{is_kept_cut}
+use Rattle.starlark_token.specs.Lexemes.{shown_lexeme}
+use Rattle.starlark_error.specs.Exceptions.{IsException}
+use Rattle.starlark_token.specs.TokenViews.{TokenView}
+
+-- A lexed text: its text, its lexemes, the exception of its fault, and how often bytes of it were read for that.
+pub record LexedView : Type 0 where
+  pub text : Text
+  pub lexemes : List (grammar.Spanned TokenView)
+  pub fault : Option (Diagnosed ErrorKind)
+  pub reads : ℕ
+
+-- The exception of a fault in a code map. There is one exactly where there is a fault.
+abbrev pub IsFaultIn : SourceFile → Option (grammar.Spanned grammar.Fault) → Option (Diagnosed ErrorKind) → Type 0
+IsFaultIn file None None = ⊤
+IsFaultIn file (Some fault) (Some exception) = IsException file fault exception
+IsFaultIn file fault exception = ⊥
+
+-- A lexed text has the lexemes of its text, and the text's fault in a code map.
+pub record IsLexed (file : SourceFile) (lexed : LexedView) : Type 0 where
+  pub lexemes : lexed.lexemes ≡ map shown_lexeme (outcome lexed.text).lexemes
+  pub fault : IsFaultIn file (outcome lexed.text).fault lexed.fault
+
+-- the first of two lexed texts without its last lexeme, and the second one's lexemes behind the first text; no byte is read
+abbrev pub joined : LexedView → LexedView → LexedView
+joined first second = record {
+  text = first.text ++ second.text;
+  lexemes = take (length first.lexemes - 1) first.lexemes ++ map (grammar.moved (length first.text)) second.lexemes;
+  fault = None;
+  reads = 0;
+}
+
+-- A text behind an edit was read from the last of the kept cuts of the text before it on, at or before a place, or from its
+-- begin where there is none: each byte behind once at least where it has no fault, and some sixteen times at most. The first
+-- lexemes are the first ones of the text before the edit, and the others begin at or behind that cut.
+pub record IsReadFrom (old : LexedView) (edited : Text) (from : ℕ) (lexed : LexedView) : Type 0 where
+  pub at : ℕ
+  pub before : at ≤ from
+  pub is_kept : (at ≡ 0) ⊎ (is_kept_cut old.text at ≡ true)
+  pub greatest : (other : ℕ) → other ≤ from → is_kept_cut old.text other ≡ true → other ≤ at
+  pub most : lexed.reads ≤ 16 * (length edited - at + 1)
+  pub least : lexed.fault ≡ None → length edited - at ≤ lexed.reads
+  pub kept : ℕ
+  pub more : List (grammar.Spanned TokenView)
+  pub lexemes : lexed.lexemes ≡ take kept old.lexemes ++ more
+  pub behind : AllByRecursion (λ (lexeme : grammar.Spanned TokenView). at ≤ lexeme.begin) more

@@ -1,0 +1,79 @@
+//! The places where a text may be cut.
+
+ghost use Rattle.std.specs.Prelude.{◌≡◌, ◌&&◌, ◌||◌, ◌==◌, ◌<◌, ◌≤◌, ◌+◌, ◌++◌, ◌^◌, length, map, nat_lt, take, vec_capacity, vec_len};
+ghost use Rattle.starlark_grammar.specs.Words.{Text};
+ghost use Rattle.starlark_lexed_text.specs.Joints.LexedTexts.{AllNearCuts, AreBeyond, AreCuts, IsBegin, IsUpTo, later_cut};
+
+/// A place in a text, in bytes, where it may be cut, and how many lexemes stand before it.
+#[derive(Clone, Copy, Debug, PartialEq, Eq)]
+pub struct Cut {
+    pub at: usize,
+    pub lexemes: usize,
+}
+
+/// Where a text is lexed again: at a place, in bytes, behind so many lexemes and so many cuts that may be kept.
+#[derive(Clone, Copy, Debug, PartialEq, Eq)]
+pub struct Begin {
+    pub at: usize,
+    pub lexemes: usize,
+    pub cuts: usize,
+}
+
+/// How many cuts there are up to the last one at or before a place.
+pub fn cuts_up_to(cuts: &[Cut], from: usize) -> usize
+    ensures bound { result ≤ length cuts.now }
+    ensures last { IsUpTo cuts.now from result }
+    ensures beyond { AreBeyond cuts.now from result }
+{
+    let mut count = cuts.len();
+    while count > 0 && cuts[count - 1].at > from {
+        count -= 1;
+    }
+    count
+}
+
+/// The last of the cuts that lie at or before a place; the text's begin where none does.
+pub fn begin_of(cuts: &[Cut], from: usize) -> Begin
+    ensures { (text : Text) → AreCuts text cuts.now → IsBegin text cuts.now from result }
+{
+    let count = cuts_up_to(cuts, from);
+    if count == 0 {
+        return Begin {
+            at: 0,
+            lexemes: 0,
+            cuts: 0,
+        };
+    }
+    let Cut { at, lexemes } = cuts[count - 1];
+    Begin {
+        at,
+        lexemes,
+        cuts: count,
+    }
+}
+
+/// Whether a text is a clean cut that was read from a place on, by whether what was read is one. Where nothing was read
+/// behind a cut, it is.
+pub fn is_cut_behind(is_cut: bool, rest: &str, at: usize) -> bool
+    ensures { result ≡ (is_cut || (length rest.now == 0 && nat_lt 0 at)) }
+{
+    is_cut || (rest.is_empty() && at > 0)
+}
+
+/// Keeps so many cuts of a list that has room for others behind them, and puts those there, each so many bytes and
+/// lexemes further on.
+pub fn append_cuts(cuts: &mut Vec<Cut>, kept: usize, more: Vec<Cut>, len: usize, count: usize)
+    requires room { kept + vec_len more ≤ vec_capacity cuts.old }
+    requires near { AllNearCuts more.items }
+    requires len { len < 2 ^ 32 }
+    requires count { count < 2 ^ 34 }
+    ensures { cuts.new.items ≡ take kept cuts.old.items ++ map (later_cut len count) more.items }
+{
+    cuts.truncate(kept);
+    for cut in more {
+        cuts.push_reserved(Cut {
+            at: len + cut.at,
+            lexemes: count + cut.lexemes,
+        });
+    }
+}

@@ -1,0 +1,132 @@
+//! Reads all lexemes of a text.
+
+ghost use Rattle.std.specs.Prelude.{◌≡◌, ◌<◌, ◌≤◌, ◌+◌, ◌*◌, ◌^◌, ◌++◌, Option, None, IfOk, IfSome, OnOk, codes, length, nat_eq, option_map};
+ghost use Rattle.std.specs.List.{ends_with};
+ghost use Rattle.starlark_bytes.specs.Joints.Reads.{more_reads};
+ghost use Rattle.starlark_grammar.specs.Tokens.{Fault, Spanned, moved};
+ghost use Rattle.starlark_lexed_text.specs.Joints.LexedTexts.{IsPart, IsPlacedFault, cuts_at, end_cuts};
+ghost use Rattle.starlark_lexed_text.specs.LexedTexts.{IsFaultIn};
+
+use crate::cuts::Cut;
+use starlark_base::codemap::CodeMap;
+use starlark_bytes::reads::Reads;
+use starlark_error::eval_exception::EvalException;
+use starlark_error::fault_exception::exception;
+use starlark_reader::PlacedToken;
+use starlark_reader::reader::{Next, Reader};
+use starlark_token::lexeme_error::LexemeError;
+use std::alloc::{AllocError, Global};
+
+/// A fault with the places, in bytes, where it begins and ends.
+pub type PlacedFault = (usize, LexemeError, usize);
+
+/// What a text comes to: its lexemes, its fault behind them, places where it may be cut, whether its end is one,
+/// whether its first margin has a tab before content, and how often its bytes were read.
+#[derive(Debug, Drop)]
+pub struct Part {
+    pub lexemes: Vec<PlacedToken>,
+    pub fault: Option<PlacedFault>,
+    pub cuts: Vec<Cut>,
+    pub is_cut: bool,
+    pub has_tab: bool,
+    pub reads: u64,
+}
+
+/// Whether the last byte of a text is an LF.
+fn ends_with_feed(reads: &mut Reads, text: &str) -> bool
+    ensures value { result ≡ ends_with nat_eq text.now (codes "\n") }
+    ensures reads { reads.new ≡ more_reads reads.old 1 }
+{
+    reads.count_run(0);
+    text.as_bytes().ends_with(b"\n")
+}
+
+/// Puts a place behind some cuts, if it is one, before which so many lexemes stand.
+fn push_cut(cuts: &mut Vec<Cut>, place: Option<usize>, lexemes: usize) -> Result<(), AllocError>
+    ensures { OnOk result (cuts.new.items ≡ cuts.old.items ++ cuts_at place lexemes) }
+{
+    if let Some(at) = place {
+        cuts.push(Cut { at, lexemes })?;
+    }
+    Ok(())
+}
+
+/// Some cuts of a text, and the one at its end behind them, where that is one.
+fn with_end_cut(
+    cuts: Vec<Cut>,
+    text: &str,
+    lexemes: &[PlacedToken],
+    is_cut: bool,
+) -> Result<Vec<Cut>, AllocError>
+    requires { 0 < length lexemes.now }
+    ensures { IfOk result (λ all. all.items ≡ cuts.items ++ end_cuts text.now (length lexemes.now) is_cut) }
+{
+    let mut all = cuts;
+    if is_cut {
+        all.push(Cut {
+            at: text.len(),
+            lexemes: lexemes.len() - 1,
+        })?;
+    }
+    Ok(all)
+}
+
+/// Reads a text to its end or to its fault.
+pub fn read_part(alloc: Global, text: &str) -> Result<Part, AllocError>
+    requires fits { length text.now < 2 ^ 32 }
+    ensures part { IfOk result (IsPart text.now) }
+    ensures most { IfOk result (λ part. part.reads ≤ 16 * (length text.now + 1)) }
+    ensures least { IfOk result (λ part. part.fault ≡ None → length text.now ≤ part.reads) }
+{
+    let mut reader = Reader::new(alloc);
+    let mut cuts = Vec::new(alloc);
+    let mut lexemes = Vec::new(alloc);
+    loop {
+        match reader.next(text)? {
+            Next::Lexeme(lexeme) => {
+                lexemes.push(lexeme)?;
+                push_cut(&mut cuts, reader.cut(text), lexemes.len())?;
+            }
+            Next::Fault { begin, fault, end } => {
+                return Ok(Part {
+                    lexemes,
+                    fault: Some((begin, fault, end)),
+                    cuts,
+                    is_cut: false,
+                    has_tab: reader.has_read_none(),
+                    reads: reader.reads(),
+                });
+            }
+            Next::Nothing => {
+                let mut reads = Reads::new();
+                let is_cut = reader.is_settled() && ends_with_feed(&mut reads, text);
+                let cuts = with_end_cut(cuts, text, &lexemes, is_cut)?;
+                return Ok(Part {
+                    lexemes,
+                    fault: None,
+                    cuts,
+                    is_cut,
+                    has_tab: false,
+                    reads: reader.reads().saturating_add(reads.count()),
+                });
+            }
+        }
+    }
+}
+
+/// A fault that lies so many bytes further on, as an exception in a code map.
+pub fn exception_of(
+    alloc: Global,
+    fault: Option<PlacedFault>,
+    len: usize,
+    code_map: &CodeMap,
+) -> Result<Option<EvalException>, AllocError>
+    requires near { IfSome fault (λ placed. (placed.0 ≤ placed.2) × (len + placed.2 < 2 ^ 32)) }
+    ensures none { IfOk result (λ exception. exception ≡ None → fault ≡ None) }
+    ensures exception { IfOk result (λ exception. (found : Option (Spanned Fault)) → IsPlacedFault found fault → IsFaultIn code_map.now (option_map (moved len) found) exception) }
+{
+    let Some((begin, fault, end)) = fault else {
+        return Ok(None);
+    };
+    Ok(Some(exception(alloc, len + begin, fault, len + end, code_map)?))
+}

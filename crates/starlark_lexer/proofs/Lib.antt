@@ -1,0 +1,2 @@
+pub mod LexerItems
+pub mod LexerReads

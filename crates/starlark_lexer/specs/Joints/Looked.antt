@@ -1,0 +1,51 @@
+-- How far a lexer has looked at what comes next, and how often bytes were read for that.
+use Rattle.std.specs.Prelude.{◌≡◌, ◌≤◌, ◌+◌, ◌*◌, Bool, true, false, ℕ, length, ⊤}
+use Rattle.starlark_grammar.specs.Words.{Text}
+use Rattle.starlark_reader.specs.Joints.Pending.{IsPending}
+use Rattle.starlark_reader.specs.Joints.Reader.{IsAtCode, IsInCode}
+use Rattle.starlark_reader.specs.Joints.Reads.{HasRead}
+use Rattle.starlark_reader.specs.declared.reader.Reader.{Reader}
+use Rattle.starlark_lexer.specs.declared.lexemes.Looked.{Looked}
+use Rattle.starlark_lexer.specs.declared.lexemes.Looked.TheVariants as looked
+
+-- Beside the walk bytes were read at most sixteen times for each byte up to this place, and so many times less.
+abbrev pub HasSpared : (text : Text) (spare : ℕ) → Reader → (to : ℕ) → Type 0
+HasSpared text spare reader to = (beside : ℕ) × (beside + spare ≤ 16 * to) × HasRead text beside reader
+
+-- Which looks are still to come, and that they are paid for.
+abbrev pub IsLooked : Text → Reader → (to : ℕ) → Looked → Type 0
+IsLooked text reader to looked.Nothing = IsAtCode text reader × (to ≤ reader.at) × HasSpared text 0 reader to
+IsLooked text reader to looked.Front = IsAtCode text reader × (to ≤ length text + 1) × HasSpared text 9 reader to
+IsLooked text reader to looked.Opener = IsAtCode text reader × HasSpared text 4 reader to
+IsLooked text reader to looked.All = HasSpared text 0 reader to
+
+-- quick ways go on only where no error has ended the lexer
+abbrev pub GoesOn : Looked → (has_ended : Bool) → Type 0
+GoesOn looked.All has_ended = ⊤
+GoesOn it has_ended = has_ended ≡ false
+
+-- nothing was looked at, at a place of code behind the last byte that was looked at in vain
+abbrev pub IsFoundOut : Reader → (to : ℕ) → Looked → Type 0
+IsFoundOut reader to looked.Nothing = (to ≤ reader.at) × ((text : Text) → IsPending text reader.pending → IsAtCode text reader)
+IsFoundOut reader to looked.All = ⊤
+IsFoundOut reader to it = ⊥
+
+-- the same, of the brackets alone
+abbrev pub IsFoundInCode : Reader → Looked → Type 0
+IsFoundInCode reader looked.Nothing = IsInCode reader
+IsFoundInCode reader looked.All = ⊤
+IsFoundInCode reader it = ⊥
+
+abbrev pub is_nothing : Looked → Bool
+is_nothing looked.Nothing = true
+is_nothing it = false
+
+abbrev pub is_front : Looked → Bool
+is_front looked.Front = true
+is_front it = false
+
+-- its first two bytes were looked at, and not all that there is to look at
+abbrev pub is_begun : Looked → Bool
+is_begun looked.Front = true
+is_begun looked.Opener = true
+is_begun it = false

@@ -1,0 +1,2 @@
+pub mod Lexer
+pub mod Joints

@@ -1,0 +1,6 @@
+//! The lexer: a text's lexemes one after another.
+#![tactic(auto)]
+
+mod lexemes;
+
+pub use lexemes::{Lexeme, Lexer};
