@@ -1,4 +1,2 @@
 pub mod Literals
-pub mod Indentation
-pub mod OpenBrackets
 pub mod Pieces

@@ -2,7 +2,6 @@
 pub mod PieceReads
 pub mod ReaderReads
 pub mod CodePlaces
-pub mod Waiting
 pub mod Here
 pub mod Onward
 pub mod MarginCuts

@@ -1,9 +1,6 @@
 -- What only contracts inside of the crate and proofs speak of: what the reader of a text keeps, as the grammar sees it.
 pub mod Steps
-pub mod Nesting
 pub mod Pieces
-pub mod Pending
 pub mod Reads
-pub mod Layout
 pub mod MarginCuts
 pub mod Reader

@@ -4,5 +4,5 @@ mod chunks;
 mod pieces;
 
 pub use chunks::{PlainText, chunk_from, plain_text};
-pub use pieces::{Step, TextEnd, literal_piece, opening_of, quotes_of};
+pub use pieces::{Step, literal_piece, opening_of, quotes_of};
 pub use starlark_literals::Opening;

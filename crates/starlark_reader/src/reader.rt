@@ -10,7 +10,7 @@ ghost use Rattle.starlark_grammar.specs.Margins.{open_widths};
 ghost use Rattle.starlark_grammar.specs.Pieces as grammar;
 ghost use Rattle.starlark_grammar.specs.declared.class.Class.TheVariants as class;
 ghost use Rattle.starlark_grammar.specs.declared.class.LiteralKind.TheVariants as kind;
-ghost use Rattle.starlark_reader.specs.Joints.Pending.{IsIdle, IsPending};
+ghost use Rattle.starlark_layout.specs.Joints.Pending.{IsIdle, IsPending};
 ghost use Rattle.starlark_reader.specs.Joints.MarginCuts.{IsCutBefore};
 ghost use Rattle.starlark_reader.specs.Joints.Reads.{HasLooked, HasLookedHere, HasRead, HasReadAt, HasReadNext, IsMarginRead, IsPassed, IsPassedBy, IsTaken};
 ghost use Rattle.starlark_reader.specs.Joints.Reader.{CountsLineEnds, has_read_none, IsAhead, IsAheadBehind, IsAtCode, IsInCode, IsInFlatMargin, IsReached, IsStateAfter, IsNext, IsOver, IsPlainTextHere, IsRead, IsReady, IsSomething, IsWordHere, before_view, left_here, left_to_read, newline_if, newline_of, silent_sort, step_here};
@@ -19,21 +19,21 @@ ghost use Rattle.starlark_grammar.specs.Cuts.{is_layout, is_settled};
 ghost use Rattle.starlark_grammar.specs.Reading.{History, outcome};
 ghost use Rattle.starlark_token.specs.TokenViews.{TokenView, token_view};
 ghost use Rattle.starlark_grammar.specs.Tokens.{FStringStart, Fault, Spanned};
-ghost use Rattle.starlark_reader.specs.Joints.Nesting.{change_by};
-ghost use Rattle.starlark_reader.specs.declared.nesting.changes.Change.TheVariants as change;
+ghost use Rattle.starlark_nesting.specs.Joints.Nesting.{change_by};
+ghost use Rattle.starlark_nesting.specs.declared.changes.Change.TheVariants as change;
 ghost use Rattle.starlark_grammar.specs.Words.{Text};
 
-use crate::layout::{
-    Behind, IndentStack, Pending, PlacedToken, margin_fault, margin_of, take_margin,
-};
-use crate::literal::{Opening, PlainText, Step, TextEnd, plain_text, quotes_of};
-use crate::nesting::{LexerMode, Nesting};
+use crate::literal::{Opening, PlainText, Step, plain_text, quotes_of};
 use crate::reading::code::{gap_len, is_code};
 use crate::reading::terminals::terminal_token;
 use crate::reading::words::digit_token;
 use crate::reading::{Piece, is_outside, line_end_counts, piece_at};
 use starlark_bytes::reads::Reads;
+use starlark_layout::{
+    Behind, IndentStack, Pending, PlacedToken, TextEnd, margin_fault, margin_of, take_margin,
+};
 use starlark_literals::plain_body_len;
+use starlark_nesting::{LexerMode, Nesting};
 use starlark_scanner::scanner::{
     Quote, ShortWord, Terminal, TextOpener, Word, comment_len, common_word, short_word, text_opener,
 };

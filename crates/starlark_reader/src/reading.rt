@@ -7,7 +7,7 @@ ghost use Rattle.starlark_bytes.specs.Joints.Reads.{AreReads, more_reads};
 ghost use Rattle.starlark_reader.specs.Joints.Reads.{ArePieceReads, AreReadsBehind, AreStepReads};
 ghost use Rattle.starlark_reader.specs.Joints.Steps.{IsStep};
 ghost use Rattle.starlark_grammar.specs.Cuts.{is_outside};
-ghost use Rattle.starlark_reader.specs.Joints.Nesting.{mode_view};
+ghost use Rattle.starlark_nesting.specs.Joints.Nesting.{mode_view};
 ghost use Rattle.starlark_grammar.specs.Pieces as grammar;
 ghost use Rattle.starlark_reader.specs.Joints.Pieces.{IsBehind, IsPiece};
 ghost use Rattle.starlark_grammar.specs.Tokens.{InvalidInput};
@@ -22,8 +22,8 @@ pub mod terminals;
 pub mod words;
 
 use crate::literal::{Opening, Step, chunk_from, literal_piece, opening_of};
-use crate::nesting::LexerMode;
 use starlark_bytes::reads::Reads;
+use starlark_nesting::LexerMode;
 use starlark_scanner::scanner::{Class, LiteralKind, Quote, first_word};
 use starlark_token::lexeme_error::LexemeError;
 use starlark_token::tokens::Token;

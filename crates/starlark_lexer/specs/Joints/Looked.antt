@@ -1,7 +1,7 @@
 -- How far a lexer has looked at what comes next, and how often bytes were read for that.
 use Rattle.std.specs.Prelude.{◌≡◌, ◌≤◌, ◌+◌, ◌*◌, Bool, true, false, ℕ, length, ⊤}
 use Rattle.starlark_grammar.specs.Words.{Text}
-use Rattle.starlark_reader.specs.Joints.Pending.{IsPending}
+use Rattle.starlark_layout.specs.Joints.Pending.{IsPending}
 use Rattle.starlark_reader.specs.Joints.Reader.{IsAtCode, IsInCode}
 use Rattle.starlark_reader.specs.Joints.Reads.{HasRead}
 use Rattle.starlark_reader.specs.declared.reader.Reader.{Reader}

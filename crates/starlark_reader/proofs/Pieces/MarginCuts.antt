@@ -31,11 +31,12 @@ use Rattle.starlark_grammar.proofs.Joining.Laws.{ends_behind}
 use Rattle.starlark_grammar.proofs.Joining.LineCuts.{kept_by, kept_parts, line_behind, line_clean, line_end_ends, line_lexeme, reading_reach, reads_more}
 use Rattle.starlark_grammar.proofs.Joining.Settled.{outside_none}
 use Rattle.starlark_grammar.proofs.Joining.FollowedMargins.{lines_sum}
-use Rattle.starlark_reader.specs.Joints.MarginCuts.{IsBehindLines, IsCutBefore, IsMarginAhead, IsOfMargin, IsPassedLine, lexemes_before}
-use Rattle.starlark_reader.specs.Joints.Pending.{IsPending, lines_between, pending_lexemes}
+use Rattle.starlark_reader.specs.Joints.MarginCuts.{IsBehindLines, IsCutBefore, IsMarginAhead, lexemes_before}
+use Rattle.starlark_layout.specs.Joints.MarginLines.{IsOfMargin, IsPassedLine}
+use Rattle.starlark_layout.specs.Joints.Pending.{IsPending, lines_between, pending_lexemes}
 use Rattle.starlark_reader.specs.Joints.Reader.{IsReadTo, remaining_outcome}
-use Rattle.starlark_reader.specs.declared.layout.pending.Pending.{Pending}
-use Rattle.starlark_reader.proofs.Indentation.Pending.{margin_lines}
+use Rattle.starlark_layout.specs.declared.pending.Pending.{Pending}
+use Rattle.starlark_layout.proofs.Indentation.Pending.{margin_lines}
 use Rattle.starlark_reader.proofs.Pieces.Onward.{first_stands, margin_first, onward_stands}
 
 -- Readings

@@ -16,7 +16,8 @@ use Rattle.starlark_literals.specs.Joints.Literals.{IsPlainBody, opening_view}
 use Rattle.starlark_literals.specs.declared.items.Opening.{Opening}
 use Rattle.starlark_scanner.specs.Joints.Words.{IsDigitAt}
 use Rattle.starlark_reader.proofs.Literals.Pieces.{opener_plain}
-use Rattle.starlark_reader.specs.Joints.Steps.{IsPlainText, IsStep, is_fstring_start, text_step}
+use Rattle.starlark_reader.specs.Joints.Steps.{IsPlainText, IsStep, text_step}
+use Rattle.starlark_nesting.specs.Joints.Nesting.{Represents, change_by, is_fstring_start, mode_view}
 use Rattle.starlark_reader.specs.declared.literal.chunks.PlainText.{PlainText}
 use Rattle.starlark_reader.specs.declared.literal.pieces.Step.TheVariants as step
 use Rattle.starlark_reader.specs.declared.reader.Stage.{Stage}
@@ -26,16 +27,15 @@ use Rattle.starlark_grammar.specs.Margins.{open_widths}
 use Rattle.starlark_grammar.specs.Pieces as pieces
 use Rattle.starlark_grammar.specs.Pieces.{Piece, Situation, Stands, step_at}
 use Rattle.starlark_grammar.specs.Reading.{History, next_step, situation}
-use Rattle.starlark_reader.specs.Joints.Nesting.{Represents, change_by, mode_view}
-use Rattle.starlark_reader.specs.Joints.Pending.{IsIdle}
+use Rattle.starlark_layout.specs.Joints.Pending.{IsIdle}
 use Rattle.starlark_token.specs.declared.tokens.Token.{Token}
 use Rattle.starlark_scanner.specs.declared.scanner.word.Word.{Word}
 use Rattle.starlark_reader.specs.Joints.Pieces.{IsBehind, IsPiece, is_code, nothing_of}
 use Rattle.starlark_reader.specs.Joints.Reader.{IsAhead, IsAheadBehind, IsInCode, IsPlainTextHere, IsStateAfter, IsRead, IsWordHere, before_view, left_here, silent_sort, step_here}
 use Rattle.starlark_token.specs.TokenViews.{TokenView, Whole, token_view}
-use Rattle.starlark_reader.specs.declared.nesting.LexerMode.{LexerMode}
-use Rattle.starlark_reader.specs.declared.nesting.LexerMode.TheVariants as mode
-use Rattle.starlark_reader.specs.declared.nesting.changes.Change.TheVariants as change
+use Rattle.starlark_nesting.specs.declared.nesting.LexerMode.{LexerMode}
+use Rattle.starlark_nesting.specs.declared.nesting.LexerMode.TheVariants as mode
+use Rattle.starlark_nesting.specs.declared.changes.Change.TheVariants as change
 use Rattle.starlark_reader.specs.declared.reading.Piece as code
 use Rattle.starlark_reader.specs.declared.reader.Before as sort
 use Rattle.starlark_reader.specs.declared.reader.Before.TheVariants as before
@@ -44,7 +44,7 @@ use Rattle.starlark_reader.specs.declared.reader.Stage.TheVariants as stage
 use Rattle.starlark_reader.proofs.Pieces.CodePlaces.{in_text, word_at, word_len}
 use Rattle.starlark_reader.proofs.Pieces.Here.{piece_here}
 use Rattle.starlark_reader.proofs.Pieces.Taken.{none_before, read_ahead, took}
-use Rattle.starlark_reader.proofs.Pieces.Waiting.{hands_none}
+use Rattle.starlark_layout.proofs.Indentation.Waiting.{hands_none}
 
 -- what was read at a reader's place stands there
 pub piece_read : (text : Text) (history : History) (reader : Reader) (place : LexerMode) (balanced follows_gap : Bool) (rest : Text) (piece : code.Piece) → rest ≡ drop reader.at text → IsStateAfter text history reader

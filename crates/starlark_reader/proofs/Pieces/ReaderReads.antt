@@ -6,7 +6,7 @@ use Rattle.starlark_grammar.specs.Tokens.{Fault, Spanned}
 use Rattle.starlark_token.specs.TokenViews.{TokenView}
 use Rattle.starlark_reader.specs.Joints.Reader.{IsAhead, IsLeft, IsStateAfter, history_of}
 use Rattle.starlark_bytes.specs.Joints.Reads.{AreReads, more_reads}
-use Rattle.starlark_reader.specs.Joints.Pending.{owed}
+use Rattle.starlark_layout.specs.Joints.Pending.{owed}
 use Rattle.starlark_reader.specs.Joints.Reads.{AreStepReads, HasLooked, HasLookedHere, HasRead, HasReadAt, IsMarginRead, IsPassed, IsPassedBy}
 use Rattle.starlark_reader.specs.declared.literal.pieces.Step.{Step}
 use Rattle.starlark_reader.specs.declared.literal.pieces.Step.TheVariants as steps

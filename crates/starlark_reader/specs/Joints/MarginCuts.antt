@@ -1,12 +1,11 @@
 -- Places where a text may be cut, in margins of which the lexemes are still to be handed out.
-use Rattle.std.specs.Prelude.{◌≡◌, ◌≤◌, ◌<◌, true, ℕ, ◌+◌, ◌==◌, List, ◌∷◌, ◌++◌, length, drop, sum_by, take, Option, Some, None, ⊤, ◌⊎◌}
+use Rattle.std.specs.Prelude.{◌≡◌, ◌≤◌, ◌<◌, true, ℕ, ◌+◌, List, ◌++◌, length, drop, sum_by, take, ◌⊎◌}
 use Rattle.starlark_grammar.specs.Words.{Text, language}
 use Rattle.starlark_grammar.specs.Margins.{lines}
 use Rattle.starlark_grammar.specs.Reading.{outcome, pieces_len, read}
 use Rattle.starlark_grammar.specs.Cuts.{is_clean_cut, is_kept_cut, without_closing}
-use Rattle.starlark_reader.specs.Joints.Pending.{lines_between}
-use Rattle.starlark_reader.specs.declared.layout.pending.Pending.{Pending}
-use Rattle.starlark_token.specs.declared.tokens.Token.{Token}
+use Rattle.starlark_layout.specs.Joints.Pending.{lines_between}
+use Rattle.starlark_layout.specs.declared.pending.Pending.{Pending}
 
 -- how many lexemes of a text stand before a kept cut
 abbrev pub lexemes_before : Text → ℕ → ℕ
@@ -25,26 +24,6 @@ pub record IsBehindLines (text : Text) (pending : Pending) (at behind ahead : �
   pub few : passed ≤ length (lines_between text pending.from pending.to)
   pub place : at ≡ pending.from + sum_by (λ (line : Text). length line) (take passed (lines_between text pending.from pending.to))
   pub count : behind + passed ≡ ahead
-
--- The comment-only lines of a margin are still to be read for their comments: so many bytes from a place on. Whether no
--- width is open before it is known.
-pub record IsOfMargin (begin len : ℕ) (levels : List ℕ) (pending : Pending) : Type 0 where
-  pub from : pending.from ≡ begin
-  pub to : pending.to ≡ begin + len
-  pub flat : pending.is_flat ≡ (length levels == 0)
-
--- One of the lines was passed.
-pub record IsPassedLine (text : Text) (old new : Pending) : Type 0 where
-  pub line : Text
-  pub first : lines_between text old.from old.to ≡ line ∷ lines_between text new.from new.to
-  pub from : new.from ≡ old.from + length line
-  pub to : new.to ≡ old.to
-  pub flat : old.is_flat ≡ true
-
--- Where a lexeme was handed out, and the place is still one of a margin before which no width is open, it was a line's.
-abbrev pub IsLinePassed : Text → Pending → Pending → Option (ℕ × Token × ℕ) → Type 0
-IsLinePassed text old new None = ⊤
-IsLinePassed text old new (Some found) = new.is_flat ≡ true → IsPassedLine text old new
 
 -- In a margin before which nothing is open, all lexemes before a place were handed out, and so many of the text are ahead.
 -- The place is the margin's begin, or behind a line of it.

@@ -13,8 +13,8 @@ use Rattle.starlark_scanner.specs.declared.scanner.word.Word.{Word}
 use Rattle.starlark_grammar.specs.Reading.{History, IsReading, Reading, after_all, nothing, pieces_len, lexemes_along, closing, next_step, read, read_from, outcome}
 use Rattle.starlark_token.specs.Lexemes.{fault_view, lexeme_view, shown_lexeme}
 use Rattle.starlark_reader.specs.Joints.MarginCuts.{IsBehindLines, IsCutBefore, IsMarginAhead}
-use Rattle.starlark_reader.specs.Joints.Pending.{IsIdle, IsPending, pending_lexemes}
-use Rattle.starlark_reader.specs.Joints.Nesting.{Represents, bracket_count}
+use Rattle.starlark_layout.specs.Joints.Pending.{IsIdle, IsPending, pending_lexemes}
+use Rattle.starlark_nesting.specs.Joints.Nesting.{Represents, bracket_count}
 use Rattle.starlark_reader.specs.Joints.Pieces.{is_code}
 use Rattle.starlark_reader.specs.Joints.Steps.{text_step}
 use Rattle.starlark_reader.specs.declared.literal.chunks.PlainText.{PlainText}

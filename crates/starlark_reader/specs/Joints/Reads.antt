@@ -11,7 +11,7 @@ use Rattle.starlark_reader.specs.declared.reader.Next.TheVariants as next
 use Rattle.starlark_reader.specs.declared.reader.Reader.{Reader}
 use Rattle.starlark_reader.specs.declared.reader.Stage.{Stage}
 use Rattle.starlark_reader.specs.declared.reader.Stage.TheVariants as stage
-use Rattle.starlark_reader.specs.Joints.Pending.{owed}
+use Rattle.starlark_layout.specs.Joints.Pending.{owed}
 
 -- Reads of a token or a fault behind what was passed of it, in a text that goes on for `rest` bytes: so many a byte.
 abbrev pub AreStepReads : (passed factor rest extra : ℕ) → Step → (before after : ℕ) → Type 0

@@ -1,28 +1,19 @@
 -- What was read at a place of a text, and what stands there.
-use Rattle.std.specs.Prelude.{◌≡◌, ℕ, ◌+◌, ◌++◌, ◌∷◌, [], Bool, true, false, Some, string_bytes, take}
+use Rattle.std.specs.Prelude.{◌≡◌, ℕ, ◌+◌, ◌++◌, ◌∷◌, [], false, Some, string_bytes, take}
 use Rattle.std.specs.Str.{IsCharBoundary}
 use Rattle.starlark_grammar.specs.Words.{Text}
 use Rattle.starlark_grammar.specs.Tokens as grammar
 use Rattle.starlark_grammar.specs.Pieces as pieces
 use Rattle.starlark_token.specs.TokenViews.{Whole, token_view}
 use Rattle.starlark_token.specs.Lexemes.{fault_view}
+use Rattle.starlark_layout.specs.Joints.TextEnds.{text_end_node}
+use Rattle.starlark_layout.specs.declared.text_end.TextEnd.{TextEnd}
 use Rattle.starlark_literals.specs.Joints.Literals.{opening_view}
 use Rattle.starlark_literals.specs.declared.items.Opening.{Opening}
+use Rattle.starlark_nesting.specs.Joints.Nesting.{is_fstring_start}
 use Rattle.starlark_reader.specs.declared.literal.chunks.PlainText.{PlainText}
 use Rattle.starlark_reader.specs.declared.literal.pieces.Step.{Step}
 use Rattle.starlark_reader.specs.declared.literal.pieces.Step.TheVariants as step
-use Rattle.starlark_reader.specs.declared.literal.pieces.TextEnd.{TextEnd}
-use Rattle.starlark_reader.specs.declared.literal.pieces.TextEnd.TheVariants as stop
-
--- whether a token is the start of an f-string
-abbrev pub is_fstring_start : grammar.Token → Bool
-is_fstring_start (grammar.FStringStart opening) = true
-is_fstring_start token = false
-
--- what ends a text of an f-string
-abbrev pub text_end_node : TextEnd → grammar.Token
-text_end_node stop.Expression = grammar.FStringExprStart
-text_end_node stop.FString = grammar.FStringEnd
 
 -- a text of an f-string of so many bytes, what it denotes, and what ends it
 abbrev pub text_step : ℕ → Text → TextEnd → ℕ → pieces.Step

@@ -7,8 +7,9 @@ ghost use Rattle.starlark_reader.specs.Joints.Steps.{IsPlainText, IsStep};
 ghost use Rattle.starlark_literals.specs.Joints.Literals.{opening_view};
 ghost use Rattle.starlark_grammar.specs.Pieces as grammar;
 
-use super::pieces::{Step, TextEnd};
+use super::pieces::Step;
 use starlark_bytes::reads::Reads;
+use starlark_layout::TextEnd;
 use starlark_literals::{
     Body, Literal, LiteralValue, Opening, Stop, closing_len, plain_chunk_len, read_body,
 };

@@ -3,7 +3,8 @@
 ghost use Rattle.std.specs.Prelude.{◌≡◌, ◌≢◌, ◌+◌, ◌<◌, ◌^◌, Some, false, length, not, IfOk};
 ghost use Rattle.starlark_grammar.specs.Depths.{Mode};
 ghost use Rattle.starlark_grammar.specs.Items as items;
-ghost use Rattle.starlark_reader.specs.Joints.Steps.{IsStep, is_fstring_start, text_end_node};
+ghost use Rattle.starlark_reader.specs.Joints.Steps.{IsStep};
+ghost use Rattle.starlark_nesting.specs.Joints.Nesting.{is_fstring_start};
 ghost use Rattle.starlark_reader.specs.Joints.Reads.{AreWordReads, IsFault};
 ghost use Rattle.starlark_bytes.specs.Joints.Reads.{AreReads, more_reads};
 ghost use Rattle.starlark_token.specs.Lexemes.{fault_view};
@@ -15,32 +16,13 @@ ghost use Rattle.starlark_grammar.specs.declared.class.LiteralKind.{LiteralKind 
 ghost use Rattle.starlark_grammar.specs.declared.class.LiteralKind.TheVariants.{FString as OfFString};
 
 use starlark_bytes::reads::Reads;
+use starlark_layout::TextEnd;
 use starlark_literals::{Literal, LiteralValue, Opening, Stop, closing_len, read_body};
 use starlark_scanner::scanner::{LiteralKind, Quote};
 use starlark_token::fstring_style::FStringQuote;
 use starlark_token::lexeme_error::LexemeError;
 use starlark_token::tokens::Token;
 use std::alloc::{AllocError, Global};
-
-/// What ends a text of an f-string: the start of an expression, or the end of the f-string.
-#[derive(Clone, Copy, Debug, PartialEq, Eq)]
-pub enum TextEnd {
-    Expression,
-    FString,
-}
-
-impl TextEnd {
-    /// As a token.
-    #[tactic(auto, unfolding(starlark_token::specs::TokenViews::token_view))]
-    pub fn token(self) -> Token
-        ensures { token_view result ≡ Whole (text_end_node self) }
-    {
-        match self {
-            TextEnd::Expression => Token::FStringExprStart,
-            TextEnd::FString => Token::FStringEnd,
-        }
-    }
-}
 
 /// What stands at a place: a token of so many bytes; a text of an f-string, of `text_len` bytes, which is no lexeme
 /// where it denotes nothing, and what ends it; or a fault, from one place to another. Places are in bytes from

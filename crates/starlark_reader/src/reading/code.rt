@@ -3,12 +3,12 @@
 ghost use Rattle.std.specs.Prelude.{◌≡◌, ◌<◌, ◌+◌, Bool, true};
 ghost use Rattle.starlark_grammar.specs.Pieces as grammar;
 ghost use Rattle.starlark_grammar.specs.Words.{language};
-ghost use Rattle.starlark_reader.specs.Joints.Nesting.{mode_view};
+ghost use Rattle.starlark_nesting.specs.Joints.Nesting.{mode_view};
 ghost use Rattle.starlark_reader.specs.Joints.Pieces.{IsBehind, is_code};
 ghost use Rattle.starlark_bytes.specs.Joints.Reads.{more_reads};
 
-use crate::nesting::LexerMode;
 use starlark_bytes::reads::Reads;
+use starlark_nesting::LexerMode;
 use starlark_scanner::scanner::spaces_len;
 
 /// Whether a place is one of code, and not in the text of an f-string.

@@ -1,13 +1,12 @@
 //! Keywords and symbols as tokens.
 
 ghost use Rattle.std.specs.Prelude.{◌≡◌, false};
-ghost use Rattle.starlark_reader.specs.Joints.Steps.{is_fstring_start};
-ghost use Rattle.starlark_reader.specs.Joints.Nesting.{mode_view};
+ghost use Rattle.starlark_nesting.specs.Joints.Nesting.{is_fstring_start, mode_view};
 ghost use Rattle.starlark_grammar.specs.Pieces as grammar;
 ghost use Rattle.starlark_token.specs.TokenViews.{Whole, token_view};
 ghost use Rattle.starlark_grammar.specs.Tokens.{Word};
 
-use crate::nesting::LexerMode;
+use starlark_nesting::LexerMode;
 use starlark_scanner::scanner::Terminal;
 use starlark_token::tokens::Token;
 

@@ -1,0 +1,10 @@
+-- Margins, and the open widths that are kept.
+pub mod Margins
+pub mod CommentLines
+pub mod Blanks
+pub mod Pending
+pub mod Waiting
+pub mod Indents
+pub mod Laid
+pub mod KeptWidths
+pub mod TakenWidths

@@ -1,0 +1,52 @@
+//! Comments of the comment-only lines of a margin.
+
+ghost use Rattle.std.specs.Prelude.{◌≡◌, ◌+◌, ◌-◌, ◌<◌, ◌≤◌, ◌*◌, length, not, IfOk};
+ghost use Rattle.std.specs.List.{prefix_len};
+ghost use Rattle.starlark_layout.specs.Joints.Pending.{IsComments, IsFirstComment};
+ghost use Rattle.starlark_grammar.specs.Margins as grammar;
+ghost use Rattle.starlark_bytes.specs.Joints.Reads.{AreReads, more_reads};
+
+use crate::feeds::before_feed_len;
+use crate::margins::{blanks_len, line_len};
+use crate::placed_token::PlacedToken;
+use starlark_bytes::reads::Reads;
+use starlark_token::tokens::Token;
+use std::alloc::{AllocError, Global};
+
+/// How far the comment of a text's first line goes, of which so many bytes stand before the LF or the text's end: up to
+/// a CR at their end.
+fn comment_end(reads: &mut Reads, text: &[u8], feed: usize) -> usize
+    requires { feed ≡ prefix_len (λ b. not (grammar.is_feed b)) text.now }
+    ensures value { result ≡ length (grammar.comment_part text.now) }
+    ensures reads { reads.new ≡ more_reads reads.old 1 }
+{
+    if reads.ends_with_return(&text[..feed]) {
+        feed - 1
+    } else {
+        feed
+    }
+}
+
+/// The comment of the first of the comment-only lines from one place of a text to another, and the length of that
+/// line with its LF.
+#[inline(always)]
+pub fn first_comment(
+    reads: &mut Reads,
+    alloc: Global,
+    text: &str,
+    from: usize,
+    to: usize,
+) -> Result<(PlacedToken, usize), AllocError>
+    requires some { from < to }
+    requires comments { IsComments text.now from to }
+    ensures comment { IfOk result (λ found. IsFirstComment text.now from to found.0 found.1) }
+    ensures reads { IfOk result (λ found. AreReads 0 (6 * found.1) reads.old reads.new) }
+{
+    let lines = &text.as_bytes()[from..to];
+    let begin = from + blanks_len(reads, lines);
+    let feed = before_feed_len(reads, lines);
+    let len = line_len(lines, feed);
+    let end = from + comment_end(reads, lines, feed);
+    let comment = String::from_str(alloc, &text[begin + 1..end])?;
+    Ok(((begin, Token::Comment(comment), end), len))
+}

@@ -1,0 +1,114 @@
+//! What the margin at the front of a text is.
+
+ghost use Rattle.std.specs.Prelude.{◌≡◌, ◌+◌, ◌*◌, ◌≤◌, ◌<◌, ◌^◌, ◌∷◌, drop, length, not, take};
+ghost use Rattle.std.specs.List.{prefix_len};
+ghost use Rattle.starlark_layout.specs.Joints.Layout.{IsBlanks, IsMargin};
+ghost use Rattle.starlark_grammar.specs.Margins as grammar;
+ghost use Rattle.starlark_bytes.specs.Joints.Reads.{AreReads, more_reads};
+
+use crate::feeds::before_feed_len;
+use starlark_bytes::reads::Reads;
+
+/// The blanks at the front of a text: how many, how many of them are spaces, and whether one is a tab.
+#[derive(Clone, Copy, Debug, PartialEq, Eq)]
+pub struct Blanks {
+    pub len: usize,
+    pub width: usize,
+    pub has_tab: bool,
+}
+
+/// A margin: where its last line begins behind its comment-only lines, the blanks there, and whether content follows.
+#[derive(Clone, Copy, Debug, PartialEq, Eq)]
+pub struct Margin {
+    pub at: usize,
+    pub blanks: Blanks,
+    pub is_content: bool,
+}
+
+/// The length of the run of spaces, tabs and CRs at the front of a text.
+pub fn blanks_len(reads: &mut Reads, text: &[u8]) -> usize
+    ensures value { result ≡ grammar.blanks_len text.now }
+    ensures within { result ≤ length text.now }
+    ensures reads { reads.new ≡ more_reads reads.old (result + 1) }
+{
+    let len = text
+        .iter()
+        .take_while(|byte| matches!(**byte, b' ' | b'\t' | b'\r'))
+        .count();
+    reads.count_run(len);
+    len
+}
+
+/// The length of the first line of a text with its LF, by how many bytes stand before that.
+pub fn line_len(text: &[u8], feed: usize) -> usize
+    requires { feed ≡ prefix_len (λ b. not (grammar.is_feed b)) text.now }
+    ensures line { 0 < length text.now → grammar.lines text.now ≡ take result text.now ∷ grammar.lines (drop result text.now) }
+    ensures within { result ≤ length text.now }
+    ensures feed { feed ≤ result }
+    ensures few { result ≤ feed + 1 }
+{
+    if feed < text.len() { feed + 1 } else { feed }
+}
+
+/// The blanks at the front of a text.
+fn blanks_of(reads: &mut Reads, text: &[u8]) -> Blanks
+    ensures value { IsBlanks (take (grammar.blanks_len text.now) text.now) result }
+    ensures within { result.len ≤ length text.now }
+    ensures reads { reads.new ≡ more_reads reads.old (result.len + 1) }
+{
+    let mut len = 0;
+    let mut width = 0;
+    let mut has_tab = false;
+    while let Some(byte) = text.get(len) {
+        match *byte {
+            b' ' => width += 1,
+            b'\t' => has_tab = true,
+            b'\r' => {}
+            _ => break,
+        }
+        len += 1;
+    }
+    reads.count_run(len);
+    Blanks {
+        len,
+        width,
+        has_tab,
+    }
+}
+
+fn begins_comment(text: &[u8]) -> bool
+    ensures { result ≡ grammar.begins_comment text.now }
+{
+    matches!(text, [b'#', ..])
+}
+
+/// Whether content stands at the front of a text: neither its end nor an LF.
+fn is_content(text: &[u8]) -> bool
+    ensures { result ≡ grammar.is_content text.now }
+{
+    !matches!(text, [] | [b'\n', ..])
+}
+
+/// The margin at the front of a text.
+pub fn margin_of(reads: &mut Reads, text: &str) -> Margin
+    ensures margin { IsMargin (grammar.margin_of text.now) result }
+    ensures within { result.at + result.blanks.len ≤ length text.now }
+    ensures reads { AreReads (result.at + result.blanks.len) (6 * result.at + result.blanks.len + 2) reads.old reads.new }
+{
+    let bytes = text.as_bytes();
+    let mut at = 0;
+    loop {
+        let line = &bytes[at..];
+        let blanks = blanks_of(reads, line);
+        let behind = &line[blanks.len..];
+        let first = reads.front(behind, 1);
+        if !begins_comment(first) {
+            return Margin {
+                at,
+                blanks,
+                is_content: is_content(first),
+            };
+        }
+        at += blanks.len + line_len(behind, before_feed_len(reads, behind));
+    }
+}

@@ -1,0 +1,2 @@
+-- What only contracts of inner functions, of the reader too, and proofs speak of.
+pub mod Nesting

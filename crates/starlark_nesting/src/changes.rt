@@ -1,0 +1,43 @@
+//! What a token does to brackets and f-strings.
+
+ghost use Rattle.std.specs.Prelude.{◌≡◌};
+ghost use Rattle.starlark_nesting.specs.Joints.Nesting.{change_by};
+ghost use Rattle.starlark_token.specs.TokenViews.{token_view};
+
+use starlark_token::tokens::Token;
+
+/// What a token does: it opens or closes a bracket, begins or ends an expression of an f-string, ends an f-string, or
+/// does none of these.
+#[derive(Clone, Copy, Debug, PartialEq, Eq)]
+pub enum Change {
+    OpensRound,
+    ClosesRound,
+    OpensSquare,
+    ClosesSquare,
+    OpensCurly,
+    ClosesCurly,
+    BeginsExpression,
+    EndsExpression,
+    EndsFString,
+    Nothing,
+}
+
+#[tactic(auto, unfolding(starlark_token::specs::TokenViews::token_view, crate::specs::Joints::Nesting::change_by))]
+/// What a token does to brackets and f-strings.
+#[inline(always)]
+pub fn change_of(token: &Token) -> Change
+    ensures { result ≡ change_by (token_view token.now) }
+{
+    match token {
+        Token::OpeningRound => Change::OpensRound,
+        Token::OpeningSquare => Change::OpensSquare,
+        Token::OpeningCurly => Change::OpensCurly,
+        Token::ClosingRound => Change::ClosesRound,
+        Token::ClosingSquare => Change::ClosesSquare,
+        Token::ClosingCurly => Change::ClosesCurly,
+        Token::FStringExprStart => Change::BeginsExpression,
+        Token::FStringExprEnd => Change::EndsExpression,
+        Token::FStringEnd => Change::EndsFString,
+        _ => Change::Nothing,
+    }
+}
