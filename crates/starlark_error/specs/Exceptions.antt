@@ -1,5 +1,5 @@
 -- The exception of a text's fault.
-use Rattle.std.specs.Prelude.{◌≡◌, Some}
+use Rattle.std.specs.Prelude.{◌≡◌, Option, Some, None, ⊤}
 use Rattle.starlark_base.specs.Sources.{SourceFile}
 use Rattle.starlark_base.specs.Diagnostics.{Diagnosed, place_in, unplaced, with_span}
 use Rattle.starlark_error.specs.declared.error.kinds.ErrorKind.{ErrorKind}
@@ -13,3 +13,9 @@ use Rattle.starlark_token.specs.declared.lexeme_error.LexemeError.{LexemeError}
 abbrev pub IsException : SourceFile → grammar.Spanned grammar.Fault → Diagnosed ErrorKind → Type 0
 IsException file fault exception = (error : LexemeError) × (fault_view error ≡ Some fault.node)
     × (exception ≡ with_span (unplaced (Parser (Lexeme error))) (place_in file (record { begin = fault.begin; end = fault.end })))
+
+-- The exception of a fault in a code map. There is one exactly where there is a fault.
+abbrev pub IsFaultIn : SourceFile → Option (grammar.Spanned grammar.Fault) → Option (Diagnosed ErrorKind) → Type 0
+IsFaultIn file None None = ⊤
+IsFaultIn file (Some fault) (Some exception) = IsException file fault exception
+IsFaultIn file fault exception = ⊥

@@ -1,5 +1,5 @@
 -- What a lexed text is to its user.
-use Rattle.std.specs.Prelude.{◌≡◌, ◌≤◌, ◌+◌, ◌*◌, ◌-◌, ◌⊎◌, true, ℕ, List, ◌++◌, map, take, length, Option, Some, None, ⊤}
+use Rattle.std.specs.Prelude.{◌≡◌, ◌≤◌, ◌+◌, ◌*◌, ◌-◌, ◌⊎◌, true, ℕ, List, ◌++◌, map, take, length, Option, None}
 use Rattle.std.specs.List.{AllByRecursion}
 use Rattle.starlark_base.specs.Sources.{SourceFile}
 use Rattle.starlark_base.specs.Diagnostics.{Diagnosed}
@@ -8,8 +8,8 @@ use Rattle.starlark_grammar.specs.Words.{Text}
 use Rattle.starlark_grammar.specs.Tokens as grammar
 use Rattle.starlark_grammar.specs.Reading.{outcome}
 use Rattle.starlark_grammar.specs.Cuts.{is_kept_cut}
+use Rattle.starlark_error.specs.Exceptions.{IsFaultIn}
 use Rattle.starlark_token.specs.Lexemes.{shown_lexeme}
-use Rattle.starlark_error.specs.Exceptions.{IsException}
 use Rattle.starlark_token.specs.TokenViews.{TokenView}
 
 -- A lexed text: its text, its lexemes, the exception of its fault, and how often bytes of it were read for that.
@@ -18,12 +18,6 @@ pub record LexedView : Type 0 where
   pub lexemes : List (grammar.Spanned TokenView)
   pub fault : Option (Diagnosed ErrorKind)
   pub reads : ℕ
-
--- The exception of a fault in a code map. There is one exactly where there is a fault.
-abbrev pub IsFaultIn : SourceFile → Option (grammar.Spanned grammar.Fault) → Option (Diagnosed ErrorKind) → Type 0
-IsFaultIn file None None = ⊤
-IsFaultIn file (Some fault) (Some exception) = IsException file fault exception
-IsFaultIn file fault exception = ⊥
 
 -- A lexed text has the lexemes of its text, and the text's fault in a code map.
 pub record IsLexed (file : SourceFile) (lexed : LexedView) : Type 0 where

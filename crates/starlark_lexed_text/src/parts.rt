@@ -5,7 +5,7 @@ ghost use Rattle.std.specs.List.{ends_with};
 ghost use Rattle.starlark_bytes.specs.Joints.Reads.{more_reads};
 ghost use Rattle.starlark_grammar.specs.Tokens.{Fault, Spanned, moved};
 ghost use Rattle.starlark_lexed_text.specs.Joints.LexedTexts.{IsPart, IsPlacedFault, cuts_at, end_cuts};
-ghost use Rattle.starlark_lexed_text.specs.LexedTexts.{IsFaultIn};
+ghost use Rattle.starlark_error.specs.Exceptions.{IsFaultIn};
 
 use crate::cuts::Cut;
 use starlark_base::codemap::CodeMap;

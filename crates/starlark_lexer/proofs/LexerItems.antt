@@ -11,12 +11,13 @@ use Rattle.starlark_text.specs.declared.refusals.OrMemory.TheVariants.{Error, Me
 use Rattle.starlark_token.specs.declared.tokens.Token.{Token}
 use Rattle.starlark_grammar.specs.Laws.{AtBoundaries}
 use Rattle.starlark_grammar.proofs.Order.WholeTexts.{outcome_edges, fault_edges}
-use Rattle.starlark_grammar.specs.Words.{Text}
+use Rattle.starlark_grammar.specs.Words.{Text, language}
 use Rattle.starlark_grammar.specs.Tokens.{Fault, Lexeme, Spanned}
 use Rattle.std.specs.List.{AllByRecursion}
 use Rattle.starlark_grammar.specs.Reading.{outcome}
 use Rattle.starlark_token.specs.Lexemes.{shown_lexeme}
-use Rattle.starlark_lexer.specs.Lexer.{LexerItem, Given, Refused, items, AnswersNext, AnswersBetween}
+use Rattle.starlark_lexer.specs.Lexer.{AnswersNext, AnswersBetween}
+use Rattle.starlark_token.specs.TextItems.{LexerItem, Given, Refused, items}
 use Rattle.starlark_token.specs.Lexemes.{IsWithin}
 use Rattle.starlark_reader.specs.Joints.Reader.{IsSomething}
 use Rattle.starlark_token.specs.TokenViews.{TokenView}

@@ -1,21 +1,17 @@
 -- What a lexer is to its user, and what it hands out.
-use Rattle.std.specs.Prelude.{◌≡◌, ◌<◌, ◌≤◌, ◌^◌, IfSome, ℕ, ◌+◌, ◌-◌, ◌||◌, if◌then◌else◌, Bool, true, false, List, ◌++◌, map, length, Option, Some, None, option_to_list, Result, Ok, Err, ⊤}
+use Rattle.std.specs.Prelude.{◌≡◌, IfSome, ℕ, ◌+◌, ◌-◌, ◌||◌, if◌then◌else◌, Bool, true, false, length, Option, Some, None, Result, Ok, Err, ⊤}
 use Rattle.std.specs.Iterator.{Count, at_most}
 use Rattle.std.specs.List.{slice_get}
 use Rattle.std.specs.Str.{IsCharBoundary}
 use Rattle.starlark_base.specs.Sources.{SourceFile}
-use Rattle.starlark_base.specs.Diagnostics.{Diagnosed, place_in, unplaced, with_span}
+use Rattle.starlark_base.specs.Diagnostics.{Diagnosed}
 use Rattle.starlark_text.specs.declared.refusals.OrMemory.{OrMemory}
 use Rattle.starlark_text.specs.declared.refusals.OrMemory.TheVariants as refusal
 use Rattle.starlark_error.specs.declared.error.kinds.ErrorKind.{ErrorKind}
-use Rattle.starlark_error.specs.declared.error.kinds.ErrorKind.TheVariants.{Parser}
-use Rattle.starlark_error.specs.declared.error.kinds.ParserMessage.TheVariants.{Lexeme}
-use Rattle.starlark_token.specs.declared.lexeme_error.LexemeError.{LexemeError}
+use Rattle.starlark_error.specs.Exceptions.{IsException}
 use Rattle.starlark_grammar.specs.Words.{Text}
-use Rattle.starlark_grammar.specs.Tokens as grammar
-use Rattle.starlark_grammar.specs.Reading.{outcome}
-use Rattle.starlark_token.specs.Lexemes.{fault_view, lexeme_view, shown_lexeme}
-use Rattle.starlark_token.specs.TokenViews.{TokenView}
+use Rattle.starlark_token.specs.Lexemes.{IsWithin, lexeme_view}
+use Rattle.starlark_token.specs.TextItems.{LexerItem, Given, Refused, items}
 use Rattle.starlark_token.specs.declared.tokens.Token.{Token}
 
 -- A lexer: its text, the code map of its faults, how many items it has handed out, and whether an error has ended it.
@@ -24,15 +20,6 @@ pub record LexerView : Type 0 where
   pub code_map : SourceFile
   pub handed_out : ℕ
   pub has_ended : Bool
-
--- an item that a text comes to: a lexeme, or its fault
-pub data LexerItem : Type 0 where
-  Given : (lexeme : grammar.Spanned TokenView) → LexerItem
-  Refused : (fault : grammar.Spanned grammar.Fault) → LexerItem
-
--- the items of a text, the fault behind all lexemes
-unfoldable pub items : Text → List LexerItem
-items text = map (λ lexeme. Given (shown_lexeme lexeme)) (outcome text).lexemes ++ map Refused (option_to_list (outcome text).fault)
 
 -- what is answered for an item; want of memory may be answered in its place
 abbrev pub Answers : SourceFile → LexerItem → Result (ℕ × Token × ℕ) (OrMemory (Diagnosed ErrorKind)) → Type 0

@@ -3,7 +3,8 @@
 ghost use Rattle.std.specs.Prelude.{◌≡◌, ◌<◌, ◌≤◌, ◌+◌, ◌*◌, ◌^◌, ◌↔◌, ◌||◌, None, length, true, false, IfOk, IsErr};
 ghost use Rattle.std.specs.List.{slice_get};
 ghost use Rattle.starlark_lexer.specs.Joints.Looked.{IsFoundInCode, IsFoundOut, is_begun, is_front, is_nothing};
-ghost use Rattle.starlark_lexer.specs.Lexer.{AnswersBetween, AnswersNext, AnswersWithin, handed_out_by, is_ended_by, items};
+ghost use Rattle.starlark_lexer.specs.Lexer.{AnswersBetween, AnswersNext, AnswersWithin, handed_out_by, is_ended_by};
+ghost use Rattle.starlark_token.specs.TextItems.{items};
 
 use starlark_base::codemap::{CodeMap, OrMemory, SourceTooLong};
 use starlark_base::dialect::Dialect;

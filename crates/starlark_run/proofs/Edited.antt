@@ -7,9 +7,9 @@ use Rattle.starlark_run.specs.Edits.{edited_text, text_after, text_after_one}
 use Rattle.starlark_run.specs.Joints.Versions.{AreVersions, Fits, Follows, IsRefusal, newest_text}
 use Rattle.starlark_run.specs.declared.edits.Edit.{Edit}
 use Rattle.starlark_run.specs.declared.versions.Version.{Version}
-use Rattle.starlark_run.specs.declared.runs.TheConstants.{GREATEST_LEN}
-use Rattle.starlark_run.specs.declared.runs.RunFault.{RunFault}
-use Rattle.starlark_run.specs.declared.runs.RunFault.TheVariants as fault
+use Rattle.starlark_lines.specs.declared.ends.TheConstants.{GREATEST_LEN}
+use Rattle.starlark_lines.specs.declared.ends.RunFault.{RunFault}
+use Rattle.starlark_lines.specs.declared.ends.RunFault.TheVariants as fault
 
 front_kept : (n : ℕ) (text rest : Text) → n ≤ length text → take n (take n text ++ rest) ≡ take n text
 front_kept zero text rest inside = refl

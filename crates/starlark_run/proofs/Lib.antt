@@ -1,6 +1,2 @@
-mod Rows
-pub mod Items
-pub mod Places
-pub mod Endings
-pub mod Writing
 pub mod Edited
+pub mod Refusals

@@ -4,9 +4,9 @@ use Rattle.starlark_base.specs.Places.{Text}
 use Rattle.starlark_base.specs.Sources.{holds}
 use Rattle.starlark_base.specs.Spans.{ByteSpan}
 use Rattle.starlark_run.specs.declared.edits.Edit.{Edit}
-use Rattle.starlark_run.specs.declared.runs.TheConstants.{GREATEST_LEN}
-use Rattle.starlark_run.specs.declared.runs.RunFault.{RunFault}
-use Rattle.starlark_run.specs.declared.runs.RunFault.TheVariants.{TooLong, BadEdit}
+use Rattle.starlark_lines.specs.declared.ends.TheConstants.{GREATEST_LEN}
+use Rattle.starlark_lines.specs.declared.ends.RunFault.{RunFault}
+use Rattle.starlark_lines.specs.declared.ends.RunFault.TheVariants.{TooLong, BadEdit}
 
 -- the bytes between the edit's places
 abbrev pub edit_span : Edit → ByteSpan

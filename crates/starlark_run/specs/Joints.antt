@@ -1,3 +1,2 @@
--- What only contracts inside of the crate and proofs speak of: the versions of a text, and the line of its fault.
-pub mod Lines
+-- What only contracts inside of the crate and proofs speak of: the versions of a text.
 pub mod Versions

@@ -1,7 +1,7 @@
-pub mod Watch
-pub mod Places
-pub mod Output
-pub mod Writing
 pub mod Edits
-pub mod Runs
 pub mod Joints
+pub use Rattle.starlark_lines.specs.Watch
+pub use Rattle.starlark_lines.specs.Places
+pub use Rattle.starlark_lines.specs.Output
+pub use Rattle.starlark_lines.specs.Writing
+pub use Rattle.starlark_lines.specs.Runs

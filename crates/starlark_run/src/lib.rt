@@ -3,15 +3,11 @@
 //! change the text before.
 #![tactic(auto)]
 
-mod buffer;
 mod edits;
-mod lines;
-mod place;
-mod printer;
+mod printing;
 mod runs;
 mod versions;
-pub mod watched;
 
 pub use edits::Edit;
-pub use runs::{GREATEST_LEN, RunFault, RunStatus, run, run_edits};
-pub use watched::Watched;
+pub use runs::run_edits;
+pub use starlark_print::{GREATEST_LEN, RunFault, RunStatus, Watched, run, watched};

@@ -4,15 +4,15 @@ ghost use Rattle.std.specs.Prelude.{◌≡◌, ◌≤◌, ◌+◌, IfErr, IfOk, 
 ghost use Rattle.starlark_base.specs.Sources.{SourceFile};
 ghost use Rattle.starlark_run.specs.Edits.{text_after, text_after_one};
 ghost use Rattle.starlark_run.specs.Joints.Versions.{AreVersions, Follows, IsRefusal, newest_text};
-ghost use Rattle.starlark_run.specs.declared.runs.RunFault.TheVariants.{Memory};
-ghost use Rattle.starlark_run.specs.declared.runs.TheConstants.{GREATEST_LEN};
+ghost use Rattle.starlark_lines.specs.declared.ends.RunFault.TheVariants.{Memory};
+ghost use Rattle.starlark_lines.specs.declared.ends.TheConstants.{GREATEST_LEN};
 ghost use Rattle.starlark_lexed_text.specs.LexedTexts.{IsLexed};
 
 use crate::edits::{Edit, edited, fits, kept_len};
-use crate::printer::empty_file;
-use crate::runs::{GREATEST_LEN, RunFault};
 use starlark_base::codemap::{CodeMap, OrMemory};
 use starlark_lexed_text::LexedText;
+use starlark_lines::ends::{GREATEST_LEN, RunFault};
+use starlark_lines::printer::empty_file;
 use starlark_text::dialect::Dialect;
 use std::alloc::Global;
 

@@ -2,7 +2,9 @@ pub mod Held
 pub mod SourceErrors
 pub use Rattle.starlark_lexer.specs.Lexer
 pub use Rattle.starlark_lexed_text.specs.LexedTexts
+pub use Rattle.starlark_error.specs.Exceptions
 pub use Rattle.starlark_token.specs.Lexemes
+pub use Rattle.starlark_token.specs.TextItems
 pub use Rattle.starlark_grammar.specs.Words
 pub use Rattle.starlark_grammar.specs.Front
 pub use Rattle.starlark_grammar.specs.Lengths

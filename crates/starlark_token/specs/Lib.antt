@@ -2,6 +2,7 @@ pub mod BigIntegers
 pub mod TokenInts
 pub mod TokenViews
 pub mod Lexemes
+pub mod TextItems
 pub mod TokenTexts
 pub mod NumberRefusals
 pub mod FaultTexts

@@ -16,7 +16,8 @@ use Rattle.starlark_grammar.proofs.Joining.CleanCuts.{cuts_join}
 use Rattle.starlark_grammar.proofs.Joining.Laws.{cuts_of_joined}
 use Rattle.starlark_grammar.proofs.Joining.Tabs.{HasTab, first_margin_is, margin_tab, tab}
 use Rattle.starlark_lexed_text.specs.LexedTexts as texts
-use Rattle.starlark_lexed_text.specs.LexedTexts.{IsFaultIn, IsLexed, LexedView}
+use Rattle.starlark_lexed_text.specs.LexedTexts.{IsLexed, LexedView}
+use Rattle.starlark_error.specs.Exceptions.{IsFaultIn}
 use Rattle.starlark_token.specs.Lexemes.{lexeme_view, shown_lexeme}
 use Rattle.starlark_lexed_text.specs.Joints.LexedTexts.{later}
 use Rattle.starlark_reader.proofs.Pieces.Onward.{first_fails}

@@ -8,7 +8,8 @@ use Rattle.starlark_token.specs.declared.lexeme_error.LexemeError.{LexemeError}
 use Rattle.starlark_grammar.specs.Words.{Text}
 use Rattle.starlark_grammar.specs.Tokens.{Fault, Spanned, moved}
 use Rattle.starlark_grammar.specs.Reading.{outcome}
-use Rattle.starlark_lexed_text.specs.LexedTexts.{IsFaultIn, IsLexed}
+use Rattle.starlark_lexed_text.specs.LexedTexts.{IsLexed}
+use Rattle.starlark_error.specs.Exceptions.{IsFaultIn}
 use Rattle.starlark_token.specs.Lexemes.{lexeme_view}
 use Rattle.starlark_lexed_text.specs.Joints.LexedTexts.{AllNear, IsPart, IsPlacedFault}
 use Rattle.starlark_lexed_text.specs.declared.parts.Part.{Part}

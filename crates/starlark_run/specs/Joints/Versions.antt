@@ -6,9 +6,9 @@ use Rattle.starlark_base.specs.Sources.{Holds}
 use Rattle.starlark_run.specs.Edits.{edit_span}
 use Rattle.starlark_run.specs.declared.edits.Edit.{Edit}
 use Rattle.starlark_run.specs.declared.versions.Version.{Version}
-use Rattle.starlark_run.specs.declared.runs.TheConstants.{GREATEST_LEN}
-use Rattle.starlark_run.specs.declared.runs.RunFault.{RunFault}
-use Rattle.starlark_run.specs.declared.runs.RunFault.TheVariants.{TooLong, BadEdit, Memory}
+use Rattle.starlark_lines.specs.declared.ends.TheConstants.{GREATEST_LEN}
+use Rattle.starlark_lines.specs.declared.ends.RunFault.{RunFault}
+use Rattle.starlark_lines.specs.declared.ends.RunFault.TheVariants.{TooLong, BadEdit, Memory}
 
 -- an edit fits a text, as a fact
 pub record Fits (text : Text) (edit : Edit) : Type 0 where

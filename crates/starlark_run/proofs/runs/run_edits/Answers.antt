@@ -4,11 +4,12 @@ use Rattle.std.proofs.KnownBytes.{Appends-nil}
 use Rattle.std.proofs.lemmas.Result.{err_from_is_err_and}
 use Rattle.std.proofs.lemmas.Str.{IsUtf8-string_bytes}
 use Rattle.std.specs.Str.{IsUtf8}
-use Rattle.starlark_run.proofs.Endings.{run_printed, run_refused, read_told, write_told}
+use Rattle.starlark_lines.proofs.Endings.{run_printed, read_told, write_told}
+use Rattle.starlark_run.proofs.Refusals.{run_refused}
 use Rattle.starlark_run.specs.Edits.{text_after}
 use Rattle.starlark_run.specs.Joints.Versions.{newest_text}
-use Rattle.starlark_run.specs.Runs.{TookAll}
-use Rattle.starlark_run.specs.declared.runs.RunFault.TheVariants.{Memory}
+use Rattle.starlark_lines.specs.Runs.{TookAll}
+use Rattle.starlark_lines.specs.declared.ends.RunFault.TheVariants.{Memory}
 use Rattle.starlark_run.proofs.runs.run_edits.Goals as goal
 
 pub returns-in_err-versions-clause-run : goal.returns-in_err-versions-clause-run

@@ -2,7 +2,7 @@ use Rattle.std.proofs.Common.{◌≡◌, ◌≤◌, ◌+◌, ◌++◌, ◌∷◌
 use Rattle.starlark_run.proofs.Edited.{newest_fits, newest_more, one_taken, versions_more}
 use Rattle.starlark_run.specs.Edits.{text_after}
 use Rattle.starlark_run.specs.Joints.Versions.{AreVersions, newest_text}
-use Rattle.starlark_run.specs.declared.runs.TheConstants.{GREATEST_LEN}
+use Rattle.starlark_lines.specs.declared.ends.TheConstants.{GREATEST_LEN}
 use Rattle.starlark_run.proofs.versions.versions_of.Goals as goal
 
 pub next_version-requires : goal.next_version-requires

@@ -4,7 +4,8 @@ use Rattle.std.proofs.lemmas.List.{length-drop, length-map}
 use Rattle.starlark_grammar.specs.Words.{Text}
 use Rattle.starlark_grammar.specs.Margins.{has_tab, is_content, margin_of}
 use Rattle.starlark_grammar.specs.Reading.{outcome}
-use Rattle.starlark_lexed_text.specs.LexedTexts.{IsFaultIn, IsReadFrom, LexedView}
+use Rattle.starlark_lexed_text.specs.LexedTexts.{IsReadFrom, LexedView}
+use Rattle.starlark_error.specs.Exceptions.{IsFaultIn}
 use Rattle.starlark_token.specs.Lexemes.{lexeme_view, shown_lexeme}
 use Rattle.starlark_lexed_text.specs.Joints.LexedTexts.{AreCuts, IsBegin, IsPart, IsTakenBack, last_newline_of, later, later_cut}
 use Rattle.starlark_lexed_text.specs.declared.cuts.Cut.{Cut}

@@ -1,0 +1,13 @@
+-- The line of a text's fault.
+use Rattle.std.specs.Prelude.{List, map, option_to_list}
+use Rattle.starlark_base.specs.Places.{Text}
+use Rattle.starlark_grammar.specs.Reading.{outcome}
+use Rattle.starlark_token.specs.TextItems.{LexerItem, Refused}
+use Rattle.starlark_lines.specs.Output.{lines_of}
+
+-- the item that a text's fault is, where there is one
+abbrev pub fault_items : Text → List LexerItem
+fault_items text = map Refused (option_to_list (outcome text).fault)
+
+abbrev pub fault_lines : (name text : Text) → Text
+fault_lines name text = lines_of name text (fault_items text)

@@ -1,0 +1,6 @@
+pub mod Watch
+pub mod Places
+pub mod Output
+pub mod Writing
+pub mod Runs
+pub mod Joints

@@ -1,0 +1,81 @@
+-- What a run read and wrote, by how it ended.
+use Rattle.std.specs.Prelude.{◌≡◌, ◌≤◌, ◌<◌, true, false, ◌⊎◌, [], length, Option, Some, None, Result, Ok, Err}
+use Rattle.std.specs.Io.KnownBytes.{Appends}
+use Rattle.std.specs.Str.{IsUtf8}
+use Rattle.starlark_base.specs.Places.{Text}
+use Rattle.starlark_grammar.specs.Reading.{outcome}
+use Rattle.starlark_grammar.specs.Tokens as grammar
+use Rattle.starlark_lines.specs.Output.{output}
+use Rattle.starlark_lines.specs.Watch.{Watch}
+use Rattle.starlark_lines.specs.Writing.{TakesBeginning}
+use Rattle.starlark_lines.specs.declared.ends.TheConstants.{GREATEST_LEN}
+use Rattle.starlark_lines.specs.declared.ends.RunFault.{RunFault}
+use Rattle.starlark_lines.specs.declared.ends.RunFault.TheVariants.{NotUtf8, TooLong, BadEdit, Read, Write, Memory}
+use Rattle.starlark_lines.specs.declared.ends.RunStatus.{RunStatus}
+use Rattle.starlark_lines.specs.declared.ends.RunStatus.TheVariants.{Clean, Fault}
+
+-- the reader came to its end, no read failed, and what came is no longer than a text may be
+pub record IsWhole {R : Type 0} (reader : Watch R) (came : Text) : Type 0 where
+  pub ended : reader.ended ≡ true
+  pub sound : reader.failed ≡ false
+  pub fits : length came ≤ GREATEST_LEN
+
+-- the reader gave more than a text may have
+pub record IsTooLong {R : Type 0} (reader : Watch R) (came : Text) : Type 0 where
+  pub not_ended : reader.ended ≡ false
+  pub sound : reader.failed ≡ false
+  pub too_long : GREATEST_LEN < length came
+
+-- a read failed
+pub record IsBroken {R : Type 0} (reader : Watch R) (came : Text) : Type 0 where
+  pub not_ended : reader.ended ≡ false
+  pub failed : reader.failed ≡ true
+  pub fits : length came ≤ GREATEST_LEN
+
+-- memory was refused before the reader came to its end, and no read failed
+pub record IsStopped {R : Type 0} (reader : Watch R) (came : Text) : Type 0 where
+  pub not_ended : reader.ended ≡ false
+  pub sound : reader.failed ≡ false
+  pub fits : length came ≤ GREATEST_LEN
+
+-- What came from the reader, by how reading to its end ended; what was read is shown by `bytes_of`.
+abbrev pub IsRead : {R T : Type 0} → (T → Text) → (came : Text) → Watch R → Result T RunFault → Type 0
+IsRead bytes_of came reader (Ok text) = IsWhole reader came × (bytes_of text ≡ came)
+IsRead bytes_of came reader (Err NotUtf8) = IsWhole reader came × (¬ IsUtf8 came)
+IsRead bytes_of came reader (Err TooLong) = IsTooLong reader came
+IsRead bytes_of came reader (Err Read) = IsBroken reader came
+IsRead bytes_of came reader (Err Memory) = IsStopped reader came
+IsRead bytes_of came reader (Err fault) = ⊥
+
+-- the writer took all of the text and nothing else, and didn't fail
+pub record TookAll {W : Type 0} (contents : W → Option Text) (old new : Watch W) (text : Text) : Type 0 where
+  pub bytes : Appends (contents old.device) (contents new.device) text
+  pub sound : new.failed ≡ false
+
+-- whether a text is read whole or up to a fault
+abbrev pub status_of : Option (grammar.Spanned grammar.Fault) → RunStatus
+status_of None = Clean
+status_of (Some fault) = Fault
+
+-- What the writer took, by how printing ended. `last` is the text that is printed, or the fault for which there is none: then
+-- nothing is written. `name` is printed before the place of a fault.
+abbrev pub IsPrinted : {W : Type 0} → (W → Option Text) → (name : Text) → (last : Result Text RunFault) → (old new : Watch W) → Result RunStatus RunFault → Type 0
+IsPrinted contents name (Ok text) old new (Ok status) = TookAll contents old new (output name text) × (status ≡ status_of (outcome text).fault)
+IsPrinted contents name (Ok text) old new (Err Write) = TakesBeginning contents old new (output name text) × (new.failed ≡ true)
+IsPrinted contents name (Ok text) old new (Err Memory) = TakesBeginning contents old new (output name text) × (new.failed ≡ false)
+IsPrinted contents name (Err TooLong) old new (Err TooLong) = TookAll contents old new []
+IsPrinted contents name (Err (BadEdit at)) old new (Err (BadEdit told)) = TookAll contents old new [] × (told ≡ at)
+IsPrinted contents name (Err fault) old new (Err Memory) = TookAll contents old new []
+IsPrinted contents name last old new result = ⊥
+
+-- What came from the reader, and what the writer took, by how the run ended. `last` is what is made of the text that came.
+abbrev pub IsRun : {R W : Type 0} → (W → Option Text) → (name came : Text) → (last : Result Text RunFault) → Watch R → (old new : Watch W) → Result RunStatus RunFault → Type 0
+IsRun contents name came last reader old new (Err NotUtf8) = IsWhole reader came × (¬ IsUtf8 came) × TookAll contents old new []
+IsRun contents name came last reader old new (Err Read) = IsBroken reader came × TookAll contents old new []
+IsRun contents name came last reader old new (Err TooLong) =
+    (IsTooLong reader came × TookAll contents old new [])
+    ⊎ (IsWhole reader came × IsUtf8 came × IsPrinted contents name last old new (Err TooLong))
+IsRun contents name came last reader old new (Err Memory) =
+    (IsStopped reader came × TookAll contents old new [])
+    ⊎ (IsWhole reader came × IsUtf8 came × IsPrinted contents name last old new (Err Memory))
+IsRun contents name came last reader old new result = IsWhole reader came × IsUtf8 came × IsPrinted contents name last old new result

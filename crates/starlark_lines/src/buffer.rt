@@ -1,0 +1,103 @@
+//! A buffer in front of a writer.
+
+ghost use Rattle.std.specs.Prelude.{◌≡◌, ◌≤◌, ◌+◌, ◌⊎◌, ◌++◌, [], false, length, IfOk, OnOk};
+ghost use Rattle.starlark_lines.specs.Writing.{Writes};
+
+use crate::ends::RunFault;
+use crate::watched::Watched;
+use std::alloc::{AllocError, Global};
+use std::io::Write;
+use std::marker::Model;
+
+/// How many bytes a buffer holds.
+const BUFFER_LEN: usize = 65_536;
+
+/// What waits to be written. In a contract it is the list of those bytes.
+#[derive(Drop)]
+pub struct Buffer {
+    waiting: Vec<u8>,
+}
+
+impl Model for Buffer {
+    ghost use Rattle.std.specs.Prelude.{List, ℕ};
+
+    ghost Value = { List ℕ };
+
+    ghost view = { λ buffer. buffer.waiting.items };
+}
+
+#[tactic(auto, unfolding(crate::specs::Writing::Writes))]
+/// Writes all of the bytes, or up to the first failure.
+fn write_all<W: Write>(writer: &mut Watched<W>, bytes: &[u8]) -> Result<(), RunFault>
+    requires { writer.old.failed ≡ false }
+    ensures { Writes W.contents writer.old writer.new bytes.now [] result }
+{
+    let mut written = 0;
+    while written < bytes.len() {
+        match writer.write(&bytes[written..]) {
+            Ok(0) => return Err(RunFault::Write),
+            Err(_) => return Err(RunFault::Write),
+            Ok(count) => written += count,
+        }
+    }
+    Ok(())
+}
+
+impl Buffer {
+    /// A buffer in which nothing waits.
+    pub fn new(alloc: Global) -> Result<Buffer, AllocError>
+        ensures { IfOk result (λ buffer. buffer ≡ []) }
+    {
+        let waiting = Vec::with_capacity(alloc, BUFFER_LEN)?;
+        Ok(Buffer { waiting })
+    }
+
+    #[tactic(auto, unfolding(crate::specs::Writing::Writes))]
+    /// Writes what waits.
+    fn send<W: Write>(&mut self, writer: &mut Watched<W>) -> Result<(), RunFault>
+        requires { writer.old.failed ≡ false }
+        ensures writes { Writes W.contents writer.old writer.new self.old [] result }
+        ensures empty { OnOk result (self.new ≡ []) }
+    {
+        write_all(writer, self.waiting.as_slice())?;
+        self.waiting.clear();
+        Ok(())
+    }
+
+    #[tactic(auto, unfolding(crate::specs::Writing::Writes))]
+    /// Makes room for so many bytes, or as much as there can be.
+    fn make_room<W: Write>(&mut self, writer: &mut Watched<W>, len: usize) -> Result<(), RunFault>
+        requires { writer.old.failed ≡ false }
+        ensures room { OnOk result ((self.new ≡ []) ⊎ (length self.new + len ≤ BUFFER_LEN)) }
+        ensures writes { Writes W.contents writer.old writer.new self.old self.new result }
+    {
+        if len >= BUFFER_LEN || self.waiting.len() > BUFFER_LEN - len {
+            return self.send(writer);
+        }
+        Ok(())
+    }
+
+    /// Adds a text to what waits. A text that is as long as the buffer is written as it is.
+    pub fn put<W: Write>(&mut self, writer: &mut Watched<W>, text: &[u8]) -> Result<(), RunFault>
+        requires { writer.old.failed ≡ false }
+        ensures held { OnOk result (length self.new ≤ BUFFER_LEN) }
+        ensures writes { Writes W.contents writer.old writer.new (self.old ++ text.now) self.new result }
+    {
+        self.make_room(writer, text.len())?;
+        if self.waiting.is_empty() && text.len() >= BUFFER_LEN {
+            return write_all(writer, text);
+        }
+        self.waiting.extend_from_slice(text)?;
+        Ok(())
+    }
+
+    #[tactic(auto, unfolding(crate::specs::Writing::Writes))]
+    /// Writes what waits, and flushes the writer.
+    pub fn finish<W: Write>(&mut self, writer: &mut Watched<W>) -> Result<(), RunFault>
+        requires { writer.old.failed ≡ false }
+        ensures { Writes W.contents writer.old writer.new self.old [] result }
+    {
+        self.send(writer)?;
+        writer.flush().map_err(|_| RunFault::Write)
+    }
+}

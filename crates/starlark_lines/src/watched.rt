@@ -1,0 +1,118 @@
+//! A reader or a writer that remembers whether it failed or ended.
+
+ghost use Rattle.std.specs.Prelude.{◌≡◌, ◌||◌, true, false, is_err};
+ghost use Rattle.std.specs.Io.{ReadsAtMost, WritesAtMost};
+ghost use Rattle.std.specs.Io.KnownBytes.{Keeps, ReadConsumes, WriteAppends};
+ghost use Rattle.starlark_lines.specs.Watch.{reads_end, fails_to_write};
+
+use std::io;
+use std::io::{Read, Write};
+use std::marker::Model;
+
+/// A device, and two flags that rise and never fall: whether a call of it failed, and whether a
+/// reader came to its end.
+#[derive(Drop)]
+pub struct Watched<D> {
+    device: D,
+    failed: bool,
+    ended: bool,
+}
+
+impl<D> Model for Watched<D> {
+    ghost use Rattle.starlark_lines.specs.Watch.{Watch};
+
+    ghost Value = { Watch D };
+
+    ghost view = { λ w. record { device = w.device; failed = w.failed; ended = w.ended } };
+}
+
+impl<D> Watched<D> {
+    /// Watches a device, which has neither failed nor ended yet.
+    pub fn new(device: D) -> Watched<D>
+        ensures device { result.device ≡ device }
+        ensures failed { result.failed ≡ false }
+        ensures ended { result.ended ≡ false }
+    {
+        Watched {
+            device,
+            failed: false,
+            ended: false,
+        }
+    }
+
+    /// Whether a call of the device failed, or a write of a piece that isn't empty took nothing.
+    pub fn failed(&self) -> bool
+        ensures { result ≡ self.now.failed }
+    {
+        self.failed
+    }
+
+    /// Whether a read into room that isn't empty gave no byte.
+    pub fn ended(&self) -> bool
+        ensures { result ≡ self.now.ended }
+    {
+        self.ended
+    }
+
+    /// The device.
+    pub fn device(&self) -> &D
+        ensures { result.now ≡ self.now.device }
+    {
+        &self.device
+    }
+}
+
+impl<D: Read> Watched<D> {
+    /// Reads from the device as `std::io::Read::read` does, and answers what it answered.
+    pub fn read(&mut self, buf: &mut [u8]) -> io::Result<usize>
+        ensures bound { ReadsAtMost result buf.new }
+        ensures bytes { ReadConsumes (D.remaining self.old.device) (D.remaining self.new.device) result buf.new }
+        ensures failed { self.new.failed ≡ (self.old.failed || is_err result) }
+        ensures ended { self.new.ended ≡ (self.old.ended || reads_end result buf.new) }
+    {
+        let result = self.device.read(buf);
+        match &result {
+            Ok(count) => {
+                if *count == 0 && !buf.is_empty() {
+                    self.ended = true;
+                }
+            }
+            Err(_) => self.failed = true,
+        }
+        result
+    }
+}
+
+impl<D: Write> Watched<D> {
+    /// Writes to the device as `std::io::Write::write` does, and answers what it answered.
+    pub fn write(&mut self, buf: &[u8]) -> io::Result<usize>
+        ensures bound { WritesAtMost result buf.now }
+        ensures bytes { WriteAppends (D.contents self.old.device) (D.contents self.new.device) result buf.now }
+        ensures failed { self.new.failed ≡ (self.old.failed || fails_to_write result buf.now) }
+        ensures ended { self.new.ended ≡ self.old.ended }
+    {
+        let result = self.device.write(buf);
+        match &result {
+            Ok(count) => {
+                if *count == 0 && !buf.is_empty() {
+                    self.failed = true;
+                }
+            }
+            Err(_) => self.failed = true,
+        }
+        result
+    }
+
+    /// Flushes the device as `std::io::Write::flush` does, and answers what it answered.
+    pub fn flush(&mut self) -> io::Result<()>
+        ensures bytes { Keeps (D.contents self.old.device) (D.contents self.new.device) }
+        ensures failed { self.new.failed ≡ (self.old.failed || is_err result) }
+        ensures ended { self.new.ended ≡ self.old.ended }
+    {
+        let result = self.device.flush();
+        if result.is_err() {
+            self.failed = true;
+        }
+        result
+    }
+}

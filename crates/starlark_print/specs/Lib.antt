@@ -1,0 +1,5 @@
+pub use Rattle.starlark_lines.specs.Watch
+pub use Rattle.starlark_lines.specs.Places
+pub use Rattle.starlark_lines.specs.Output
+pub use Rattle.starlark_lines.specs.Writing
+pub use Rattle.starlark_lines.specs.Runs

@@ -1,0 +1,78 @@
+//! Prints the lexemes of a text, each as it is found.
+
+ghost use Rattle.std.specs.Prelude.{◌≡◌, ◌≤◌, ◌++◌, [], length, false, IfOk, IfErr};
+ghost use Rattle.starlark_grammar.specs.Reading.{outcome};
+ghost use Rattle.starlark_lines.specs.Output.{output};
+ghost use Rattle.starlark_lines.specs.Runs.{status_of};
+ghost use Rattle.starlark_lines.specs.Writing.{Writes};
+ghost use Rattle.starlark_lines.specs.declared.ends.RunFault.TheVariants.{Memory};
+ghost use Rattle.starlark_lines.specs.declared.ends.TheConstants.{GREATEST_LEN};
+
+use starlark_base::codemap::{OrMemory, SourceTooLong};
+use starlark_lexer::Lexer;
+use starlark_lines::ends::{RunFault, RunStatus};
+use starlark_lines::place::Place;
+use starlark_lines::printer::{Printer, empty_file};
+use starlark_lines::watched::Watched;
+use starlark_text::dialect::Dialect;
+use std::alloc::Global;
+use std::io::Write;
+
+/// Puts the lines of a text, of which the lexer has handed out nothing yet, and says whether the text has a fault.
+fn put_items<W: Write>(
+    printer: &mut Printer,
+    writer: &mut Watched<W>,
+    name: &str,
+    text: &str,
+    lexer: &mut Lexer<'_>,
+) -> Result<RunStatus, RunFault>
+    requires sound { writer.old.failed ≡ false }
+    requires fresh { lexer.old ≡ record { text = text.now; code_map = lexer.old.code_map; handed_out = 0; has_ended = false } }
+    ensures writes { Writes W.contents writer.old writer.new (printer.old.buffer ++ output name.now text.now) printer.new.buffer result }
+    ensures status { IfOk result (λ status. status ≡ status_of (outcome text.now).fault) }
+{
+    let mut place = Place::START;
+    while let Some(item) = lexer.next() {
+        match item {
+            Ok(lexeme) => place = printer.lexeme(writer, text, place, lexeme)?,
+            Err(OrMemory::Error(exception)) => {
+                printer.exception(writer, name, text, place, &exception)?;
+                return Ok(RunStatus::Fault);
+            }
+            Err(OrMemory::Memory) => return Err(RunFault::Memory),
+        }
+    }
+    Ok(RunStatus::Clean)
+}
+
+/// A lexer of a text, whose faults lie in a code map of no text.
+fn lexer_of(alloc: Global, text: &str) -> Result<Lexer<'_>, RunFault>
+    requires { length text.now ≤ GREATEST_LEN }
+    ensures made { IfOk result (λ lexer. lexer ≡ record { text = text.now; code_map = record { id = 0; filename = []; source = [] }; handed_out = 0; has_ended = false }) }
+    ensures refused { IfErr result (λ fault. fault ≡ Memory) }
+{
+    let file = empty_file(alloc)?;
+    match Lexer::new(alloc, text, &Dialect::Extended, file) {
+        Ok(lexer) => Ok(lexer),
+        Err(SourceTooLong) => Err(RunFault::TooLong),
+    }
+}
+
+/// Prints the output for a text that has this name, and says whether it has a fault.
+pub fn print<W: Write>(
+    alloc: Global,
+    name: &str,
+    text: &str,
+    writer: &mut Watched<W>,
+) -> Result<RunStatus, RunFault>
+    requires sound { writer.old.failed ≡ false }
+    requires fits { length text.now ≤ GREATEST_LEN }
+    ensures writes { Writes W.contents writer.old writer.new (output name.now text.now) [] result }
+    ensures status { IfOk result (λ status. status ≡ status_of (outcome text.now).fault) }
+{
+    let mut lexer = lexer_of(alloc, text)?;
+    let mut printer = Printer::new(alloc)?;
+    let status = put_items(&mut printer, writer, name, text, &mut lexer)?;
+    printer.buffer.finish(writer)?;
+    Ok(status)
+}
