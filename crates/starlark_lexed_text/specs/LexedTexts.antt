@@ -8,7 +8,7 @@ use Rattle.starlark_grammar.specs.Words.{Text}
 use Rattle.starlark_grammar.specs.Tokens as grammar
 use Rattle.starlark_grammar.specs.Reading.{outcome}
 use Rattle.starlark_grammar.specs.Cuts.{is_kept_cut}
-use Rattle.starlark_error.specs.Exceptions.{IsFaultIn}
+pub use Rattle.starlark_error.specs.Exceptions.{IsFaultIn}
 use Rattle.starlark_token.specs.Lexemes.{shown_lexeme}
 use Rattle.starlark_token.specs.TokenViews.{TokenView}
 

@@ -8,10 +8,11 @@ use Rattle.starlark_base.specs.Diagnostics.{Diagnosed}
 use Rattle.starlark_text.specs.declared.refusals.OrMemory.{OrMemory}
 use Rattle.starlark_text.specs.declared.refusals.OrMemory.TheVariants as refusal
 use Rattle.starlark_error.specs.declared.error.kinds.ErrorKind.{ErrorKind}
-use Rattle.starlark_error.specs.Exceptions.{IsException}
+pub use Rattle.starlark_error.specs.Exceptions.{IsException}
 use Rattle.starlark_grammar.specs.Words.{Text}
-use Rattle.starlark_token.specs.Lexemes.{IsWithin, lexeme_view}
-use Rattle.starlark_token.specs.TextItems.{LexerItem, Given, Refused, items}
+pub use Rattle.starlark_token.specs.Lexemes.{IsWithin}
+use Rattle.starlark_token.specs.Lexemes.{lexeme_view}
+pub use Rattle.starlark_token.specs.TextItems.{LexerItem, Given, Refused, items}
 use Rattle.starlark_token.specs.declared.tokens.Token.{Token}
 
 -- A lexer: its text, the code map of its faults, how many items it has handed out, and whether an error has ended it.
