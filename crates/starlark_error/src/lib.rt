@@ -6,6 +6,5 @@ pub mod eval_exception;
 pub mod fault_exception;
 
 pub use starlark_base::{
-    call_stack, codemap, convert_indices, cursors, diagnostic, dialect, dot_format_parser,
-    fast_string,
+    call_stack, codemap, convert_indices, cursors, diagnostic, dialect, fast_string,
 };

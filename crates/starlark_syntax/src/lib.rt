@@ -5,6 +5,7 @@ pub mod laws;
 pub mod lexer;
 
 pub use starlark_error::{
-    call_stack, codemap, convert_indices, cursors, diagnostic, dialect, dot_format_parser, error,
-    eval_exception, fast_string,
+    call_stack, codemap, convert_indices, cursors, diagnostic, dialect, error, eval_exception,
+    fast_string,
 };
+pub use starlark_formats::dot_format_parser;

@@ -1,10 +1,6 @@
 pub mod Characters
 pub mod Cursors
 pub mod Dialects
-pub mod FormatLaws
-pub mod Formats
 pub mod Indices
 pub mod Joints
-pub mod Parsing
 pub mod Parts
-pub mod Scanning

@@ -1,10 +1,10 @@
 -- What the grammar of format strings implies.
 use Rattle.std.specs.Prelude.{◌≡◌, ◌<◌, ◌⊎◌, List, map, length, Option, Result}
-use Rattle.starlark_text.specs.declared.dot_format_parser.FormatError.{FormatError}
-use Rattle.starlark_text.specs.declared.dot_format_parser.FormatErrorKind.{FormatErrorKind}
-use Rattle.starlark_text.specs.declared.dot_format_parser.FormatToken.{FormatToken}
-use Rattle.starlark_text.specs.Formats.{Text, Piece, StandsAt, Refuses, IsOutcome, IsReading, Token, tokens_from, ParsesTo, written_back, without_place}
-use Rattle.starlark_text.specs.Parsing.{Parser, start_of, token_view, Answers, AnswersAll, IsEnding}
+use Rattle.starlark_formats.specs.declared.dot_format_parser.FormatError.{FormatError}
+use Rattle.starlark_formats.specs.declared.dot_format_parser.FormatErrorKind.{FormatErrorKind}
+use Rattle.starlark_formats.specs.declared.dot_format_parser.FormatToken.{FormatToken}
+use Rattle.starlark_formats.specs.Formats.{Text, Piece, StandsAt, Refuses, IsOutcome, IsReading, Token, tokens_from, ParsesTo, written_back, without_place}
+use Rattle.starlark_formats.specs.Parsing.{Parser, start_of, token_view, Answers, AnswersAll, IsEnding}
 
 -- where something is left, a piece stands there or it is refused, …
 abbrev pub SomethingStands : Type 0

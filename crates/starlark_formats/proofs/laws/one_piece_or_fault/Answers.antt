@@ -1,5 +1,5 @@
-use Rattle.starlark_text.proofs.Readings.{something_stands, never_both, one_piece, one_fault}
-use Rattle.starlark_text.proofs.laws.one_piece_or_fault.Goals as goal
+use Rattle.starlark_formats.proofs.Readings.{something_stands, never_both, one_piece, one_fault}
+use Rattle.starlark_formats.proofs.laws.one_piece_or_fault.Goals as goal
 
 pub returns-clause-something : goal.returns-clause-something
 returns-clause-something c = something_stands

@@ -6,14 +6,14 @@ use Rattle.std.proofs.lemmas.List.Sums.{prefix_len-le-length, prefix_len_stops}
 use Rattle.std.proofs.lemmas.List.Folds.{length-prefix_len}
 use Rattle.std.proofs.lemmas.Str.{IsCharBoundary-after_ascii, IsCharBoundary-before_ascii, IsCharBoundary-end}
 use Rattle.std.specs.Str.{IsUtf8, IsCharBoundary}
-use Rattle.starlark_text.specs.declared.dot_format_parser.EscapeCurlyBrace.TheVariants.{Open, Close}
-use Rattle.starlark_text.specs.declared.dot_format_parser.FormatConv.{FormatConv}
-use Rattle.starlark_text.specs.declared.dot_format_parser.FormatErrorKind.{FormatErrorKind}
-use Rattle.starlark_text.specs.declared.dot_format_parser.FormatToken.{FormatToken}
-use Rattle.starlark_text.specs.Formats.{Text, is_open, is_close, is_brace, ends_name, BeginsWith, Suffix, suffix_text, conversion, Piece, plain, capture, escape, written, StandsAt, Refuses, Token, verbatim, captured, token_of}
-use Rattle.starlark_text.specs.Parsing.{token_view, IsToken}
-use Rattle.starlark_text.specs.Scanning.{ending, ending_view, is_doubled, with_name, name_width, plain_width, open_piece, close_piece, piece_at, token_found}
-use Rattle.starlark_text.proofs.Pieces.{found_stands, found_refused, capture_joins}
+use Rattle.starlark_formats.specs.declared.dot_format_parser.EscapeCurlyBrace.TheVariants.{Open, Close}
+use Rattle.starlark_formats.specs.declared.dot_format_parser.FormatConv.{FormatConv}
+use Rattle.starlark_formats.specs.declared.dot_format_parser.FormatErrorKind.{FormatErrorKind}
+use Rattle.starlark_formats.specs.declared.dot_format_parser.FormatToken.{FormatToken}
+use Rattle.starlark_formats.specs.Formats.{Text, is_open, is_close, is_brace, ends_name, BeginsWith, Suffix, suffix_text, conversion, Piece, plain, capture, escape, written, StandsAt, Refuses, Token, verbatim, captured, token_of}
+use Rattle.starlark_formats.specs.Parsing.{token_view, IsToken}
+use Rattle.starlark_formats.specs.Scanning.{ending, ending_view, is_doubled, with_name, name_width, plain_width, open_piece, close_piece, piece_at, token_found}
+use Rattle.starlark_formats.proofs.Pieces.{found_stands, found_refused, capture_joins}
 
 -- a capture and its length
 capture_width : (name : Text) (suffix : Suffix) → length (written (capture name suffix)) ≡ 1 + length name + (length (suffix_text suffix) + 1)

@@ -1,5 +1,5 @@
-use Rattle.starlark_text.proofs.Readings.{some_outcome, one_outcome, one_reading}
-use Rattle.starlark_text.proofs.laws.one_outcome.Goals as goal
+use Rattle.starlark_formats.proofs.Readings.{some_outcome, one_outcome, one_reading}
+use Rattle.starlark_formats.proofs.laws.one_outcome.Goals as goal
 
 pub returns-clause-some : goal.returns-clause-some
 returns-clause-some c = some_outcome

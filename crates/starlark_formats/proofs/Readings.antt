@@ -3,17 +3,17 @@ use Rattle.std.proofs.Common.{◌≡◌, ℕ, zero, suc, ◌+◌, ◌<◌, ◌�
 use Rattle.std.proofs.lemmas.Bool.{eqb-true, and_parts}
 use Rattle.std.proofs.lemmas.List.{drop_at}
 use Rattle.std.specs.List.{list_all}
-use Rattle.starlark_text.specs.declared.dot_format_parser.EscapeCurlyBrace.TheVariants.{Open, Close}
-use Rattle.starlark_text.specs.declared.dot_format_parser.FormatError.{FormatError}
-use Rattle.starlark_text.specs.declared.dot_format_parser.FormatErrorKind.{FormatErrorKind}
-use Rattle.starlark_text.specs.declared.dot_format_parser.FormatErrorKind.TheVariants.{StandaloneClose, UnmatchedOpen, MissingConversion, InvalidConversion}
-use Rattle.starlark_text.specs.declared.dot_format_parser.FormatToken.{FormatToken}
-use Rattle.starlark_text.specs.Formats.{Text, is_open, is_close, is_brace, IsPlain, BeginsWith, EndsOrBeginsWith, Suffix, bare, bang_s, bang_r, Piece, plain, capture, escape, written, IsPiece, IsLongest, StandsAt, NoPiece, Refuses, IsOutcome, IsReading, token_of, tokens_from, token_text, written_back, without_place}
-use Rattle.starlark_text.specs.FormatLaws.{SomethingStands, NeverBoth, OnePiece, OneFault, SomeOutcome, OneOutcome, OneReading, AnswersOutcome, ParsesBack}
-use Rattle.starlark_text.specs.Parsing.{Parser, rest_of, start_of, token_view, IsToken, Answers, AnswersAll, IsFault, IsEnding}
-use Rattle.starlark_text.specs.Scanning.{is_doubled, close_piece, piece_at}
-use Rattle.starlark_text.proofs.Pieces.{stands_found, found_stands, lacks_found, other_found, found_refused, capture_joins}
-use Rattle.starlark_text.proofs.Tokens.{at_close}
+use Rattle.starlark_formats.specs.declared.dot_format_parser.EscapeCurlyBrace.TheVariants.{Open, Close}
+use Rattle.starlark_formats.specs.declared.dot_format_parser.FormatError.{FormatError}
+use Rattle.starlark_formats.specs.declared.dot_format_parser.FormatErrorKind.{FormatErrorKind}
+use Rattle.starlark_formats.specs.declared.dot_format_parser.FormatErrorKind.TheVariants.{StandaloneClose, UnmatchedOpen, MissingConversion, InvalidConversion}
+use Rattle.starlark_formats.specs.declared.dot_format_parser.FormatToken.{FormatToken}
+use Rattle.starlark_formats.specs.Formats.{Text, is_open, is_close, is_brace, IsPlain, BeginsWith, EndsOrBeginsWith, Suffix, bare, bang_s, bang_r, Piece, plain, capture, escape, written, IsPiece, IsLongest, StandsAt, NoPiece, Refuses, IsOutcome, IsReading, token_of, tokens_from, token_text, written_back, without_place}
+use Rattle.starlark_formats.specs.FormatLaws.{SomethingStands, NeverBoth, OnePiece, OneFault, SomeOutcome, OneOutcome, OneReading, AnswersOutcome, ParsesBack}
+use Rattle.starlark_formats.specs.Parsing.{Parser, rest_of, start_of, token_view, IsToken, Answers, AnswersAll, IsFault, IsEnding}
+use Rattle.starlark_formats.specs.Scanning.{is_doubled, close_piece, piece_at}
+use Rattle.starlark_formats.proofs.Pieces.{stands_found, found_stands, lacks_found, other_found, found_refused, capture_joins}
+use Rattle.starlark_formats.proofs.Tokens.{at_close}
 
 -- ---- a place
 

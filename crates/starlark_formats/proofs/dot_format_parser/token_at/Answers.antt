@@ -1,7 +1,7 @@
 use Rattle.std.proofs.Common.{◌∙◌, sym, ap}
-use Rattle.starlark_text.specs.Scanning.{plain_width, token_found}
-use Rattle.starlark_text.proofs.Tokens.{at_open, at_close, plain_ok, plain_boundary, front_is}
-use Rattle.starlark_text.proofs.dot_format_parser.token_at.Goals as goal
+use Rattle.starlark_formats.specs.Scanning.{plain_width, token_found}
+use Rattle.starlark_formats.proofs.Tokens.{at_open, at_close, plain_ok, plain_boundary, front_is}
+use Rattle.starlark_formats.proofs.dot_format_parser.token_at.Goals as goal
 
 pub returns-then-first-eq123 : goal.returns-then-first-eq123
 returns-then-first-eq123 c = c.open_token.ensures ∙ ap (token_found c.args.at) (sym (at_open c.args.text.now c.requires.some (rw c.as_bytes.ensures.value at c.if-first-eq123.true)))

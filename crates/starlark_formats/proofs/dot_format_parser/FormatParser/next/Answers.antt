@@ -2,11 +2,11 @@ use Rattle.std.proofs.Common.{◌<◌, Option, length, drop, sym, subst, refl, a
 use Rattle.std.proofs.lemmas.Bool.Decides.{nat_tests}
 use Rattle.std.proofs.lemmas.Str.{IsCharBoundary-from_rest}
 use Rattle.std.specs.Str.{IsCharBoundary}
-use Rattle.starlark_text.specs.declared.dot_format_parser.FormatErrorKind.{FormatErrorKind}
-use Rattle.starlark_text.specs.Formats.{Text, Refuses}
-use Rattle.starlark_text.specs.Parsing.{IsToken, IsFault}
-use Rattle.starlark_text.proofs.Tokens.{answered, refused, token_boundary}
-use Rattle.starlark_text.proofs.dot_format_parser.FormatParser.next.Goals as goal
+use Rattle.starlark_formats.specs.declared.dot_format_parser.FormatErrorKind.{FormatErrorKind}
+use Rattle.starlark_formats.specs.Formats.{Text, Refuses}
+use Rattle.starlark_formats.specs.Parsing.{IsToken, IsFault}
+use Rattle.starlark_formats.proofs.Tokens.{answered, refused, token_boundary}
+use Rattle.starlark_formats.proofs.dot_format_parser.FormatParser.next.Goals as goal
 
 pub overflow_add-self : goal.overflow_add-self
 overflow_add-self c =

@@ -3,11 +3,11 @@ use Rattle.std.proofs.Common.{◌≡◌, ℕ, ◌<◌, ◌==◌, Bool, true, fal
 use Rattle.std.proofs.lemmas.Bool.{and_parts, eqb-true}
 use Rattle.std.proofs.lemmas.List.{take-append-drop, drop_at}
 use Rattle.std.specs.List.{list_all, prefix_len}
-use Rattle.starlark_text.specs.declared.dot_format_parser.EscapeCurlyBrace.TheVariants.{Open, Close}
-use Rattle.starlark_text.specs.declared.dot_format_parser.FormatErrorKind.{FormatErrorKind}
-use Rattle.starlark_text.specs.declared.dot_format_parser.FormatErrorKind.TheVariants.{StandaloneClose, UnmatchedOpen, MissingConversion, InvalidConversion}
-use Rattle.starlark_text.specs.Formats.{Text, is_open, is_close, is_brace, ends_name, begins_conversion, IsPlain, IsName, EndsOrBeginsWith, Suffix, bare, bang_s, bang_r, suffix_text, Piece, plain, capture, escape, written, StandsAt, NoPiece, LacksConversion, HasOtherConversion, Refuses}
-use Rattle.starlark_text.specs.Scanning.{closed, converted, ending, is_doubled, with_name, name_width, plain_width, open_piece, close_piece, piece_at}
+use Rattle.starlark_formats.specs.declared.dot_format_parser.EscapeCurlyBrace.TheVariants.{Open, Close}
+use Rattle.starlark_formats.specs.declared.dot_format_parser.FormatErrorKind.{FormatErrorKind}
+use Rattle.starlark_formats.specs.declared.dot_format_parser.FormatErrorKind.TheVariants.{StandaloneClose, UnmatchedOpen, MissingConversion, InvalidConversion}
+use Rattle.starlark_formats.specs.Formats.{Text, is_open, is_close, is_brace, ends_name, begins_conversion, IsPlain, IsName, EndsOrBeginsWith, Suffix, bare, bang_s, bang_r, suffix_text, Piece, plain, capture, escape, written, StandsAt, NoPiece, LacksConversion, HasOtherConversion, Refuses}
+use Rattle.starlark_formats.specs.Scanning.{closed, converted, ending, is_doubled, with_name, name_width, plain_width, open_piece, close_piece, piece_at}
 
 -- ---- a run of bytes up to one that stops it
 

@@ -1,10 +1,10 @@
 -- What a parser of a format string answers at its place.
 use Rattle.std.specs.Prelude.{◌≡◌, ℕ, ◌+◌, List, [], ◌∷◌, length, drop, Option, None, Some, Result, Ok, Err}
-use Rattle.starlark_text.specs.declared.dot_format_parser.FormatErrorKind.{FormatErrorKind}
-use Rattle.starlark_text.specs.declared.dot_format_parser.FormatToken.{FormatToken}
-use Rattle.starlark_text.specs.declared.dot_format_parser.FormatToken.TheVariants.{Text, Capture, Escape}
-use Rattle.starlark_text.specs.declared.dot_format_parser.FormatError.{FormatError}
-use Rattle.starlark_text.specs.Formats.{Piece, written, StandsAt, Refuses, Token, verbatim, captured, escaped, token_of}
+use Rattle.starlark_formats.specs.declared.dot_format_parser.FormatErrorKind.{FormatErrorKind}
+use Rattle.starlark_formats.specs.declared.dot_format_parser.FormatToken.{FormatToken}
+use Rattle.starlark_formats.specs.declared.dot_format_parser.FormatToken.TheVariants.{Text, Capture, Escape}
+use Rattle.starlark_formats.specs.declared.dot_format_parser.FormatError.{FormatError}
+use Rattle.starlark_formats.specs.Formats.{Piece, written, StandsAt, Refuses, Token, verbatim, captured, escaped, token_of}
 
 -- the whole format string, the place in it, and the fault that was found
 pub record Parser : Type 0 where

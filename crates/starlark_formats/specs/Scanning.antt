@@ -1,13 +1,13 @@
 -- The piece at the front of a text, as the private functions of the parser look for it. No public contract cites this: those cite the grammar, which it meets.
 use Rattle.std.proofs.Common.{ℕ, ◌+◌, Bool, false, cond, not, ◌==◌, [], ◌∷◌, length, take, drop, Result, Ok, Err}
 use Rattle.std.specs.List.{prefix_len}
-use Rattle.starlark_text.specs.declared.dot_format_parser.EscapeCurlyBrace.TheVariants.{Open, Close}
-use Rattle.starlark_text.specs.declared.dot_format_parser.FormatConv.{FormatConv}
-use Rattle.starlark_text.specs.declared.dot_format_parser.FormatErrorKind.{FormatErrorKind}
-use Rattle.starlark_text.specs.declared.dot_format_parser.FormatErrorKind.TheVariants.{StandaloneClose, UnmatchedOpen, MissingConversion, InvalidConversion}
-use Rattle.starlark_text.specs.declared.dot_format_parser.FormatToken.{FormatToken}
-use Rattle.starlark_text.specs.Formats.{Text, is_open, is_close, is_brace, ends_name, Suffix, bare, bang_s, bang_r, suffix_text, conversion, Piece, plain, capture, escape, written, Token, token_of}
-use Rattle.starlark_text.specs.Parsing.{token_view}
+use Rattle.starlark_formats.specs.declared.dot_format_parser.EscapeCurlyBrace.TheVariants.{Open, Close}
+use Rattle.starlark_formats.specs.declared.dot_format_parser.FormatConv.{FormatConv}
+use Rattle.starlark_formats.specs.declared.dot_format_parser.FormatErrorKind.{FormatErrorKind}
+use Rattle.starlark_formats.specs.declared.dot_format_parser.FormatErrorKind.TheVariants.{StandaloneClose, UnmatchedOpen, MissingConversion, InvalidConversion}
+use Rattle.starlark_formats.specs.declared.dot_format_parser.FormatToken.{FormatToken}
+use Rattle.starlark_formats.specs.Formats.{Text, is_open, is_close, is_brace, ends_name, Suffix, bare, bang_s, bang_r, suffix_text, conversion, Piece, plain, capture, escape, written, Token, token_of}
+use Rattle.starlark_formats.specs.Parsing.{token_view}
 
 -- the suffix that stands behind a name, with the closing brace
 abbrev pub closed : Suffix → Text → Result Suffix FormatErrorKind

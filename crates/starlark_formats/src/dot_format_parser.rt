@@ -2,11 +2,11 @@
 //! the escapes `{{` and `}}`.
 
 ghost use Rattle.std.specs.Prelude.{◌≡◌, ◌+◌, ◌<◌, ◌≤◌, ◌^◌, ℕ, length};
-ghost use Rattle.starlark_text.specs.Formats as spec;
-ghost use Rattle.starlark_text.specs.Formats.{BeginsWith};
-ghost use Rattle.starlark_text.specs.Parsing.{Answers};
-ghost use Rattle.starlark_text.specs.Scanning as scan;
-ghost use Rattle.starlark_text.specs.Scanning.{plain_width, name_width, ending_view, token_found, found_view};
+ghost use Rattle.starlark_formats.specs.Formats as spec;
+ghost use Rattle.starlark_formats.specs.Formats.{BeginsWith};
+ghost use Rattle.starlark_formats.specs.Parsing.{Answers};
+ghost use Rattle.starlark_formats.specs.Scanning as scan;
+ghost use Rattle.starlark_formats.specs.Scanning.{plain_width, name_width, ending_view, token_found, found_view};
 
 use std::fmt;
 use std::marker::Model;
@@ -93,7 +93,7 @@ pub struct FormatError<'a> {
 
 impl<'a> fmt::Display for FormatError<'a> {
     ghost use Rattle.std.specs.Prelude.{◌++◌, Some, codes};
-    ghost use Rattle.starlark_text.specs.Formats.{fault_text};
+    ghost use Rattle.starlark_formats.specs.Formats.{fault_text};
 
     ghost output = { λ error. Some (fault_text error.kind ++ error.original.now ++ codes "`") };
 
@@ -126,7 +126,7 @@ pub struct FormatParser<'a> {
 
 impl<'a> Model for FormatParser<'a> {
     ghost use Rattle.std.specs.Str.{IsCharBoundary};
-    ghost use Rattle.starlark_text.specs.Parsing.{Parser};
+    ghost use Rattle.starlark_formats.specs.Parsing.{Parser};
 
     ghost Value = { Parser };
 

@@ -1,12 +1,12 @@
 -- Format strings: their pieces, what the pieces mean, and what is refused.
 use Rattle.std.specs.Prelude.{◌≡◌, ℕ, ◌+◌, ◌<◌, Bool, ◌||◌, not, ◌==◌, List, [], ◌∷◌, ◌++◌, length, codes, Option, None, Some, IsTrue, ⊤}
 use Rattle.std.specs.List.{list_all, flat_map}
-use Rattle.starlark_text.specs.declared.dot_format_parser.EscapeCurlyBrace.{EscapeCurlyBrace}
-use Rattle.starlark_text.specs.declared.dot_format_parser.EscapeCurlyBrace.TheVariants.{Open, Close}
-use Rattle.starlark_text.specs.declared.dot_format_parser.FormatConv.{FormatConv}
-use Rattle.starlark_text.specs.declared.dot_format_parser.FormatConv.TheVariants.{Str, Repr}
-use Rattle.starlark_text.specs.declared.dot_format_parser.FormatErrorKind.{FormatErrorKind}
-use Rattle.starlark_text.specs.declared.dot_format_parser.FormatErrorKind.TheVariants.{StandaloneClose, UnmatchedOpen, MissingConversion, InvalidConversion}
+use Rattle.starlark_formats.specs.declared.dot_format_parser.EscapeCurlyBrace.{EscapeCurlyBrace}
+use Rattle.starlark_formats.specs.declared.dot_format_parser.EscapeCurlyBrace.TheVariants.{Open, Close}
+use Rattle.starlark_formats.specs.declared.dot_format_parser.FormatConv.{FormatConv}
+use Rattle.starlark_formats.specs.declared.dot_format_parser.FormatConv.TheVariants.{Str, Repr}
+use Rattle.starlark_formats.specs.declared.dot_format_parser.FormatErrorKind.{FormatErrorKind}
+use Rattle.starlark_formats.specs.declared.dot_format_parser.FormatErrorKind.TheVariants.{StandaloneClose, UnmatchedOpen, MissingConversion, InvalidConversion}
 
 abbrev pub Text : Type 0
 Text = List ℕ

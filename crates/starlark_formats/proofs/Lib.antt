@@ -1,0 +1,4 @@
+mod Rows
+pub mod Pieces
+pub mod Readings
+pub mod Tokens

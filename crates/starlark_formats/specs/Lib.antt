@@ -1,0 +1,4 @@
+pub mod FormatLaws
+pub mod Formats
+pub mod Parsing
+pub mod Scanning

@@ -1,0 +1,5 @@
+//! Format strings, as `str.format` of a Starlark evaluator takes them. Nothing here takes memory.
+#![tactic(auto)]
+
+pub mod dot_format_parser;
+pub mod laws;
