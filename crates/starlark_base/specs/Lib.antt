@@ -2,7 +2,6 @@ pub use Rattle.starlark_text.specs.Characters
 pub use Rattle.starlark_text.specs.Parts
 pub use Rattle.starlark_text.specs.Indices
 pub use Rattle.starlark_text.specs.Cursors
-pub use Rattle.starlark_formats.specs.Formats
 pub use Rattle.starlark_text.specs.Dialects
 pub mod Spans
 pub mod Places

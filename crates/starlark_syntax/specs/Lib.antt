@@ -2,6 +2,7 @@ pub mod Held
 pub mod SourceErrors
 pub use Rattle.starlark_lexer.specs.Lexer
 pub use Rattle.starlark_lexed_text.specs.LexedTexts
+pub use Rattle.starlark_formats.specs.Formats
 pub use Rattle.starlark_error.specs.Exceptions
 pub use Rattle.starlark_token.specs.Lexemes
 pub use Rattle.starlark_token.specs.TextItems
