@@ -46,7 +46,7 @@ fn first_character_len(text: &str) -> usize
 /// them through this type. In a contract it is the count, which stops at the greatest number that it can have.
 ///
 /// The length of a run is that of the longest one at the front of a text. The byte that ends it is read, too.
-#[derive(Debug, Drop)]
+#[derive(Drop)]
 pub struct Reads {
     count: u64,
 }

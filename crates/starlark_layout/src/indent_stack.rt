@@ -8,7 +8,7 @@ use std::marker::Model;
 
 /// The open ones of the widths of the content lines so far, the least first. A content line looks at the ones that it
 /// closes and at one more, so that the cost of all lines together is linear in the text.
-#[derive(Debug, Drop)]
+#[derive(Drop)]
 pub struct IndentStack {
     widths: Vec<usize>,
 }

@@ -10,7 +10,7 @@ use crate::feeds::before_feed_len;
 use starlark_bytes::reads::Reads;
 
 /// The blanks at the front of a text: how many, how many of them are spaces, and whether one is a tab.
-#[derive(Clone, Copy, Debug, PartialEq, Eq)]
+#[derive(Clone, Copy)]
 pub struct Blanks {
     pub len: usize,
     pub width: usize,
@@ -18,7 +18,7 @@ pub struct Blanks {
 }
 
 /// A margin: where its last line begins behind its comment-only lines, the blanks there, and whether content follows.
-#[derive(Clone, Copy, Debug, PartialEq, Eq)]
+#[derive(Clone, Copy)]
 pub struct Margin {
     pub at: usize,
     pub blanks: Blanks,

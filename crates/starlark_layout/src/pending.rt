@@ -15,7 +15,7 @@ use std::alloc::{AllocError, Global};
 
 /// What is still to be handed out behind the comments: so many `Dedent`s at a place, an `Indent`, or what ends a text
 /// of an f-string.
-#[derive(Clone, Copy, Debug, PartialEq, Eq)]
+#[derive(Clone, Copy)]
 pub enum Behind {
     Dedents {
         at: usize,
@@ -34,7 +34,7 @@ pub enum Behind {
 
 /// What was read of a text and is still to be handed out: the comments of the comment-only lines from one place to
 /// another, and what stands behind them. Places are in bytes.
-#[derive(Clone, Copy, Debug, PartialEq, Eq)]
+#[derive(Clone, Copy)]
 pub struct Pending {
     pub from: usize,
     pub to: usize,

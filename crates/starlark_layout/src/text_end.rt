@@ -7,7 +7,7 @@ ghost use Rattle.starlark_token.specs.TokenViews.{Whole, token_view};
 use starlark_token::tokens::Token;
 
 /// What ends a text of an f-string: the start of an expression, or the end of the f-string.
-#[derive(Clone, Copy, Debug, PartialEq, Eq)]
+#[derive(Clone, Copy)]
 pub enum TextEnd {
     Expression,
     FString,

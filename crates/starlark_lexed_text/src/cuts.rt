@@ -5,14 +5,14 @@ ghost use Rattle.starlark_grammar.specs.Words.{Text};
 ghost use Rattle.starlark_lexed_text.specs.Joints.LexedTexts.{AllNearCuts, AreBeyond, AreCuts, IsBegin, IsUpTo, later_cut};
 
 /// A place in a text, in bytes, where it may be cut, and how many lexemes stand before it.
-#[derive(Clone, Copy, Debug, PartialEq, Eq)]
+#[derive(Clone, Copy)]
 pub struct Cut {
     pub at: usize,
     pub lexemes: usize,
 }
 
 /// Where a text is lexed again: at a place, in bytes, behind so many lexemes and so many cuts that may be kept.
-#[derive(Clone, Copy, Debug, PartialEq, Eq)]
+#[derive(Clone, Copy)]
 pub struct Begin {
     pub at: usize,
     pub lexemes: usize,

@@ -22,7 +22,7 @@ pub type PlacedFault = (usize, LexemeError, usize);
 
 /// What a text comes to: its lexemes, its fault behind them, places where it may be cut, whether its end is one,
 /// whether its first margin has a tab before content, and how often its bytes were read.
-#[derive(Debug, Drop)]
+#[derive(Drop)]
 pub struct Part {
     pub lexemes: Vec<PlacedToken>,
     pub fault: Option<PlacedFault>,

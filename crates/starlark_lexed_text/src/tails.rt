@@ -57,7 +57,7 @@ pub fn last_newline(lexemes: &[PlacedToken]) -> Option<usize>
 
 /// What is kept of a lexed text: so many lexemes and cuts. A fault of what was read behind them lies so many bytes
 /// further on, and its lexemes may be dropped.
-#[derive(Clone, Copy, Debug, PartialEq, Eq)]
+#[derive(Clone, Copy)]
 pub struct Kept {
     pub lexemes: usize,
     pub cuts: usize,

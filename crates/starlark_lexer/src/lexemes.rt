@@ -34,7 +34,7 @@ pub struct Lexer<'a> {
 }
 
 /// How far the quick ways have looked at what comes next.
-#[derive(Clone, Copy, Debug, PartialEq, Eq)]
+#[derive(Clone, Copy)]
 enum Looked {
     /// Not at all; and the text is read on, at a place of code, with nothing that waits.
     Nothing,

@@ -14,7 +14,7 @@ use starlark_grammar::class::LiteralKind;
 use std::alloc::{AllocError, Global};
 
 /// The value of a literal: characters, or bytes.
-#[derive(Debug, Drop, PartialEq, Eq)]
+#[derive(Drop)]
 pub enum LiteralValue {
     Text(String),
     Bytes(Vec<u8>),
@@ -143,7 +143,7 @@ fn append_item_to_bytes(bytes: &mut Vec<u8>, run: &str, value: Value<'_>) -> Res
 }
 
 /// A body: its length in bytes, what it denotes, and why it stops.
-#[derive(Debug, Drop, PartialEq, Eq)]
+#[derive(Drop)]
 pub struct Body {
     pub len: usize,
     pub value: LiteralValue,

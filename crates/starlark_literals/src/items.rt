@@ -13,7 +13,7 @@ use starlark_bytes::reads::Reads;
 use starlark_grammar::class::{LiteralKind, Quote};
 
 /// How a literal begins: whether it is raw, its quote, and whether three of them close it.
-#[derive(Clone, Copy, Debug, PartialEq, Eq)]
+#[derive(Clone, Copy)]
 pub struct Opening {
     pub is_raw: bool,
     pub quote: Quote,
@@ -21,14 +21,14 @@ pub struct Opening {
 }
 
 /// A literal, as far as its body is read by it.
-#[derive(Clone, Copy, Debug, PartialEq, Eq)]
+#[derive(Clone, Copy)]
 pub struct Literal {
     pub kind: LiteralKind,
     pub opening: Opening,
 }
 
 /// What an item denotes: a part of the text, a character, or a byte.
-#[derive(Clone, Copy, Debug, PartialEq, Eq)]
+#[derive(Clone, Copy)]
 pub enum Value<'a> {
     Part(&'a str),
     Character(char),
@@ -36,14 +36,14 @@ pub enum Value<'a> {
 }
 
 /// An item of a body: its length in bytes, and what it denotes.
-#[derive(Clone, Copy, Debug, PartialEq, Eq)]
+#[derive(Clone, Copy)]
 pub struct Item<'a> {
     pub len: usize,
     pub value: Value<'a>,
 }
 
 /// Why a body stops. A bad escape was read for `len` bytes, of which its last character has `last`.
-#[derive(Clone, Copy, Debug, PartialEq, Eq)]
+#[derive(Clone, Copy)]
 pub enum Stop {
     Closing,
     Line,
@@ -54,7 +54,7 @@ pub enum Stop {
 }
 
 /// What stands at a place of a body.
-#[derive(Clone, Copy, Debug, PartialEq, Eq)]
+#[derive(Clone, Copy)]
 pub enum Found<'a> {
     Goes(Item<'a>),
     Stops(Stop),

@@ -15,7 +15,7 @@ use std::simd::prelude::*;
 
 /// The bytes that end a run in a literal, beside a backslash and a CR. Where a rule speaks of no LF or of no braces,
 /// the quote stands in their place.
-#[derive(Clone, Copy, Debug, PartialEq, Eq)]
+#[derive(Clone, Copy)]
 pub struct Ends {
     quote: u8,
     feed: u8,

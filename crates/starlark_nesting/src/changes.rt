@@ -8,7 +8,7 @@ use starlark_token::tokens::Token;
 
 /// What a token does: it opens or closes a bracket, begins or ends an expression of an f-string, ends an f-string, or
 /// does none of these.
-#[derive(Clone, Copy, Debug, PartialEq, Eq)]
+#[derive(Clone, Copy, PartialEq, Eq)]
 pub enum Change {
     OpensRound,
     ClosesRound,

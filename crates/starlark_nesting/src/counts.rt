@@ -12,7 +12,7 @@ use crate::nesting::LexerMode;
 use starlark_literals::Opening;
 
 /// How many brackets were opened, and how many were closed. A count that is the greatest number there is stays so.
-#[derive(Clone, Copy, Debug, PartialEq, Eq)]
+#[derive(Clone, Copy)]
 pub struct Brackets {
     pub opened: usize,
     pub closed: usize,
@@ -63,7 +63,7 @@ impl Brackets {
 
 /// An open f-string: how it begins, the curly brackets of its open expression, if one is open, and how deep its end is
 /// in round and in square ones. No count is greater than those of the whole text.
-#[derive(Clone, Copy, Debug, PartialEq, Eq)]
+#[derive(Clone, Copy)]
 pub struct OpenFString {
     opening: Opening,
     expression: Option<Brackets>,

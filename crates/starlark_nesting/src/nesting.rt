@@ -15,7 +15,7 @@ use std::alloc::{AllocError, Global};
 
 /// Where a place is: outside of f-strings, in the text of one, at the top of an expression of one, or deeper in
 /// that.
-#[derive(Clone, Copy, Debug, PartialEq, Eq)]
+#[derive(Clone, Copy)]
 pub enum LexerMode {
     Outside,
     InText(Opening),
@@ -24,7 +24,7 @@ pub enum LexerMode {
 }
 
 /// What is open at a place: the f-strings, the innermost last, and how many brackets were opened and closed before it.
-#[derive(Debug, Drop)]
+#[derive(Drop)]
 pub struct Nesting {
     fstrings: Vec<OpenFString>,
     brackets: Brackets,

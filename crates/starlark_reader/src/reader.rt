@@ -43,7 +43,7 @@ use std::alloc::{AllocError, Global};
 use std::mem;
 
 /// How far a text is read: not at all, up to a place, up to its fault, or to its end.
-#[derive(Debug, Drop)]
+#[derive(Drop)]
 enum Stage {
     Begin,
     Onward,
@@ -56,7 +56,7 @@ enum Stage {
 }
 
 /// What the piece right before a place is: a margin, a skipped piece, or another.
-#[derive(Clone, Copy, Debug, PartialEq, Eq)]
+#[derive(Clone, Copy)]
 enum Before {
     Layout,
     Gap,
@@ -74,7 +74,7 @@ impl Before {
 
 /// What was read of a text up to a place: the brackets, f-strings and widths that are open there, what the piece right
 /// before it is, and what is still to be handed out.
-#[derive(Debug, Drop)]
+#[derive(Drop)]
 pub struct Reader {
     alloc: Global,
     at: usize,
@@ -87,7 +87,7 @@ pub struct Reader {
 }
 
 /// What comes next of a text: a lexeme, or its fault with the places where that begins and ends.
-#[derive(Debug, Drop)]
+#[derive(Drop)]
 pub enum Next {
     Lexeme(PlacedToken),
     Fault {
@@ -99,7 +99,7 @@ pub enum Next {
 }
 
 /// What became of a line end: it doesn't count and was passed, a `Newline` stands there, or its margin has a fault.
-#[derive(Clone, Copy, Debug, PartialEq, Eq)]
+#[derive(Clone, Copy)]
 pub enum LineEnd {
     Passed,
     Newline,

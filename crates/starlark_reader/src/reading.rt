@@ -31,7 +31,7 @@ use std::alloc::{AllocError, Global};
 use terminals::terminal_token;
 
 /// What stands at a place. Lengths are in bytes.
-#[derive(Debug, Drop)]
+#[derive(Drop)]
 pub enum Piece {
     /// Bytes that give nothing: a skipped piece, which is a gap, or a line end that doesn't count.
     Nothing { len: usize, is_gap: bool },

@@ -77,7 +77,7 @@ pub fn chunk_from(
 
 /// A text of an f-string in which each character denotes itself: its length, what ends it, and the length of that. Lengths
 /// are in bytes.
-#[derive(Clone, Copy, Debug, PartialEq, Eq)]
+#[derive(Clone, Copy)]
 pub struct PlainText {
     pub len: usize,
     pub stop: TextEnd,

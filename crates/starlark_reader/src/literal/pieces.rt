@@ -27,7 +27,7 @@ use std::alloc::{AllocError, Global};
 /// What stands at a place: a token of so many bytes; a text of an f-string, of `text_len` bytes, which is no lexeme
 /// where it denotes nothing, and what ends it; or a fault, from one place to another. Places are in bytes from
 /// there on.
-#[derive(Debug, Drop)]
+#[derive(Drop)]
 pub enum Step {
     Token {
         token: Token,
