@@ -36,7 +36,10 @@ pub fn edited_in_the_middle(alloc: Global, text: &str, from: usize) -> Result<St
 fn agree(first: &str, second: &str, from: usize) -> bool
     ensures { result ≡ true → IsCharBoundary first.now from × IsCharBoundary second.now from × (take from first.now ≡ take from second.now) }
 {
-    first.is_char_boundary(from) && second.is_char_boundary(from) && first[..from] == second[..from]
+    if !first.is_char_boundary(from) || !second.is_char_boundary(from) {
+        return false;
+    }
+    first[..from] == second[..from]
 }
 
 /// Lexes the source of a code map, and again where it has become another text from a place on, and prints a line.
