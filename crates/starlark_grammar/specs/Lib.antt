@@ -15,3 +15,4 @@ pub mod Cuts
 pub mod LineEnds
 pub mod EarlierLanguage
 pub mod Laws
+pub mod Joints
