@@ -6,6 +6,4 @@ mod Literals
 mod Layout
 mod FStrings
 mod Mixed
-mod Cuts
-mod LineEnds
 mod EarlierLanguage

@@ -1,0 +1,3 @@
+-- Worked texts, in files by what they show.
+mod Cuts
+mod LineEnds
