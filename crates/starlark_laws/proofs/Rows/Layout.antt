@@ -1,32 +1,32 @@
 -- Worked texts of layout, closed by computing.
 use Rattle.std.proofs.Common.{refl}
 use Rattle.std.specs.Prelude.{[], ◌∷◌, codes}
-use Rattle.starlark_grammar.specs.Words as word
+use Rattle.starlark_grammar.specs.declared.class.Terminal.TheVariants as terminal
 use Rattle.starlark_grammar.specs.Tokens.{Comment, Indent, Dedent, Newline, Identifier, String, Word, Indentation, InvalidInput, InvalidTab}
 use Rattle.starlark_grammar.proofs.Rows.Shapes.{all_definitions, at, Lexes, Stops}
 
 -- lines, margins and widths
 layout_1 :
-    Lexes (codes "\ndef test(a):\n  fail(a)\n\ntest(\"abc\")\n") (at 0 Newline 1 ∷ at 1 (Word word.Def) 4 ∷ at 5 (Identifier (codes "test")) 9 ∷ at 9 (Word word.OpeningRound) 10 ∷ at 10 (Identifier (codes "a")) 11 ∷ at 11 (Word word.ClosingRound) 12 ∷ at 12 (Word word.Colon) 13 ∷ at 13 Newline 14 ∷ at 14 Indent 16 ∷ at 16 (Identifier (codes "fail")) 20 ∷ at 20 (Word word.OpeningRound) 21 ∷ at 21 (Identifier (codes "a")) 22 ∷ at 22 (Word word.ClosingRound) 23 ∷ at 23 Newline 24 ∷ at 24 Newline 25 ∷ at 25 Dedent 25 ∷ at 25 (Identifier (codes "test")) 29 ∷ at 29 (Word word.OpeningRound) 30 ∷ at 30 (String (codes "abc")) 35 ∷ at 35 (Word word.ClosingRound) 36 ∷ at 36 Newline 37 ∷ at 37 Newline 37 ∷ [])
-    × Lexes (codes "if x:\n  y\n") (at 0 (Word word.If) 2 ∷ at 3 (Identifier (codes "x")) 4 ∷ at 4 (Word word.Colon) 5 ∷ at 5 Newline 6 ∷ at 6 Indent 8 ∷ at 8 (Identifier (codes "y")) 9 ∷ at 9 Newline 10 ∷ at 10 Newline 10 ∷ at 10 Dedent 10 ∷ [])
-    × Stops (codes "if x:\n    y\n  z\n") (at 0 (Word word.If) 2 ∷ at 3 (Identifier (codes "x")) 4 ∷ at 4 (Word word.Colon) 5 ∷ at 5 Newline 6 ∷ at 6 Indent 10 ∷ at 10 (Identifier (codes "y")) 11 ∷ []) (at 11 Indentation 14)
+    Lexes (codes "\ndef test(a):\n  fail(a)\n\ntest(\"abc\")\n") (at 0 Newline 1 ∷ at 1 (Word terminal.Def) 4 ∷ at 5 (Identifier (codes "test")) 9 ∷ at 9 (Word terminal.OpeningRound) 10 ∷ at 10 (Identifier (codes "a")) 11 ∷ at 11 (Word terminal.ClosingRound) 12 ∷ at 12 (Word terminal.Colon) 13 ∷ at 13 Newline 14 ∷ at 14 Indent 16 ∷ at 16 (Identifier (codes "fail")) 20 ∷ at 20 (Word terminal.OpeningRound) 21 ∷ at 21 (Identifier (codes "a")) 22 ∷ at 22 (Word terminal.ClosingRound) 23 ∷ at 23 Newline 24 ∷ at 24 Newline 25 ∷ at 25 Dedent 25 ∷ at 25 (Identifier (codes "test")) 29 ∷ at 29 (Word terminal.OpeningRound) 30 ∷ at 30 (String (codes "abc")) 35 ∷ at 35 (Word terminal.ClosingRound) 36 ∷ at 36 Newline 37 ∷ at 37 Newline 37 ∷ [])
+    × Lexes (codes "if x:\n  y\n") (at 0 (Word terminal.If) 2 ∷ at 3 (Identifier (codes "x")) 4 ∷ at 4 (Word terminal.Colon) 5 ∷ at 5 Newline 6 ∷ at 6 Indent 8 ∷ at 8 (Identifier (codes "y")) 9 ∷ at 9 Newline 10 ∷ at 10 Newline 10 ∷ at 10 Dedent 10 ∷ [])
+    × Stops (codes "if x:\n    y\n  z\n") (at 0 (Word terminal.If) 2 ∷ at 3 (Identifier (codes "x")) 4 ∷ at 4 (Word terminal.Colon) 5 ∷ at 5 Newline 6 ∷ at 6 Indent 10 ∷ at 10 (Identifier (codes "y")) 11 ∷ []) (at 11 Indentation 14)
     × Stops (codes "# c\r\n\tx") (at 0 (Comment (codes " c")) 3 ∷ []) (at 0 InvalidTab 0)
     × Stops (codes "x\n# c\n\ty") (at 0 (Identifier (codes "x")) 1 ∷ []) (at 1 InvalidTab 1)
-    × Lexes (codes "a)\nb\n") (at 0 (Identifier (codes "a")) 1 ∷ at 1 (Word word.ClosingRound) 2 ∷ at 3 (Identifier (codes "b")) 4 ∷ at 5 Newline 5 ∷ [])
+    × Lexes (codes "a)\nb\n") (at 0 (Identifier (codes "a")) 1 ∷ at 1 (Word terminal.ClosingRound) 2 ∷ at 3 (Identifier (codes "b")) 4 ∷ at 5 Newline 5 ∷ [])
     × Lexes (codes "x\r\n\r\ny") (at 0 (Identifier (codes "x")) 1 ∷ at 1 Newline 3 ∷ at 4 Newline 5 ∷ at 5 (Identifier (codes "y")) 6 ∷ at 6 Newline 6 ∷ [])
-    × Lexes (codes "a:\n b:\n  c\nd") (at 0 (Identifier (codes "a")) 1 ∷ at 1 (Word word.Colon) 2 ∷ at 2 Newline 3 ∷ at 3 Indent 4 ∷ at 4 (Identifier (codes "b")) 5 ∷ at 5 (Word word.Colon) 6 ∷ at 6 Newline 7 ∷ at 7 Indent 9 ∷ at 9 (Identifier (codes "c")) 10 ∷ at 10 Newline 11 ∷ at 11 Dedent 11 ∷ at 11 Dedent 11 ∷ at 11 (Identifier (codes "d")) 12 ∷ at 12 Newline 12 ∷ [])
+    × Lexes (codes "a:\n b:\n  c\nd") (at 0 (Identifier (codes "a")) 1 ∷ at 1 (Word terminal.Colon) 2 ∷ at 2 Newline 3 ∷ at 3 Indent 4 ∷ at 4 (Identifier (codes "b")) 5 ∷ at 5 (Word terminal.Colon) 6 ∷ at 6 Newline 7 ∷ at 7 Indent 9 ∷ at 9 (Identifier (codes "c")) 10 ∷ at 10 Newline 11 ∷ at 11 Dedent 11 ∷ at 11 Dedent 11 ∷ at 11 (Identifier (codes "d")) 12 ∷ at 12 Newline 12 ∷ [])
 unfolding all_definitions
 layout_1 = (refl, refl, refl, refl, refl, refl, refl, refl)
 
 -- lines, margins and widths
 layout_2 :
-    Lexes (codes "if x:\n  y\n # c\nz\n") (at 0 (Word word.If) 2 ∷ at 3 (Identifier (codes "x")) 4 ∷ at 4 (Word word.Colon) 5 ∷ at 5 Newline 6 ∷ at 6 Indent 8 ∷ at 8 (Identifier (codes "y")) 9 ∷ at 9 Newline 10 ∷ at 11 (Comment (codes " c")) 14 ∷ at 15 Dedent 15 ∷ at 15 (Identifier (codes "z")) 16 ∷ at 16 Newline 17 ∷ at 17 Newline 17 ∷ [])
+    Lexes (codes "if x:\n  y\n # c\nz\n") (at 0 (Word terminal.If) 2 ∷ at 3 (Identifier (codes "x")) 4 ∷ at 4 (Word terminal.Colon) 5 ∷ at 5 Newline 6 ∷ at 6 Indent 8 ∷ at 8 (Identifier (codes "y")) 9 ∷ at 9 Newline 10 ∷ at 11 (Comment (codes " c")) 14 ∷ at 15 Dedent 15 ∷ at 15 (Identifier (codes "z")) 16 ∷ at 16 Newline 17 ∷ at 17 Newline 17 ∷ [])
     × Lexes (codes " x\n y\n# c") (at 0 Indent 1 ∷ at 1 (Identifier (codes "x")) 2 ∷ at 2 Newline 3 ∷ at 4 (Identifier (codes "y")) 5 ∷ at 5 Newline 6 ∷ at 6 (Comment (codes " c")) 9 ∷ at 9 Newline 9 ∷ at 9 Dedent 9 ∷ [])
-    × Stops (codes "if x:\n y\n$") (at 0 (Word word.If) 2 ∷ at 3 (Identifier (codes "x")) 4 ∷ at 4 (Word word.Colon) 5 ∷ at 5 Newline 6 ∷ at 6 Indent 7 ∷ at 7 (Identifier (codes "y")) 8 ∷ at 8 Newline 9 ∷ at 9 Dedent 9 ∷ []) (at 9 (InvalidInput (codes "$")) 10)
-    × Stops (codes "a:\n  b\n \tc") (at 0 (Identifier (codes "a")) 1 ∷ at 1 (Word word.Colon) 2 ∷ at 2 Newline 3 ∷ at 3 Indent 5 ∷ at 5 (Identifier (codes "b")) 6 ∷ []) (at 6 InvalidTab 6)
+    × Stops (codes "if x:\n y\n$") (at 0 (Word terminal.If) 2 ∷ at 3 (Identifier (codes "x")) 4 ∷ at 4 (Word terminal.Colon) 5 ∷ at 5 Newline 6 ∷ at 6 Indent 7 ∷ at 7 (Identifier (codes "y")) 8 ∷ at 8 Newline 9 ∷ at 9 Dedent 9 ∷ []) (at 9 (InvalidInput (codes "$")) 10)
+    × Stops (codes "a:\n  b\n \tc") (at 0 (Identifier (codes "a")) 1 ∷ at 1 (Word terminal.Colon) 2 ∷ at 2 Newline 3 ∷ at 3 Indent 5 ∷ at 5 (Identifier (codes "b")) 6 ∷ []) (at 6 InvalidTab 6)
     × Lexes (codes "x\n\t# c\ny") (at 0 (Identifier (codes "x")) 1 ∷ at 1 Newline 2 ∷ at 3 (Comment (codes " c")) 6 ∷ at 7 (Identifier (codes "y")) 8 ∷ at 8 Newline 8 ∷ [])
-    × Lexes (codes "(\n  a\n)\nb") (at 0 (Word word.OpeningRound) 1 ∷ at 4 (Identifier (codes "a")) 5 ∷ at 6 (Word word.ClosingRound) 7 ∷ at 7 Newline 8 ∷ at 8 (Identifier (codes "b")) 9 ∷ at 9 Newline 9 ∷ [])
-    × Stops (codes "(\n\ta") (at 0 (Word word.OpeningRound) 1 ∷ []) (at 2 InvalidTab 2)
+    × Lexes (codes "(\n  a\n)\nb") (at 0 (Word terminal.OpeningRound) 1 ∷ at 4 (Identifier (codes "a")) 5 ∷ at 6 (Word terminal.ClosingRound) 7 ∷ at 7 Newline 8 ∷ at 8 (Identifier (codes "b")) 9 ∷ at 9 Newline 9 ∷ [])
+    × Stops (codes "(\n\ta") (at 0 (Word terminal.OpeningRound) 1 ∷ []) (at 2 InvalidTab 2)
     × Lexes (codes "x\n\t\ny") (at 0 (Identifier (codes "x")) 1 ∷ at 1 Newline 2 ∷ at 3 Newline 4 ∷ at 4 (Identifier (codes "y")) 5 ∷ at 5 Newline 5 ∷ [])
 unfolding all_definitions
 layout_2 = (refl, refl, refl, refl, refl, refl, refl, refl)
@@ -138,7 +138,7 @@ tabs_1 = (refl, refl, refl, refl, refl, refl, refl, refl)
 tabs_2 :
     Stops (codes "   x\n \ty") (at 0 Indent 3 ∷ at 3 (Identifier (codes "x")) 4 ∷ []) (at 4 InvalidTab 4)
     × Lexes (codes "x\n\t\n") (at 0 (Identifier (codes "x")) 1 ∷ at 1 Newline 2 ∷ at 3 Newline 4 ∷ at 4 Newline 4 ∷ [])
-    × Stops (codes "(\n\tx)") (at 0 (Word word.OpeningRound) 1 ∷ []) (at 2 InvalidTab 2)
+    × Stops (codes "(\n\tx)") (at 0 (Word terminal.OpeningRound) 1 ∷ []) (at 2 InvalidTab 2)
     × Stops (codes "x\\\n\ty") (at 0 (Identifier (codes "x")) 1 ∷ []) (at 3 InvalidTab 3)
     × Lexes (codes "\t") (at 1 Newline 1 ∷ [])
     × Lexes (codes "\t#") (at 1 (Comment []) 2 ∷ at 2 Newline 2 ∷ [])
@@ -147,24 +147,24 @@ tabs_2 = (refl, refl, refl, refl, refl, refl)
 
 -- brackets and line ends
 brackets_1 :
-    Lexes (codes "(\n)\n") (at 0 (Word word.OpeningRound) 1 ∷ at 2 (Word word.ClosingRound) 3 ∷ at 3 Newline 4 ∷ at 4 Newline 4 ∷ [])
-    × Lexes (codes "[\n]\n") (at 0 (Word word.OpeningSquare) 1 ∷ at 2 (Word word.ClosingSquare) 3 ∷ at 3 Newline 4 ∷ at 4 Newline 4 ∷ [])
-    × Lexes (codes "{\n}\n") (at 0 (Word word.OpeningCurly) 1 ∷ at 2 (Word word.ClosingCurly) 3 ∷ at 3 Newline 4 ∷ at 4 Newline 4 ∷ [])
-    × Lexes (codes "(]\nx") (at 0 (Word word.OpeningRound) 1 ∷ at 1 (Word word.ClosingSquare) 2 ∷ at 2 Newline 3 ∷ at 3 (Identifier (codes "x")) 4 ∷ at 4 Newline 4 ∷ [])
-    × Lexes (codes "(}\n)x") (at 0 (Word word.OpeningRound) 1 ∷ at 1 (Word word.ClosingCurly) 2 ∷ at 2 Newline 3 ∷ at 3 (Word word.ClosingRound) 4 ∷ at 4 (Identifier (codes "x")) 5 ∷ at 5 Newline 5 ∷ [])
-    × Lexes (codes ")\nx") (at 0 (Word word.ClosingRound) 1 ∷ at 2 (Identifier (codes "x")) 3 ∷ at 3 Newline 3 ∷ [])
-    × Lexes (codes ")(\nx") (at 0 (Word word.ClosingRound) 1 ∷ at 1 (Word word.OpeningRound) 2 ∷ at 2 Newline 3 ∷ at 3 (Identifier (codes "x")) 4 ∷ at 4 Newline 4 ∷ [])
-    × Lexes (codes "((\n)\n)\n") (at 0 (Word word.OpeningRound) 1 ∷ at 1 (Word word.OpeningRound) 2 ∷ at 3 (Word word.ClosingRound) 4 ∷ at 5 (Word word.ClosingRound) 6 ∷ at 6 Newline 7 ∷ at 7 Newline 7 ∷ [])
+    Lexes (codes "(\n)\n") (at 0 (Word terminal.OpeningRound) 1 ∷ at 2 (Word terminal.ClosingRound) 3 ∷ at 3 Newline 4 ∷ at 4 Newline 4 ∷ [])
+    × Lexes (codes "[\n]\n") (at 0 (Word terminal.OpeningSquare) 1 ∷ at 2 (Word terminal.ClosingSquare) 3 ∷ at 3 Newline 4 ∷ at 4 Newline 4 ∷ [])
+    × Lexes (codes "{\n}\n") (at 0 (Word terminal.OpeningCurly) 1 ∷ at 2 (Word terminal.ClosingCurly) 3 ∷ at 3 Newline 4 ∷ at 4 Newline 4 ∷ [])
+    × Lexes (codes "(]\nx") (at 0 (Word terminal.OpeningRound) 1 ∷ at 1 (Word terminal.ClosingSquare) 2 ∷ at 2 Newline 3 ∷ at 3 (Identifier (codes "x")) 4 ∷ at 4 Newline 4 ∷ [])
+    × Lexes (codes "(}\n)x") (at 0 (Word terminal.OpeningRound) 1 ∷ at 1 (Word terminal.ClosingCurly) 2 ∷ at 2 Newline 3 ∷ at 3 (Word terminal.ClosingRound) 4 ∷ at 4 (Identifier (codes "x")) 5 ∷ at 5 Newline 5 ∷ [])
+    × Lexes (codes ")\nx") (at 0 (Word terminal.ClosingRound) 1 ∷ at 2 (Identifier (codes "x")) 3 ∷ at 3 Newline 3 ∷ [])
+    × Lexes (codes ")(\nx") (at 0 (Word terminal.ClosingRound) 1 ∷ at 1 (Word terminal.OpeningRound) 2 ∷ at 2 Newline 3 ∷ at 3 (Identifier (codes "x")) 4 ∷ at 4 Newline 4 ∷ [])
+    × Lexes (codes "((\n)\n)\n") (at 0 (Word terminal.OpeningRound) 1 ∷ at 1 (Word terminal.OpeningRound) 2 ∷ at 3 (Word terminal.ClosingRound) 4 ∷ at 5 (Word terminal.ClosingRound) 6 ∷ at 6 Newline 7 ∷ at 7 Newline 7 ∷ [])
 unfolding all_definitions
 brackets_1 = (refl, refl, refl, refl, refl, refl, refl, refl)
 
 -- brackets and line ends
 brackets_2 :
-    Lexes (codes "{[(\n)]}\n") (at 0 (Word word.OpeningCurly) 1 ∷ at 1 (Word word.OpeningSquare) 2 ∷ at 2 (Word word.OpeningRound) 3 ∷ at 4 (Word word.ClosingRound) 5 ∷ at 5 (Word word.ClosingSquare) 6 ∷ at 6 (Word word.ClosingCurly) 7 ∷ at 7 Newline 8 ∷ at 8 Newline 8 ∷ [])
-    × Lexes (codes "(\n  # c\n x)\n y") (at 0 (Word word.OpeningRound) 1 ∷ at 4 (Comment (codes " c")) 7 ∷ at 9 (Identifier (codes "x")) 10 ∷ at 10 (Word word.ClosingRound) 11 ∷ at 11 Newline 12 ∷ at 12 Indent 13 ∷ at 13 (Identifier (codes "y")) 14 ∷ at 14 Newline 14 ∷ at 14 Dedent 14 ∷ [])
-    × Lexes (codes "(\n\n  x\n)\n") (at 0 (Word word.OpeningRound) 1 ∷ at 5 (Identifier (codes "x")) 6 ∷ at 7 (Word word.ClosingRound) 8 ∷ at 8 Newline 9 ∷ at 9 Newline 9 ∷ [])
-    × Lexes (codes ")\n(\n x") (at 0 (Word word.ClosingRound) 1 ∷ at 2 (Word word.OpeningRound) 3 ∷ at 3 Newline 4 ∷ at 4 Indent 5 ∷ at 5 (Identifier (codes "x")) 6 ∷ at 6 Newline 6 ∷ at 6 Dedent 6 ∷ [])
-    × Lexes (codes "]\n\n[\n\nx") (at 0 (Word word.ClosingSquare) 1 ∷ at 3 (Word word.OpeningSquare) 4 ∷ at 4 Newline 5 ∷ at 5 Newline 6 ∷ at 6 (Identifier (codes "x")) 7 ∷ at 7 Newline 7 ∷ [])
-    × Lexes (codes "(\r\n)\r\n") (at 0 (Word word.OpeningRound) 1 ∷ at 3 (Word word.ClosingRound) 4 ∷ at 4 Newline 6 ∷ at 6 Newline 6 ∷ [])
+    Lexes (codes "{[(\n)]}\n") (at 0 (Word terminal.OpeningCurly) 1 ∷ at 1 (Word terminal.OpeningSquare) 2 ∷ at 2 (Word terminal.OpeningRound) 3 ∷ at 4 (Word terminal.ClosingRound) 5 ∷ at 5 (Word terminal.ClosingSquare) 6 ∷ at 6 (Word terminal.ClosingCurly) 7 ∷ at 7 Newline 8 ∷ at 8 Newline 8 ∷ [])
+    × Lexes (codes "(\n  # c\n x)\n y") (at 0 (Word terminal.OpeningRound) 1 ∷ at 4 (Comment (codes " c")) 7 ∷ at 9 (Identifier (codes "x")) 10 ∷ at 10 (Word terminal.ClosingRound) 11 ∷ at 11 Newline 12 ∷ at 12 Indent 13 ∷ at 13 (Identifier (codes "y")) 14 ∷ at 14 Newline 14 ∷ at 14 Dedent 14 ∷ [])
+    × Lexes (codes "(\n\n  x\n)\n") (at 0 (Word terminal.OpeningRound) 1 ∷ at 5 (Identifier (codes "x")) 6 ∷ at 7 (Word terminal.ClosingRound) 8 ∷ at 8 Newline 9 ∷ at 9 Newline 9 ∷ [])
+    × Lexes (codes ")\n(\n x") (at 0 (Word terminal.ClosingRound) 1 ∷ at 2 (Word terminal.OpeningRound) 3 ∷ at 3 Newline 4 ∷ at 4 Indent 5 ∷ at 5 (Identifier (codes "x")) 6 ∷ at 6 Newline 6 ∷ at 6 Dedent 6 ∷ [])
+    × Lexes (codes "]\n\n[\n\nx") (at 0 (Word terminal.ClosingSquare) 1 ∷ at 3 (Word terminal.OpeningSquare) 4 ∷ at 4 Newline 5 ∷ at 5 Newline 6 ∷ at 6 (Identifier (codes "x")) 7 ∷ at 7 Newline 7 ∷ [])
+    × Lexes (codes "(\r\n)\r\n") (at 0 (Word terminal.OpeningRound) 1 ∷ at 3 (Word terminal.ClosingRound) 4 ∷ at 4 Newline 6 ∷ at 6 Newline 6 ∷ [])
 unfolding all_definitions
 brackets_2 = (refl, refl, refl, refl, refl, refl)

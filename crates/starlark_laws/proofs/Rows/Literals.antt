@@ -1,7 +1,7 @@
 -- Worked texts of literals, closed by computing.
 use Rattle.std.proofs.Common.{refl}
 use Rattle.std.specs.Prelude.{[], ◌∷◌, codes}
-use Rattle.starlark_grammar.specs.Words as word
+use Rattle.starlark_grammar.specs.declared.class.Terminal.TheVariants as terminal
 use Rattle.starlark_grammar.specs.Tokens.{Newline, Identifier, String, Bytes, Word, UnfinishedStringLiteral, InvalidEscapeSequence, EmptyEscapeSequence}
 use Rattle.starlark_grammar.proofs.Rows.Shapes.{all_definitions, at, utf8, Lexes, Stops}
 
@@ -9,7 +9,7 @@ use Rattle.starlark_grammar.proofs.Rows.Shapes.{all_definitions, at, utf8, Lexes
 literals_1 :
     Stops (codes "'''a''''") (at 0 (String (codes "a")) 7 ∷ []) (at 7 UnfinishedStringLiteral 8)
     × Lexes (codes "'''a''\r'''") (at 0 (String (codes "a''")) 10 ∷ at 10 Newline 10 ∷ [])
-    × Stops (codes "an + 'invalid escape \\x3  character'") (at 0 (Identifier (codes "an")) 2 ∷ at 3 (Word word.Plus) 4 ∷ []) (at 21 (InvalidEscapeSequence (codes "x3 ")) 25)
+    × Stops (codes "an + 'invalid escape \\x3  character'") (at 0 (Identifier (codes "an")) 2 ∷ at 3 (Word terminal.Plus) 4 ∷ []) (at 21 (InvalidEscapeSequence (codes "x3 ")) 25)
     × Stops (codes "b\"\\400\"") [] (at 2 (InvalidEscapeSequence (codes "400")) 6)
     × Lexes (codes "'\\''") (at 0 (String (codes "'")) 4 ∷ at 4 Newline 4 ∷ [])
     × Lexes (codes "'\\n'") (at 0 (String (codes "\n")) 4 ∷ at 4 Newline 4 ∷ [])

@@ -1,7 +1,12 @@
 -- Words and integers, closed by computing.
 use Rattle.std.proofs.Common.{◌≡◌, ℕ, true, false, Some, None, refl}
 use Rattle.std.specs.Prelude.{codes, pos, neg_ℤ}
-use Rattle.starlark_grammar.specs.Words.{Text, Class, Fixed, Float, Identifier, Decimal, Skipped, Comment, Opener, OfFString, DoubleQuote, class_in, openers, line_ends, symbols, names, patterns, language, Ellipsis, For}
+use Rattle.starlark_grammar.specs.Words.{Text, class_in, openers, line_ends, symbols, names, patterns, language}
+use Rattle.starlark_grammar.specs.declared.class.Class.{Class}
+use Rattle.starlark_grammar.specs.declared.class.Quote.TheVariants.{Double as DoubleQuote}
+use Rattle.starlark_grammar.specs.declared.class.LiteralKind.TheVariants.{FString as OfFString}
+use Rattle.starlark_grammar.specs.declared.class.Class.TheVariants.{Fixed, Float, Identifier, Decimal, Skipped, Comment, Opener}
+use Rattle.starlark_grammar.specs.declared.class.Terminal.TheVariants.{Ellipsis, For}
 use Rattle.starlark_grammar.specs.Front.{longest_front, language_front}
 use Rattle.starlark_grammar.specs.Numbers.{Small, Big, integer_of, integer_in}
 
