@@ -5,6 +5,4 @@ pub mod Literals
 pub mod Indentation
 pub mod Reading
 pub mod Order
-pub mod Joining
-pub mod LineEnds
 pub mod Rows

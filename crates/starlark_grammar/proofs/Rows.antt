@@ -1,11 +1,2 @@
--- Worked texts, in files by what they show.
+-- What worked texts are made of.
 pub mod Shapes
-mod Fronts
-mod Words
-mod Literals
-mod Layout
-mod FStrings
-mod Mixed
-mod Cuts
-mod LineEnds
-mod EarlierLanguage

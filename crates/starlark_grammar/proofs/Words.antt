@@ -3,7 +3,6 @@ pub mod Fronts
 pub mod Tables
 pub mod Classes
 pub mod Bytes
-pub mod Lines
 pub mod Printed
 pub mod IntegerValues
 pub mod Ascii

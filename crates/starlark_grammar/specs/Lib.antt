@@ -11,7 +11,7 @@ pub mod Depths
 pub mod Margins
 pub mod Pieces
 pub mod Reading
-pub mod Cuts
-pub mod LineEnds
+pub mod Gaps
 pub mod EarlierLanguage
 pub mod Laws
+pub mod Joints

@@ -15,6 +15,14 @@ pub enum LiteralKind {
     FString,
 }
 
+/// How a literal begins: whether it is raw, its quote, and whether three of them close it.
+#[derive(Clone, Copy)]
+pub struct Opening {
+    pub is_raw: bool,
+    pub quote: Quote,
+    pub is_triple: bool,
+}
+
 /// A word that is a token of its own: a keyword or a symbol.
 #[derive(Clone, Copy, Debug, PartialEq, Eq)]
 pub enum Terminal {

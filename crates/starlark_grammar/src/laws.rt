@@ -2,7 +2,7 @@
 //! programs don't call them.
 
 ghost use Rattle.starlark_grammar.specs.IntegerValues.{IntegersKeepTheirValue};
-ghost use Rattle.starlark_grammar.specs.Laws.{FrontIsLongest, LongestFrontIsOne, ReadingsAgree, ReadingsFit, OutcomeIs, OutcomeIsOne, DedentsFollow, BlocksClose, ItemsAreFew, LexemesInOrder, FaultlessInOrder, LexemesAtBoundaries, CutsJoin, FaultsJoin, CutsOfJoined, TabsBehindCuts, KeptCutsKeep, CrlfKeepsTokens, FaultsInside, FaultAtBoundaries, TablesAgree};
+ghost use Rattle.starlark_grammar.specs.Laws.{FrontIsLongest, LongestFrontIsOne, ReadingsAgree, ReadingsFit, OutcomeIs, OutcomeIsOne, DedentsFollow, BlocksClose, ItemsAreFew, LexemesInOrder, FaultlessInOrder, LexemesAtBoundaries, FaultsInside, FaultAtBoundaries, TablesAgree};
 ghost use Rattle.starlark_grammar.specs.PrintedWords.{PrintedWordsReadBack};
 
 /// The longest front of a text that is a word is the longest, and there is only one.
@@ -40,27 +40,6 @@ pub fn ordered_lexemes()
     ensures boundaries { LexemesAtBoundaries }
     ensures fault { FaultsInside }
     ensures fault_boundaries { FaultAtBoundaries }
-{}
-
-/// At a clean cut the lexemes of two texts joined are the joined list. A fault of the second text stays the same fault,
-/// that much later, unless it is its first margin's: then it stands in the place of the last `Newline`. The joined text
-/// has a fault exactly where the second text has one, and is a clean cut exactly where that is one and isn't empty.
-pub fn joins_at_clean_cuts()
-    ensures lists { CutsJoin }
-    ensures faults { FaultsJoin }
-    ensures cuts { CutsOfJoined }
-    ensures tabs { TabsBehindCuts }
-{}
-
-/// At a kept cut the lexemes of a text begin with those of the text before it, without its closing `Newline`.
-pub fn kept_cuts_keep()
-    ensures { KeptCutsKeep }
-{}
-
-/// A text of characters without fault and without CR has no fault and the same tokens with each LF written as CR LF, if no
-/// raw literal and no text of a raw f-string has a backslash right before an LF.
-pub fn line_ends_keep_tokens()
-    ensures { CrlfKeepsTokens }
 {}
 
 /// The integer that a number's text writes has the text's value: neither zeros at the front nor the case of letters

@@ -7,7 +7,7 @@ use Rattle.starlark_error.specs.declared.error.kinds.ErrorKind.{ErrorKind}
 use Rattle.starlark_grammar.specs.Words.{Text}
 use Rattle.starlark_grammar.specs.Tokens as grammar
 use Rattle.starlark_grammar.specs.Reading.{outcome}
-use Rattle.starlark_grammar.specs.Cuts.{is_kept_cut}
+use Rattle.starlark_laws.specs.Cuts.{is_kept_cut}
 pub use Rattle.starlark_error.specs.Exceptions.{IsFaultIn}
 use Rattle.starlark_token.specs.Lexemes.{shown_lexeme}
 use Rattle.starlark_token.specs.TokenViews.{TokenView}

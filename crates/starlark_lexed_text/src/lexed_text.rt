@@ -5,7 +5,7 @@ ghost use Rattle.std.specs.List.{All};
 ghost use Rattle.std.specs.Str.{IsCharBoundary};
 ghost use Rattle.starlark_base.specs.Refusals.{IsRefused};
 ghost use Rattle.starlark_base.specs.Sources.{SourceFile};
-ghost use Rattle.starlark_grammar.specs.Cuts.{is_clean_cut};
+ghost use Rattle.starlark_laws.specs.Cuts.{is_clean_cut};
 ghost use Rattle.starlark_lexed_text.specs.LexedTexts.{IsLexed, IsReadFrom};
 ghost use Rattle.starlark_lexed_text.specs.LexedTexts as texts;
 ghost use Rattle.starlark_token.specs.Lexemes.{lexeme_view};
@@ -37,7 +37,7 @@ pub struct LexedText<'a> {
 impl<'a> Model for LexedText<'a> {
     ghost use Rattle.std.specs.Prelude.{◌≡◌, ◌<◌, ◌^◌, length, map};
     ghost use Rattle.starlark_base.specs.Sources.{SourceFile};
-    ghost use Rattle.starlark_grammar.specs.Cuts.{is_clean_cut};
+    ghost use Rattle.starlark_laws.specs.Cuts.{is_clean_cut};
     ghost use Rattle.starlark_lexed_text.specs.Joints.LexedTexts.{AreCuts};
     ghost use Rattle.starlark_lexed_text.specs.LexedTexts.{IsLexed, LexedView};
     ghost use Rattle.starlark_token.specs.Lexemes.{lexeme_view};

@@ -18,7 +18,7 @@ use Rattle.starlark_error.specs.declared.error.kinds.ErrorKind.TheVariants.{Pars
 use Rattle.starlark_error.specs.declared.error.kinds.ParserMessage.TheVariants as message
 use Rattle.starlark_token.specs.declared.lexeme_error.LexemeError.{LexemeError}
 use Rattle.starlark_token.specs.declared.lexeme_error.LexemeError.TheVariants as error
-use Rattle.starlark_grammar.specs.Cuts.{InOrder}
+use Rattle.starlark_grammar.specs.Gaps.{InOrder}
 use Rattle.starlark_grammar.specs.Laws.{AtBoundaries}
 use Rattle.starlark_grammar.specs.Reading.{outcome}
 use Rattle.starlark_grammar.specs.Tokens as token

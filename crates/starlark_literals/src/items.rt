@@ -4,21 +4,14 @@ ghost use Rattle.std.specs.Prelude.{◌≡◌, ◌<◌, ◌≤◌, ◌+◌, ◌-
 ghost use Rattle.std.specs.List.{starts_with};
 ghost use Rattle.starlark_grammar.specs.Characters as characters;
 ghost use Rattle.starlark_grammar.specs.Items as grammar;
-ghost use Rattle.starlark_literals.specs.Joints.Literals.{IsText, found_len, found_view, least_reads, literal_view, opening_view};
+ghost use Rattle.starlark_literals.specs.Joints.Literals.{IsText, found_len, found_view, least_reads, literal_view};
+ghost use Rattle.starlark_grammar.specs.Joints.Openings.{opening_view};
 ghost use Rattle.starlark_bytes.specs.Joints.Reads.{AreReads, more_reads};
 ghost use Rattle.starlark_grammar.specs.declared.class.LiteralKind.TheVariants.{FString as OfFString};
 
 use super::escapes::escape;
 use starlark_bytes::reads::Reads;
-use starlark_grammar::class::{LiteralKind, Quote};
-
-/// How a literal begins: whether it is raw, its quote, and whether three of them close it.
-#[derive(Clone, Copy)]
-pub struct Opening {
-    pub is_raw: bool,
-    pub quote: Quote,
-    pub is_triple: bool,
-}
+use starlark_grammar::class::{LiteralKind, Opening, Quote};
 
 /// A literal, as far as its body is read by it.
 #[derive(Clone, Copy)]

@@ -9,5 +9,5 @@ mod plain;
 mod runs;
 
 pub use body::{Body, LiteralValue, read_body};
-pub use items::{Literal, Opening, Stop, closing_len};
+pub use items::{Literal, Stop, closing_len};
 pub use plain::{plain_body_len, plain_chunk_len};

@@ -4,12 +4,13 @@ ghost use Rattle.std.specs.Prelude.{◌≡◌, ◌≤◌, ◌==◌, ◌+◌, ◌
 ghost use Rattle.starlark_grammar.specs.Items.{Stops, found_at, quote_byte};
 ghost use Rattle.starlark_grammar.specs.Words.{Text};
 ghost use Rattle.starlark_bytes.specs.Joints.Reads.{AreReads, more_reads};
-ghost use Rattle.starlark_literals.specs.Joints.Literals.{IsPlainBody, IsPlainChunk, fstring_literal, opening_view, stop_view};
+ghost use Rattle.starlark_literals.specs.Joints.Literals.{IsPlainBody, IsPlainChunk, fstring_literal, stop_view};
+ghost use Rattle.starlark_grammar.specs.Joints.Openings.{opening_view};
 
-use super::items::{Literal, Opening, Stop, closes, is_quote};
+use super::items::{Literal, Stop, closes, is_quote};
 use super::runs::first_run;
 use starlark_bytes::reads::Reads;
-use starlark_grammar::class::{LiteralKind, Quote};
+use starlark_grammar::class::{LiteralKind, Opening, Quote};
 
 /// Whether a quote stands at a place of a text.
 #[inline(always)]

@@ -2,14 +2,14 @@
 
 ghost use Rattle.std.specs.Prelude.{◌≡◌, ◌+◌, ◌<◌, ◌^◌, ◌∷◌, [], List};
 ghost use Rattle.starlark_grammar.specs.Depths as depths;
-ghost use Rattle.starlark_literals.specs.Joints.Literals.{opening_view};
+ghost use Rattle.starlark_grammar.specs.Joints.Openings.{opening_view};
 ghost use Rattle.starlark_nesting.specs.Joints.Nesting.{brackets_of, change_by, closes, fstring_of, fstring_view, opens, mode_view};
 ghost use Rattle.starlark_token.specs.TokenViews.{Whole};
 ghost use Rattle.starlark_grammar.specs.Tokens as grammar;
 
 use crate::changes::Change;
 use crate::nesting::LexerMode;
-use starlark_literals::Opening;
+use starlark_grammar::class::Opening;
 
 /// How many brackets were opened, and how many were closed. A count that is the greatest number there is stays so.
 #[derive(Clone, Copy)]

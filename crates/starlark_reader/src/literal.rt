@@ -5,4 +5,4 @@ mod pieces;
 
 pub use chunks::{PlainText, chunk_from, plain_text};
 pub use pieces::{Step, literal_piece, opening_of, quotes_of};
-pub use starlark_literals::Opening;
+pub use starlark_grammar::class::Opening;

@@ -4,7 +4,8 @@ ghost use Rattle.std.specs.Prelude.{◌≡◌, ◌≢◌, true, false, ◌<◌, 
 ghost use Rattle.std.specs.Str.{IsCharBoundary};
 ghost use Rattle.starlark_reader.specs.Joints.Steps.{IsStep};
 ghost use Rattle.starlark_token.specs.Lexemes.{shown_lexeme};
-ghost use Rattle.starlark_literals.specs.Joints.Literals.{IsPlainBody, opening_view};
+ghost use Rattle.starlark_literals.specs.Joints.Literals.{IsPlainBody};
+ghost use Rattle.starlark_grammar.specs.Joints.Openings.{opening_view};
 ghost use Rattle.starlark_scanner.specs.Joints.Words.{HasDigit, IsDigitAt, short_view, word_len};
 ghost use Rattle.starlark_grammar.specs.Margins.{open_widths};
 ghost use Rattle.starlark_grammar.specs.Pieces as grammar;
@@ -15,7 +16,7 @@ ghost use Rattle.starlark_reader.specs.Joints.MarginCuts.{IsCutBefore};
 ghost use Rattle.starlark_reader.specs.Joints.Reads.{HasLooked, HasLookedHere, HasRead, HasReadAt, HasReadNext, IsMarginRead, IsPassed, IsPassedBy, IsTaken};
 ghost use Rattle.starlark_reader.specs.Joints.Reader.{CountsLineEnds, has_read_none, IsAhead, IsAheadBehind, IsAtCode, IsInCode, IsInFlatMargin, IsReached, IsStateAfter, IsNext, IsOver, IsPlainTextHere, IsRead, IsReady, IsSomething, IsWordHere, before_view, left_here, left_to_read, newline_if, newline_of, silent_sort, step_here};
 ghost use Rattle.starlark_reader.specs.Joints.Pieces.{IsBehind};
-ghost use Rattle.starlark_grammar.specs.Cuts.{is_layout, is_settled};
+ghost use Rattle.starlark_laws.specs.Cuts.{is_layout, is_settled};
 ghost use Rattle.starlark_grammar.specs.Reading.{History, outcome};
 ghost use Rattle.starlark_token.specs.TokenViews.{TokenView, token_view};
 ghost use Rattle.starlark_grammar.specs.Tokens.{FStringStart, Fault, Spanned};

@@ -19,5 +19,7 @@ pub use Rattle.starlark_grammar.specs.Depths
 pub use Rattle.starlark_grammar.specs.Margins
 pub use Rattle.starlark_grammar.specs.Pieces
 pub use Rattle.starlark_grammar.specs.Reading
-pub use Rattle.starlark_grammar.specs.Cuts
+pub use Rattle.starlark_grammar.specs.Gaps
+pub use Rattle.starlark_laws.specs.Cuts
 pub use Rattle.starlark_grammar.specs.Laws
+pub use Rattle.starlark_laws.specs.TextLaws

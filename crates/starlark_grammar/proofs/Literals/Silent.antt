@@ -13,7 +13,7 @@ use Rattle.std.proofs.lemmas.List.Sums.{sum_by-cons}
 use Rattle.starlark_grammar.specs.Words.{Text, Quote, Kind, is_octal_digit}
 use Rattle.starlark_grammar.specs.Items.{Literal, Item, Stop, Found, Goes, Stops, goes, closing_quotes, broken, is_character, numbered, hexadecimal, escaped_feed, simple_escapes, simple, is_of_bytes, escape, drops_backslash, raw_pair, brace, is_brace, found_at, Body, body_len, body_value, body_onward, body_from, body_at, OpeningBrace, ClosingBrace}
 use Rattle.starlark_grammar.specs.Characters.{first_character}
-use Rattle.starlark_grammar.specs.Cuts.{is_gap_byte, IsGap}
+use Rattle.starlark_grammar.specs.Gaps.{is_gap_byte, IsGap}
 use Rattle.starlark_grammar.proofs.Lists.{drop-behind}
 use Rattle.starlark_grammar.proofs.Literals.Bodies.{FoundFits, found_fits}
 use Rattle.starlark_grammar.proofs.Order.Gaps.{gap_none, gap_join, gap_shift, word_gap}

@@ -1,9 +1,9 @@
 -- Lexemes and the fault of a text lie inside of it, and are not more than numbers count.
-use Rattle.std.proofs.Common.{◌≡◌, ℕ, ◌+◌, ◌*◌, ◌<◌, ◌≤◌, ◌^◌, List, [], ◌∷◌, length, subst, arith, Some, IfSome}
+use Rattle.std.proofs.Common.{◌≡◌, ℕ, ◌<◌, ◌≤◌, ◌^◌, List, [], ◌∷◌, length, subst, arith, Some, IfSome}
 use Rattle.std.specs.List.{AllByRecursion}
 use Rattle.starlark_grammar.specs.Words.{Text, language}
 use Rattle.starlark_grammar.specs.Tokens.{Fault, Lexeme, Spanned}
-use Rattle.starlark_grammar.specs.Cuts.{InOrder}
+use Rattle.starlark_grammar.specs.Gaps.{InOrder}
 use Rattle.starlark_grammar.specs.Reading.{outcome}
 use Rattle.starlark_grammar.proofs.Order.Lexemes.{outcome_order}
 use Rattle.starlark_grammar.proofs.Reading.Faults.{outcome_fault}

@@ -6,7 +6,7 @@ use Rattle.std.specs.List.{list_all, prefix_len}
 use Rattle.std.proofs.lemmas.Bool.{and_parts, eqb-true}
 use Rattle.std.proofs.lemmas.Bool.Decides.{nat_tests}
 use Rattle.starlark_grammar.specs.Words.{Text, Class, Skipped, Comment, Tabs, LineEnd, Opener, Reserved, Identifier, Decimal, Hexadecimal, Octal, Binary, Float, Fixed, Table, class_in, openers, line_ends, symbols, names, patterns, language, is_run, is_in_name, is_identifier, is_comment, is_based, is_octal_digit, is_binary_digit, behind_digits, begins_with_digit, is_sign, unsigned, is_exponent, ends_float, is_fraction, is_float, is_pointed}
-use Rattle.starlark_grammar.specs.Cuts.{is_gap_byte}
+use Rattle.starlark_grammar.specs.Gaps.{is_gap_byte}
 use Rattle.starlark_grammar.proofs.Words.Classes.{all_fit, all_more, language_all_fit, row_fits, none_found}
 use Rattle.starlark_grammar.proofs.Order.Gaps.{all_gaps, blank_gap}
 

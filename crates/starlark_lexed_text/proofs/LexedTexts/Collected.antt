@@ -8,10 +8,10 @@ use Rattle.starlark_grammar.specs.Words.{Text}
 use Rattle.starlark_grammar.specs.Tokens.{Fault, Spanned}
 use Rattle.starlark_grammar.specs.Reading.{outcome}
 use Rattle.starlark_token.specs.Lexemes.{lexeme_view, shown_lexeme}
-use Rattle.starlark_grammar.specs.Cuts.{is_clean_cut, is_kept_cut, without_closing}
-use Rattle.starlark_grammar.proofs.Joining.KeptPlaces.{cut_some}
-use Rattle.starlark_grammar.proofs.Joining.Laws.{kept_cuts_keep}
-use Rattle.starlark_grammar.proofs.Joining.LineCuts.{kept_parts}
+use Rattle.starlark_laws.specs.Cuts.{is_clean_cut, is_kept_cut, without_closing}
+use Rattle.starlark_laws.proofs.Joining.KeptPlaces.{cut_some}
+use Rattle.starlark_laws.proofs.Joining.Laws.{kept_cuts_keep}
+use Rattle.starlark_laws.proofs.Joining.LineCuts.{kept_parts}
 use Rattle.starlark_lexed_text.specs.Joints.LexedTexts.{AreCuts, IsCutOf, IsPart, IsPlacedFault, IsRising, cuts_at, end_cuts, holds_cut}
 use Rattle.starlark_reader.specs.Joints.MarginCuts.{IsCutBefore, lexemes_before}
 use Rattle.starlark_lexed_text.specs.declared.cuts.Cut.{Cut}

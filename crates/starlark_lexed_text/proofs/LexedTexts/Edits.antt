@@ -13,12 +13,12 @@ use Rattle.starlark_grammar.specs.Tokens.{Fault, InvalidTab, Lexeme, Newline, Ou
 use Rattle.starlark_grammar.specs.Margins.{has_tab, is_content, margin_of}
 use Rattle.starlark_grammar.specs.Pieces.{Fails}
 use Rattle.starlark_grammar.specs.Reading.{nothing, outcome, pieces_len, read}
-use Rattle.starlark_grammar.specs.Cuts.{is_clean_cut, is_kept_cut, tabbed, without_closing}
-use Rattle.starlark_grammar.specs.Laws.{HasFirstMargin}
-use Rattle.starlark_grammar.proofs.Joining.CleanCuts.{cuts_join}
-use Rattle.starlark_grammar.proofs.Joining.Laws.{kept_cuts_keep}
-use Rattle.starlark_grammar.proofs.Joining.LineCuts.{kept_parts}
-use Rattle.starlark_grammar.proofs.Joining.Tabs.{HasTab, behind_tab, first_margin_is, first_step, margin_tab, outcome_by, tab, tab_longest}
+use Rattle.starlark_laws.specs.Cuts.{is_clean_cut, is_kept_cut, tabbed, without_closing}
+use Rattle.starlark_laws.specs.TextLaws.{HasFirstMargin}
+use Rattle.starlark_laws.proofs.Joining.CleanCuts.{cuts_join}
+use Rattle.starlark_laws.proofs.Joining.Laws.{kept_cuts_keep}
+use Rattle.starlark_laws.proofs.Joining.LineCuts.{kept_parts}
+use Rattle.starlark_laws.proofs.Joining.Tabs.{HasTab, behind_tab, first_margin_is, first_step, margin_tab, outcome_by, tab, tab_longest}
 use Rattle.starlark_grammar.proofs.Reading.Readings.{one_longest, read_is}
 use Rattle.starlark_token.specs.Lexemes.{lexeme_view, shown_lexeme}
 use Rattle.starlark_lexed_text.specs.Joints.LexedTexts.{AreBeyond, AreCuts, IsBegin, IsCutOf, IsPart, IsTakenBack, holds_cut, last_newline_of, later, later_cut}

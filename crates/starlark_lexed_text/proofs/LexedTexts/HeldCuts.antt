@@ -8,12 +8,12 @@ use Rattle.std.proofs.lemmas.Bool.{eqb-true, leb-false, leb-true}
 use Rattle.std.proofs.lemmas.List.{length-take, length-take-le, take-append-le}
 use Rattle.starlark_grammar.specs.Words.{Text, language}
 use Rattle.starlark_grammar.specs.Reading.{pieces_len, read}
-use Rattle.starlark_grammar.specs.Cuts.{is_clean_cut, is_kept_cut}
-use Rattle.starlark_grammar.specs.Laws.{HasFirstMargin}
-use Rattle.starlark_grammar.proofs.Joining.CleanCuts.{cut}
-use Rattle.starlark_grammar.proofs.Joining.Laws.{cuts_of_joined}
-use Rattle.starlark_grammar.proofs.Joining.LaidCuts.{ends_some}
-use Rattle.starlark_grammar.proofs.Joining.LineCuts.{kept_by, kept_parts}
+use Rattle.starlark_laws.specs.Cuts.{is_clean_cut, is_kept_cut}
+use Rattle.starlark_laws.specs.TextLaws.{HasFirstMargin}
+use Rattle.starlark_laws.proofs.Joining.CleanCuts.{cut}
+use Rattle.starlark_laws.proofs.Joining.Laws.{cuts_of_joined}
+use Rattle.starlark_laws.proofs.Joining.LaidCuts.{ends_some}
+use Rattle.starlark_laws.proofs.Joining.LineCuts.{kept_by, kept_parts}
 use Rattle.starlark_grammar.proofs.Reading.Readings.{read_is, reading_fits}
 use Rattle.starlark_lexed_text.specs.Joints.LexedTexts.{AreBeyond, holds_cut, later_cut}
 use Rattle.starlark_lexed_text.specs.declared.cuts.Cut.{Cut}

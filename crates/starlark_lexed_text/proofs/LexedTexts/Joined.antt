@@ -10,11 +10,11 @@ use Rattle.starlark_grammar.specs.Words.{Text, language}
 use Rattle.starlark_grammar.specs.Tokens.{Fault, Lexeme, Outcome, Spanned, moved}
 use Rattle.starlark_grammar.specs.Margins.{margin_of}
 use Rattle.starlark_grammar.specs.Reading.{outcome}
-use Rattle.starlark_grammar.specs.Cuts.{is_clean_cut, joined}
-use Rattle.starlark_grammar.specs.Laws.{HasFirstMargin}
-use Rattle.starlark_grammar.proofs.Joining.CleanCuts.{cuts_join}
-use Rattle.starlark_grammar.proofs.Joining.Laws.{cuts_of_joined}
-use Rattle.starlark_grammar.proofs.Joining.Tabs.{HasTab, first_margin_is, margin_tab, tab}
+use Rattle.starlark_laws.specs.Cuts.{is_clean_cut, joined}
+use Rattle.starlark_laws.specs.TextLaws.{HasFirstMargin}
+use Rattle.starlark_laws.proofs.Joining.CleanCuts.{cuts_join}
+use Rattle.starlark_laws.proofs.Joining.Laws.{cuts_of_joined}
+use Rattle.starlark_laws.proofs.Joining.Tabs.{HasTab, first_margin_is, margin_tab, tab}
 use Rattle.starlark_lexed_text.specs.LexedTexts as texts
 use Rattle.starlark_lexed_text.specs.LexedTexts.{IsLexed, LexedView}
 use Rattle.starlark_error.specs.Exceptions.{IsFaultIn}

@@ -7,11 +7,11 @@ use Rattle.starlark_grammar.specs.Words.{Text, language}
 use Rattle.starlark_grammar.specs.Tokens.{Lexeme, Outcome, moved}
 use Rattle.starlark_grammar.specs.Pieces.{Ends, Fails, Piece, Stands, Step}
 use Rattle.starlark_grammar.specs.Reading.{after_all, closing, lexemes_along, nothing, outcome, outcome_in, outcome_of, pieces_len, read}
-use Rattle.starlark_grammar.specs.Cuts.{is_clean_cut, is_clean_cut_in, is_faultless, is_settled, without_closing}
-use Rattle.starlark_grammar.specs.Laws.{HasFirstMargin}
-use Rattle.starlark_grammar.proofs.Joining.CleanCuts.{both, begun, cut, longest, pieces_both}
-use Rattle.starlark_grammar.proofs.Joining.Laws.{faults_join}
-use Rattle.starlark_grammar.proofs.Joining.LineCuts.{kept_by, kept_parts}
+use Rattle.starlark_laws.specs.Cuts.{is_clean_cut, is_clean_cut_in, is_faultless, is_settled, without_closing}
+use Rattle.starlark_laws.specs.TextLaws.{HasFirstMargin}
+use Rattle.starlark_laws.proofs.Joining.CleanCuts.{both, begun, cut, longest, pieces_both}
+use Rattle.starlark_laws.proofs.Joining.Laws.{faults_join}
+use Rattle.starlark_laws.proofs.Joining.LineCuts.{kept_by, kept_parts}
 use Rattle.starlark_grammar.proofs.Reading.Readings.{longest_onward, one_longest, read_is}
 use Rattle.starlark_lexed_text.specs.Joints.LexedTexts.{IsCutOf}
 use Rattle.starlark_reader.specs.Joints.MarginCuts.{lexemes_before}

@@ -3,7 +3,7 @@ use Rattle.std.proofs.Common.{◌≡◌, ℕ, zero, suc, ◌<◌, Bool, true, fa
 use Rattle.std.specs.Prelude.{Option, slice_index_or}
 use Rattle.starlark_grammar.specs.Tokens as grammar
 use Rattle.starlark_grammar.specs.Tokens.{Lexeme, Spanned}
-use Rattle.starlark_grammar.specs.Cuts.{before_newline, is_newline}
+use Rattle.starlark_laws.specs.Cuts.{before_newline, is_newline}
 use Rattle.starlark_token.specs.Lexemes.{lexeme_view, shown, shown_lexeme}
 use Rattle.starlark_lexed_text.specs.Joints.LexedTexts.{is_newline_view, last_newline_of}
 use Rattle.starlark_token.specs.TokenViews.{Whole, token_view}

@@ -9,12 +9,12 @@ use Rattle.std.proofs.lemmas.List.{get_or-take, length-take, length-take-le}
 use Rattle.std.proofs.lemmas.Str.{IsCharBoundary-after_ascii}
 use Rattle.starlark_grammar.specs.Words.{Text, language}
 use Rattle.starlark_grammar.specs.Reading.{outcome, pieces_len, read}
-use Rattle.starlark_grammar.specs.Cuts.{is_clean_cut, without_closing}
-use Rattle.starlark_grammar.specs.Laws.{HasFirstMargin}
-use Rattle.starlark_grammar.proofs.Joining.CleanCuts.{cut}
-use Rattle.starlark_grammar.proofs.Joining.Followed.{ends_line}
-use Rattle.starlark_grammar.proofs.Joining.Laws.{cuts_of_joined}
-use Rattle.starlark_grammar.proofs.Joining.LineCuts.{kept_by, kept_parts}
+use Rattle.starlark_laws.specs.Cuts.{is_clean_cut, without_closing}
+use Rattle.starlark_laws.specs.TextLaws.{HasFirstMargin}
+use Rattle.starlark_laws.proofs.Joining.CleanCuts.{cut}
+use Rattle.starlark_laws.proofs.Joining.Followed.{ends_line}
+use Rattle.starlark_laws.proofs.Joining.Laws.{cuts_of_joined}
+use Rattle.starlark_laws.proofs.Joining.LineCuts.{kept_by, kept_parts}
 use Rattle.starlark_grammar.proofs.Indentation.Totals.{outcome_balances}
 use Rattle.starlark_lexed_text.specs.Joints.LexedTexts.{AllNearCuts, AreCuts, IsCutOf, IsRising, later_cut}
 use Rattle.starlark_lexed_text.specs.declared.cuts.Cut.{Cut}

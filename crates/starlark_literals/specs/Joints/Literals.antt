@@ -7,7 +7,7 @@ use Rattle.starlark_grammar.specs.declared.class.LiteralKind.TheVariants.{Text a
 use Rattle.starlark_grammar.specs.Pieces.{opening_of}
 use Rattle.starlark_grammar.specs.Tokens as grammar
 use Rattle.starlark_grammar.specs.Items as items
-use Rattle.starlark_literals.specs.declared.items.Opening.{Opening}
+use Rattle.starlark_grammar.specs.Joints.Openings.{opening_view}
 use Rattle.starlark_literals.specs.declared.items.Literal.{Literal}
 use Rattle.starlark_literals.specs.declared.items.Value.{Value}
 use Rattle.starlark_literals.specs.declared.items.Value.TheVariants as value
@@ -18,9 +18,6 @@ use Rattle.starlark_literals.specs.declared.items.Found.TheVariants as found
 use Rattle.starlark_literals.specs.declared.body.LiteralValue.{LiteralValue}
 use Rattle.starlark_literals.specs.declared.body.LiteralValue.TheVariants as read
 use Rattle.starlark_literals.specs.declared.body.Body.{Body}
-
-abbrev pub opening_view : Opening → grammar.Opening
-opening_view opening = record { is_raw = opening.is_raw; quote = opening.quote; is_triple = opening.is_triple }
 
 abbrev pub literal_view : Literal → items.Literal
 literal_view literal = record { kind = literal.kind; opening = opening_view literal.opening }

@@ -4,7 +4,7 @@ use Rattle.std.specs.List.{slice_get}
 use Rattle.starlark_grammar.specs.declared.class.Terminal.TheVariants as terminal
 use Rattle.starlark_grammar.specs.Tokens as grammar
 use Rattle.starlark_grammar.specs.Depths.{Mode, Outside, InText, AtTop, Deeper, Round, Square, Curly, is_opening, is_closing, is_any_opening, is_any_closing, open_fstring, expression_tokens, depth}
-use Rattle.starlark_literals.specs.Joints.Literals.{opening_view}
+use Rattle.starlark_grammar.specs.Joints.Openings.{opening_view}
 use Rattle.starlark_token.specs.TokenViews.{TokenView, Whole}
 use Rattle.starlark_nesting.specs.declared.nesting.LexerMode.{LexerMode}
 use Rattle.starlark_nesting.specs.declared.nesting.LexerMode.TheVariants as place

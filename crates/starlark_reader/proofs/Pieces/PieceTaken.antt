@@ -12,8 +12,9 @@ use Rattle.starlark_grammar.specs.declared.class.LiteralKind.TheVariants.{Text a
 use Rattle.starlark_grammar.specs.declared.class.Quote.{Quote}
 use Rattle.starlark_grammar.specs.declared.class.Terminal.{Terminal}
 use Rattle.starlark_grammar.specs.Depths.{InText, Mode}
-use Rattle.starlark_literals.specs.Joints.Literals.{IsPlainBody, opening_view}
-use Rattle.starlark_literals.specs.declared.items.Opening.{Opening}
+use Rattle.starlark_literals.specs.Joints.Literals.{IsPlainBody}
+use Rattle.starlark_grammar.specs.Joints.Openings.{opening_view}
+use Rattle.starlark_grammar.specs.declared.class.Opening.{Opening}
 use Rattle.starlark_scanner.specs.Joints.Words.{IsDigitAt}
 use Rattle.starlark_reader.proofs.Literals.Pieces.{opener_plain}
 use Rattle.starlark_reader.specs.Joints.Steps.{IsPlainText, IsStep, text_step}

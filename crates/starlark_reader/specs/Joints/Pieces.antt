@@ -6,7 +6,7 @@ use Rattle.starlark_grammar.specs.Words.{Text}
 use Rattle.starlark_grammar.specs.Tokens as tokens
 use Rattle.starlark_grammar.specs.Pieces as grammar
 use Rattle.starlark_reader.specs.Joints.Steps.{IsStep}
-use Rattle.starlark_literals.specs.Joints.Literals.{opening_view}
+use Rattle.starlark_grammar.specs.Joints.Openings.{opening_view}
 use Rattle.starlark_reader.specs.declared.reading.Piece.{Piece}
 use Rattle.starlark_reader.specs.declared.reading.Piece.TheVariants as piece
 

@@ -8,8 +8,8 @@ use Rattle.starlark_token.specs.TokenViews.{Whole, token_view}
 use Rattle.starlark_token.specs.Lexemes.{fault_view}
 use Rattle.starlark_layout.specs.Joints.TextEnds.{text_end_node}
 use Rattle.starlark_layout.specs.declared.text_end.TextEnd.{TextEnd}
-use Rattle.starlark_literals.specs.Joints.Literals.{opening_view}
-use Rattle.starlark_literals.specs.declared.items.Opening.{Opening}
+use Rattle.starlark_grammar.specs.Joints.Openings.{opening_view}
+use Rattle.starlark_grammar.specs.declared.class.Opening.{Opening}
 use Rattle.starlark_nesting.specs.Joints.Nesting.{is_fstring_start}
 use Rattle.starlark_reader.specs.declared.literal.chunks.PlainText.{PlainText}
 use Rattle.starlark_reader.specs.declared.literal.pieces.Step.{Step}

@@ -4,14 +4,15 @@ ghost use Rattle.std.specs.Prelude.{◌<◌, ◌≤◌, ◌+◌, ◌*◌, IfErr,
 ghost use Rattle.starlark_bytes.specs.Joints.Reads.{AreReads};
 ghost use Rattle.starlark_reader.specs.Joints.Reads.{AreStepReads};
 ghost use Rattle.starlark_reader.specs.Joints.Steps.{IsPlainText, IsStep};
-ghost use Rattle.starlark_literals.specs.Joints.Literals.{opening_view};
+ghost use Rattle.starlark_grammar.specs.Joints.Openings.{opening_view};
 ghost use Rattle.starlark_grammar.specs.Pieces as grammar;
 
 use super::pieces::Step;
 use starlark_bytes::reads::Reads;
+use starlark_grammar::class::Opening;
 use starlark_layout::TextEnd;
 use starlark_literals::{
-    Body, Literal, LiteralValue, Opening, Stop, closing_len, plain_chunk_len, read_body,
+    Body, Literal, LiteralValue, Stop, closing_len, plain_chunk_len, read_body,
 };
 use starlark_scanner::scanner::LiteralKind;
 use starlark_token::lexeme_error::LexemeError;

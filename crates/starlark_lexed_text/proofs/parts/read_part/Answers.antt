@@ -1,7 +1,7 @@
 use Rattle.std.proofs.Common.{◌≡◌, ◌≤◌, ◌+◌, ◌++◌, ◌∷◌, [], arith, ℕ, List, ap, length, length-append, refl, subst, sym, ◌∙◌}
 use Rattle.starlark_lexed_text.specs.Joints.LexedTexts.{cuts_at, end_cuts}
 use Rattle.starlark_token.specs.declared.tokens.Token.{Token}
-use Rattle.starlark_grammar.specs.Cuts.{is_clean_cut}
+use Rattle.starlark_laws.specs.Cuts.{is_clean_cut}
 use Rattle.starlark_grammar.specs.Reading.{outcome}
 use Rattle.starlark_reader.specs.Joints.MarginCuts.{IsCutBefore}
 use Rattle.starlark_reader.specs.Joints.Reader.{IsNext}

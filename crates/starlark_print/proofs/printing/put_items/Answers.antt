@@ -1,6 +1,6 @@
 use Rattle.std.proofs.Common.{◌≡◌, ◌+◌, ◌≤◌, ◌++◌, Ok, append-nil, ap, arith, drop, false, length, refl, subst, sym, ◌∙◌}
 use Rattle.std.proofs.lemmas.Result.{err_from_is_err_and}
-use Rattle.starlark_grammar.specs.Cuts.{InOrder}
+use Rattle.starlark_grammar.specs.Gaps.{InOrder}
 use Rattle.starlark_token.specs.Lexemes.{lexeme_view}
 use Rattle.starlark_lexer.specs.Lexer.{LexerView}
 use Rattle.starlark_token.specs.TextItems.{Given, items}

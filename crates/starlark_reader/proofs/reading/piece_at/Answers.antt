@@ -2,14 +2,14 @@ use Rattle.std.proofs.Common.{◌≡◌, ◌<◌, Bool, true, false, [], ◌∷�
 use Rattle.std.specs.Prelude.{◌&&◌, ◌==◌}
 use Rattle.starlark_grammar.specs.Depths.{Mode}
 use Rattle.starlark_grammar.specs.Front.{language_front}
-use Rattle.starlark_literals.specs.Joints.Literals.{opening_view}
+use Rattle.starlark_grammar.specs.Joints.Openings.{opening_view}
 use Rattle.starlark_nesting.specs.Joints.Nesting.{mode_view}
 use Rattle.starlark_grammar.specs.Pieces.{Situation, Ends, token, front_step, takes_bang, is_bang, in_code, by_place, step_at}
 use Rattle.starlark_reader.specs.Joints.Pieces.{IsBehind}
 use Rattle.starlark_token.specs.TokenViews.{token_view}
 use Rattle.starlark_grammar.specs.Tokens.{FStringBang}
 use Rattle.starlark_grammar.specs.Words.{Text, language}
-use Rattle.starlark_literals.specs.declared.items.Opening as code
+use Rattle.starlark_grammar.specs.declared.class.Opening as code
 use Rattle.starlark_nesting.specs.declared.nesting.LexerMode.{LexerMode}
 use Rattle.starlark_nesting.specs.declared.nesting.LexerMode.TheVariants as place
 use Rattle.starlark_reader.proofs.Literals.Pieces.{if_ok}

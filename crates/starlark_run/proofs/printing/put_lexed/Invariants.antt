@@ -1,5 +1,5 @@
 use Rattle.std.proofs.Common.{◌++◌, ℕ, drop, Ok}
-use Rattle.starlark_grammar.specs.Cuts.{InOrder}
+use Rattle.starlark_grammar.specs.Gaps.{InOrder}
 use Rattle.starlark_token.specs.TextItems.{items}
 use Rattle.starlark_grammar.specs.Reading.{outcome}
 use Rattle.starlark_lines.specs.Output.{lines_of, output}

@@ -2,7 +2,7 @@ use Rattle.std.proofs.Common.{◌≡◌, ◌-◌, ◌++◌, None, ap, arith, len
 use Rattle.std.proofs.Math.Seq.{take-length}
 use Rattle.std.proofs.lemmas.List.{length-map}
 use Rattle.starlark_base.specs.Sources.{SourceFile}
-use Rattle.starlark_grammar.specs.Cuts.{is_clean_cut, without_closing}
+use Rattle.starlark_laws.specs.Cuts.{is_clean_cut, without_closing}
 use Rattle.starlark_grammar.specs.Reading.{outcome}
 use Rattle.starlark_lexed_text.specs.LexedTexts as texts
 use Rattle.starlark_lexed_text.specs.LexedTexts.{IsLexed, LexedView}

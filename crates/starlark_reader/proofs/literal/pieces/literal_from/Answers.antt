@@ -1,7 +1,8 @@
 use Rattle.std.proofs.Common.{◌≡◌, ◌≤◌, ◌+◌, ◌*◌, ◌∙◌, ap, arith, length, sym}
 use Rattle.starlark_reader.proofs.Literals.StepReads.{closing_some, fault_reads}
 use Rattle.starlark_grammar.specs.Items as grammar
-use Rattle.starlark_literals.specs.Joints.Literals.{literal_view, opening_view, stop_view, stopped_len}
+use Rattle.starlark_literals.specs.Joints.Literals.{literal_view, stop_view, stopped_len}
+use Rattle.starlark_grammar.specs.Joints.Openings.{opening_view}
 use Rattle.starlark_reader.proofs.Literals.Pieces.{bad_edges, bad_fits, bad_literal, closing_fits, if_ok, read_behind}
 use Rattle.starlark_reader.proofs.literal.pieces.literal_from.Goals as goal
 

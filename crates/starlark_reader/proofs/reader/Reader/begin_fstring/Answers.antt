@@ -1,6 +1,6 @@
 use Rattle.std.proofs.Common.{◌≡◌, ℕ, ◌+◌, ◌≤◌, false, Some, add-zero, ap, append-nil, arith, refl, rules, sym, ◌∙◌}
 use Rattle.starlark_token.specs.Lexemes.{lexeme_view, shown_lexeme}
-use Rattle.starlark_literals.specs.Joints.Literals.{opening_view}
+use Rattle.starlark_grammar.specs.Joints.Openings.{opening_view}
 use Rattle.starlark_grammar.specs.Margins.{open_widths}
 use Rattle.starlark_nesting.specs.Joints.Nesting.{bracket_count}
 use Rattle.starlark_grammar.specs.Tokens.{FStringStart, Lexeme, Opening, moved}

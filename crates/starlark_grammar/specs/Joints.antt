@@ -1,0 +1,2 @@
+-- What only contracts of inner functions and proofs of the crates above speak of.
+pub mod Openings

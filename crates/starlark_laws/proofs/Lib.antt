@@ -1,0 +1,4 @@
+pub mod Lines
+pub mod Joining
+pub mod LineEnds
+pub mod Rows

@@ -1,0 +1,10 @@
+-- Worked texts, in files by what they show.
+mod Fronts
+mod Words
+mod Literals
+mod Layout
+mod FStrings
+mod Mixed
+mod Cuts
+mod LineEnds
+mod EarlierLanguage
