@@ -21,3 +21,7 @@ pub use Rattle.starlark_grammar.specs.Pieces
 pub use Rattle.starlark_grammar.specs.Reading
 pub use Rattle.starlark_grammar.specs.Cuts
 pub use Rattle.starlark_grammar.specs.Laws
+pub use Rattle.starlark_strings.specs.Strings
+pub use Rattle.starlark_strings.specs.Parts
+pub use Rattle.starlark_strings.specs.Indices
+pub use Rattle.starlark_strings.specs.Cursors
