@@ -1,7 +1,4 @@
 pub use Rattle.starlark_text.specs.Characters
-pub use Rattle.starlark_text.specs.Parts
-pub use Rattle.starlark_text.specs.Indices
-pub use Rattle.starlark_text.specs.Cursors
 pub use Rattle.starlark_text.specs.Dialects
 pub mod Spans
 pub mod Places

@@ -7,4 +7,4 @@ pub mod codemap;
 pub mod diagnostic;
 pub mod laws;
 
-pub use starlark_text::{convert_indices, cursors, dialect, fast_string};
+pub use starlark_text::dialect;

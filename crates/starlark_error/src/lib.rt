@@ -5,6 +5,4 @@ pub mod error;
 pub mod eval_exception;
 pub mod fault_exception;
 
-pub use starlark_base::{
-    call_stack, codemap, convert_indices, cursors, diagnostic, dialect, fast_string,
-};
+pub use starlark_base::{call_stack, codemap, diagnostic, dialect};

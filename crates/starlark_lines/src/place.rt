@@ -1,12 +1,13 @@
 //! Places in a text, as printing moves along it.
 
-ghost use Rattle.std.specs.Prelude.{◌≡◌, ◌+◌, ◌<◌, ◌≤◌, ◌^◌, ◌++◌, ℕ, List, length};
+ghost use Rattle.std.specs.Prelude.{◌≡◌, ◌+◌, ◌<◌, ◌≤◌, ◌^◌, ◌++◌, ◌==◌, ℕ, List, count_by, length};
 ghost use Rattle.std.specs.Str.{IsCharBoundary, IsUtf8};
 ghost use Rattle.starlark_base.specs.Places.{place_after};
 ghost use Rattle.starlark_lines.specs.Places.{IsPlace};
 
+use memchr::memchr_iter;
 use starlark_base::codemap::ResolvedPos;
-use starlark_text::fast_string::{count_matches_byte, len};
+use starlark_text::lanes::count_characters;
 
 /// A place in a text: its byte, and its line and column, each from 0.
 #[derive(Clone, Copy, Debug, PartialEq, Eq)]
@@ -51,6 +52,13 @@ impl Place {
     }
 }
 
+/// How many line feeds a text has.
+fn line_feeds(text: &str) -> usize
+    ensures { result ≡ count_by (λ byte. byte == 10) text.now }
+{
+    memchr_iter(b'\n', text.as_bytes()).count()
+}
+
 /// The line and column behind a text that stands at a line and column.
 fn position_behind(begin: ResolvedPos, passed: &str) -> ResolvedPos
     requires line { begin.line + length passed.now < 2 ^ 64 }
@@ -60,11 +68,11 @@ fn position_behind(begin: ResolvedPos, passed: &str) -> ResolvedPos
     match passed.rfind('\n') {
         None => ResolvedPos {
             line: begin.line,
-            column: begin.column + len(passed).0,
+            column: begin.column + count_characters(passed),
         },
         Some(last) => ResolvedPos {
-            line: begin.line + count_matches_byte(passed, b'\n'),
-            column: len(&passed[last + 1..]).0,
+            line: begin.line + line_feeds(passed),
+            column: count_characters(&passed[last + 1..]),
         },
     }
 }

@@ -23,3 +23,7 @@ pub use Rattle.starlark_grammar.specs.Gaps
 pub use Rattle.starlark_laws.specs.Cuts
 pub use Rattle.starlark_grammar.specs.Laws
 pub use Rattle.starlark_laws.specs.TextLaws
+pub use Rattle.starlark_strings.specs.Strings
+pub use Rattle.starlark_strings.specs.Parts
+pub use Rattle.starlark_strings.specs.Indices
+pub use Rattle.starlark_strings.specs.Cursors

@@ -1,11 +1,10 @@
 -- Characters that begin among the bytes of a text, counted in parts and many at once.
-use Rattle.std.proofs.Common.{◌≡◌, ℕ, ◌+◌, ◌≤◌, ◌<◌, ◌-◌, ◌%◌, ◌^◌, Bool, true, false, cond, ◌||◌, ltb, leb, List, map, replicate, length, take, drop, count_by, count_ones, refl, ap, ◌∙◌, sym, subst, bit_or, arith, length-drop, get_or-drop}
+use Rattle.std.proofs.Common.{◌≡◌, ℕ, ◌+◌, ◌≤◌, ◌-◌, ◌%◌, ◌^◌, Bool, true, false, cond, ◌||◌, ltb, leb, List, map, replicate, length, take, drop, count_by, count_ones, refl, ap, ◌∙◌, sym, bit_or, arith}
 use Rattle.std.proofs.lemmas.List.{length-map, length-take, take_all}
 use Rattle.std.proofs.lemmas.List.Sums.{sum_by-append, count_by-le-length}
 use Rattle.std.proofs.Math.Seq.{take-add}
 use Rattle.std.proofs.lemmas.Simd.{map-map, mask_l-mod, ones-mask_l, zip2_splat, zip2_splat_left, zip2_of_maps}
 use Rattle.starlark_text.specs.Characters.{begins_character}
-use Rattle.starlark_text.specs.Joints.Begins.{IsBegin}
 use lib.Lanes.{mask_l, top, zip2}
 
 -- What a comparison leaves in a lane, and the union of two.
@@ -58,20 +57,3 @@ begun_rest bytes at within =
 -- no more characters begin before a place than there are bytes
 pub begun_bound : (bytes : List ℕ) (at : ℕ) → count_by begins_character (take at bytes) ≤ length bytes
 begun_bound bytes at = omega (arith, count_by-le-length begins_character (take at bytes), length-take at bytes)
-
--- a place found among the bytes from another on, before which the first of the characters begin
-pub begin_on : (bytes : List ℕ) (at index left found : ℕ) → at ≤ length bytes → count_by begins_character (take at bytes) + left ≡ index
-    → IsBegin (take (length bytes - at) (drop at bytes)) left found → IsBegin bytes index (at + found)
-begin_on bytes at index left found within counted begin =
-    let rest : take (length bytes - at) (drop at bytes) ≡ drop at bytes = take_all (length bytes - at) (drop at bytes) (omega (arith, length-drop at bytes)) in
-    let begin_here : IsBegin (drop at bytes) left found = subst (λ (xs : List ℕ). IsBegin xs left found) rest begin in
-    record {
-      within = omega (arith, begin_here.within, length-drop at bytes, within);
-      before = omega (arith, begun_on bytes at found, begin_here.before, counted);
-      here = λ more. ap begins_character (sym (get_or-drop at bytes found 0)) ∙ begin_here.here (omega (arith, length-drop at bytes, more));
-    }
-
--- where too few characters begin behind a place, too few begin in all
-pub begin_none : (bytes : List ℕ) (at index left : ℕ) → at ≤ length bytes → count_by begins_character (take at bytes) + left ≡ index
-    → count_by begins_character (take (length bytes - at) (drop at bytes)) < left → count_by begins_character bytes < index
-begin_none bytes at index left within counted few = omega (arith, begun_rest bytes at within, counted, few)

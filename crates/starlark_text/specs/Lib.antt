@@ -1,6 +1,2 @@
 pub mod Characters
-pub mod Cursors
 pub mod Dialects
-pub mod Indices
-pub mod Joints
-pub mod Parts

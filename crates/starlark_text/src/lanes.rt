@@ -1,17 +1,17 @@
 //! Characters by the bytes that begin them, so that many bytes are looked at together.
 
-ghost use Rattle.std.specs.Prelude.{◌≡◌, ◌+◌, ◌≤◌, ◌<◌, MatchOption, count_by, drop, length, take};
+ghost use Rattle.std.specs.Prelude.{◌≡◌, ◌+◌, ◌≤◌, count_by, drop, length, take};
 ghost use Rattle.starlark_text.specs.Characters as spec;
-ghost use Rattle.starlark_text.specs.Joints.Begins.{IsBegin};
+ghost use Rattle.starlark_text.specs.Characters.{char_count};
 
 use std::simd::prelude::*;
 
 /// How many bytes are looked at together.
-const LANES: usize = 32;
+pub const LANES: usize = 32;
 
 /// Whether a byte of a text begins a character.
 #[inline(always)]
-fn begins_character(byte: u8) -> bool
+pub fn begins_character(byte: u8) -> bool
     ensures { result ≡ spec.begins_character byte }
 {
     byte < 128 || 192 <= byte
@@ -19,7 +19,7 @@ fn begins_character(byte: u8) -> bool
 
 /// How many characters begin among the bytes from `at` on that are looked at together.
 #[inline(always)]
-fn lanes_begun(bytes: &[u8], at: usize) -> usize
+pub fn lanes_begun(bytes: &[u8], at: usize) -> usize
     requires { at + LANES ≤ length bytes.now }
     ensures { result ≡ count_by spec.begins_character (take LANES (drop at bytes.now)) }
 {
@@ -49,38 +49,9 @@ pub fn count_begun(bytes: &[u8]) -> usize
     count + short_count_begun(&bytes[at..])
 }
 
-/// The place where a character begins before which so many others begin, or the bytes' end where just so many begin
-/// among them; `None` where fewer do. Bytes are looked at one by one.
-fn short_begin_of(bytes: &[u8], index: usize) -> Option<usize>
-    ensures { MatchOption result (count_by spec.begins_character bytes.now < index) (IsBegin bytes.now index) }
+/// How many characters a text has.
+pub fn count_characters(text: &str) -> usize
+    ensures { result ≡ char_count text.now }
 {
-    let mut left = index;
-    let mut at = 0;
-    while at < bytes.len() {
-        if begins_character(bytes[at]) {
-            if left == 0 {
-                return Some(at);
-            }
-            left -= 1;
-        }
-        at += 1;
-    }
-    if left == 0 { Some(at) } else { None }
-}
-
-/// The same. Many bytes are looked at together until the character is among them.
-pub(crate) fn begin_of(bytes: &[u8], index: usize) -> Option<usize>
-    ensures { MatchOption result (count_by spec.begins_character bytes.now < index) (IsBegin bytes.now index) }
-{
-    let mut left = index;
-    let mut at = 0;
-    while at + LANES <= bytes.len() {
-        let begun = lanes_begun(bytes, at);
-        if left < begun {
-            break;
-        }
-        left -= begun;
-        at += LANES;
-    }
-    Some(at + short_begin_of(&bytes[at..], left)?)
+    count_begun(text.as_bytes())
 }

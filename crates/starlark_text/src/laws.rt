@@ -1,16 +1,10 @@
-//! What follows from the definitions alone. Each law is the contract of a function that does nothing. Walks over a text
-//! one character at a time stand here too, and the law that the fast ones agree with them.
+//! What follows from the definitions alone. Each law is the contract of a function that does nothing.
 
-ghost use Rattle.std.specs.Prelude.{◌≡◌, ◌<◌, MatchOption, true, slice_get};
-ghost use Rattle.std.specs.Option.{option_map};
-ghost use Rattle.std.specs.Str.{chars, IsCharBoundary};
+ghost use Rattle.std.specs.Prelude.{◌≡◌};
 ghost use Rattle.starlark_text.specs.Characters as spec;
-ghost use Rattle.starlark_text.specs.Characters.{char_count};
 ghost use Rattle.starlark_text.specs.Dialects.{standard, extended, all_options};
-ghost use Rattle.starlark_text.specs.Parts.{cut_view};
 
 use crate::dialect::Dialect;
-use crate::fast_string::{CharIndex, at, len, split_at};
 
 /// The settings of the three dialects.
 pub fn dialects()
@@ -23,50 +17,3 @@ pub fn dialects()
 pub fn characters_begin_once()
     ensures { spec.CharactersBeginOnce }
 {}
-
-/// How many characters a text has, counted one by one.
-pub fn walked_len(text: &str) -> CharIndex
-    ensures { result.0 ≡ char_count text.now }
-{
-    CharIndex(text.chars().count())
-}
-
-/// The character at an index, if the text has so many, found by passing those before it one by one.
-pub fn walked_at(text: &str, index: CharIndex) -> Option<char>
-    ensures { result ≡ slice_get (chars text.now) index.0 }
-{
-    text.chars().nth(index.0)
-}
-
-/// The text from the character of an index on; `None` where the text has fewer characters than that.
-fn from_char(text: &str, index: usize) -> Option<&str>
-    ensures { MatchOption result (char_count text.now < index) (λ rest. spec.IsFrom text.now index rest.now) }
-{
-    if index == 0 {
-        return Some(text);
-    }
-    let mut rest = text.chars();
-    rest.nth(index - 1)?;
-    Some(rest.as_str())
-}
-
-/// The text before the character of an index and the text from there on, found by passing the characters before it one
-/// by one; `None` where the text has fewer characters than that.
-pub fn walked_split_at(text: &str, index: CharIndex) -> Option<(&str, &str)>
-    ensures { option_map cut_view result ≡ spec.cut text.now index.0 }
-{
-    let rest = from_char(text, index.0)?;
-    Some(text.split_at(text.len() - rest.len()))
-}
-
-/// Whether the walk by many bytes at once and the walk by characters agree on a text from a place between two
-/// characters on. They always do.
-pub fn walks_agree(text: &str, start: usize, index: CharIndex) -> bool
-    requires { IsCharBoundary text.now start }
-    ensures { result ≡ true }
-{
-    let text = &text[start..];
-    len(text) == walked_len(text)
-        && at(text, index) == walked_at(text, index)
-        && split_at(text, index) == walked_split_at(text, index)
-}

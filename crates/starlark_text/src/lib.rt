@@ -1,11 +1,8 @@
-//! What string methods and slices of a Starlark evaluator stand on: indices, texts by their characters, cursors and
-//! dialects. Nothing here takes memory.
+//! Texts by their characters, the dialects of Starlark, and how a call refuses that may lack memory. Nothing here takes
+//! memory.
 #![tactic(auto)]
 
-pub mod convert_indices;
-pub mod cursors;
 pub mod dialect;
-pub mod fast_string;
 pub mod lanes;
 pub mod laws;
 pub mod refusals;

@@ -5,8 +5,7 @@ ghost use Rattle.std.specs.Str.{IsAscii, IsCharBoundary};
 ghost use Rattle.starlark_base.specs.Joints.CharacterCounts.{AreCounts, begun_before};
 ghost use Rattle.starlark_text.specs.Characters.{char_count};
 
-use starlark_text::fast_string;
-use starlark_text::lanes::count_begun;
+use starlark_text::lanes::{count_begun, count_characters};
 use std::alloc::{AllocError, Global};
 
 /// How many bytes a step has.
@@ -63,7 +62,7 @@ pub(crate) fn characters_between(text: &str, counts: &[u32], begin: usize, end: 
     ensures { result ≡ char_count (slice_range text.now begin end) }
 {
     if end - begin <= STEP {
-        fast_string::len(&text[begin..end]).0
+        count_characters(&text[begin..end])
     } else {
         characters_before(text, counts, end) - characters_before(text, counts, begin)
     }

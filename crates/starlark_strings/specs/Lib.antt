@@ -1,0 +1,5 @@
+pub mod Cursors
+pub mod Indices
+pub mod Joints
+pub mod Parts
+pub mod Strings
