@@ -1,15 +1,9 @@
 //! Lines and places of a source.
 
-use crate::rows::{Answer, Row, given, shown, unknown};
-use starlark_syntax::codemap::{CodeMap, CodeMapId, Pos, Span};
-use std::alloc::{AllocError, Global};
-
-/// The code map of a file, by its name and its source.
-pub fn code_map(alloc: Global, name: &str, source: &str) -> Result<CodeMap, AllocError> {
-    let name = String::from_str(alloc, name)?;
-    let source = String::from_str(alloc, source)?;
-    given(CodeMap::new(alloc, CodeMapId::new(1), name, source))
-}
+use starlark_calls::files::code_map;
+use starlark_calls::rows::{Answer, Row, shown, unknown};
+use starlark_error::codemap::{CodeMap, Pos, Span};
+use std::alloc::Global;
 
 /// The first and the last place of a span.
 fn bounds(span: Span) -> (u32, u32) {

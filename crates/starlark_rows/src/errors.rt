@@ -1,15 +1,15 @@
 //! Errors with their places and calls, over the file `f` with the source `ab`.
 
-use crate::code_maps::code_map;
-use crate::rows::{Answer, Row, given, unknown};
-use starlark_syntax::call_stack::CallStack;
-use starlark_syntax::codemap::{CodeMap, Pos, Span};
-use starlark_syntax::diagnostic::WithDiagnostic;
-use starlark_syntax::error::{
+use starlark_calls::files::code_map;
+use starlark_calls::rows::{Answer, Row, given, unknown};
+use starlark_error::call_stack::CallStack;
+use starlark_error::codemap::{CodeMap, Pos, Span};
+use starlark_error::diagnostic::WithDiagnostic;
+use starlark_error::error::{
     Error, ErrorKind, ParserMessage, error_from_diagnostic, error_from_lexeme,
 };
-use starlark_syntax::eval_exception::EvalException;
-use starlark_syntax::lexer::LexemeError;
+use starlark_error::eval_exception::EvalException;
+use starlark_token::lexeme_error::LexemeError;
 use std::alloc::{AllocError, Global};
 use std::fmt::{Debug, Display};
 

@@ -1,7 +1,7 @@
 //! Files that are shared, compared and collected, and what refuses them.
 
-use crate::rows::{Answer, Row, both, given, shown, unknown};
-use starlark_syntax::codemap::{
+use starlark_calls::rows::{Answer, Row, both, given, shown, unknown};
+use starlark_error::codemap::{
     CodeMapId, CodeMaps, FileSpan, OrMemory, Pos, ResolvedFileSpan, SourceTooLong, Span, Spanned,
 };
 use std::alloc::{AllocError, Global};

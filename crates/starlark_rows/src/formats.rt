@@ -1,7 +1,7 @@
 //! Format strings.
 
-use crate::rows::{Answer, Row};
-use starlark_syntax::dot_format_parser::FormatParser;
+use starlark_calls::rows::{Answer, Row};
+use starlark_formats::dot_format_parser::FormatParser;
 use std::alloc::{AllocError, Global};
 use std::fmt::{Debug, Write};
 

@@ -1,4 +1,4 @@
-//! Calls the libraries as the rows on standard input say, and prints what they answer.
+//! Calls the libraries below the lexer as the rows on standard input say, and prints what they answer.
 //!
 //! A row is a line of fields, parted by tabs: the group of calls, the call, and what it is given. A
 //! number that isn't given is an empty field. The answer is printed on a line of its own, as
@@ -7,19 +7,14 @@
 
 mod code_maps;
 mod cursors;
-mod each_byte;
 mod errors;
 mod files;
 mod formats;
-mod lexed_texts;
 mod places;
 mod refusals;
-mod rows;
 mod strings;
-mod tokens;
-mod words;
 
-use crate::rows::{Answer, Row};
+use starlark_calls::rows::{Answer, Row};
 use std::alloc::Global;
 use std::io;
 use std::io::{BufRead, BufReader, BufWriter, Write};
@@ -32,12 +27,9 @@ fn answer(alloc: Global, row: &Row) -> Answer {
         "errors" => errors::answer(alloc, row),
         "files" => files::answer(alloc, row),
         "format" => formats::answer(alloc, row),
-        "lexed_text" => lexed_texts::answer(alloc, row),
         "places" => places::answer(alloc, row),
         "refusals" => refusals::answer(alloc, row),
         "strings" => strings::answer(alloc, row),
-        "tokens" => tokens::answer(alloc, row),
-        "words" => words::answer(alloc, row),
         group => format!(in alloc; "no group {group}"),
     }
 }

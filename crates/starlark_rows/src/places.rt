@@ -1,7 +1,7 @@
 //! Spans and places without a source.
 
-use crate::rows::{Answer, Row, shown, unknown};
-use starlark_syntax::codemap::{Pos, ResolvedFileSpan, ResolvedPos, ResolvedSpan, Span};
+use starlark_calls::rows::{Answer, Row, shown, unknown};
+use starlark_error::codemap::{Pos, ResolvedFileSpan, ResolvedPos, ResolvedSpan, Span};
 use std::alloc::Global;
 
 /// The span whose begin and end are two fields.

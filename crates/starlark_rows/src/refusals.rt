@@ -1,29 +1,18 @@
 //! Calls that take memory. Where it is refused, a call has to leave what its caller had as it was, and only then is want
 //! of memory handed on. `scripts/refused_memory.py` refuses each request of each of these rows in turn.
 
-use crate::code_maps::code_map;
 use crate::errors::{first, forms, kind, one_call, placed, shown_error, tab};
-use crate::lexed_texts;
-use crate::lexed_texts::Wanted;
-use crate::rows::{Answer, Row, given, unknown};
-use crate::words::lexemes;
-use starlark_syntax::call_stack::CallStack;
-use starlark_syntax::codemap::{CodeMap, CodeMapId, CodeMaps};
-use starlark_syntax::diagnostic::WithDiagnostic;
-use starlark_syntax::error::{Error, error_from_diagnostic, error_from_lexeme};
-use starlark_syntax::eval_exception::EvalException;
-use starlark_syntax::lexer::LexemeError;
+use starlark_calls::files::code_map;
+use starlark_calls::refused::unchanged;
+use starlark_calls::rows::{Answer, Row, given, unknown};
+use starlark_error::call_stack::CallStack;
+use starlark_error::codemap::{CodeMap, CodeMapId, CodeMaps};
+use starlark_error::diagnostic::WithDiagnostic;
+use starlark_error::error::{Error, error_from_diagnostic, error_from_lexeme};
+use starlark_error::eval_exception::EvalException;
+use starlark_token::lexeme_error::LexemeError;
 use std::alloc::{AllocError, Global};
 use std::fmt::{Debug, Display, Write};
-
-/// Want of memory where a refused call left something as it was; else how it was and how it is.
-pub fn unchanged<T: Display>(alloc: Global, before: &str, after: &T) -> Answer {
-    let after = after.to_string(alloc)?;
-    if before == after.as_str() {
-        return Err(AllocError);
-    }
-    format!(in alloc; "{before} became {after}")
-}
 
 /// Want of memory where an error that was handed back is as it was; else how it was and how it is.
 fn kept(alloc: Global, before: &str, error: &Error) -> Answer {
@@ -234,13 +223,6 @@ pub fn answer(alloc: Global, row: &Row) -> Answer {
         "add_all" => add_all(alloc),
         "new_kind" => new_kind(alloc),
         "error_from_lexeme" => of_lexeme(alloc),
-        "lexemes" => lexemes(alloc, row.text(2), row.text(2)),
-        "lex" => lexed_texts::lex(alloc, row.text(2)),
-        "join" => lexed_texts::join(alloc, row.text(2), row.text(3), Wanted::Lexemes),
-        "relex" => {
-            let (text, from, edited) = (row.text(2), row.count(3), row.text(4));
-            lexed_texts::relex(alloc, text, from, edited, Wanted::Lexemes)
-        }
         _ => of_file(alloc, row),
     }
 }

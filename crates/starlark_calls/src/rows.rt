@@ -1,5 +1,7 @@
 //! Rows of a call and what it is given.
 
+ghost use Rattle.std.specs.Prelude.{◌≡◌, IfOk, Ok};
+
 use std::alloc::{AllocError, Global};
 use std::fmt::{Debug, Display};
 
@@ -80,7 +82,9 @@ impl Row {
 }
 
 /// What a call gave that only want of memory can refuse: no row has a text that is too long.
-pub fn given<T, E: Drop>(answer: Result<T, E>) -> Result<T, AllocError> {
+pub fn given<T, E: Drop>(answer: Result<T, E>) -> Result<T, AllocError>
+    ensures { IfOk result (λ value. answer ≡ Ok value) }
+{
     answer.map_err(|_| AllocError)
 }
 

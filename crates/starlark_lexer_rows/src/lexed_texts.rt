@@ -3,11 +3,11 @@
 ghost use Rattle.std.specs.Prelude.{◌≡◌, ◌++◌, IfOk, string_bytes, take, true};
 ghost use Rattle.std.specs.Str.{IsCharBoundary};
 
-use crate::code_maps::code_map;
 use crate::each_byte::each_byte;
-use crate::refusals::unchanged;
-use crate::rows::{Answer, Row, shown, unknown};
 use crate::words::add_placed;
+use starlark_calls::files::code_map;
+use starlark_calls::refused::unchanged;
+use starlark_calls::rows::{Answer, Row, both, given, shown, unknown};
 use starlark_syntax::codemap::CodeMap;
 use starlark_syntax::dialect::Dialect;
 use starlark_syntax::lexer::LexedText;
@@ -19,7 +19,7 @@ fn lexed<'a>(alloc: Global, text: &'a str) -> Result<LexedText<'a>, AllocError>
     ensures { IfOk result (λ lexed. lexed.text ≡ text.now) }
 {
     let map = code_map(alloc, "f", text)?;
-    LexedText::lex(alloc, text, &Dialect::Standard, map).map_err(|_| AllocError)
+    given(LexedText::lex(alloc, text, &Dialect::Standard, map))
 }
 
 /// One text behind another.
@@ -52,11 +52,7 @@ fn joined_lexed<'a>(
 ) -> Result<Option<LexedText<'a>>, AllocError>
     requires { both.now ≡ first.text ++ second.text }
 {
-    match join_lexed(first, second, both) {
-        Some(Ok(joined)) => Ok(Some(joined)),
-        Some(Err(_)) => Err(AllocError),
-        None => Ok(None),
-    }
+    given(join_lexed(first, second, both).transpose())
 }
 
 /// Two texts joined, where they may be. The third text is both.
@@ -94,23 +90,10 @@ fn printed(alloc: Global, lexed: &LexedText<'_>) -> Answer {
     Ok(list)
 }
 
-/// Adds two lexed texts, as they print.
-fn add_both(
-    alloc: Global,
-    list: &mut String,
-    first: &LexedText<'_>,
-    second: &LexedText<'_>,
-) -> Result<(), AllocError> {
-    add(alloc, list, first)?;
-    list.push_str(", ")?;
-    add(alloc, list, second)
-}
-
 /// Two lexed texts, as they print.
 fn both_printed(alloc: Global, first: &LexedText<'_>, second: &LexedText<'_>) -> Answer {
-    let mut list = String::new(alloc);
-    add_both(alloc, &mut list, first, second)?;
-    Ok(list)
+    let (first, second) = (printed(alloc, first)?, printed(alloc, second)?);
+    both(alloc, &first, &second)
 }
 
 /// What a row wants to know of a text that was joined, or lexed again.
@@ -166,10 +149,7 @@ pub fn join(alloc: Global, first: &str, second: &str, wanted: Wanted) -> Answer 
 fn agree(first: &str, second: &str, from: usize) -> bool
     ensures { result ≡ true → IsCharBoundary first.now from × IsCharBoundary second.now from × (take from first.now ≡ take from second.now) }
 {
-    if !first.is_char_boundary(from) || !second.is_char_boundary(from) {
-        return false;
-    }
-    first[..from] == second[..from]
+    first.is_char_boundary(from) && second.is_char_boundary(from) && first[..from] == second[..from]
 }
 
 /// A lexed text that is lexed again behind an edit, or as it was; none where the two texts aren't the same up to the edit.

@@ -1,6 +1,6 @@
 //! Tokens that no text comes to, and faults that none has.
 
-use crate::rows::{Answer, Row, both, unknown};
+use starlark_calls::rows::{Answer, Row, both, unknown};
 use starlark_syntax::lexer::{LexemeError, Token};
 use std::alloc::Global;
 

@@ -1,0 +1,7 @@
+//! What the programs over rows of calls share: a row and its answer, the code map of a file, and what is said of a call
+//! that is refused for want of memory.
+#![tactic(auto)]
+
+pub mod files;
+pub mod refused;
+pub mod rows;
