@@ -334,6 +334,22 @@ impl<'a> Lexer<'a> {
         }
     }
 
+    /// The next lexeme of a lexer that no error has ended, which its first two bytes don't tell whole. They tell whether a
+    /// text literal may stand there.
+    #[inline(always)]
+    fn next_slowly(&mut self, is_text: bool) -> Option<Lexeme>
+        requires { self.old.has_ended ≡ false }
+        ensures item { AnswersNext self.old.code_map (slice_get (items self.old.text) self.old.handed_out) result }
+        ensures within { AnswersWithin self.old.text result }
+        ensures after { self.new ≡ record self.old { handed_out = self.old.handed_out + handed_out_by result; has_ended = is_ended_by result } }
+    {
+        if is_text {
+            self.next_text()
+        } else {
+            self.next_of_all()
+        }
+    }
+
     /// The next lexeme; `None` behind the last, and behind any error. The first error, want of memory too, ends the lexer.
     /// What is handed out begins at or before its end, and lies inside of the text, between characters.
     pub fn next(&mut self) -> Option<Lexeme>
@@ -423,11 +439,7 @@ impl<'a> Lexer<'a> {
                 }
             }
         };
-        if is_text {
-            self.next_text()
-        } else {
-            self.next_of_all()
-        }
+        self.next_slowly(is_text)
     }
 }
 
