@@ -11,7 +11,7 @@ const STRIDE: u64 = 2_654_435_761;
 const SPAN_LEN: u32 = 8;
 
 /// How many spans were resolved, and a sum over their lines and columns.
-#[derive(Clone, Copy, Debug, PartialEq, Eq)]
+#[derive(Clone, Copy)]
 pub struct PlaceTally {
     spans: u64,
     checksum: u64,

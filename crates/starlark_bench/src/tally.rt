@@ -40,7 +40,7 @@ impl From<OrMemory<SourceTooLong>> for BenchFault {
 }
 
 /// How many lexemes and faults came, and a sum over the lexemes' places.
-#[derive(Clone, Copy, Debug, PartialEq, Eq)]
+#[derive(Clone, Copy)]
 pub struct Tally {
     lexemes: u64,
     faults: u64,

@@ -1,26 +1,9 @@
 //! Texts of which each byte is edited.
 
-use crate::lexed_texts::{Wanted, both_texts, lex, relex, relex_joined};
+use crate::lexed_texts::{Wanted, lex, relex, relex_joined};
 use starlark_calls::rows::Answer;
+use starlark_calls::texts::{both_texts, with_byte};
 use std::alloc::{AllocError, Global};
-
-/// What stands at a place of an edited text: the byte that was put there, or the character that stood there.
-fn put(is_edited: bool, byte: u8, character: char) -> char {
-    if is_edited {
-        char::from(byte)
-    } else {
-        character
-    }
-}
-
-/// A text in which another character stands at a place.
-fn with_byte(alloc: Global, text: &str, at: usize, byte: u8) -> Result<String, AllocError> {
-    let mut edited = String::new(alloc);
-    for (place, character) in text.char_indices() {
-        edited.push(put(place == at, byte, character))?;
-    }
-    Ok(edited)
-}
 
 /// A text lexed again behind an edit. It was lexed as one text, or joined of two.
 fn lexed_again(alloc: Global, first: &str, second: &str, at: u32, edited: &str) -> Answer {

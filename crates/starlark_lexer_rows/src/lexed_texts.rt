@@ -1,13 +1,13 @@
 //! Lexed texts: their lexemes, whether they are clean cuts, and what they come to joined.
 
-ghost use Rattle.std.specs.Prelude.{◌≡◌, ◌++◌, IfOk, string_bytes, take, true};
-ghost use Rattle.std.specs.Str.{IsCharBoundary};
+ghost use Rattle.std.specs.Prelude.{◌≡◌, ◌++◌, IfOk};
 
 use crate::each_byte::each_byte;
 use crate::words::add_placed;
 use starlark_calls::files::code_map;
 use starlark_calls::refused::unchanged;
 use starlark_calls::rows::{Answer, Row, both, given, shown, unknown};
+use starlark_calls::texts::{agree, both_texts};
 use starlark_syntax::codemap::CodeMap;
 use starlark_syntax::dialect::Dialect;
 use starlark_syntax::lexer::LexedText;
@@ -20,15 +20,6 @@ fn lexed<'a>(alloc: Global, text: &'a str) -> Result<LexedText<'a>, AllocError>
 {
     let map = code_map(alloc, "f", text)?;
     given(LexedText::lex(alloc, text, &Dialect::Standard, map))
-}
-
-/// One text behind another.
-pub fn both_texts(alloc: Global, first: &str, second: &str) -> Result<String, AllocError>
-    ensures { IfOk result (λ text. string_bytes text ≡ first.now ++ second.now) }
-{
-    let mut text = String::from_str(alloc, first)?;
-    text.push_str(second)?;
-    Ok(text)
 }
 
 /// Two lexed texts joined, or both handed back.
@@ -143,13 +134,6 @@ pub fn join(alloc: Global, first: &str, second: &str, wanted: Wanted) -> Answer 
     let first = lexed(alloc, first)?;
     let second = lexed(alloc, second)?;
     join_or_keep(alloc, first, second, both.as_str(), wanted)
-}
-
-/// Whether two texts have the same bytes up to a place between characters of both.
-fn agree(first: &str, second: &str, from: usize) -> bool
-    ensures { result ≡ true → IsCharBoundary first.now from × IsCharBoundary second.now from × (take from first.now ≡ take from second.now) }
-{
-    first.is_char_boundary(from) && second.is_char_boundary(from) && first[..from] == second[..from]
 }
 
 /// A lexed text that is lexed again behind an edit, or as it was; none where the two texts aren't the same up to the edit.

@@ -5,7 +5,7 @@
 //! `edited`, with spaces between them.
 
 /// What is done with a text.
-#[derive(Clone, Copy, Debug, PartialEq, Eq)]
+#[derive(Clone, Copy)]
 pub enum Task {
     /// It is lexed, and all lines are printed.
     Lines,
@@ -20,7 +20,7 @@ pub enum Task {
 }
 
 /// A text, and what is done with it.
-#[derive(Clone, Copy, Debug)]
+#[derive(Clone, Copy)]
 pub struct Record<'b> {
     pub task: Task,
     pub text: &'b [u8],

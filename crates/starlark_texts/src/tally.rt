@@ -9,7 +9,7 @@ use std::fmt;
 
 /// How many texts there were, and how many lexemes and faults they have together; a sum over all bytes that were printed
 /// for them; and what is wrong with the first of them that a check refuses, with that text's length.
-#[derive(Clone, Copy, Debug)]
+#[derive(Clone, Copy)]
 pub struct Tally {
     texts: u64,
     lexemes: u64,
