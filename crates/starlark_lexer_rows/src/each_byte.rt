@@ -10,7 +10,7 @@ fn lexed_again(alloc: Global, first: &str, second: &str, at: u32, edited: &str) 
     if second.is_empty() {
         return relex(alloc, first, at, edited, Wanted::Lexemes);
     }
-    relex_joined(alloc, first, second, at, edited)
+    relex_joined(alloc, first, second, at, edited, Wanted::Lexemes)
 }
 
 /// How many of the 128 characters of one byte, each in the place of a byte, give something else where the text is lexed

@@ -177,11 +177,18 @@ pub fn relex(alloc: Global, text: &str, from: u32, edited: &str, wanted: Wanted)
     relexed(alloc, lexed(alloc, text)?, from as usize, edited, wanted)
 }
 
-/// Two texts joined, and lexed again behind an edit, as they print.
-pub fn relex_joined(alloc: Global, first: &str, second: &str, from: u32, edited: &str) -> Answer {
+/// What is wanted of two texts joined, and lexed again behind an edit.
+pub fn relex_joined(
+    alloc: Global,
+    first: &str,
+    second: &str,
+    from: u32,
+    edited: &str,
+    wanted: Wanted,
+) -> Answer {
     let both = both_texts(alloc, first, second)?;
     match joined(alloc, first, second, both.as_str())? {
-        Some(old) => relexed(alloc, old, from as usize, edited, Wanted::Lexemes),
+        Some(old) => relexed(alloc, old, from as usize, edited, wanted),
         None => String::from_str(alloc, "not joined"),
     }
 }
@@ -219,6 +226,17 @@ fn marks(alloc: Global, row: &Row) -> Answer {
     Ok(marks)
 }
 
+/// The answer to a call with a text that was joined of two.
+fn of_joined(alloc: Global, row: &Row) -> Answer {
+    let wanted = match row.text(1) {
+        "relex_joined" => Wanted::Lexemes,
+        "relex_joined_reads" => Wanted::Reads,
+        _ => return unknown(alloc, row),
+    };
+    let (first, second, edited) = (row.text(2), row.text(3), row.text(5));
+    relex_joined(alloc, first, second, row.count(4), edited, wanted)
+}
+
 /// The answer to a call with lexed texts.
 pub fn answer(alloc: Global, row: &Row) -> Answer {
     let text = row.text(2);
@@ -232,7 +250,6 @@ pub fn answer(alloc: Global, row: &Row) -> Answer {
         "relex_reads" => relex(alloc, text, row.count(3), row.text(4), Wanted::Reads),
         "relex" => relex(alloc, text, row.count(3), row.text(4), Wanted::Lexemes),
         "each_byte" => each_byte(alloc, text, row.text(3)),
-        "relex_joined" => relex_joined(alloc, text, row.text(3), row.count(4), row.text(5)),
-        _ => unknown(alloc, row),
+        _ => of_joined(alloc, row),
     }
 }

@@ -353,7 +353,7 @@ impl Reader {
     }
 
     /// Whether the place is behind a margin, with no bracket, f-string or width open.
-    #[tactic(auto, unfolding(starlark_grammar::specs::Cuts::is_settled))]
+    #[tactic(auto, unfolding(starlark_laws::specs::Cuts::is_settled))]
     pub fn is_settled(&self) -> bool
         ensures { (text : Text) (history : History) → IsStateAfter text history self.now → result ≡ is_settled history }
     {

@@ -1,9 +1,9 @@
 //! Cursors, indices and braces.
 
 use starlark_calls::rows::{Answer, Row, shown, unknown};
+use starlark_formats::dot_format_parser::EscapeCurlyBrace;
 use starlark_strings::cursors::{CursorBytes, CursorChars};
 use starlark_strings::fast_string::CharIndex;
-use starlark_formats::dot_format_parser::EscapeCurlyBrace;
 use std::alloc::Global;
 
 /// The first byte of a text, then the others as characters, and the place that was come to.
