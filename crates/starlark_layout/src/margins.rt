@@ -1,6 +1,6 @@
 //! What the margin at the front of a text is.
 
-ghost use Rattle.std.specs.Prelude.{◌≡◌, ◌+◌, ◌*◌, ◌≤◌, ◌<◌, ◌^◌, ◌∷◌, drop, length, not, take};
+ghost use Rattle.std.specs.Prelude.{◌≡◌, ◌+◌, ◌*◌, ◌≤◌, ◌<◌, ◌^◌, ◌∷◌, if◌then◌else◌, drop, get_or, length, nat_eq, not, take};
 ghost use Rattle.std.specs.List.{prefix_len};
 ghost use Rattle.starlark_layout.specs.Joints.Layout.{IsBlanks, IsMargin};
 ghost use Rattle.starlark_grammar.specs.Margins as grammar;
@@ -50,15 +50,18 @@ pub fn line_len(text: &[u8], feed: usize) -> usize
     if feed < text.len() { feed + 1 } else { feed }
 }
 
-/// The blanks at the front of a text.
-fn blanks_of(reads: &mut Reads, text: &[u8]) -> Blanks
+/// The blanks at the front of a text that begins with so many spaces, behind which a tab or a CR stands.
+#[inline(always)]
+fn blanks_behind(text: &[u8], spaces: usize, is_tab: bool) -> Blanks
+    requires spaces { spaces ≤ prefix_len (nat_eq 32) text.now }
+    requires inside { spaces < length text.now }
+    requires next { get_or text.now spaces 0 ≡ (if is_tab then 9 else 13) }
     ensures value { IsBlanks (take (grammar.blanks_len text.now) text.now) result }
     ensures within { result.len ≤ length text.now }
-    ensures reads { reads.new ≡ more_reads reads.old (result.len + 1) }
 {
-    let mut len = 0;
-    let mut width = 0;
-    let mut has_tab = false;
+    let mut len = spaces + 1;
+    let mut width = spaces;
+    let mut has_tab = is_tab;
     while let Some(byte) = text.get(len) {
         match *byte {
             b' ' => width += 1,
@@ -68,12 +71,49 @@ fn blanks_of(reads: &mut Reads, text: &[u8]) -> Blanks
         }
         len += 1;
     }
-    reads.count_run(len);
     Blanks {
         len,
         width,
         has_tab,
     }
+}
+
+/// The length of the run of spaces at the front of a text.
+#[inline(always)]
+fn spaces_len(text: &[u8]) -> usize
+    ensures value { result ≡ prefix_len (nat_eq 32) text.now }
+    ensures within { result ≤ length text.now }
+{
+    text.iter().take_while(|byte| **byte == b' ').count()
+}
+
+/// The blanks at the front of a text.
+#[inline(always)]
+fn blanks_in_front(text: &[u8]) -> Blanks
+    ensures value { IsBlanks (take (grammar.blanks_len text.now) text.now) result }
+    ensures within { result.len ≤ length text.now }
+{
+    let spaces = spaces_len(text);
+    if spaces < text.len() && (text[spaces] == b'\t' || text[spaces] == b'\r') {
+        return blanks_behind(text, spaces, text[spaces] == b'\t');
+    }
+    Blanks {
+        len: spaces,
+        width: spaces,
+        has_tab: false,
+    }
+}
+
+/// The blanks at the front of a text, counted.
+#[inline(always)]
+fn blanks_of(reads: &mut Reads, text: &[u8]) -> Blanks
+    ensures value { IsBlanks (take (grammar.blanks_len text.now) text.now) result }
+    ensures within { result.len ≤ length text.now }
+    ensures reads { reads.new ≡ more_reads reads.old (result.len + 1) }
+{
+    let blanks = blanks_in_front(text);
+    reads.count_run(blanks.len);
+    blanks
 }
 
 fn begins_comment(text: &[u8]) -> bool
@@ -90,13 +130,24 @@ fn is_content(text: &[u8]) -> bool
 }
 
 /// The margin at the front of a text.
+#[inline(always)]
 pub fn margin_of(reads: &mut Reads, text: &str) -> Margin
     ensures margin { IsMargin (grammar.margin_of text.now) result }
     ensures within { result.at + result.blanks.len ≤ length text.now }
     ensures reads { AreReads (result.at + result.blanks.len) (6 * result.at + result.blanks.len + 2) reads.old reads.new }
 {
     let bytes = text.as_bytes();
-    let mut at = 0;
+    let blanks = blanks_of(reads, bytes);
+    let behind = &bytes[blanks.len..];
+    let first = reads.front(behind, 1);
+    if !begins_comment(first) {
+        return Margin {
+            at: 0,
+            blanks,
+            is_content: is_content(first),
+        };
+    }
+    let mut at = blanks.len + line_len(behind, before_feed_len(reads, behind));
     loop {
         let line = &bytes[at..];
         let blanks = blanks_of(reads, line);

@@ -14,6 +14,7 @@ use std::alloc::AllocError;
 
 /// The fault of a margin that has one, behind a line end of `len` bytes, and where it ends, in bytes from the line end's
 /// begin on. A tab goes before a width that doesn't fit.
+#[inline(always)]
 pub fn margin_fault(len: usize, margin: Margin) -> (LexemeError, usize)
     requires { len + margin.at + margin.blanks.len < 2 ^ 64 }
     ensures { (seen : grammar.Margin) → IsMargin seen margin → IsFaultFound (margin_fault len seen) result }
@@ -36,6 +37,7 @@ fn keeps_widths(levels: &IndentStack, margin: Margin) -> bool
 
 /// Takes the width of a margin before content, which begins at `begin` and has no tab: an `Indent` waits, or a `Dedent`
 /// for each width that it closes. Answers whether it fits; else nothing changes.
+#[inline(always)]
 fn take_width(
     levels: &mut IndentStack,
     behind: &mut Behind,

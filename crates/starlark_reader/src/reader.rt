@@ -102,9 +102,9 @@ pub enum Next {
 /// What became of a line end: it doesn't count and was passed, a `Newline` stands there, or its margin has a fault.
 #[derive(Clone, Copy)]
 pub enum LineEnd {
-    Passed,
-    Newline,
     Fault,
+    Newline,
+    Passed,
 }
 
 impl Reader {
@@ -588,7 +588,7 @@ impl Reader {
 
     /// Takes the line end here, which counts and has so many bytes, and the margin behind it. Answers whether the margin has
     /// no fault: then a `Newline` stands here.
-    #[inline(never)]
+    #[inline(always)]
     fn take_counting_line_end(&mut self, len: usize, text: &str) -> Result<bool, AllocError>
         requires fits { length text.now < 2 ^ 32 }
         requires ready { IsReady text.now self.old self.old.stage }
@@ -603,7 +603,7 @@ impl Reader {
 
     /// Takes the line end here, of so many bytes, and the margin behind it where it counts. Answers what became of it. After
     /// an error the reader isn't to be asked again.
-    #[inline(always)]
+    #[inline(never)]
     pub fn take_line_end(&mut self, len: usize, text: &str) -> Result<LineEnd, AllocError>
         requires fits { length text.now < 2 ^ 32 }
         requires ready { IsReady text.now self.old self.old.stage }

@@ -1,11 +1,11 @@
 -- Blanks, byte by byte.
-use Rattle.std.proofs.Common.{◌≡◌, ℕ, suc, ◌+◌, ◌≤◌, ◌<◌, Bool, true, false, cond, [], ◌∷◌, length, take, drop, refl, ap, ◌∙◌, sym, arith, one-add, zero-add, nat_eq, get_or}
-use Rattle.std.specs.Prelude.{◌==◌, ◌||◌, count_by}
-use Rattle.std.specs.List.{list_any}
+use Rattle.std.proofs.Common.{◌≡◌, ℕ, zero, suc, ◌+◌, ◌≤◌, ◌<◌, Bool, true, false, cond, [], ◌∷◌, length, take, drop, refl, ap, ◌∙◌, sym, arith, one-add, zero-add, nat_eq, get_or}
+use Rattle.std.specs.Prelude.{◌==◌, ◌||◌, if◌then◌else◌, count_by}
+use Rattle.std.specs.List.{list_any, prefix_len}
 use Rattle.std.proofs.Math.Seq.{drop-cons}
 use Rattle.std.proofs.lemmas.Bool.Decides.{nat_tests}
 use Rattle.std.proofs.lemmas.List.{length-drop}
-use Rattle.std.proofs.lemmas.List.Sums.{sum_by-cons}
+use Rattle.std.proofs.lemmas.List.Sums.{prefix_len-le-length, prefix_len_passes, prefix_len_stops, sum_by-cons}
 use Rattle.starlark_grammar.specs.Words.{Text}
 use Rattle.starlark_grammar.specs.Margins.{is_blank, blanks_len}
 use Rattle.starlark_layout.specs.Joints.Layout.{IsBlanks}
@@ -80,3 +80,35 @@ all_passed text blanks passed none = record {
     either : (t : Bool) → t ≡ (t || false)
     either true = refl
     either false = refl
+
+-- spaces in front
+pub spaces_passed : (text : Text) (n : ℕ) → n ≤ prefix_len (nat_eq 32) text → IsPassed text (record { len = n; width = n; has_tab = false })
+spaces_passed text zero inside = none_passed text
+spaces_passed text (suc n) inside =
+    one_passed text (record { len = n; width = n; has_tab = false }) (record { len = suc n; width = suc n; has_tab = false }) 32 (spaces_passed text n (omega (arith, inside)))
+    (omega (arith, inside, prefix_len-le-length (nat_eq 32) text)) (space (get_or text n 0) (prefix_len_passes (nat_eq 32) text n 0 (omega (arith, inside)))) refl (omega arith) (omega arith) refl
+  where
+    space : (b : ℕ) → nat_eq 32 b ≡ true → 32 ≡ b
+    space b e = grind (arith, nat_tests)
+
+-- and a tab or a CR behind them
+pub blank_passed : (text : Text) (spaces : ℕ) (is_tab : Bool) → spaces ≤ prefix_len (nat_eq 32) text → spaces < length text → get_or text spaces 0 ≡ (if is_tab then 9 else 13)
+    → IsPassed text (record { len = spaces + 1; width = spaces; has_tab = is_tab })
+blank_passed text spaces true few less next = one_passed text (record { len = spaces; width = spaces; has_tab = false }) (record { len = spaces + 1; width = spaces; has_tab = true }) 9 (spaces_passed text spaces few) less (sym next) refl refl (omega arith) refl
+blank_passed text spaces false few less next = one_passed text (record { len = spaces; width = spaces; has_tab = false }) (record { len = spaces + 1; width = spaces; has_tab = false }) 13 (spaces_passed text spaces few) less (sym next) refl refl (omega arith) refl
+
+-- spaces alone, behind which no tab and no CR stands
+pub only_spaces : (text : Text) (n : ℕ) → n ≡ prefix_len (nat_eq 32) text → (n < length text → get_or text n 0 ≡ 9 → ⊥) → (n < length text → get_or text n 0 ≡ 13 → ⊥)
+    → IsBlanks (blanks_at text) (record { len = n; width = n; has_tab = false })
+only_spaces text n is no_tab no_return = all_passed text _ (spaces_passed text n (omega (arith, is))) (none (drop n text) refl)
+  where
+    other : (b : ℕ) → nat_eq 32 b ≡ false → (b ≡ 9 → ⊥) → (b ≡ 13 → ⊥) → is_blank b ≡ false
+    other b space tab return = grind (arith, nat_tests)
+
+    none : (rest : Text) → drop n text ≡ rest → blanks_at rest ≡ []
+    none [] e = refl
+    none (b ∷ bs) e =
+        let less : n < length text = omega (arith, ap (λ (t : Text). length t) e, length-drop n text) in
+        let split = at_front text n (get_or text n 0) less refl in
+        let stops : nat_eq 32 (get_or text n 0) ≡ false = rw is (prefix_len_stops (nat_eq 32) text 0 (rw is at less)) in
+        ap blanks_at (sym e ∙ split) ∙ other_front (get_or text n 0) (drop (n + 1) text) (other (get_or text n 0) stops (no_tab less) (no_return less))

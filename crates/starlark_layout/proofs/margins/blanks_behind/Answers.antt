@@ -1,8 +1,11 @@
 use Rattle.std.proofs.Common.{refl, sym, ◌∙◌, ◌+◌, arith}
 use Rattle.starlark_layout.specs.declared.margins.Blanks.{Blanks}
-use Rattle.starlark_layout.proofs.Indentation.Blanks.{one_passed}
-use Rattle.starlark_layout.proofs.margins.blanks_of.Goals.{in-32, in-9, in-13}
-use Rattle.starlark_layout.proofs.margins.blanks_of.Goals as goal
+use Rattle.starlark_layout.proofs.Indentation.Blanks.{blank_passed, one_passed}
+use Rattle.starlark_layout.proofs.margins.blanks_behind.Goals.{in-32, in-9, in-13}
+use Rattle.starlark_layout.proofs.margins.blanks_behind.Goals as goal
+
+pub loop-byte-init : goal.loop-byte-init
+loop-byte-init c = blank_passed c.args.text.now c.args.spaces c.args.is_tab c.requires.spaces c.requires.inside c.requires.next
 
 pub loop-byte-preserved : goal.loop-byte-preserved
 loop-byte-preserved c =
