@@ -84,6 +84,7 @@ pub fn is_quote(quote: Quote, byte: u8) -> bool
 }
 
 /// Whether the quotes that close a literal stand at the front of a text.
+#[inline(always)]
 pub fn closes(opening: Opening, text: &[u8]) -> bool
     ensures { result ≡ starts_with nat_eq text.now (grammar.closing_quotes (opening_view opening)) }
 {

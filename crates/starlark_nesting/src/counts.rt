@@ -85,6 +85,7 @@ impl OpenFString {
     }
 
     /// Where the end of its tokens is.
+    #[inline(always)]
     pub fn place(&self) -> LexerMode
         ensures { (found : grammar.Opening × List grammar.Token) → fstring_view self.now ≡ fstring_of found → mode_view result ≡ depths.inside found }
     {
