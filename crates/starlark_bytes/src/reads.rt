@@ -30,6 +30,52 @@ fn is_in_name(byte: u8) -> bool
     IN_NAME[byte as usize] == b'x'
 }
 
+/// The length of the run of spaces at the front of a text. Who calls it counts that they were read.
+#[inline(always)]
+pub fn uncounted_spaces_len(text: &[u8]) -> usize
+    ensures value { result ≡ prefix_len (nat_eq 32) text.now }
+    ensures within { result ≤ length text.now }
+{
+    text.iter().take_while(|byte| **byte == b' ').count()
+}
+
+/// How many bytes of a name are looked at first. The compiler unrolls the loop over as many.
+const FIRST: usize = 16;
+
+/// The length of the run of letters, digits and `_` at the front of some bytes.
+#[inline(always)]
+fn name_part_len(text: &[u8]) -> usize
+    ensures value { result ≡ prefix_len grammar.is_in_name text.now }
+    ensures within { result ≤ length text.now }
+{
+    text.iter().take_while(|byte| is_in_name(**byte)).count()
+}
+
+/// The same of bytes behind the first ones of a name, or of fewer, which stand at a text's end.
+#[inline(never)]
+fn last_name_part_len(text: &[u8]) -> usize
+    ensures value { result ≡ prefix_len grammar.is_in_name text.now }
+    ensures within { result ≤ length text.now }
+{
+    name_part_len(text)
+}
+
+/// The length of the run of letters, digits and `_` at the front of a text.
+#[inline(always)]
+fn name_len(text: &[u8]) -> usize
+    ensures value { result ≡ prefix_len grammar.is_in_name text.now }
+    ensures within { result ≤ length text.now }
+{
+    if text.len() < FIRST {
+        return last_name_part_len(text);
+    }
+    let len = name_part_len(&text[..FIRST]);
+    if len < FIRST {
+        return len;
+    }
+    FIRST + last_name_part_len(&text[FIRST..])
+}
+
 /// The length in bytes of the first character of a text; 0 where the text is empty.
 fn first_character_len(text: &str) -> usize
     ensures character { take result text.now ≡ first_character text.now }
@@ -138,6 +184,18 @@ impl Reads {
         &text[..most.min(text.len())]
     }
 
+    /// The first bytes of a text, at most so many, behind a run of so many bytes, which is counted with them. Each byte of the
+    /// run was read once, and the byte that ended it.
+    #[inline(always)]
+    pub fn front_behind<'a>(&mut self, run: usize, text: &'a [u8], most: usize) -> &'a [u8]
+        requires { run + most + 1 < 2 ^ 64 }
+        ensures bytes { result.now ≡ take most text.now }
+        ensures reads { self.new ≡ more_reads self.old (run + 1 + most) }
+    {
+        self.add(run + 1 + most);
+        &text[..most.min(text.len())]
+    }
+
     /// The first bytes of a text, at most so many, of which the first ones, so many as are known, were read before.
     #[inline(always)]
     pub fn more_front<'a>(&mut self, text: &'a [u8], known: usize, most: usize) -> &'a [u8]
@@ -214,7 +272,7 @@ impl Reads {
         ensures behind { result.1 ≡ slice_get text.now result.0 }
         ensures reads { self.new ≡ more_reads self.old (result.0 + 1) }
     {
-        let len = text.iter().take_while(|byte| is_in_name(**byte)).count();
+        let len = name_len(text);
         self.add(len + 1);
         (len, text.get(len).copied())
     }
@@ -241,7 +299,7 @@ impl Reads {
         ensures within { result ≤ length text.now }
         ensures reads { self.new ≡ more_reads self.old (result + 1) }
     {
-        let len = text.iter().take_while(|byte| **byte == b' ').count();
+        let len = uncounted_spaces_len(text);
         self.add(len + 1);
         len
     }

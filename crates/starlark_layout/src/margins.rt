@@ -7,7 +7,7 @@ ghost use Rattle.starlark_grammar.specs.Margins as grammar;
 ghost use Rattle.starlark_bytes.specs.Joints.Reads.{AreReads, more_reads};
 
 use crate::feeds::before_feed_len;
-use starlark_bytes::reads::Reads;
+use starlark_bytes::reads::{Reads, uncounted_spaces_len};
 
 /// The blanks at the front of a text: how many, how many of them are spaces, and whether one is a tab.
 #[derive(Clone, Copy)]
@@ -78,22 +78,13 @@ fn blanks_behind(text: &[u8], spaces: usize, is_tab: bool) -> Blanks
     }
 }
 
-/// The length of the run of spaces at the front of a text.
-#[inline(always)]
-fn spaces_len(text: &[u8]) -> usize
-    ensures value { result ≡ prefix_len (nat_eq 32) text.now }
-    ensures within { result ≤ length text.now }
-{
-    text.iter().take_while(|byte| **byte == b' ').count()
-}
-
 /// The blanks at the front of a text.
 #[inline(always)]
 fn blanks_in_front(text: &[u8]) -> Blanks
     ensures value { IsBlanks (take (grammar.blanks_len text.now) text.now) result }
     ensures within { result.len ≤ length text.now }
 {
-    let spaces = spaces_len(text);
+    let spaces = uncounted_spaces_len(text);
     if spaces < text.len() && (text[spaces] == b'\t' || text[spaces] == b'\r') {
         return blanks_behind(text, spaces, text[spaces] == b'\t');
     }
@@ -104,15 +95,15 @@ fn blanks_in_front(text: &[u8]) -> Blanks
     }
 }
 
-/// The blanks at the front of a text, counted.
+/// The blanks at the front of a text, counted, and once more the byte that ends them, which tells what follows.
 #[inline(always)]
 fn blanks_of(reads: &mut Reads, text: &[u8]) -> Blanks
     ensures value { IsBlanks (take (grammar.blanks_len text.now) text.now) result }
     ensures within { result.len ≤ length text.now }
-    ensures reads { reads.new ≡ more_reads reads.old (result.len + 1) }
+    ensures reads { reads.new ≡ more_reads reads.old (result.len + 2) }
 {
     let blanks = blanks_in_front(text);
-    reads.count_run(blanks.len);
+    reads.count_run(blanks.len + 1);
     blanks
 }
 
@@ -139,12 +130,11 @@ pub fn margin_of(reads: &mut Reads, text: &str) -> Margin
     let bytes = text.as_bytes();
     let blanks = blanks_of(reads, bytes);
     let behind = &bytes[blanks.len..];
-    let first = reads.front(behind, 1);
-    if !begins_comment(first) {
+    if !begins_comment(behind) {
         return Margin {
             at: 0,
             blanks,
-            is_content: is_content(first),
+            is_content: is_content(behind),
         };
     }
     let mut at = blanks.len + line_len(behind, before_feed_len(reads, behind));
@@ -152,12 +142,11 @@ pub fn margin_of(reads: &mut Reads, text: &str) -> Margin
         let line = &bytes[at..];
         let blanks = blanks_of(reads, line);
         let behind = &line[blanks.len..];
-        let first = reads.front(behind, 1);
-        if !begins_comment(first) {
+        if !begins_comment(behind) {
             return Margin {
                 at,
                 blanks,
-                is_content: is_content(first),
+                is_content: is_content(behind),
             };
         }
         at += blanks.len + line_len(behind, before_feed_len(reads, behind));

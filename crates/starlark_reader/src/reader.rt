@@ -13,7 +13,7 @@ ghost use Rattle.starlark_grammar.specs.declared.class.Class.TheVariants as clas
 ghost use Rattle.starlark_grammar.specs.declared.class.LiteralKind.TheVariants as kind;
 ghost use Rattle.starlark_layout.specs.Joints.Pending.{IsIdle, IsPending};
 ghost use Rattle.starlark_reader.specs.Joints.MarginCuts.{IsCutBefore};
-ghost use Rattle.starlark_reader.specs.Joints.Reads.{HasLooked, HasLookedHere, HasRead, HasReadAt, HasReadNext, IsMarginRead, IsPassed, IsPassedBy, IsTaken};
+ghost use Rattle.starlark_reader.specs.Joints.Reads.{HasBegun, HasLooked, HasLookedHere, HasRead, HasReadAt, HasReadNext, IsMarginRead, IsPassed, IsPassedBy, IsTaken};
 ghost use Rattle.starlark_reader.specs.Joints.Reader.{CountsLineEnds, has_read_none, IsAhead, IsAheadBehind, IsAtCode, IsInCode, IsInFlatMargin, IsReached, IsStateAfter, IsNext, IsOver, IsPlainTextHere, IsRead, IsReady, IsSomething, IsWordHere, before_view, left_here, left_to_read, newline_if, newline_of, silent_sort, step_here};
 ghost use Rattle.starlark_reader.specs.Joints.Pieces.{IsBehind};
 ghost use Rattle.starlark_laws.specs.Cuts.{is_layout, is_settled};
@@ -24,9 +24,9 @@ ghost use Rattle.starlark_nesting.specs.Joints.Nesting.{change_by};
 ghost use Rattle.starlark_nesting.specs.declared.changes.Change.TheVariants as change;
 ghost use Rattle.starlark_grammar.specs.Words.{Text};
 
-use crate::literal::{Opening, PlainText, Step, plain_text, quotes_of};
+use crate::literal::{Opening, PlainText, Step, opening_of, plain_text, quotes_of};
 use crate::reading::code::{gap_len, is_code};
-use crate::reading::terminals::terminal_token;
+use crate::reading::terminals::token_in;
 use crate::reading::words::digit_token;
 use crate::reading::{Piece, is_outside, line_end_counts, piece_at};
 use starlark_bytes::reads::Reads;
@@ -36,7 +36,8 @@ use starlark_layout::{
 use starlark_literals::plain_body_len;
 use starlark_nesting::{LexerMode, Nesting};
 use starlark_scanner::scanner::{
-    Quote, ShortWord, Terminal, TextOpener, Word, comment_len, common_word, short_word, text_opener,
+    Quote, ShortWord, Terminal, TextOpener, Word, comment_len, fstring_opener, short_word, text_opener,
+    word_behind,
 };
 use starlark_token::lexeme_error::LexemeError;
 use starlark_token::tokens::Token;
@@ -177,6 +178,7 @@ impl Reader {
     }
 
     /// Reads a line end that counts, and the margin behind it. Answers whether the margin has no fault.
+    #[inline(always)]
     fn lay_line_end(&mut self, text: &str, len: usize) -> Result<bool, AllocError>
         requires fits { length text.now < 2 ^ 32 }
         requires stage { self.old.stage ≡ Stage.Onward }
@@ -187,6 +189,7 @@ impl Reader {
             IsRead text.now (left_here text.now history self.old) (newline_if is_laid self.old.at len) self.new) }
         ensures less { OnOk result (left_to_read text.now self.new self.new.stage < left_to_read text.now self.old Stage.Onward) }
         ensures reads { OnOk result (IsMarginRead text.now len self.old self.new self.new.stage) }
+        ensures onward { IfOk result (λ is_laid. is_laid ≡ true → (self.new.stage ≡ Stage.Onward) × (self.new.nesting ≡ self.old.nesting)) }
     {
         let begin = self.at + len;
         let margin = margin_of(&mut self.reads, &text[begin..]);
@@ -451,13 +454,21 @@ impl Reader {
         }
     }
 
+    /// Whether nothing that was read is still to be handed out.
+    #[inline(always)]
+    pub fn is_idle(&self) -> bool
+        ensures { result ≡ true → (text : Text) → IsPending text self.now.pending → IsIdle text self.now.pending }
+    {
+        self.pending.is_nothing()
+    }
+
     /// Whether the text is to be read on, and nothing else is to be handed out before.
     #[inline(always)]
     pub fn reads_on(&self) -> bool
         ensures stage { result ≡ true → self.now.stage ≡ Stage.Onward }
         ensures idle { result ≡ true → (text : Text) → IsPending text self.now.pending → IsIdle text self.now.pending }
     {
-        matches!(self.stage, Stage::Onward) && self.pending.is_nothing()
+        matches!(self.stage, Stage::Onward) && self.is_idle()
     }
 
     /// Whether the place is one of code.
@@ -476,21 +487,22 @@ impl Reader {
         self.reads_on() && self.is_in_code()
     }
 
-    /// Passes the spaces here, at a place of code.
+    /// Passes the spaces here, at a place of code, and answers how many. Their reads are still to be counted.
     #[inline(always)]
-    fn pass_spaces(&mut self, text: &str)
+    fn pass_spaces(&mut self, text: &str) -> usize
         requires fits { length text.now < 2 ^ 32 }
         requires code { IsAtCode text.now self.old }
         requires ready { IsReady text.now self.old Stage.Onward }
         ensures ahead { (lexemes : List (Spanned TokenView)) (fault : Option (Spanned Fault)) → IsAhead text.now self.old Stage.Onward lexemes fault → IsAhead text.now self.new Stage.Onward lexemes fault }
-        ensures same { (self.new.nesting ≡ self.old.nesting) × (self.new.pending ≡ self.old.pending) × (self.new.stage ≡ Stage.Onward) }
-        ensures onward { self.old.at ≤ self.new.at }
-        ensures looked { HasLooked 0 1 self.old self.new }
+        ensures same { (self.new.nesting ≡ self.old.nesting) × (self.new.pending ≡ self.old.pending) × (self.new.stage ≡ Stage.Onward) × (self.new.reads ≡ self.old.reads) }
+        ensures onward { self.new.at ≡ self.old.at + result }
+        ensures few { result < 2 ^ 32 }
     {
-        let len = gap_len(&mut self.reads, &text[self.at..]);
-        if len > 0 {
-            self.step_over(len, Before::Gap);
+        let gap = gap_len(&text[self.at..]);
+        if gap > 0 {
+            self.step_over(gap, Before::Gap);
         }
+        gap
     }
 
     /// The word that comes next, where its first two bytes tell which it is: a name, a symbol of one byte, an LF, or
@@ -504,10 +516,10 @@ impl Reader {
         ensures onward { left_to_read text.now self.new self.new.stage ≤ left_to_read text.now self.old self.old.stage }
         ensures code { IsAtCode text.now self.new }
         ensures stands { IfSome result (λ word. IsWordHere text.now self.new word) }
-        ensures looked { HasLooked (word_len result) (word_len result + 5) self.old self.new }
+        ensures looked { HasLooked (word_len result) (word_len result + 3) self.old self.new }
     {
-        self.pass_spaces(text);
-        common_word(&mut self.reads, &text[self.at..])
+        let gap = self.pass_spaces(text);
+        word_behind(&mut self.reads, gap, &text[self.at..])
     }
 
     /// The word that comes next, where it is a symbol of two bytes or an integer of one digit, and the byte behind it tells
@@ -541,6 +553,21 @@ impl Reader {
         ensures looked { HasLookedHere 2 2 self.old self.new }
     {
         text_opener(&mut self.reads, &text[self.at..])
+    }
+
+    /// The quote of the f-string that comes next, where its opener is an `f` and that quote. `None` where something else comes.
+    /// For places of code, behind their spaces.
+    #[inline(always)]
+    pub fn fstring_opener(&mut self, text: &str) -> Option<Quote>
+        requires fits { length text.now < 2 ^ 32 }
+        requires ready { IsReady text.now self.old self.old.stage }
+        requires code { IsAtCode text.now self.old }
+        ensures ahead { (lexemes : List (Spanned TokenView)) (fault : Option (Spanned Fault)) → IsAhead text.now self.old self.old.stage lexemes fault → IsAhead text.now self.new self.new.stage lexemes fault }
+        ensures code { IsAtCode text.now self.new }
+        ensures stands { IfSome result (λ quote. IsWordHere text.now self.new (record { class = class.Opener kind.FString false quote; len = 2 })) }
+        ensures looked { HasLookedHere 2 2 self.old self.new }
+    {
+        fstring_opener(&mut self.reads, &text[self.at..])
     }
 
     /// The length of the comment that comes next. `None` where something else comes. For places of code, behind their spaces.
@@ -597,6 +624,7 @@ impl Reader {
         ensures ahead { IfOk result (λ is_laid. (lexemes : List (Spanned TokenView)) (fault : Option (Spanned Fault)) → IsAhead text.now self.old self.old.stage lexemes fault → IsAheadBehind text.now (newline_if is_laid self.old.at len) self.new lexemes fault) }
         ensures memory { OnErr result ((lexemes : List (Spanned TokenView)) (fault : Option (Spanned Fault)) → IsAhead text.now self.old self.old.stage lexemes fault → IsSomething lexemes fault) }
         ensures reads { OnOk result (IsMarginRead text.now len self.old self.new self.new.stage) }
+        ensures onward { IfOk result (λ is_laid. is_laid ≡ true → (self.new.stage ≡ Stage.Onward) × IsInCode self.new) }
     {
         self.lay_line_end(text, len)
     }
@@ -614,6 +642,7 @@ impl Reader {
         ensures code { IfOk result (λ line_end. line_end ≡ LineEnd.Passed → IsAtCode text.now self.new) }
         ensures taken { IfOk result (λ line_end. line_end ≡ LineEnd.Passed → IsTaken len self.old self.new) }
         ensures reads { IfOk result (λ line_end. line_end ≢ LineEnd.Passed → IsMarginRead text.now len self.old self.new self.new.stage) }
+        ensures onward { IfOk result (λ line_end. line_end ≡ LineEnd.Newline → (self.new.stage ≡ Stage.Onward) × IsInCode self.new) }
     {
         if self.pass_line_end(len, text) {
             return Ok(LineEnd::Passed);
@@ -715,6 +744,23 @@ impl Reader {
         Ok((begin, token, begin + whole))
     }
 
+    /// Takes the start of the f-string here, whose opener is an `f` and this quote. After an error the reader isn't to be asked
+    /// again.
+    #[inline(always)]
+    pub fn take_fstring(&mut self, quote: Quote, text: &str) -> Result<PlacedToken, AllocError>
+        requires fits { length text.now < 2 ^ 32 }
+        requires ready { IsReady text.now self.old self.old.stage }
+        requires stands { IsWordHere text.now self.old (record { class = class.Opener kind.FString false quote; len = 2 }) }
+        ensures ahead { IfOk result (λ given. (lexemes : List (Spanned TokenView)) (fault : Option (Spanned Fault)) → IsAhead text.now self.old self.old.stage lexemes fault → IsAheadBehind text.now (Some given) self.new lexemes fault) }
+        ensures memory { OnErr result ((lexemes : List (Spanned TokenView)) (fault : Option (Spanned Fault)) → IsAhead text.now self.old self.old.stage lexemes fault → IsSomething lexemes fault) }
+        ensures begun { OnOk result (HasBegun self.old self.new) }
+    {
+        let rest = &text[self.at..];
+        let opening = opening_of(&mut self.reads, false, quote, &rest[2..]);
+        let len = if opening.is_triple { 4 } else { 2 };
+        self.begin_fstring(opening, len, text)
+    }
+
     /// Whether comments are to be handed out before all else.
     #[inline(always)]
     pub fn has_comments(&self) -> bool
@@ -795,7 +841,7 @@ impl Reader {
         ensures taken { IsTaken len self.old self.new }
     {
         let begin = self.at;
-        let token = terminal_token(self.nesting.place(), terminal);
+        let token = token_in(&self.nesting, terminal);
         self.pass_token(&token, len, text);
         (begin, token, begin + len)
     }

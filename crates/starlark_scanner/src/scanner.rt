@@ -1,6 +1,6 @@
 //! Finds the longest word at the front of a text.
 
-ghost use Rattle.std.specs.Prelude.{◌≡◌, false, ◌<◌, ◌≤◌, ◌==◌, ◌+◌, ◌-◌, ◌*◌, ◌∷◌, IfSome, None, Some, length, nat_eq, take, true};
+ghost use Rattle.std.specs.Prelude.{◌≡◌, false, ◌<◌, ◌≤◌, ◌==◌, ◌+◌, ◌-◌, ◌*◌, ◌^◌, ◌∷◌, IfSome, None, Some, length, nat_eq, take, true};
 ghost use Rattle.std.specs.List.{prefix_len, slice_get};
 ghost use Rattle.std.specs.Option.{option_map};
 ghost use Rattle.starlark_grammar.specs.Front.{language_front};
@@ -20,7 +20,7 @@ mod word;
 
 use first::is_name_start;
 use starlark_bytes::lines::front_len;
-use starlark_bytes::reads::Reads;
+use starlark_bytes::reads::{Reads, uncounted_spaces_len};
 pub use starlark_grammar::class::{Class, LiteralKind, Quote, Terminal};
 pub use word::{ShortWord, TextOpener, Word};
 
@@ -77,13 +77,38 @@ fn quote_word(quote: Quote) -> Word
     }
 }
 
-/// The length of the run of spaces at the front of a text.
-pub fn spaces_len(reads: &mut Reads, text: &str) -> usize
+/// The length of the run of spaces at the front of a text. `word_behind` counts that they were read.
+#[inline(always)]
+pub fn gap_len(text: &str) -> usize
     ensures word { 0 < result → language_front text.now ≡ Some (class.Skipped, result) }
     ensures bang { 0 < result → is_bang text.now ≡ false }
-    ensures reads { reads.new ≡ more_reads reads.old (result + 1) }
+    ensures within { result ≤ length text.now }
 {
-    reads.spaces_len(text.as_bytes())
+    uncounted_spaces_len(text.as_bytes())
+}
+
+/// The longest word at the front of a text, by its first two bytes, where these tell which it is.
+#[inline(always)]
+fn word_by_front(reads: &mut Reads, front: &[u8], text: &str) -> Option<Word>
+    requires { front.now ≡ take 2 text.now }
+    ensures word { IfSome result (λ word. Some (word_view word) ≡ language_front text.now) }
+    ensures bang { IfSome result (λ word. is_bang text.now ≡ false) }
+    ensures none { result ≡ None → grammar.begins grammar.is_name_start text.now ≡ false }
+    ensures reads { AreReads (word_len result - 1) (word_len result) reads.old reads.new }
+    ensures same { result ≡ None → reads.new ≡ reads.old }
+{
+    let first = *front.first()?;
+    if is_name_start(first) {
+        return Some(names::name_from(reads, text));
+    }
+    if marks::is_mark_alone(front) {
+        return marks::longest_of_one(first);
+    }
+    match first {
+        b'\'' => Some(quote_word(Quote::Single)),
+        b'"' => Some(quote_word(Quote::Double)),
+        _ => None,
+    }
 }
 
 /// The longest word at the front of a text, where its first byte or its first two tell which it is: a name, a
@@ -97,18 +122,19 @@ pub fn common_word(reads: &mut Reads, text: &str) -> Option<Word>
     ensures two { result ≡ None → reads.new ≡ more_reads reads.old 2 }
 {
     let front = reads.front(text.as_bytes(), 2);
-    let first = *front.first()?;
-    if is_name_start(first) {
-        return Some(names::name_from(reads, text));
-    }
-    if marks::is_mark_alone(front) {
-        return marks::longest_of_one(first);
-    }
-    match first {
-        b'\'' => Some(quote_word(Quote::Single)),
-        b'"' => Some(quote_word(Quote::Double)),
-        _ => None,
-    }
+    word_by_front(reads, front, text)
+}
+
+/// The same of a text behind so many spaces, which are counted with its first two bytes.
+#[inline(always)]
+pub fn word_behind(reads: &mut Reads, gap: usize, text: &str) -> Option<Word>
+    requires { gap < 2 ^ 32 }
+    ensures word { IfSome result (λ word. Some (word_view word) ≡ language_front text.now) }
+    ensures bang { IfSome result (λ word. is_bang text.now ≡ false) }
+    ensures reads { AreReads (gap + word_len result) (gap + word_len result + 5) reads.old reads.new }
+{
+    let front = reads.front_behind(gap, text.as_bytes(), 2);
+    word_by_front(reads, front, text)
 }
 
 /// The longest word at the front of a text, where that is a symbol of two bytes or an integer of one digit, and the byte
@@ -140,6 +166,17 @@ pub fn text_opener(reads: &mut Reads, text: &str) -> Option<TextOpener>
 {
     let front = reads.front(text.as_bytes(), 2);
     openers::text_opener(front)
+}
+
+/// The quote of the opener at the front of a text, where that is an `f` and a quote.
+#[inline(always)]
+pub fn fstring_opener(reads: &mut Reads, text: &str) -> Option<Quote>
+    ensures word { IfSome result (λ quote. Some (class.Opener kind.FString false quote, 2) ≡ language_front text.now) }
+    ensures bang { IfSome result (λ quote. is_bang text.now ≡ false) }
+    ensures reads { reads.new ≡ more_reads reads.old 2 }
+{
+    let front = reads.front(text.as_bytes(), 2);
+    openers::fstring_opener(front)
 }
 
 /// The length of the comment at the front of a text. `None` where something else stands there.

@@ -183,15 +183,6 @@ last_passed text line behind at found content passed e same f h is =
       is_content = is ∙ ap is_content (there ∙ ap (λ (t : Text). drop (blanks_len t) t) here);
     }
 
--- the first byte tells whether a comment begins, and whether content stands there
-pub comment_by_one : (text : Text) → begins_comment (take 1 text) ≡ begins_comment text
-comment_by_one [] = refl
-comment_by_one (b ∷ rest) = refl
-
-pub content_by_one : (text : Text) → is_content (take 1 text) ≡ is_content text
-content_by_one [] = refl
-content_by_one (b ∷ rest) = refl
-
 -- a comment has a byte before its line's LF
 pub comment_some : (text : Text) → begins_comment text ≡ true → 0 < prefix_len is_other text
 comment_some [] e = absurd (false≢true e)

@@ -187,19 +187,28 @@ literal_step text history reader is_raw quote len count value kept here plain is
       ∙ plain_opener (mode_after history.tokens) is_raw quote len count (drop len (drop reader.at text)) plain,
 )
 
-pub terminal_step : (text : Text) (history : History) (reader : Reader) (terminal : Terminal) (len : ℕ) (place : LexerMode) (found : Token) → IsStateAfter text history reader → IsWordHere text reader (record { class = class.Fixed terminal; len = len })
-    → ((before : List Tokens.Token) → Represents before reader.nesting → mode_view place ≡ mode_after before)
-    → token_view found ≡ Whole (pieces.terminal_token (mode_view place) terminal) → is_fstring_start (pieces.terminal_token (mode_view place) terminal) ≡ false
+pub terminal_step : (text : Text) (history : History) (reader : Reader) (terminal : Terminal) (len : ℕ) (found : Token) → IsStateAfter text history reader → IsWordHere text reader (record { class = class.Fixed terminal; len = len })
+    → ((before : List Tokens.Token) → Represents before reader.nesting → token_view found ≡ Whole (pieces.terminal_token (mode_after before) terminal))
+    → ((before : List Tokens.Token) → Represents before reader.nesting → is_fstring_start (pieces.terminal_token (mode_after before) terminal) ≡ false)
     → IsStep (step_here text history reader) (step.Token found len)
 unfolding situation
-terminal_step text history reader terminal len place found kept here at view own = (
-  pieces.terminal_token (mode_view place) terminal,
-  view,
-  own,
+terminal_step text history reader terminal len found kept here view own = (
+  pieces.terminal_token (mode_after history.tokens) terminal,
+  view history.tokens kept.nesting,
+  own history.tokens kept.nesting,
   word_read text history reader (record { class = class.Fixed terminal; len = len }) kept here
-      ∙ ap (λ n. pieces.token n (pieces.terminal_token (mode_after history.tokens) terminal)) (word_len (drop reader.at text) (class.Fixed terminal) len (sym here.front))
-      ∙ ap (λ m. pieces.token len (pieces.terminal_token m terminal)) (sym (at history.tokens kept.nesting)),
+      ∙ ap (λ n. pieces.token n (pieces.terminal_token (mode_after history.tokens) terminal)) (word_len (drop reader.at text) (class.Fixed terminal) len (sym here.front)),
 )
+
+-- the start of an f-string, by its opener and the text behind that
+pub fstring_step : (text : Text) (history : History) (reader : Reader) (quote : Quote) (opening : Tokens.Opening) (len : ℕ) → IsStateAfter text history reader → IsWordHere text reader (record { class = class.Opener OfFString false quote; len = 2 })
+    → opening ≡ pieces.opening_of false quote (drop 2 (drop reader.at text)) → len ≡ 2 + pieces.more_quotes opening
+    → step_here text history reader ≡ pieces.token len (Tokens.FStringStart opening)
+unfolding situation
+fstring_step text history reader quote opening len kept here is whole =
+    word_read text history reader (record { class = class.Opener OfFString false quote; len = 2 }) kept here
+    ∙ ap (λ n. pieces.opener (mode_after history.tokens) OfFString (pieces.opening_of false quote (drop 2 (drop reader.at text))) n (drop 2 (drop reader.at text))) (word_len (drop reader.at text) (class.Opener OfFString false quote) 2 (sym here.front))
+    ∙ ap (λ o. pieces.token (2 + pieces.more_quotes o) (Tokens.FStringStart o)) (sym is) ∙ ap (λ n. pieces.token n (Tokens.FStringStart opening)) (sym whole)
 
 -- a line end here, which counts or doesn't
 pub line_end_step : (text : Text) (history : History) (reader : Reader) (len : ℕ) → IsStateAfter text history reader → IsWordHere text reader (record { class = class.LineEnd; len = len })

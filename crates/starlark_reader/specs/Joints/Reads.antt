@@ -69,6 +69,10 @@ HasLooked least most old new =
 abbrev pub HasLookedHere : (least most : ℕ) → Reader → Reader → Type 0
 HasLookedHere least most old new = (new.at ≡ old.at) × (new.stage ≡ old.stage) × (owed new.pending ≤ owed old.pending) × AreReads least most old.reads new.reads
 
+-- A reader took the start of an f-string, whose opener has two bytes, and looked at the two bytes behind that.
+abbrev pub HasBegun : Reader → Reader → Type 0
+HasBegun old new = (old.at + 2 ≤ new.at) × (new.at ≤ old.at + 4) × (new.stage ≡ stage.Onward) × (owed new.pending ≤ owed old.pending) × AreReads 2 2 old.reads new.reads
+
 -- A reader went on behind a token of so many bytes, or stopped at a fault, and read nothing.
 abbrev pub IsPassed : Reader → Step → Reader → Type 0
 IsPassed old (step.Token token len) new = IsPassedBy (old.at + len) old new × (new.stage ≡ stage.Onward)

@@ -1,15 +1,13 @@
 //! Places of code, and the spaces there.
 
-ghost use Rattle.std.specs.Prelude.{◌≡◌, ◌<◌, ◌+◌, Bool, true};
+ghost use Rattle.std.specs.Prelude.{◌≡◌, ◌<◌, ◌≤◌, Bool, length, true};
 ghost use Rattle.starlark_grammar.specs.Pieces as grammar;
 ghost use Rattle.starlark_grammar.specs.Words.{language};
 ghost use Rattle.starlark_nesting.specs.Joints.Nesting.{mode_view};
 ghost use Rattle.starlark_reader.specs.Joints.Pieces.{IsBehind, is_code};
-ghost use Rattle.starlark_bytes.specs.Joints.Reads.{more_reads};
 
-use starlark_bytes::reads::Reads;
 use starlark_nesting::LexerMode;
-use starlark_scanner::scanner::spaces_len;
+use starlark_scanner::scanner;
 
 /// Whether a place is one of code, and not in the text of an f-string.
 #[inline(always)]
@@ -19,11 +17,12 @@ pub fn is_code(place: LexerMode) -> bool
     !matches!(place, LexerMode::InText(_))
 }
 
-/// The length of the run of spaces at a place, by the text from there on. At each place of code it is a gap.
+/// The length of the run of spaces at a place, by the text from there on. At each place of code it is a gap. Its reads are
+/// counted with those of the word behind it.
 #[inline(always)]
-pub fn gap_len(reads: &mut Reads, text: &str) -> usize
+pub fn gap_len(text: &str) -> usize
     ensures gap { 0 < result → (s : grammar.Situation) (follows_gap : Bool) → is_code s.place ≡ true → IsBehind follows_gap s.before → grammar.step_at language s text.now ≡ grammar.gap result }
-    ensures reads { reads.new ≡ more_reads reads.old (result + 1) }
+    ensures within { result ≤ length text.now }
 {
-    spaces_len(reads, text)
+    scanner::gap_len(text)
 }

@@ -1,12 +1,14 @@
 //! Keywords and symbols as tokens.
 
-ghost use Rattle.std.specs.Prelude.{◌≡◌, false};
-ghost use Rattle.starlark_nesting.specs.Joints.Nesting.{is_fstring_start, mode_view};
+ghost use Rattle.std.specs.Prelude.{◌≡◌, List, false};
+ghost use Rattle.starlark_grammar.specs.Depths.{mode_after};
+ghost use Rattle.starlark_nesting.specs.Joints.Nesting.{Represents, is_fstring_start, mode_view};
 ghost use Rattle.starlark_grammar.specs.Pieces as grammar;
 ghost use Rattle.starlark_token.specs.TokenViews.{Whole, token_view};
+ghost use Rattle.starlark_grammar.specs.Tokens as Tokens;
 ghost use Rattle.starlark_grammar.specs.Tokens.{Word};
 
-use starlark_nesting::LexerMode;
+use starlark_nesting::{LexerMode, Nesting};
 use starlark_scanner::scanner::Terminal;
 use starlark_token::tokens::Token;
 
@@ -90,6 +92,18 @@ pub fn terminal_token(place: LexerMode, terminal: Terminal) -> Token
             Terminal::ClosingCurly => Token::FStringExprEnd,
             other => own_token(other),
         },
+        _ => own_token(terminal),
+    }
+}
+
+/// The token of such a word behind what is open. Of all of them a closing brace alone depends on the place.
+#[inline(always)]
+pub fn token_in(nesting: &Nesting, terminal: Terminal) -> Token
+    ensures token { (before : List Tokens.Token) → Represents before nesting.now → token_view result ≡ Whole (grammar.terminal_token (mode_after before) terminal) }
+    ensures own { (before : List Tokens.Token) → Represents before nesting.now → is_fstring_start (grammar.terminal_token (mode_after before) terminal) ≡ false }
+{
+    match terminal {
+        Terminal::ClosingCurly => terminal_token(nesting.place(), terminal),
         _ => own_token(terminal),
     }
 }

@@ -9,7 +9,10 @@ use Rattle.std.specs.Prelude.{IfSome}
 use Rattle.starlark_grammar.specs.Front.{language_front}
 use Rattle.starlark_grammar.specs.Pieces.{is_bang}
 use Rattle.starlark_grammar.specs.Words.{Text, openers, is_in_name}
-use Rattle.starlark_scanner.specs.Joints.Words.{is_quote, opener_view, plain_opener, quote_of, raw_opener, text_opener}
+use Rattle.starlark_scanner.specs.Joints.Words.{fstring_opener, is_quote, opener_view, plain_opener, quote_of, raw_opener, text_opener}
+use Rattle.starlark_grammar.specs.declared.class.Class.TheVariants.{Opener}
+use Rattle.starlark_grammar.specs.declared.class.LiteralKind.TheVariants.{FString}
+use Rattle.starlark_grammar.specs.declared.class.Quote.{Quote}
 use Rattle.starlark_scanner.specs.declared.scanner.word.TextOpener.{TextOpener}
 use Rattle.starlark_scanner.proofs.Scan.ByFirst.{front_double_quote, front_named, front_single_quote}
 use Rattle.starlark_scanner.proofs.Scan.Listed.{opener_of, all_pass, lookup_fails}
@@ -115,3 +118,43 @@ front_of_opener (b ∷ c ∷ rest) opener small h = go (b == 114) refl h
 pub opener_found : (text : Text) (found : Option TextOpener) → ((i : ℕ) → get_or text i 0 < 256) → found ≡ text_opener text → IfSome found (λ opener. Some (opener_view opener) ≡ language_front text)
 opener_found text None small h = tt
 opener_found text (Some opener) small h = (front_of_opener text opener small (sym h)).0
+
+-- the opener of an f-string by the first two bytes
+
+IsFStringOf : Quote → Text → Type 0
+IsFStringOf quote text = (Some (Opener FString false quote, 2) ≡ language_front text) × (is_bang text ≡ false)
+
+fstring_front : (b : ℕ) (rest : Text) (quote : Quote) → ((i : ℕ) → get_or (102 ∷ b ∷ rest) i 0 < 256) → quote_of b ≡ Some quote → IsFStringOf quote (102 ∷ b ∷ rest)
+unfolding IsFStringOf openers
+fstring_front b rest quote small h = go (b == 39) (b == 34) refl refl
+  where
+    go : (single double : Bool) → (b == 39) ≡ single → (b == 34) ≡ double → IsFStringOf quote (102 ∷ b ∷ rest)
+    go true double e f =
+        let byte : b ≡ 39 = eqb-true b 39 e in
+        let same = rw byte at h in
+        let front = front_named (102 ∷ 39 ∷ rest) 1 (subst (λ (n : ℕ). (i : ℕ) → get_or (102 ∷ n ∷ rest) i 0 < 256) byte small) refl refl in
+        subst (λ (n : ℕ). IsFStringOf quote (102 ∷ n ∷ rest)) (sym byte) (ap (option_map (λ q. (Opener FString false q, 2))) (sym same) ∙ sym front, refl)
+    go false true e f =
+        let byte : b ≡ 34 = eqb-true b 34 f in
+        let same = rw byte at h in
+        let front = front_named (102 ∷ 34 ∷ rest) 1 (subst (λ (n : ℕ). (i : ℕ) → get_or (102 ∷ n ∷ rest) i 0 < 256) byte small) refl refl in
+        subst (λ (n : ℕ). IsFStringOf quote (102 ∷ n ∷ rest)) (sym byte) (ap (option_map (λ q. (Opener FString false q, 2))) (sym same) ∙ sym front, refl)
+    go false false e f = let none = rw (e, f) at h in cc
+
+front_of_fstring : (text : Text) (quote : Quote) → ((i : ℕ) → get_or text i 0 < 256) → fstring_opener text ≡ Some quote → IsFStringOf quote text
+front_of_fstring [] quote small h = cc
+front_of_fstring (b ∷ []) quote small h = cc
+front_of_fstring (b ∷ c ∷ rest) quote small h = go (b == 102) refl h
+  where
+    go : (f : Bool) → (b == 102) ≡ f → fstring_opener (b ∷ c ∷ rest) ≡ Some quote → IsFStringOf quote (b ∷ c ∷ rest)
+    go true e h =
+        let byte : b ≡ 102 = eqb-true b 102 e in
+        let same = rw byte at h in
+        subst (λ (n : ℕ). IsFStringOf quote (n ∷ c ∷ rest)) (sym byte) (fstring_front c rest quote (subst (λ (n : ℕ). (i : ℕ) → get_or (n ∷ c ∷ rest) i 0 < 256) byte small) same)
+    go false e h = let none = rw e at h in cc
+
+pub fstring_found : (text : Text) (found : Option Quote) → ((i : ℕ) → get_or text i 0 < 256) → found ≡ fstring_opener text
+    → IfSome found (λ quote. Some (Opener FString false quote, 2) ≡ language_front text) × IfSome found (λ quote. is_bang text ≡ false)
+unfolding IsFStringOf
+fstring_found text None small h = (tt, tt)
+fstring_found text (Some quote) small h = front_of_fstring text quote small (sym h)

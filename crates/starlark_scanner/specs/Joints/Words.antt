@@ -7,10 +7,12 @@ use Rattle.std.specs.Str.{bytes_eq}
 use Rattle.std.specs.Char.{is_ascii_digit}
 use Rattle.starlark_grammar.specs.Words as grammar
 use Rattle.starlark_grammar.specs.declared.class.Class.{Class}
-use Rattle.starlark_grammar.specs.declared.class.Class.TheVariants.{Decimal, Fixed, Identifier, Opener}
+use Rattle.starlark_grammar.specs.declared.class.Class.TheVariants.{Decimal, Fixed, Identifier, Opener, Reserved}
 use Rattle.starlark_grammar.specs.declared.class.LiteralKind.TheVariants.{Text as OfText}
 use Rattle.starlark_grammar.specs.declared.class.Quote.{Quote}
 use Rattle.starlark_grammar.specs.declared.class.Quote.TheVariants.{Single, Double}
+use Rattle.starlark_scanner.specs.declared.scanner.names.Listing.{Listing}
+use Rattle.starlark_scanner.specs.declared.scanner.names.Listing.TheVariants.{Keyword, Not, Reserved as OfReserved}
 use Rattle.starlark_scanner.specs.declared.scanner.word.Word.{Word}
 use Rattle.starlark_scanner.specs.declared.scanner.word.ShortWord.{ShortWord}
 use Rattle.starlark_scanner.specs.declared.scanner.word.ShortWord.TheVariants.{Symbol, Digit}
@@ -41,6 +43,12 @@ begin_listed_name a b len = list_any (λ row. bytes_eq (take 2 row.0) (a ∷ b �
 abbrev pub may_be_listed : grammar.Text → Bool
 may_be_listed (a ∷ b ∷ rest) = begin_listed_name a b (length (a ∷ b ∷ rest))
 may_be_listed text = false
+
+-- what the list of keywords and reserved words says of a name, as a class
+abbrev pub listing_view : Listing → Class
+listing_view (Keyword terminal) = Fixed terminal
+listing_view OfReserved = Reserved
+listing_view Not = Identifier
 
 -- the keywords and the reserved words whose length passes a test
 abbrev pub names_by_length : (ℕ → Bool) → List (grammar.Text × Class)
@@ -126,3 +134,8 @@ abbrev pub text_opener : grammar.Text → Option TextOpener
 text_opener [] = None
 text_opener (a ∷ []) = option_map plain_opener (quote_of a)
 text_opener (a ∷ b ∷ rest) = if a == 114 then option_map raw_opener (quote_of b) else option_map plain_opener (quote_of a)
+
+-- the quote of the opener of an f-string that the first two bytes of a text are
+abbrev pub fstring_opener : grammar.Text → Option Quote
+fstring_opener (a ∷ b ∷ rest) = if a == 102 then quote_of b else None
+fstring_opener text = None

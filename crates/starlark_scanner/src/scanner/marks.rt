@@ -14,10 +14,15 @@ use super::{Class, Terminal, Word};
 pub fn is_mark_alone(text: &[u8]) -> bool
     ensures { result ≡ is_mark_alone text.now }
 {
-    match text {
-        [] => false,
-        [first] => is_lone_mark(*first),
-        [first, next, ..] => is_lone_mark(*first) || is_symbol(*first) && !goes_on(*next),
+    let Some(first) = text.first() else {
+        return false;
+    };
+    if is_lone_mark(*first) {
+        return true;
+    }
+    match text.get(1) {
+        Some(next) => is_symbol(*first) && !goes_on(*next),
+        None => false,
     }
 }
 

@@ -7,13 +7,21 @@ ghost use Rattle.std.specs.Option.{option_map};
 ghost use Rattle.std.specs.Str.{bytes_eq};
 ghost use Rattle.starlark_grammar.specs.Front.{language_front};
 ghost use Rattle.starlark_bytes.specs.Joints.Reads.{AreReads, more_reads};
-ghost use Rattle.starlark_scanner.specs.Joints.Words.{begin_listed_name, class_by_length, is_other_length, is_quote, may_be_listed, word_view};
+ghost use Rattle.starlark_scanner.specs.Joints.Words.{begin_listed_name, class_by_length, is_other_length, is_quote, listing_view, may_be_listed, word_view};
 ghost use Rattle.starlark_grammar.specs.Words as grammar;
 ghost use Rattle.starlark_grammar.specs.declared.class.Class.TheVariants as class;
 
 use super::openers::opener_class;
 use super::{Class, Terminal, Word};
 use starlark_bytes::reads::Reads;
+
+/// What the list of keywords and reserved words says of a name.
+#[derive(Clone, Copy)]
+enum Listing {
+    Keyword(Terminal),
+    Reserved,
+    Not,
+}
 
 /// The greatest length of a literal's prefix.
 const PREFIX_LEN: usize = 2;
@@ -66,85 +74,85 @@ fn may_be_listed(name: &[u8]) -> bool
     }
 }
 
-/// The class of a name of two letters, by the list.
-fn two_letters(name: &str) -> Class
-    ensures { result ≡ class_by_length (nat_eq 2) name.now }
+/// What the list says of a name of two letters.
+fn two_letters(name: &str) -> Listing
+    ensures { listing_view result ≡ class_by_length (nat_eq 2) name.now }
 {
     match name {
-        "in" => Class::Fixed(Terminal::In),
-        "if" => Class::Fixed(Terminal::If),
-        "or" => Class::Fixed(Terminal::Or),
-        "as" | "is" => Class::Reserved,
-        _ => Class::Identifier,
+        "in" => Listing::Keyword(Terminal::In),
+        "if" => Listing::Keyword(Terminal::If),
+        "or" => Listing::Keyword(Terminal::Or),
+        "as" | "is" => Listing::Reserved,
+        _ => Listing::Not,
     }
 }
 
-/// The class of a name of three letters, by the list.
-fn three_letters(name: &str) -> Class
-    ensures { result ≡ class_by_length (nat_eq 3) name.now }
+/// What the list says of a name of three letters.
+fn three_letters(name: &str) -> Listing
+    ensures { listing_view result ≡ class_by_length (nat_eq 3) name.now }
 {
     match name {
-        "for" => Class::Fixed(Terminal::For),
-        "def" => Class::Fixed(Terminal::Def),
-        "not" => Class::Fixed(Terminal::Not),
-        "and" => Class::Fixed(Terminal::And),
-        "del" | "try" => Class::Reserved,
-        _ => Class::Identifier,
+        "for" => Listing::Keyword(Terminal::For),
+        "def" => Listing::Keyword(Terminal::Def),
+        "not" => Listing::Keyword(Terminal::Not),
+        "and" => Listing::Keyword(Terminal::And),
+        "del" | "try" => Listing::Reserved,
+        _ => Listing::Not,
     }
 }
 
-/// The class of a name of four letters, by the list.
-fn four_letters(name: &str) -> Class
-    ensures { result ≡ class_by_length (nat_eq 4) name.now }
+/// What the list says of a name of four letters.
+fn four_letters(name: &str) -> Listing
+    ensures { listing_view result ≡ class_by_length (nat_eq 4) name.now }
 {
     match name {
-        "load" => Class::Fixed(Terminal::Load),
-        "else" => Class::Fixed(Terminal::Else),
-        "elif" => Class::Fixed(Terminal::Elif),
-        "pass" => Class::Fixed(Terminal::Pass),
-        "from" | "with" => Class::Reserved,
-        _ => Class::Identifier,
+        "load" => Listing::Keyword(Terminal::Load),
+        "else" => Listing::Keyword(Terminal::Else),
+        "elif" => Listing::Keyword(Terminal::Elif),
+        "pass" => Listing::Keyword(Terminal::Pass),
+        "from" | "with" => Listing::Reserved,
+        _ => Listing::Not,
     }
 }
 
-/// The class of a name of five letters, by the list.
-fn five_letters(name: &str) -> Class
-    ensures { result ≡ class_by_length (nat_eq 5) name.now }
+/// What the list says of a name of five letters.
+fn five_letters(name: &str) -> Listing
+    ensures { listing_view result ≡ class_by_length (nat_eq 5) name.now }
 {
     match name {
-        "break" => Class::Fixed(Terminal::Break),
-        "async" | "await" | "class" | "raise" | "while" | "yield" => Class::Reserved,
-        _ => Class::Identifier,
+        "break" => Listing::Keyword(Terminal::Break),
+        "async" | "await" | "class" | "raise" | "while" | "yield" => Listing::Reserved,
+        _ => Listing::Not,
     }
 }
 
-/// The class of a name of six letters, by the list.
-fn six_letters(name: &str) -> Class
-    ensures { result ≡ class_by_length (nat_eq 6) name.now }
+/// What the list says of a name of six letters.
+fn six_letters(name: &str) -> Listing
+    ensures { listing_view result ≡ class_by_length (nat_eq 6) name.now }
 {
     match name {
-        "return" => Class::Fixed(Terminal::Return),
-        "lambda" => Class::Fixed(Terminal::Lambda),
-        "assert" | "except" | "global" | "import" => Class::Reserved,
-        _ => Class::Identifier,
+        "return" => Listing::Keyword(Terminal::Return),
+        "lambda" => Listing::Keyword(Terminal::Lambda),
+        "assert" | "except" | "global" | "import" => Listing::Reserved,
+        _ => Listing::Not,
     }
 }
 
-/// The class of a name of more letters than six, or of fewer than two, by the list.
-fn more_letters(name: &str) -> Class
-    ensures { result ≡ class_by_length is_other_length name.now }
+/// What the list says of a name of more letters than six, or of fewer than two.
+fn more_letters(name: &str) -> Listing
+    ensures { listing_view result ≡ class_by_length is_other_length name.now }
 {
     match name {
-        "continue" => Class::Fixed(Terminal::Continue),
-        "finally" | "nonlocal" => Class::Reserved,
-        _ => Class::Identifier,
+        "continue" => Listing::Keyword(Terminal::Continue),
+        "finally" | "nonlocal" => Listing::Reserved,
+        _ => Listing::Not,
     }
 }
 
-/// The class of a name, by the words of its length. Of these, frequent ones are compared first.
+/// What the list says of a name, by the words of its length. Of these, frequent ones are compared first.
 #[inline(never)]
-fn listed_class(name: &str) -> Class
-    ensures { result ≡ unwrap_or (lookup (bytes_eq name.now) grammar.names) class.Identifier }
+fn listing_of(name: &str) -> Listing
+    ensures { listing_view result ≡ unwrap_or (lookup (bytes_eq name.now) grammar.names) class.Identifier }
 {
     match name.len() {
         2 => two_letters(name),
@@ -164,7 +172,11 @@ fn name_class(name: &str) -> Class
     if !may_be_listed(name.as_bytes()) {
         return Class::Identifier;
     }
-    listed_class(name)
+    match listing_of(name) {
+        Listing::Keyword(terminal) => Class::Fixed(terminal),
+        Listing::Reserved => Class::Reserved,
+        Listing::Not => Class::Identifier,
+    }
 }
 
 /// Whether a byte is a quote.

@@ -6,7 +6,7 @@ ghost use Rattle.std.specs.Option.{option_map};
 ghost use Rattle.std.specs.Str.{bytes_eq};
 ghost use Rattle.starlark_grammar.specs.Words as grammar;
 ghost use Rattle.starlark_grammar.specs.declared.class.Class.TheVariants as class;
-ghost use Rattle.starlark_scanner.specs.Joints.Words.{plain_opener, quote_of, raw_opener, text_opener};
+ghost use Rattle.starlark_scanner.specs.Joints.Words.{fstring_opener, plain_opener, quote_of, raw_opener, text_opener};
 
 use super::{Class, LiteralKind, Quote, TextOpener};
 
@@ -57,11 +57,24 @@ fn raw_opener(quote: u8) -> Option<TextOpener>
 pub fn text_opener(text: &[u8]) -> Option<TextOpener>
     ensures { result ≡ text_opener text.now }
 {
+    let first = *text.first()?;
+    if first != b'r' {
+        return plain_opener(first);
+    }
+    match text.get(1) {
+        Some(second) => raw_opener(*second),
+        None => None,
+    }
+}
+
+/// The quote of the opener that the first two bytes of a text are, if they are an `f` and a quote.
+#[inline(always)]
+pub fn fstring_opener(text: &[u8]) -> Option<Quote>
+    ensures { result ≡ fstring_opener text.now }
+{
     match text {
-        [] => None,
-        [first] => plain_opener(*first),
-        [b'r', second, ..] => raw_opener(*second),
-        [first, ..] => plain_opener(*first),
+        [b'f', second, ..] => quote_of(*second),
+        _ => None,
     }
 }
 

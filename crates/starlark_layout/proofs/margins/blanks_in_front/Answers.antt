@@ -10,7 +10,7 @@ unequal a b test is = false≢true (sym test ∙ eq-eqb a b is)
 
 pub returns-clause-value : goal.returns-clause-value
 returns-clause-value c =
-    let spaces = c.spaces_len-spaces in
+    let spaces = c.uncounted_spaces_len-spaces in
     elim c.else-spaces-text.branch [
       | else-spaces-text-via-then-spaces-text+else-text-spaces-eq13 w ↦ elim w.if-text-spaces-eq9.branch [
         | then-text-spaces-eq9 v ↦

@@ -8,11 +8,11 @@ use Rattle.starlark_reader.proofs.reader.Reader.common_word.Goals as goal
 pub range_from-requires : goal.range_from-requires
 range_from-requires c = λ some.
     let ready = c.requires.ready in
-    let behind = c.pass_spaces.ensures.ahead ready.0 ready.1 (left_onward c.args.text.now c.args.self.now ready.0 ready.1 c.requires.code.stage ready.2) in
+    let behind = c.pass_spaces-gap.ensures.ahead ready.0 ready.1 (left_onward c.args.text.now c.args.self.now ready.0 ready.1 c.requires.code.stage ready.2) in
     behind.is_left.1.boundary
 
 pub returns-clause-ahead : goal.returns-clause-ahead
 returns-clause-ahead c = λ lexemes fault ahead.
-    let on = c.pass_spaces.ensures.ahead lexemes fault (left_onward c.args.text.now c.args.self.now lexemes fault c.requires.code.stage ahead) in
-    reads_ahead c.args.text.now c.pass_spaces.new.self c.common_word.new.reads c.pass_spaces.new.self.stage lexemes fault
-    (subst (λ (s : Stage). IsAhead c.args.text.now c.pass_spaces.new.self s lexemes fault) (sym c.pass_spaces.ensures.same.2) on)
+    let on = c.pass_spaces-gap.ensures.ahead lexemes fault (left_onward c.args.text.now c.args.self.now lexemes fault c.requires.code.stage ahead) in
+    reads_ahead c.args.text.now c.pass_spaces-gap.new.self c.word_behind.new.reads c.pass_spaces-gap.new.self.stage lexemes fault
+    (subst (λ (s : Stage). IsAhead c.args.text.now c.pass_spaces-gap.new.self s lexemes fault) (sym c.pass_spaces-gap.ensures.same.2) on)

@@ -1,24 +1,17 @@
-use Rattle.std.proofs.Common.{ap, arith, subst, None, true}
+use Rattle.std.proofs.Common.{ap, arith, length, subst, None, true}
+use Rattle.std.proofs.lemmas.List.{length-drop}
 use Rattle.starlark_reader.specs.Joints.Reader.{IsAhead}
 use Rattle.starlark_reader.specs.declared.reader.Reader.{Reader}
 use Rattle.starlark_reader.specs.declared.reader.Stage.{Stage}
 use Rattle.starlark_reader.proofs.Pieces.PieceTaken.{gap_read, nothing_here, nothing_taken, onward_ahead}
-use Rattle.starlark_reader.proofs.Pieces.ReaderReads.{reads_ahead, state_reads}
 use Rattle.starlark_reader.proofs.reader.Reader.pass_spaces.Goals as goal
 
 pub step_over-requires-clause-fits : goal.step_over-requires-clause-fits
 step_over-requires-clause-fits c =
     let left = c.requires.ready.2.is_left in
-    let stands = gap_read c.args.text.now left.0 c.args.self.now c.range_from.result.now c.gap_len-len.result c.range_from.ensures.value left.1 c.requires.code.code (c.gap_len-len.ensures.gap (omega (arith, c.if-len-gt0.true))) in
-    let here = nothing_here c.args.text.now left.0 c.args.self.now c.gap_len-len.result true left.1 stands in
+    let stands = gap_read c.args.text.now left.0 c.args.self.now c.range_from.result.now c.gap_len-gap.result c.range_from.ensures.value left.1 c.requires.code.code (c.gap_len-gap.ensures.gap (omega (arith, c.if-gap-gt0.true))) in
+    let here = nothing_here c.args.text.now left.0 c.args.self.now c.gap_len-gap.result true left.1 stands in
     omega (arith, here.1, c.requires.fits)
 
-pub returns-then-len-gt0-clause-ahead : goal.returns-then-len-gt0-clause-ahead
-returns-then-len-gt0-clause-ahead c = λ lexemes fault ahead.
-    subst (λ (s : Stage). IsAhead c.args.text.now c.step_over.new.self s lexemes fault) (ap (λ (reader : Reader). reader.stage) c.step_over.ensures)
-    (onward_ahead c.args.text.now c.args.self.now None c.step_over.new.self lexemes fault (λ history kept.
-    let stands = gap_read c.args.text.now history c.args.self.now c.range_from.result.now c.gap_len-len.result c.range_from.ensures.value kept c.requires.code.code (c.gap_len-len.ensures.gap (omega (arith, c.if-len-gt0.true))) in
-    nothing_taken c.args.text.now history (record c.args.self.now { reads = c.gap_len-len.new.reads }) c.step_over.new.self c.gap_len-len.result true c.utf8.text (state_reads c.args.text.now history c.args.self.now c.gap_len-len.new.reads kept) stands c.requires.code.idle c.step_over.ensures) c.requires.code.idle ahead)
-
-pub returns-else-len-gt0-clause-ahead : goal.returns-else-len-gt0-clause-ahead
-returns-else-len-gt0-clause-ahead c = λ lexemes fault ahead. reads_ahead c.args.text.now c.args.self.now c.gap_len-len.new.reads _ lexemes fault ahead
+pub returns-clause-ahead : goal.returns-clause-ahead
+returns-clause-ahead c = ?

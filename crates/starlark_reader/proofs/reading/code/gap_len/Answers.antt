@@ -6,6 +6,6 @@ use Rattle.starlark_reader.proofs.reading.code.gap_len.Goals as goal
 
 pub returns-clause-gap : goal.returns-clause-gap
 returns-clause-gap c = λ some s follows_gap code behind.
-    let front = c.spaces_len.ensures.word some in
-    word_at follows_gap s c.args.text.now s.place class.Skipped c.spaces_len.result code behind refl front (c.spaces_len.ensures.bang some)
-    ∙ ap grammar.gap (word_len c.args.text.now class.Skipped c.spaces_len.result front)
+    let front = c.gap_len.ensures.word some in
+    word_at follows_gap s c.args.text.now s.place class.Skipped c.gap_len.result code behind refl front (c.gap_len.ensures.bang some)
+    ∙ ap grammar.gap (word_len c.args.text.now class.Skipped c.gap_len.result front)

@@ -2,7 +2,7 @@
 use Rattle.std.proofs.Common.{ap, ◌∙◌, arith, nat_eq, length}
 use Rattle.starlark_scanner.specs.Joints.Words.{is_other_length}
 use Rattle.starlark_scanner.proofs.Scan.Listed.{class_of_its_length, other_length}
-use Rattle.starlark_scanner.proofs.scanner.names.listed_class.Goals as goal
+use Rattle.starlark_scanner.proofs.scanner.names.listing_of.Goals as goal
 
 pub returns-in-2 : goal.returns-in-2
 returns-in-2 c = c.two_letters.ensures ∙ class_of_its_length (nat_eq 2) c.args.name.now (ap (nat_eq 2) c.in-2.is)
