@@ -16,12 +16,12 @@ use Rattle.starlark_grammar.specs.declared.class.LiteralKind.TheVariants as kind
 use Rattle.starlark_grammar.specs.declared.class.Quote.{Quote}
 use Rattle.starlark_grammar.proofs.Words.Classes.{all_fit, language_all_fit, none_found, row_fits}
 use Rattle.starlark_layout.specs.Joints.Pending.{IsPending}
-use Rattle.starlark_reader.specs.Joints.Reader.{IsAhead, IsAtCode}
+use Rattle.starlark_reader.specs.Joints.Reader.{IsAhead, IsAtCode, IsInCode}
 use Rattle.starlark_reader.specs.Joints.Reads.{HasLookedHere, HasRead, HasReadAt, IsPassedBy}
 use Rattle.starlark_reader.specs.declared.reader.LineEnd.{LineEnd}
 use Rattle.starlark_reader.specs.declared.reader.LineEnd.TheVariants as line_end
 use Rattle.starlark_reader.specs.declared.reader.Reader.{Reader}
-use Rattle.starlark_lexer.specs.Joints.Looked.{GoesOn, HasSpared, IsFoundInCode, IsFoundOut, IsLooked, is_begun, is_front, is_nothing}
+use Rattle.starlark_lexer.specs.Joints.Looked.{GoesOn, HasSpared, IsFoundBehindMargin, IsFoundFurther, IsFoundFurtherInCode, IsFoundInCode, IsFoundOut, IsLooked, is_begun, is_front, is_nothing}
 use Rattle.starlark_lexer.specs.declared.lexemes.Looked.{Looked}
 use Rattle.starlark_lexer.specs.declared.lexemes.Looked.TheVariants as looked
 
@@ -52,13 +52,13 @@ nothing_kept text reader to beside looked.Front quick code behind paid has = cc
 nothing_kept text reader to beside looked.Opener quick code behind paid has = cc
 nothing_kept text reader to beside looked.All quick code behind paid has = cc
 
-pub front_looked : (text : Text) (reader : Reader) (to : ℕ) (it : Looked) → is_front it ≡ true → IsLooked text reader to it → IsAtCode text reader × (to ≤ length text + 1) × HasSpared text 9 reader to
+pub front_looked : (text : Text) (reader : Reader) (to : ℕ) (it : Looked) → is_front it ≡ true → IsLooked text reader to it → IsAtCode text reader × (to ≤ length text + 1) × HasSpared text 11 reader to
 front_looked text reader to looked.Nothing quick is = cc
 front_looked text reader to looked.Front quick is = is
 front_looked text reader to looked.Opener quick is = cc
 front_looked text reader to looked.All quick is = cc
 
-pub begun_looked : (text : Text) (reader : Reader) (to : ℕ) (it : Looked) → is_begun it ≡ true → IsLooked text reader to it → IsAtCode text reader × HasSpared text 4 reader to
+pub begun_looked : (text : Text) (reader : Reader) (to : ℕ) (it : Looked) → is_begun it ≡ true → IsLooked text reader to it → IsAtCode text reader × HasSpared text 6 reader to
 begun_looked text reader to looked.Nothing quick is = cc
 begun_looked text reader to looked.Front quick is = (is.0, (is.2.0, omega (arith, is.2.1), is.2.2))
 begun_looked text reader to looked.Opener quick is = is
@@ -76,6 +76,24 @@ found_in_code text reader to beside looked.Nothing is code behind paid has = (co
 found_in_code text reader to beside looked.Front is code behind paid has = absurd is
 found_in_code text reader to beside looked.Opener is code behind paid has = absurd is
 found_in_code text reader to beside looked.All is code behind paid has = (beside, omega (arith, paid), has)
+
+pub found_further : (text : Text) (reader : Reader) (to beside : ℕ) (it : Looked) → IsFoundFurther reader to it → IsAtCode text reader → beside ≤ 16 * to → HasRead text beside reader → IsLooked text reader to it
+found_further text reader to beside looked.Nothing is code paid has = (code, is, (beside, omega (arith, paid), has))
+found_further text reader to beside looked.Front is code paid has = absurd is
+found_further text reader to beside looked.Opener is code paid has = absurd is
+found_further text reader to beside looked.All is code paid has = (beside, omega (arith, paid), has)
+
+pub found_further_in_code : (text : Text) (reader : Reader) (to beside : ℕ) (it : Looked) → IsFoundFurtherInCode reader to it → (IsInCode reader → IsAtCode text reader) → beside ≤ 16 * to → HasRead text beside reader → IsLooked text reader to it
+found_further_in_code text reader to beside looked.Nothing is code paid has = (code is.1, is.0, (beside, omega (arith, paid), has))
+found_further_in_code text reader to beside looked.Front is code paid has = absurd is
+found_further_in_code text reader to beside looked.Opener is code paid has = absurd is
+found_further_in_code text reader to beside looked.All is code paid has = (beside, omega (arith, paid), has)
+
+pub found_behind_margin : (text : Text) (reader : Reader) (to beside : ℕ) (it : Looked) → IsFoundBehindMargin reader to it → (reader.stage ≡ stages.Onward) × IsInCode reader → IsPending text reader.pending → beside ≤ 16 * to → HasRead text beside reader → IsLooked text reader to it
+found_behind_margin text reader to beside looked.Nothing is code pending paid has = (record { stage = code.0; idle = is.1 text pending; code = code.1 }, is.0, (beside, omega (arith, paid), has))
+found_behind_margin text reader to beside looked.Front is code pending paid has = absurd is
+found_behind_margin text reader to beside looked.Opener is code pending paid has = absurd is
+found_behind_margin text reader to beside looked.All is code pending paid has = (beside, omega (arith, paid), has)
 
 -- a line end that counts isn't passed
 pub newline_counts : (it : LineEnd) → it ≡ line_end.Newline → it ≡ line_end.Passed → ⊥

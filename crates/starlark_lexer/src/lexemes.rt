@@ -2,7 +2,7 @@
 
 ghost use Rattle.std.specs.Prelude.{◌≡◌, ◌<◌, ◌≤◌, ◌+◌, ◌*◌, ◌^◌, ◌↔◌, ◌||◌, None, length, true, false, IfOk, IsErr};
 ghost use Rattle.std.specs.List.{slice_get};
-ghost use Rattle.starlark_lexer.specs.Joints.Looked.{IsFoundInCode, IsFoundOut, is_begun, is_front, is_nothing};
+ghost use Rattle.starlark_lexer.specs.Joints.Looked.{IsFoundBehindMargin, IsFoundFurther, IsFoundFurtherInCode, IsFoundInCode, IsFoundOut, is_begun, is_front, is_nothing};
 ghost use Rattle.starlark_lexer.specs.Lexer.{AnswersBetween, AnswersNext, AnswersWithin, handed_out_by, is_ended_by};
 ghost use Rattle.starlark_token.specs.TextItems.{items};
 
@@ -52,6 +52,42 @@ fn looked_in_code(reader: &Reader) -> Looked
     ensures { IsFoundInCode reader.now result }
 {
     if reader.is_in_code() {
+        Looked::Nothing
+    } else {
+        Looked::All
+    }
+}
+
+/// The same behind a lexeme behind which the text is read on at a place of code.
+#[inline(always)]
+fn looked_further(reader: &Reader, looked_to: usize) -> Looked
+    ensures { IsFoundFurther reader.now looked_to result }
+{
+    if looked_to <= reader.at() {
+        Looked::Nothing
+    } else {
+        Looked::All
+    }
+}
+
+/// The same behind a symbol, by the brackets.
+#[inline(always)]
+fn looked_further_in_code(reader: &Reader, looked_to: usize) -> Looked
+    ensures { IsFoundFurtherInCode reader.now looked_to result }
+{
+    if looked_to <= reader.at() && reader.is_in_code() {
+        Looked::Nothing
+    } else {
+        Looked::All
+    }
+}
+
+/// The same behind a `Newline`, by what waits of its margin.
+#[inline(always)]
+fn looked_behind_margin(reader: &Reader, looked_to: usize) -> Looked
+    ensures { IsFoundBehindMargin reader.now looked_to result }
+{
+    if looked_to <= reader.at() && reader.is_idle() {
         Looked::Nothing
     } else {
         Looked::All
@@ -249,7 +285,7 @@ impl<'a> Lexer<'a> {
     }
 
     /// The next lexeme of a lexer that no error has ended, whichever it is: quickly where it is a symbol of two bytes, an
-    /// integer of one digit or a comment.
+    /// integer of one digit, the start of an f-string or a comment.
     #[inline(never)]
     fn next_of_all(&mut self) -> Option<Lexeme>
         requires { self.old.has_ended ≡ false }
@@ -264,16 +300,29 @@ impl<'a> Lexer<'a> {
             Some(ShortWord::Symbol(terminal)) => {
                 self.handed_out += 1;
                 let lexeme = self.reader.take_terminal(terminal, 2, self.text);
-                self.looked = looked_behind(&self.reader, self.looked_to);
+                self.looked = looked_further_in_code(&self.reader, self.looked_to);
                 return Some(Ok(lexeme));
             }
             Some(ShortWord::Digit(digit)) => {
                 self.handed_out += 1;
                 let lexeme = self.reader.take_digit(digit, self.text);
-                self.looked = looked_behind(&self.reader, self.looked_to);
+                self.looked = looked_further(&self.reader, self.looked_to);
                 return Some(Ok(lexeme));
             }
             None => {}
+        }
+        if let Some(quote) = self.reader.fstring_opener(self.text) {
+            self.looked = Looked::All;
+            return match self.reader.take_fstring(quote, self.text) {
+                Ok(lexeme) => {
+                    self.handed_out += 1;
+                    Some(Ok(lexeme))
+                }
+                Err(_) => {
+                    self.has_ended = true;
+                    Some(Err(OrMemory::Memory))
+                }
+            };
         }
         let Some(len) = self.reader.comment_len(self.text) else {
             self.looked = Looked::All;
@@ -282,7 +331,7 @@ impl<'a> Lexer<'a> {
         match self.reader.take_comment(len, self.text) {
             Ok(lexeme) => {
                 self.handed_out += 1;
-                self.looked = looked_behind(&self.reader, self.looked_to);
+                self.looked = looked_further(&self.reader, self.looked_to);
                 Some(Ok(lexeme))
             }
             Err(_) => {
@@ -323,7 +372,7 @@ impl<'a> Lexer<'a> {
         {
             Ok(lexeme) => {
                 self.handed_out += 1;
-                self.looked = looked_behind(&self.reader, self.looked_to);
+                self.looked = looked_further(&self.reader, self.looked_to);
                 Some(Ok(lexeme))
             }
             Err(_) => {
@@ -418,7 +467,7 @@ impl<'a> Lexer<'a> {
                         Ok(LineEnd::Passed) => {}
                         Ok(LineEnd::Newline) => {
                             self.handed_out += 1;
-                            self.looked = looked_behind(&self.reader, self.looked_to);
+                            self.looked = looked_behind_margin(&self.reader, self.looked_to);
                             return Some(Ok((begin, Token::Newline, begin + len)));
                         }
                         Ok(LineEnd::Fault) => {

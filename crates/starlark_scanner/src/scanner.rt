@@ -131,7 +131,7 @@ pub fn word_behind(reads: &mut Reads, gap: usize, text: &str) -> Option<Word>
     requires { gap < 2 ^ 32 }
     ensures word { IfSome result (λ word. Some (word_view word) ≡ language_front text.now) }
     ensures bang { IfSome result (λ word. is_bang text.now ≡ false) }
-    ensures reads { AreReads (gap + word_len result) (gap + word_len result + 5) reads.old reads.new }
+    ensures reads { AreReads (gap + word_len result) (gap + word_len result + 3) reads.old reads.new }
 {
     let front = reads.front_behind(gap, text.as_bytes(), 2);
     word_by_front(reads, front, text)

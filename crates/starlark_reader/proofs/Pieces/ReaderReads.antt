@@ -7,7 +7,7 @@ use Rattle.starlark_token.specs.TokenViews.{TokenView}
 use Rattle.starlark_reader.specs.Joints.Reader.{IsAhead, IsLeft, IsStateAfter, history_of}
 use Rattle.starlark_bytes.specs.Joints.Reads.{AreReads, more_reads}
 use Rattle.starlark_layout.specs.Joints.Pending.{owed}
-use Rattle.starlark_reader.specs.Joints.Reads.{AreStepReads, HasLooked, HasLookedHere, HasRead, HasReadAt, IsMarginRead, IsPassed, IsPassedBy}
+use Rattle.starlark_reader.specs.Joints.Reads.{AreStepReads, HasBegun, HasLooked, HasLookedHere, HasRead, HasReadAt, IsMarginRead, IsPassed, IsPassedBy}
 use Rattle.starlark_reader.specs.declared.literal.pieces.Step.{Step}
 use Rattle.starlark_reader.specs.declared.literal.pieces.Step.TheVariants as steps
 use Rattle.starlark_reader.specs.declared.reader.Reader.{Reader}
@@ -94,8 +94,15 @@ here_taken_reads text beside least most len old mid new onward has looked enough
     subst (HasReadAt text beside new) (sym passed.1)
     (omega (arith, enough, looked.0, looked.3.0, on.0, passed.0.0, passed.0.1), omega (arith, few, looked.0, looked.2, looked.3.1, on.1, passed.0.0, passed.0.1, passed.0.2))
 
+-- and so is the start of an f-string, whose opener was looked at
+pub begun_reads : (text : Text) (beside : ℕ) (old mid new : Reader) → old.stage ≡ stages.Onward → HasRead text beside old → HasLookedHere 2 2 old mid → HasBegun mid new → HasRead text beside new
+begun_reads text beside old mid new onward has looked begun =
+    let on : HasReadAt text beside old stages.Onward = subst (HasReadAt text beside old) onward has in
+    subst (HasReadAt text beside new) (sym begun.2)
+    (omega (arith, looked.0, looked.3.0, on.0, begun.1, begun.4.0), omega (arith, looked.0, looked.2, looked.3.1, on.1, begun.0, begun.3, begun.4.1))
+
 -- and so is a line end with its margin
-pub margin_reads : (text : Text) (beside len : ℕ) (old mid new : Reader) → mid.at + len ≤ length text → 1 ≤ len → old.stage ≡ stages.Onward → HasRead text beside old → HasLooked len (len + 5) old mid
+pub margin_reads : (text : Text) (beside len : ℕ) (old mid new : Reader) → mid.at + len ≤ length text → 1 ≤ len → old.stage ≡ stages.Onward → HasRead text beside old → HasLooked len (len + 3) old mid
     → IsMarginRead text len mid new new.stage → HasRead text beside new
 margin_reads text beside len old mid new inside some onward has looked margin =
     let on : HasReadAt text beside old stages.Onward = subst (HasReadAt text beside old) onward has in

@@ -6,7 +6,7 @@ use Rattle.starlark_grammar.specs.Reading.{outcome}
 use Rattle.starlark_lexer.proofs.LexerItems.{lexeme_item, lexeme_within, one_more, some_item}
 use Rattle.starlark_grammar.proofs.Order.Inside.{lexemes_few}
 use Rattle.starlark_reader.proofs.Pieces.ReaderReads.{here_reads}
-use Rattle.starlark_lexer.proofs.LexerReads.{found_out, front_looked, goes_on, plain_reads, text_opener_len}
+use Rattle.starlark_lexer.proofs.LexerReads.{found_further, front_looked, goes_on, plain_reads, text_opener_len}
 use Rattle.starlark_lexer.proofs.lexemes.Lexer.next_text.Goals as goal
 
 pub plain_body_len-requires-clause-ready : goal.plain_body_len-requires-clause-ready
@@ -38,8 +38,8 @@ invariant_of-self-in-Ok-take_plain_text c =
     (c.in-Ok-take_plain_text.ensures.taken.1, c.in-Ok-take_plain_text.ensures.taken.2) in (
       c.self.invariant.0,
       (λ on. (omega (arith, further.0, length-map (outcome c.self.inside.text.now).lexemes shown_lexeme), rw further.1 is.2)),
-      goes_on c.looked_behind-self-inside.result _ (ap (λ (lexer : LexerView). lexer.has_ended) c.self.view_is ∙ c.requires),
-      (λ on. found_out c.self.inside.text.now c.take_plain_text.new.self c.self.inside.looked_to paid.0 c.looked_behind-self-inside.result c.looked_behind-self-inside.ensures is.2.is_pending (omega (arith, paid.1)) read),
+      goes_on c.looked_further-self-inside.result _ (ap (λ (lexer : LexerView). lexer.has_ended) c.self.view_is ∙ c.requires),
+      (λ on. found_further c.self.inside.text.now c.take_plain_text.new.self c.self.inside.looked_to paid.0 c.looked_further-self-inside.result c.looked_further-self-inside.ensures c.in-Ok-take_plain_text.ensures.code (omega (arith, paid.1)) read),
       c.self.invariant.4,
     )
 

@@ -1,5 +1,4 @@
-use Rattle.std.proofs.Common.{ap, arith, length, subst, None, true}
-use Rattle.std.proofs.lemmas.List.{length-drop}
+use Rattle.std.proofs.Common.{ap, arith, subst, None, true}
 use Rattle.starlark_reader.specs.Joints.Reader.{IsAhead}
 use Rattle.starlark_reader.specs.declared.reader.Reader.{Reader}
 use Rattle.starlark_reader.specs.declared.reader.Stage.{Stage}
@@ -13,5 +12,9 @@ step_over-requires-clause-fits c =
     let here = nothing_here c.args.text.now left.0 c.args.self.now c.gap_len-gap.result true left.1 stands in
     omega (arith, here.1, c.requires.fits)
 
-pub returns-clause-ahead : goal.returns-clause-ahead
-returns-clause-ahead c = ?
+pub returns-then-gap-gt0-clause-ahead : goal.returns-then-gap-gt0-clause-ahead
+returns-then-gap-gt0-clause-ahead c = λ lexemes fault ahead.
+    subst (λ (s : Stage). IsAhead c.args.text.now c.step_over.new.self s lexemes fault) (ap (λ (reader : Reader). reader.stage) c.step_over.ensures)
+    (onward_ahead c.args.text.now c.args.self.now None c.step_over.new.self lexemes fault (λ history kept.
+    let stands = gap_read c.args.text.now history c.args.self.now c.range_from.result.now c.gap_len-gap.result c.range_from.ensures.value kept c.requires.code.code (c.gap_len-gap.ensures.gap (omega (arith, c.if-gap-gt0.true))) in
+    nothing_taken c.args.text.now history c.args.self.now c.step_over.new.self c.gap_len-gap.result true c.utf8.text kept stands c.requires.code.idle c.step_over.ensures) c.requires.code.idle ahead)
