@@ -36,8 +36,8 @@ use starlark_layout::{
 use starlark_literals::plain_body_len;
 use starlark_nesting::{LexerMode, Nesting};
 use starlark_scanner::scanner::{
-    Quote, ShortWord, Terminal, TextOpener, Word, comment_len, fstring_opener, short_word, text_opener,
-    word_behind,
+    Quote, ShortWord, Terminal, TextOpener, Word, comment_len, fstring_opener, short_word,
+    text_opener, word_behind,
 };
 use starlark_token::lexeme_error::LexemeError;
 use starlark_token::tokens::Token;

@@ -1,4 +1,4 @@
-use Rattle.std.proofs.Common.{◌≡◌, List, ℕ, Some, refl, sym, ap, ◌∙◌, take, arith}
+use Rattle.std.proofs.Common.{◌≡◌, List, ℕ, Some, refl, sym, ap, ◌∙◌, arith}
 use Rattle.std.specs.List.{slice_get}
 use Rattle.starlark_scanner.specs.Joints.Words.{is_mark_alone}
 use Rattle.starlark_scanner.proofs.Scan.ByFirst.{front_double_quote, front_single_quote}

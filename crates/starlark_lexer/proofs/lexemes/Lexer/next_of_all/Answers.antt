@@ -5,8 +5,8 @@ use Rattle.starlark_lexer.specs.Lexer.{LexerView}
 use Rattle.starlark_grammar.specs.Reading.{outcome}
 use Rattle.starlark_lexer.proofs.LexerItems.{lexeme_item, lexeme_within, one_more, some_item}
 use Rattle.starlark_grammar.proofs.Order.Inside.{lexemes_few}
-use Rattle.starlark_reader.proofs.Pieces.ReaderReads.{here_reads, here_taken_reads}
-use Rattle.starlark_lexer.proofs.LexerReads.{begun_looked, found_out, goes_on}
+use Rattle.starlark_reader.proofs.Pieces.ReaderReads.{begun_reads, here_reads, here_taken_reads}
+use Rattle.starlark_lexer.proofs.LexerReads.{begun_looked, found_further, found_further_in_code, goes_on}
 use Rattle.starlark_lexer.proofs.lexemes.Lexer.next_of_all.Goals as goal
 
 pub overflow_add-self : goal.overflow_add-self
@@ -26,8 +26,8 @@ invariant_of-self c =
     let read = here_taken_reads c.self.inside.text.now paid.0 3 3 2 c.self.inside.reader c.short_word.new.self c.take_terminal-lexeme.new.self looked.0.stage paid.2 c.short_word.ensures.looked (omega (arith)) (omega (arith)) (c.take_terminal-lexeme.ensures.taken.1, c.take_terminal-lexeme.ensures.taken.2) in (
       c.self.invariant.0,
       (λ on. (omega (arith, further.0, length-map (outcome c.self.inside.text.now).lexemes shown_lexeme), rw further.1 is.2)),
-      goes_on c.looked_behind-self-inside.result _ (ap (λ (lexer : LexerView). lexer.has_ended) c.self.view_is ∙ c.requires),
-      (λ on. found_out c.self.inside.text.now c.take_terminal-lexeme.new.self c.self.inside.looked_to paid.0 c.looked_behind-self-inside.result c.looked_behind-self-inside.ensures is.2.is_pending (omega (arith, paid.1)) read),
+      goes_on c.looked_further_in_code-self-inside.result _ (ap (λ (lexer : LexerView). lexer.has_ended) c.self.view_is ∙ c.requires),
+      (λ on. found_further_in_code c.self.inside.text.now c.take_terminal-lexeme.new.self c.self.inside.looked_to paid.0 c.looked_further_in_code-self-inside.result c.looked_further_in_code-self-inside.ensures c.take_terminal-lexeme.ensures.code (omega (arith, paid.1)) read),
       c.self.invariant.4,
     )
 
@@ -60,8 +60,8 @@ invariant_of-self-in-Some-Digit c =
     let read = here_taken_reads c.self.inside.text.now paid.0 3 3 1 c.self.inside.reader c.short_word.new.self c.take_digit-lexeme.new.self looked.0.stage paid.2 c.short_word.ensures.looked (omega (arith)) (omega (arith)) (c.take_digit-lexeme.ensures.taken.1, c.take_digit-lexeme.ensures.taken.2) in (
       c.self.invariant.0,
       (λ on. (omega (arith, further.0, length-map (outcome c.self.inside.text.now).lexemes shown_lexeme), rw further.1 is.2)),
-      goes_on c.looked_behind-self-inside-in-Some-Digit.result _ (ap (λ (lexer : LexerView). lexer.has_ended) c.self.view_is ∙ c.requires),
-      (λ on. found_out c.self.inside.text.now c.take_digit-lexeme.new.self c.self.inside.looked_to paid.0 c.looked_behind-self-inside-in-Some-Digit.result c.looked_behind-self-inside-in-Some-Digit.ensures is.2.is_pending (omega (arith, paid.1)) read),
+      goes_on c.looked_further-self-inside.result _ (ap (λ (lexer : LexerView). lexer.has_ended) c.self.view_is ∙ c.requires),
+      (λ on. found_further c.self.inside.text.now c.take_digit-lexeme.new.self c.self.inside.looked_to paid.0 c.looked_further-self-inside.result c.looked_further-self-inside.ensures c.take_digit-lexeme.ensures.code (omega (arith, paid.1)) read),
       c.self.invariant.4,
     )
 
@@ -87,44 +87,87 @@ overflow_add-self-in-Ok c =
 pub invariant_of-self-in-Ok : goal.invariant_of-self-in-Ok
 invariant_of-self-in-Ok c =
     let inv = c.self.invariant.1 (ap (λ (lexer : LexerView). lexer.has_ended) c.self.view_is ∙ c.requires) in
-    let is = c.in-Ok.ensures.ahead _ _ (c.comment_len.ensures.ahead _ _ (c.short_word.ensures.ahead _ _ inv.1)) in
+    let is = c.in-Ok.ensures.ahead _ _ (c.fstring_opener.ensures.ahead _ _ (c.short_word.ensures.ahead _ _ inv.1)) in
     let further = one_more (map shown_lexeme (outcome c.self.inside.text.now).lexemes) c.self.inside.handed_out _ is.0 is.1 in
     let looked = begun_looked c.self.inside.text.now c.self.inside.reader c.self.inside.looked_to c.self.inside.looked (sym c.is_begun.ensures ∙ c.if-not-is_begun.false) (c.self.invariant.3 (ap (λ (lexer : LexerView). lexer.has_ended) c.self.view_is ∙ c.requires)) in
     let paid = looked.1 in
     let short = here_reads c.self.inside.text.now paid.0 3 3 c.self.inside.reader c.short_word.new.self paid.2 c.short_word.ensures.looked in
-    let some = c.in-Ok.ensures.taken.0 in
-    let read = here_taken_reads c.self.inside.text.now (paid.0 + 3) c.in-Some.len (3 * c.in-Some.len + 2) c.in-Some.len c.short_word.new.self c.comment_len.new.self c.take_comment.new.self (c.short_word.ensures.looked.1 ∙ looked.0.stage) short c.in-Some.ensures.looked
-    (omega (arith)) (omega (arith, some)) (c.in-Ok.ensures.taken.1, c.in-Ok.ensures.taken.2) in (
+    let read = begun_reads c.self.inside.text.now (paid.0 + 3) c.short_word.new.self c.fstring_opener.new.self c.take_fstring.new.self (c.short_word.ensures.looked.1 ∙ looked.0.stage) short c.fstring_opener.ensures.looked c.in-Ok.ensures.begun in (
       c.self.invariant.0,
       (λ on. (omega (arith, further.0, length-map (outcome c.self.inside.text.now).lexemes shown_lexeme), rw further.1 is.2)),
-      goes_on c.looked_behind-self-inside-in-Ok.result _ (ap (λ (lexer : LexerView). lexer.has_ended) c.self.view_is ∙ c.requires),
-      (λ on. found_out c.self.inside.text.now c.take_comment.new.self c.self.inside.looked_to (paid.0 + 3) c.looked_behind-self-inside-in-Ok.result c.looked_behind-self-inside-in-Ok.ensures is.2.is_pending (omega (arith, paid.1)) read),
+      tt,
+      (λ on. (paid.0 + 3, omega (arith, paid.1), read)),
       c.self.invariant.4,
     )
 
 pub returns-in-Ok-clause-item : goal.returns-in-Ok-clause-item
 returns-in-Ok-clause-item c =
     let inv = c.self.invariant.1 (ap (λ (lexer : LexerView). lexer.has_ended) c.self.view_is ∙ c.requires) in
-    let is = c.in-Ok.ensures.ahead _ _ (c.comment_len.ensures.ahead _ _ (c.short_word.ensures.ahead _ _ inv.1)) in
+    let is = c.in-Ok.ensures.ahead _ _ (c.fstring_opener.ensures.ahead _ _ (c.short_word.ensures.ahead _ _ inv.1)) in
     rw (← c.self.view_is) (rw (lexeme_item c.self.inside.text.now c.self.inside.handed_out _ is.0 is.1) refl)
 
 pub returns-in-Ok-clause-within : goal.returns-in-Ok-clause-within
 returns-in-Ok-clause-within c =
     let inv = c.self.invariant.1 (ap (λ (lexer : LexerView). lexer.has_ended) c.self.view_is ∙ c.requires) in
-    let is = c.in-Ok.ensures.ahead _ _ (c.comment_len.ensures.ahead _ _ (c.short_word.ensures.ahead _ _ inv.1)) in
+    let is = c.in-Ok.ensures.ahead _ _ (c.fstring_opener.ensures.ahead _ _ (c.short_word.ensures.ahead _ _ inv.1)) in
     rw (← c.self.view_is) (lexeme_within c.self.inside.text.now c.self.inside.handed_out _ is.0 c.self.invariant.0 is.1)
 
 pub returns-in-Err-clause-item : goal.returns-in-Err-clause-item
 returns-in-Err-clause-item c =
     let inv = c.self.invariant.1 (ap (λ (lexer : LexerView). lexer.has_ended) c.self.view_is ∙ c.requires) in
-    let item = some_item c.self.inside.text.now c.self.inside.handed_out inv.0 (c.in-Err.ensures.memory _ _ (c.comment_len.ensures.ahead _ _ (c.short_word.ensures.ahead _ _ inv.1))) in
+    let item = some_item c.self.inside.text.now c.self.inside.handed_out inv.0 (c.in-Err.ensures.memory _ _ (c.fstring_opener.ensures.ahead _ _ (c.short_word.ensures.ahead _ _ inv.1))) in
     rw (← c.self.view_is) (rw item.1 tt)
 
-pub invariant_of-self-in_default : goal.invariant_of-self-in_default
-invariant_of-self-in_default c =
+pub overflow_add-self-in-Ok-take_comment : goal.overflow_add-self-in-Ok-take_comment
+overflow_add-self-in-Ok-take_comment c =
+    let inv = c.self.invariant.1 (ap (λ (lexer : LexerView). lexer.has_ended) c.self.view_is ∙ c.requires) in
+    let few = lexemes_few c.self.inside.text.now c.self.invariant.0 in
+    let small : c.self.inside.handed_out + 1 ≤ 2 ^ 34 = omega (arith, inv.0, few) in
+    search (rules, small)
+
+pub invariant_of-self-in-Ok-take_comment : goal.invariant_of-self-in-Ok-take_comment
+invariant_of-self-in-Ok-take_comment c =
+    let inv = c.self.invariant.1 (ap (λ (lexer : LexerView). lexer.has_ended) c.self.view_is ∙ c.requires) in
+    let is = c.in-Ok-take_comment.ensures.ahead _ _ (c.comment_len.ensures.ahead _ _ (c.fstring_opener.ensures.ahead _ _ (c.short_word.ensures.ahead _ _ inv.1))) in
+    let further = one_more (map shown_lexeme (outcome c.self.inside.text.now).lexemes) c.self.inside.handed_out _ is.0 is.1 in
+    let looked = begun_looked c.self.inside.text.now c.self.inside.reader c.self.inside.looked_to c.self.inside.looked (sym c.is_begun.ensures ∙ c.if-not-is_begun.false) (c.self.invariant.3 (ap (λ (lexer : LexerView). lexer.has_ended) c.self.view_is ∙ c.requires)) in
+    let paid = looked.1 in
+    let short = here_reads c.self.inside.text.now paid.0 3 3 c.self.inside.reader c.short_word.new.self paid.2 c.short_word.ensures.looked in
+    let opener = here_reads c.self.inside.text.now (paid.0 + 3) 2 2 c.short_word.new.self c.fstring_opener.new.self short c.fstring_opener.ensures.looked in
+    let some = c.in-Ok-take_comment.ensures.taken.0 in
+    let read = here_taken_reads c.self.inside.text.now (paid.0 + 3 + 2) c.in-Some-comment_len.len (3 * c.in-Some-comment_len.len + 2) c.in-Some-comment_len.len c.fstring_opener.new.self c.comment_len.new.self c.take_comment.new.self (c.fstring_opener.ensures.looked.1 ∙ c.short_word.ensures.looked.1 ∙ looked.0.stage) opener c.in-Some-comment_len.ensures.looked
+    (omega (arith)) (omega (arith, some)) (c.in-Ok-take_comment.ensures.taken.1, c.in-Ok-take_comment.ensures.taken.2) in (
+      c.self.invariant.0,
+      (λ on. (omega (arith, further.0, length-map (outcome c.self.inside.text.now).lexemes shown_lexeme), rw further.1 is.2)),
+      goes_on c.looked_further-self-inside-in-Ok-take_comment.result _ (ap (λ (lexer : LexerView). lexer.has_ended) c.self.view_is ∙ c.requires),
+      (λ on. found_further c.self.inside.text.now c.take_comment.new.self c.self.inside.looked_to (paid.0 + 3 + 2) c.looked_further-self-inside-in-Ok-take_comment.result c.looked_further-self-inside-in-Ok-take_comment.ensures c.in-Ok-take_comment.ensures.code (omega (arith, paid.1)) read),
+      c.self.invariant.4,
+    )
+
+pub returns-in-Ok-take_comment-clause-item : goal.returns-in-Ok-take_comment-clause-item
+returns-in-Ok-take_comment-clause-item c =
+    let inv = c.self.invariant.1 (ap (λ (lexer : LexerView). lexer.has_ended) c.self.view_is ∙ c.requires) in
+    let is = c.in-Ok-take_comment.ensures.ahead _ _ (c.comment_len.ensures.ahead _ _ (c.fstring_opener.ensures.ahead _ _ (c.short_word.ensures.ahead _ _ inv.1))) in
+    rw (← c.self.view_is) (rw (lexeme_item c.self.inside.text.now c.self.inside.handed_out _ is.0 is.1) refl)
+
+pub returns-in-Ok-take_comment-clause-within : goal.returns-in-Ok-take_comment-clause-within
+returns-in-Ok-take_comment-clause-within c =
+    let inv = c.self.invariant.1 (ap (λ (lexer : LexerView). lexer.has_ended) c.self.view_is ∙ c.requires) in
+    let is = c.in-Ok-take_comment.ensures.ahead _ _ (c.comment_len.ensures.ahead _ _ (c.fstring_opener.ensures.ahead _ _ (c.short_word.ensures.ahead _ _ inv.1))) in
+    rw (← c.self.view_is) (lexeme_within c.self.inside.text.now c.self.inside.handed_out _ is.0 c.self.invariant.0 is.1)
+
+pub returns-in-Err-take_comment-clause-item : goal.returns-in-Err-take_comment-clause-item
+returns-in-Err-take_comment-clause-item c =
+    let inv = c.self.invariant.1 (ap (λ (lexer : LexerView). lexer.has_ended) c.self.view_is ∙ c.requires) in
+    let item = some_item c.self.inside.text.now c.self.inside.handed_out inv.0 (c.in-Err-take_comment.ensures.memory _ _ (c.comment_len.ensures.ahead _ _ (c.fstring_opener.ensures.ahead _ _ (c.short_word.ensures.ahead _ _ inv.1)))) in
+    rw (← c.self.view_is) (rw item.1 tt)
+
+pub invariant_of-self-in_default-comment_len : goal.invariant_of-self-in_default-comment_len
+invariant_of-self-in_default-comment_len c =
     let inv = c.self.invariant.1 (ap (λ (lexer : LexerView). lexer.has_ended) c.self.view_is ∙ c.requires) in
     let looked = begun_looked c.self.inside.text.now c.self.inside.reader c.self.inside.looked_to c.self.inside.looked (sym c.is_begun.ensures ∙ c.if-not-is_begun.false) (c.self.invariant.3 (ap (λ (lexer : LexerView). lexer.has_ended) c.self.view_is ∙ c.requires)) in
     let paid = looked.1 in
     let short = here_reads c.self.inside.text.now paid.0 3 3 c.self.inside.reader c.short_word.new.self paid.2 c.short_word.ensures.looked in
-    let read = here_reads c.self.inside.text.now (paid.0 + 3) 1 1 c.short_word.new.self c.comment_len.new.self short (c.comment_len.ensures.none c.in_default.is) in
-    (c.self.invariant.0, (λ on. (inv.0, c.comment_len.ensures.ahead _ _ (c.short_word.ensures.ahead _ _ inv.1))), tt, (λ on. (paid.0 + 3 + 1, omega (arith, paid.1), read)), c.self.invariant.4)
+    let opener = here_reads c.self.inside.text.now (paid.0 + 3) 2 2 c.short_word.new.self c.fstring_opener.new.self short c.fstring_opener.ensures.looked in
+    let read = here_reads c.self.inside.text.now (paid.0 + 3 + 2) 1 1 c.fstring_opener.new.self c.comment_len.new.self opener (c.comment_len.ensures.none c.in_default-comment_len.is) in
+    (c.self.invariant.0, (λ on. (inv.0, c.comment_len.ensures.ahead _ _ (c.fstring_opener.ensures.ahead _ _ (c.short_word.ensures.ahead _ _ inv.1)))), tt, (λ on. (paid.0 + 3 + 2 + 1, omega (arith, paid.1), read)), c.self.invariant.4)

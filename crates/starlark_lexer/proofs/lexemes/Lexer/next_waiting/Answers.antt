@@ -1,8 +1,6 @@
-use Rattle.std.proofs.Common.{◌≡◌, ◌∙◌, ◌+◌, ◌*◌, ◌≤◌, ◌^◌, ap, arith, map, refl, rules, subst, sym}
+use Rattle.std.proofs.Common.{◌≡◌, ◌∙◌, ◌+◌, ◌*◌, ◌≤◌, ◌^◌, ap, arith, map, refl, rules}
 use Rattle.std.proofs.lemmas.List.{length-map}
-use Rattle.starlark_reader.specs.Joints.Reader.{IsAtCode}
 use Rattle.starlark_token.specs.Lexemes.{shown_lexeme}
-use Rattle.starlark_reader.specs.declared.reader.Reader.{Reader}
 use Rattle.starlark_lexer.specs.Lexer.{LexerView}
 use Rattle.starlark_grammar.specs.Reading.{outcome}
 use Rattle.starlark_lexer.proofs.LexerItems.{lexeme_item, lexeme_within, one_more, some_item}
