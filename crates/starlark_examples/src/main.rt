@@ -1,4 +1,5 @@
-//! Runs the examples of docs/use over the sections of standard input, and prints what each makes of its section.
+//! Runs the examples of docs/use, but for the parser and the formatter, over the sections of standard input, and prints what
+//! each makes of its section.
 //!
 //! A section begins with a line `%%% EXAMPLE`. In that of the build tool each file begins with a line
 //! `--- NAME`, and in that of the editor a line `---` stands between a text before an edit and behind it.
@@ -6,14 +7,10 @@
 
 mod editor;
 mod evaluator;
-mod formatter;
-mod lexemes;
 mod linter;
 mod loads;
-mod parser;
 
 use crate::linter::Finding;
-use crate::parser::Expression;
 use starlark_syntax::codemap::{CodeMap, CodeMapId};
 use starlark_syntax::eval_exception::EvalException;
 use starlark_syntax::lexer::{LexedText, SourceError};
@@ -26,23 +23,6 @@ fn file_of(alloc: Global, name: &str, text: &str) -> Result<CodeMap, SourceError
     let name = String::from_str(alloc, name)?;
     let source = String::from_str(alloc, text)?;
     Ok(CodeMap::new(alloc, CodeMapId::new(1), name, source)?)
-}
-
-/// The parser's answer: each expression with brackets round all that it does.
-fn parsed(alloc: Global, text: &str) -> Result<String, SourceError> {
-    let file = file_of(alloc, "BUILD", text)?;
-    let lexemes = lexemes::lexemes_of(alloc, text, &file)?;
-    let expressions = parser::expressions(alloc, &file, &lexemes)?;
-    Ok(expression_lines(alloc, &expressions)?)
-}
-
-/// A line for each expression.
-fn expression_lines(alloc: Global, expressions: &[Expression<'_>]) -> Result<String, AllocError> {
-    let mut lines = String::new(alloc);
-    for expression in expressions {
-        write!(lines, "{expression}\n")?;
-    }
-    Ok(lines)
 }
 
 /// The linter's answer: a line for each finding.
@@ -64,15 +44,6 @@ fn finding_lines(
         write!(lines, "{line}\n")?;
     }
     Ok(lines)
-}
-
-/// The formatter's answer.
-fn formatted(alloc: Global, text: &str) -> Result<String, SourceError> {
-    let file = file_of(alloc, "BUILD", text)?;
-    match formatter::formatted(alloc, &file)? {
-        Some(formatted) => Ok(formatted),
-        None => Ok(String::from_str(alloc, "not formatted\n")?),
-    }
 }
 
 /// The build tool's answer: what each file loads, or its fault. A fault of one file stops none of the others.
@@ -177,9 +148,7 @@ fn evaluated(alloc: Global, templates: &str) -> Result<String, SourceError> {
 /// What an example makes of its section.
 fn answer(alloc: Global, example: &str, text: &str) -> Result<String, SourceError> {
     match example {
-        "parser" => parsed(alloc, text),
         "linter" => linted(alloc, text),
-        "formatter" => formatted(alloc, text),
         "loads" => loaded(alloc, text),
         "editor" => edited(alloc, text),
         "evaluator" => evaluated(alloc, text),

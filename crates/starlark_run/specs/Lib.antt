@@ -1,5 +1,4 @@
-pub mod Edits
-pub mod Joints
+pub use Rattle.starlark_edits.specs.Edits
 pub use Rattle.starlark_lines.specs.Watch
 pub use Rattle.starlark_lines.specs.Places
 pub use Rattle.starlark_lines.specs.Output

@@ -3,11 +3,5 @@
 //! change the text before.
 #![tactic(auto)]
 
-mod edits;
-mod printing;
-mod runs;
-mod versions;
-
-pub use edits::Edit;
-pub use runs::run_edits;
+pub use starlark_edits::{Edit, run_edits};
 pub use starlark_print::{GREATEST_LEN, RunFault, RunStatus, Watched, run, watched};

@@ -2,7 +2,7 @@
 
 use crate::checks::{lexed_in, wrong_with_lexed};
 use crate::lines::file_of;
-use starlark_run::{Watched, run};
+use starlark_print::{Watched, run};
 use starlark_syntax::lexer::LexedText;
 use std::alloc::{AllocError, Global};
 use std::fmt;

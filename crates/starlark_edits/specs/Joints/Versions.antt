@@ -1,0 +1,39 @@
+-- The versions of a text, as the code keeps them.
+use Rattle.std.specs.Prelude.{◌≡◌, ◌≤◌, List, [], ◌∷◌, length, take, string_bytes, Result, Err, ⊤}
+use Rattle.std.specs.Str.{IsCharBoundary}
+use Rattle.starlark_base.specs.Places.{Text}
+use Rattle.starlark_base.specs.Sources.{Holds}
+use Rattle.starlark_edits.specs.Edits.{edit_span}
+use Rattle.starlark_edits.specs.declared.edits.Edit.{Edit}
+use Rattle.starlark_edits.specs.declared.versions.Version.{Version}
+use Rattle.starlark_lines.specs.declared.ends.TheConstants.{GREATEST_LEN}
+use Rattle.starlark_lines.specs.declared.ends.RunFault.{RunFault}
+use Rattle.starlark_lines.specs.declared.ends.RunFault.TheVariants.{TooLong, BadEdit, Memory}
+
+-- an edit fits a text, as a fact
+pub record Fits (text : Text) (edit : Edit) : Type 0 where
+  pub order : edit.from ≤ edit.to
+  pub held : Holds text (edit_span edit)
+
+-- A version has the bytes of the text before it up to where its edit began.
+pub record Follows (text : Text) (version : Version) : Type 0 where
+  pub old : IsCharBoundary text version.from
+  pub new : IsCharBoundary (string_bytes version.text) version.from
+  pub same : take version.from text ≡ take version.from (string_bytes version.text)
+  pub fits : length (string_bytes version.text) ≤ GREATEST_LEN
+
+-- each version follows on the one before
+abbrev pub AreVersions : Text → List Version → Type 0
+AreVersions text [] = ⊤
+AreVersions text (version ∷ versions) = Follows text version × AreVersions (string_bytes version.text) versions
+
+abbrev pub newest_text : Text → List Version → Text
+newest_text text [] = text
+newest_text text (version ∷ versions) = newest_text (string_bytes version.text) versions
+
+-- why there are no versions: an edit is refused, or memory is
+abbrev pub IsRefusal : Result Text RunFault → RunFault → Type 0
+IsRefusal text Memory = ⊤
+IsRefusal text TooLong = text ≡ Err TooLong
+IsRefusal text (BadEdit at) = text ≡ Err (BadEdit at)
+IsRefusal text fault = ⊥

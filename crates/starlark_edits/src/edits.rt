@@ -1,0 +1,53 @@
+//! Edits of a text.
+
+ghost use Rattle.std.specs.Prelude.{◌≡◌, ◌+◌, ◌↔◌, IfOk, IsTrue, length, string_bytes, true};
+ghost use Rattle.starlark_base.specs.Sources.{Holds, holds};
+ghost use Rattle.starlark_edits.specs.Edits.{edit_fits, edit_span, edited_text};
+ghost use Rattle.starlark_edits.specs.Joints.Versions.{Fits};
+
+use std::alloc::{AllocError, Global};
+
+/// An edit of a text: the bytes from one place to another give way to other text. Places are counted in bytes. An edit
+/// fits a text where its places stand in order between characters of it.
+#[derive(Clone, Copy, Debug, PartialEq, Eq)]
+pub struct Edit<'e> {
+    pub from: usize,
+    pub to: usize,
+    pub text: &'e str,
+}
+
+/// Whether both places of an edit stand between characters of a text.
+fn is_held(text: &str, edit: &Edit<'_>) -> bool
+    ensures held { IsTrue result ↔ Holds text.now (edit_span edit.now) }
+    ensures test { result ≡ holds text.now (edit_span edit.now) }
+{
+    text.is_char_boundary(edit.from) && text.is_char_boundary(edit.to)
+}
+
+/// Whether an edit fits a text.
+pub fn fits(text: &str, edit: &Edit<'_>) -> bool
+    ensures test { result ≡ edit_fits text.now edit.now }
+    ensures places { result ≡ true → Fits text.now edit.now }
+{
+    edit.from <= edit.to && is_held(text, edit)
+}
+
+/// How many bytes of a text an edit leaves as they are.
+pub fn kept_len(text: &str, edit: &Edit<'_>) -> usize
+    requires { Fits text.now edit.now }
+    ensures { result + edit.now.to ≡ length text.now + edit.now.from }
+{
+    text.len() - (edit.to - edit.from)
+}
+
+/// The text that an edit leaves, which is of this length.
+pub fn edited(alloc: Global, text: &str, edit: &Edit<'_>, len: usize) -> Result<String, AllocError>
+    requires { Fits text.now edit.now }
+    ensures { IfOk result (λ edited. string_bytes edited ≡ edited_text text.now edit.now) }
+{
+    let mut edited = String::with_capacity(alloc, len)?;
+    edited.push_str(&text[..edit.from])?;
+    edited.push_str(edit.text)?;
+    edited.push_str(&text[edit.to..])?;
+    Ok(edited)
+}
