@@ -1,9 +1,10 @@
 //! Escapes: a backslash and what it takes.
 
-ghost use Rattle.std.specs.Prelude.{◌≡◌, ◌≤◌, ◌<◌, ◌+◌, ◌-◌, ◌∷◌, [], false, true, drop, encode_utf8, get_or, nat_eq, take, IfSome};
-ghost use Rattle.std.specs.Char.{is_ascii_hexdigit};
+ghost use Rattle.std.specs.Prelude.{◌≡◌, ◌≤◌, ◌<◌, ◌+◌, ◌-◌, ◌∷◌, [], false, true, drop, encode_utf8, get_or, length, nat_eq, take, IfSome};
+ghost use Rattle.std.specs.Char.{is_ascii_hexdigit, is_digit};
 ghost use Rattle.std.specs.List.{prefix_len};
 ghost use Rattle.std.specs.Map.{lookup};
+ghost use Rattle.std.specs.Str.Parse.{digits_value};
 ghost use Rattle.starlark_grammar.specs.Characters as characters;
 ghost use Rattle.starlark_grammar.specs.Items as grammar;
 ghost use Rattle.starlark_literals.specs.Joints.Literals.{IsCharacters, IsText, found_len, found_view, literal_view, value_view};
@@ -89,38 +90,57 @@ fn numbered<'a>(len: usize, is_byte: bool, number: u32) -> Found<'a>
     }
 }
 
-/// How many hexadecimal digits stand at the front of a text, up to some number of them.
-fn hexadecimal_len(reads: &mut Reads, text: &[u8], wanted: usize) -> usize
-    ensures value { result ≡ prefix_len is_ascii_hexdigit (take wanted text.now) }
-    ensures reads { reads.new ≡ more_reads reads.old (result + 1) }
+/// How many digits of a radix stand at the front of some bytes, and the number that they are.
+#[inline(always)]
+fn digits(bytes: &[u8], radix: u32) -> (usize, u32)
+    requires low { 2 ≤ radix }
+    requires high { radix ≤ 16 }
+    requires few { length bytes.now ≤ 8 }
+    ensures len { result.0 ≡ prefix_len (λ b. is_digit b radix) bytes.now }
+    ensures number { result.1 ≡ digits_value radix (take result.0 bytes.now) }
 {
-    let len = text
-        .iter()
-        .take(wanted)
-        .take_while(|byte| byte.is_ascii_hexdigit())
-        .count();
-    reads.count_run(len);
-    len
+    let mut len = 0;
+    let mut number = 0u32;
+    while len < bytes.len() {
+        let Some(digit) = char::from(bytes[len]).to_digit(radix) else {
+            return (len, number);
+        };
+        number = number * radix + digit;
+        len += 1;
+    }
+    (len, number)
+}
+
+/// The digits of a radix at the front of a text, up to some number of them: how many they are, and their number.
+#[inline(always)]
+fn first_digits(reads: &mut Reads, text: &[u8], radix: u32, wanted: usize) -> (usize, u32)
+    requires low { 2 ≤ radix }
+    requires high { radix ≤ 16 }
+    requires few { wanted ≤ 8 }
+    ensures len { result.0 ≡ prefix_len (λ b. is_digit b radix) (take wanted text.now) }
+    ensures number { result.1 ≡ digits_value radix (take result.0 text.now) }
+    ensures reads { reads.new ≡ more_reads reads.old (result.0 + 1) }
+{
+    let found = digits(&text[..wanted.min(text.len())], radix);
+    reads.count_run(found.0);
+    found
+}
+
+/// The hexadecimal digits at the front of a text, up to some number of them: how many they are, and their number.
+#[inline(always)]
+fn hexadecimal_digits(reads: &mut Reads, text: &[u8], wanted: usize) -> (usize, u32)
+    requires { wanted ≤ 8 }
+    ensures len { result.0 ≡ prefix_len is_ascii_hexdigit (take wanted text.now) }
+    ensures number { result.1 ≡ digits_value 16 (take result.0 text.now) }
+    ensures reads { reads.new ≡ more_reads reads.old (result.0 + 1) }
+{
+    first_digits(reads, text, 16, wanted)
 }
 
 fn is_octal_digit(byte: u8) -> bool
     ensures { result ≡ is_octal_digit byte }
 {
     matches!(byte, b'0'..=b'7')
-}
-
-/// How many octal digits stand at the front of a text, up to three.
-fn octal_len(reads: &mut Reads, text: &[u8]) -> usize
-    ensures value { result ≡ prefix_len is_octal_digit (take 3 text.now) }
-    ensures reads { reads.new ≡ more_reads reads.old (result + 1) }
-{
-    let len = text
-        .iter()
-        .take(3)
-        .take_while(|byte| is_octal_digit(**byte))
-        .count();
-    reads.count_run(len);
-    len
 }
 
 /// An escape of so many hexadecimal digits, by the text behind its letter.
@@ -131,15 +151,11 @@ fn hexadecimal<'a>(reads: &mut Reads, wanted: usize, is_byte: bool, text: &str) 
     ensures text { is_byte ≡ false → IsText result }
     ensures reads { AreReads (found_len result - 2) (found_len result) reads.old reads.new }
 {
-    let len = hexadecimal_len(reads, text.as_bytes(), wanted);
-    let digits = &text[..len];
+    let (len, number) = hexadecimal_digits(reads, text.as_bytes(), wanted);
     if len != wanted {
         return broken(reads, 2 + len, &text[len..]);
     }
-    match u32::from_str_radix(digits, 16) {
-        Ok(number) => numbered(2 + len, is_byte, number),
-        Err(_) => unreachable!(),
-    }
+    numbered(2 + len, is_byte, number)
 }
 
 /// An escape of octal digits, by the text from them on.
@@ -149,11 +165,8 @@ fn octal<'a>(reads: &mut Reads, is_byte: bool, text: &str) -> Found<'a>
     ensures text { is_byte ≡ false → IsText result }
     ensures reads { AreReads (found_len result - 2) (found_len result) reads.old reads.new }
 {
-    let len = octal_len(reads, text.as_bytes());
-    match u32::from_str_radix(&text[..len], 8) {
-        Ok(number) => numbered(1 + len, is_byte, number),
-        Err(_) => unreachable!(),
-    }
+    let (len, number) = first_digits(reads, text.as_bytes(), 8, 3);
+    numbered(1 + len, is_byte, number)
 }
 
 /// A CR behind a backslash, which an LF has to follow.
