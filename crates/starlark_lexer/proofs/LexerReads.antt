@@ -21,7 +21,7 @@ use Rattle.starlark_reader.specs.Joints.Reads.{HasLookedHere, HasRead, HasReadAt
 use Rattle.starlark_reader.specs.declared.reader.LineEnd.{LineEnd}
 use Rattle.starlark_reader.specs.declared.reader.LineEnd.TheVariants as line_end
 use Rattle.starlark_reader.specs.declared.reader.Reader.{Reader}
-use Rattle.starlark_lexer.specs.Joints.Looked.{GoesOn, HasSpared, IsFoundBehindMargin, IsFoundFurther, IsFoundFurtherInCode, IsFoundInCode, IsFoundOut, IsLooked, is_begun, is_front, is_nothing}
+use Rattle.starlark_lexer.specs.Joints.Looked.{GoesOn, HasSpared, IsFoundBehindMargin, IsFoundFurther, IsFoundFurtherInCode, IsFoundInCode, IsFoundOut, IsLooked, is_front, is_nothing}
 use Rattle.starlark_lexer.specs.declared.lexemes.Looked.{Looked}
 use Rattle.starlark_lexer.specs.declared.lexemes.Looked.TheVariants as looked
 
@@ -29,13 +29,11 @@ use Rattle.starlark_lexer.specs.declared.lexemes.Looked.TheVariants as looked
 pub spared : (text : Text) (reader : Reader) (to : ℕ) (it : Looked) → IsLooked text reader to it → HasSpared text 0 reader to
 spared text reader to looked.Nothing is = is.2
 spared text reader to looked.Front is = (is.2.0, omega (arith, is.2.1), is.2.2)
-spared text reader to looked.Opener is = (is.1.0, omega (arith, is.1.1), is.1.2)
 spared text reader to looked.All is = is
 
 pub goes_on : (it : Looked) (has_ended : Bool) → has_ended ≡ false → GoesOn it has_ended
 goes_on looked.Nothing has_ended e = e
 goes_on looked.Front has_ended e = e
-goes_on looked.Opener has_ended e = e
 goes_on looked.All has_ended e = tt
 
 -- what each test tells
@@ -43,56 +41,47 @@ pub nothing_looked : (text : Text) (reader : Reader) (to : ℕ) (has_ended : Boo
     → (has_ended ≡ false) × IsAtCode text reader × (to ≤ reader.at) × HasSpared text 0 reader to
 nothing_looked text reader to has_ended looked.Nothing quick goes is = (goes, (is goes).0, (is goes).1, (is goes).2)
 nothing_looked text reader to has_ended looked.Front quick goes is = cc
-nothing_looked text reader to has_ended looked.Opener quick goes is = cc
 nothing_looked text reader to has_ended looked.All quick goes is = cc
 
 pub nothing_kept : (text : Text) (reader : Reader) (to beside : ℕ) (it : Looked) → is_nothing it ≡ true → IsAtCode text reader → to ≤ reader.at → beside ≤ 16 * to → HasRead text beside reader → IsLooked text reader to it
 nothing_kept text reader to beside looked.Nothing quick code behind paid has = (code, behind, (beside, omega (arith, paid), has))
 nothing_kept text reader to beside looked.Front quick code behind paid has = cc
-nothing_kept text reader to beside looked.Opener quick code behind paid has = cc
 nothing_kept text reader to beside looked.All quick code behind paid has = cc
 
 pub front_looked : (text : Text) (reader : Reader) (to : ℕ) (it : Looked) → is_front it ≡ true → IsLooked text reader to it → IsAtCode text reader × (to ≤ length text + 1) × HasSpared text 11 reader to
 front_looked text reader to looked.Nothing quick is = cc
 front_looked text reader to looked.Front quick is = is
-front_looked text reader to looked.Opener quick is = cc
 front_looked text reader to looked.All quick is = cc
 
-pub begun_looked : (text : Text) (reader : Reader) (to : ℕ) (it : Looked) → is_begun it ≡ true → IsLooked text reader to it → IsAtCode text reader × HasSpared text 6 reader to
-begun_looked text reader to looked.Nothing quick is = cc
-begun_looked text reader to looked.Front quick is = (is.0, (is.2.0, omega (arith, is.2.1), is.2.2))
-begun_looked text reader to looked.Opener quick is = is
-begun_looked text reader to looked.All quick is = cc
+pub front_spared : (text : Text) (reader : Reader) (to : ℕ) (it : Looked) → is_front it ≡ true → IsLooked text reader to it → IsAtCode text reader × HasSpared text 8 reader to
+front_spared text reader to it quick is =
+    let front = front_looked text reader to it quick is in
+    (front.0, (front.2.0, omega (arith, front.2.1), front.2.2))
 
 -- what is found out behind a lexeme
 pub found_out : (text : Text) (reader : Reader) (to beside : ℕ) (it : Looked) → IsFoundOut reader to it → IsPending text reader.pending → beside ≤ 16 * to → HasRead text beside reader → IsLooked text reader to it
 found_out text reader to beside looked.Nothing is pending paid has = (is.1 text pending, is.0, (beside, omega (arith, paid), has))
 found_out text reader to beside looked.Front is pending paid has = absurd is
-found_out text reader to beside looked.Opener is pending paid has = absurd is
 found_out text reader to beside looked.All is pending paid has = (beside, omega (arith, paid), has)
 
 pub found_in_code : (text : Text) (reader : Reader) (to beside : ℕ) (it : Looked) → IsFoundInCode reader it → (is_in_code : IsFoundInCode reader looked.Nothing → IsAtCode text reader) → to ≤ reader.at → beside ≤ 16 * to → HasRead text beside reader → IsLooked text reader to it
 found_in_code text reader to beside looked.Nothing is code behind paid has = (code is, behind, (beside, omega (arith, paid), has))
 found_in_code text reader to beside looked.Front is code behind paid has = absurd is
-found_in_code text reader to beside looked.Opener is code behind paid has = absurd is
 found_in_code text reader to beside looked.All is code behind paid has = (beside, omega (arith, paid), has)
 
 pub found_further : (text : Text) (reader : Reader) (to beside : ℕ) (it : Looked) → IsFoundFurther reader to it → IsAtCode text reader → beside ≤ 16 * to → HasRead text beside reader → IsLooked text reader to it
 found_further text reader to beside looked.Nothing is code paid has = (code, is, (beside, omega (arith, paid), has))
 found_further text reader to beside looked.Front is code paid has = absurd is
-found_further text reader to beside looked.Opener is code paid has = absurd is
 found_further text reader to beside looked.All is code paid has = (beside, omega (arith, paid), has)
 
 pub found_further_in_code : (text : Text) (reader : Reader) (to beside : ℕ) (it : Looked) → IsFoundFurtherInCode reader to it → (IsInCode reader → IsAtCode text reader) → beside ≤ 16 * to → HasRead text beside reader → IsLooked text reader to it
 found_further_in_code text reader to beside looked.Nothing is code paid has = (code is.1, is.0, (beside, omega (arith, paid), has))
 found_further_in_code text reader to beside looked.Front is code paid has = absurd is
-found_further_in_code text reader to beside looked.Opener is code paid has = absurd is
 found_further_in_code text reader to beside looked.All is code paid has = (beside, omega (arith, paid), has)
 
 pub found_behind_margin : (text : Text) (reader : Reader) (to beside : ℕ) (it : Looked) → IsFoundBehindMargin reader to it → (reader.stage ≡ stages.Onward) × IsInCode reader → IsPending text reader.pending → beside ≤ 16 * to → HasRead text beside reader → IsLooked text reader to it
 found_behind_margin text reader to beside looked.Nothing is code pending paid has = (record { stage = code.0; idle = is.1 text pending; code = code.1 }, is.0, (beside, omega (arith, paid), has))
 found_behind_margin text reader to beside looked.Front is code pending paid has = absurd is
-found_behind_margin text reader to beside looked.Opener is code pending paid has = absurd is
 found_behind_margin text reader to beside looked.All is code pending paid has = (beside, omega (arith, paid), has)
 
 -- a line end that counts isn't passed

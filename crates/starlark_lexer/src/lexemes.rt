@@ -2,7 +2,7 @@
 
 ghost use Rattle.std.specs.Prelude.{◌≡◌, ◌<◌, ◌≤◌, ◌+◌, ◌*◌, ◌^◌, ◌↔◌, ◌||◌, None, length, true, false, IfOk, IsErr};
 ghost use Rattle.std.specs.List.{slice_get};
-ghost use Rattle.starlark_lexer.specs.Joints.Looked.{IsFoundBehindMargin, IsFoundFurther, IsFoundFurtherInCode, IsFoundInCode, IsFoundOut, is_begun, is_front, is_nothing};
+ghost use Rattle.starlark_lexer.specs.Joints.Looked.{IsFoundBehindMargin, IsFoundFurther, IsFoundFurtherInCode, IsFoundInCode, IsFoundOut, is_front, is_nothing};
 ghost use Rattle.starlark_lexer.specs.Lexer.{AnswersBetween, AnswersNext, AnswersWithin, handed_out_by, is_ended_by};
 ghost use Rattle.starlark_token.specs.TextItems.{items};
 
@@ -40,8 +40,6 @@ enum Looked {
     Nothing,
     /// At its first two bytes there, which don't tell it, or open a text literal.
     Front,
-    /// And at its opener: no text literal stands there whose characters denote themselves.
-    Opener,
     /// As far as they go, or it is at no such place: it comes from the reader.
     All,
 }
@@ -109,14 +107,6 @@ impl Looked {
         ensures { result ≡ is_front self }
     {
         matches!(self, Looked::Front)
-    }
-
-    /// Whether the first two bytes were looked at, and not all that there is to look at.
-    #[inline(always)]
-    fn is_begun(self) -> bool
-        ensures { result ≡ is_begun self }
-    {
-        matches!(self, Looked::Front | Looked::Opener)
     }
 }
 
@@ -285,7 +275,7 @@ impl<'a> Lexer<'a> {
     }
 
     /// The next lexeme of a lexer that no error has ended, whichever it is: quickly where it is a symbol of two bytes, an
-    /// integer of one digit, the start of an f-string or a comment.
+    /// integer of one digit, the start of an f-string, the bang of its expression or a comment.
     #[inline(never)]
     fn next_of_all(&mut self) -> Option<Lexeme>
         requires { self.old.has_ended ≡ false }
@@ -293,7 +283,7 @@ impl<'a> Lexer<'a> {
         ensures within { AnswersWithin self.old.text result }
         ensures after { self.new ≡ record self.old { handed_out = self.old.handed_out + handed_out_by result; has_ended = is_ended_by result } }
     {
-        if !self.looked.is_begun() {
+        if !self.looked.is_front() {
             return self.next_waiting();
         }
         match self.reader.short_word(self.text) {
@@ -323,6 +313,12 @@ impl<'a> Lexer<'a> {
                     Some(Err(OrMemory::Memory))
                 }
             };
+        }
+        if self.reader.bang_stands(self.text) {
+            self.handed_out += 1;
+            let lexeme = self.reader.take_bang(self.text);
+            self.looked = looked_further(&self.reader, self.looked_to);
+            return Some(Ok(lexeme));
         }
         let Some(len) = self.reader.comment_len(self.text) else {
             self.looked = Looked::All;
@@ -355,14 +351,14 @@ impl<'a> Lexer<'a> {
             return self.next_of_all();
         }
         let Some(TextOpener { is_raw, quote, len }) = self.reader.text_opener(self.text) else {
-            self.looked = Looked::Opener;
+            self.looked = Looked::All;
             return self.next_of_all();
         };
         let body = match self.reader.plain_body_len(is_raw, quote, len, self.text) {
             Ok(body) => body,
             Err(run) => {
                 self.looked_to += run;
-                self.looked = Looked::Opener;
+                self.looked = Looked::All;
                 return self.next_of_all();
             }
         };

@@ -1,6 +1,6 @@
 //! Reads a text piece by piece, and keeps what later pieces depend on.
 
-ghost use Rattle.std.specs.Prelude.{◌≡◌, ◌≢◌, true, false, ◌<◌, ◌≤◌, ◌+◌, ◌*◌, ◌^◌, [], ℕ, None, Some, List, Option, drop, length, map, nat_lt, OnErr, OnOk, IfErr, IfOk, IfSome};
+ghost use Rattle.std.specs.Prelude.{◌≡◌, ◌≢◌, if◌then◌else◌, true, false, ◌<◌, ◌≤◌, ◌+◌, ◌*◌, ◌^◌, [], ℕ, None, Some, List, Option, drop, length, map, nat_lt, OnErr, OnOk, IfErr, IfOk, IfSome};
 ghost use Rattle.std.specs.Str.{IsCharBoundary};
 ghost use Rattle.starlark_reader.specs.Joints.Steps.{IsStep};
 ghost use Rattle.starlark_token.specs.Lexemes.{shown_lexeme};
@@ -14,7 +14,7 @@ ghost use Rattle.starlark_grammar.specs.declared.class.LiteralKind.TheVariants a
 ghost use Rattle.starlark_layout.specs.Joints.Pending.{IsIdle, IsPending};
 ghost use Rattle.starlark_reader.specs.Joints.MarginCuts.{IsCutBefore};
 ghost use Rattle.starlark_reader.specs.Joints.Reads.{HasBegun, HasLooked, HasLookedHere, HasRead, HasReadAt, HasReadNext, IsMarginRead, IsPassed, IsPassedBy, IsTaken};
-ghost use Rattle.starlark_reader.specs.Joints.Reader.{CountsLineEnds, has_read_none, IsAhead, IsAheadBehind, IsAtCode, IsInCode, IsInFlatMargin, IsReached, IsStateAfter, IsNext, IsOver, IsPlainTextHere, IsRead, IsReady, IsSomething, IsWordHere, before_view, left_here, left_to_read, newline_if, newline_of, silent_sort, step_here};
+ghost use Rattle.starlark_reader.specs.Joints.Reader.{CountsLineEnds, has_read_none, IsAhead, IsAheadBehind, IsAtCode, IsBangHere, IsInCode, IsInFlatMargin, IsReached, IsStateAfter, IsNext, IsOver, IsPlainTextHere, IsRead, IsReady, IsSomething, IsWordHere, before_view, left_here, left_to_read, newline_if, newline_of, silent_sort, step_here};
 ghost use Rattle.starlark_reader.specs.Joints.Pieces.{IsBehind};
 ghost use Rattle.starlark_laws.specs.Cuts.{is_layout, is_settled};
 ghost use Rattle.starlark_grammar.specs.Reading.{History, outcome};
@@ -28,7 +28,7 @@ use crate::literal::{Opening, PlainText, Step, opening_of, plain_text, quotes_of
 use crate::reading::code::{gap_len, is_code};
 use crate::reading::terminals::token_in;
 use crate::reading::words::digit_token;
-use crate::reading::{Piece, is_outside, line_end_counts, piece_at};
+use crate::reading::{Piece, bang_stands, is_outside, line_end_counts, piece_at};
 use starlark_bytes::reads::Reads;
 use starlark_layout::{
     Behind, IndentStack, Pending, PlacedToken, TextEnd, margin_fault, margin_of, take_margin,
@@ -570,6 +570,22 @@ impl Reader {
         fstring_opener(&mut self.reads, &text[self.at..])
     }
 
+    /// Whether the bang of an f-string's expression comes next. For places of code.
+    #[inline(always)]
+    pub fn bang_stands(&mut self, text: &str) -> bool
+        requires fits { length text.now < 2 ^ 32 }
+        requires ready { IsReady text.now self.old self.old.stage }
+        requires code { IsAtCode text.now self.old }
+        ensures ahead { (lexemes : List (Spanned TokenView)) (fault : Option (Spanned Fault)) → IsAhead text.now self.old self.old.stage lexemes fault → IsAhead text.now self.new self.new.stage lexemes fault }
+        ensures code { IsAtCode text.now self.new }
+        ensures stands { result ≡ true → IsBangHere text.now self.new }
+        ensures looked { HasLookedHere (if result then 1 else 0) 2 self.old self.new }
+    {
+        let place = self.nesting.place();
+        let follows_gap = self.follows_gap();
+        bang_stands(&mut self.reads, place, follows_gap, &text[self.at..])
+    }
+
     /// The length of the comment that comes next. `None` where something else comes. For places of code, behind their spaces.
     #[inline(always)]
     pub fn comment_len(&mut self, text: &str) -> Option<usize>
@@ -859,6 +875,22 @@ impl Reader {
     {
         let begin = self.at;
         let token = digit_token(digit);
+        self.pass_token(&token, 1, text);
+        (begin, token, begin + 1)
+    }
+
+    /// Takes the bang here.
+    #[inline(always)]
+    pub fn take_bang(&mut self, text: &str) -> PlacedToken
+        requires fits { length text.now < 2 ^ 32 }
+        requires ready { IsReady text.now self.old self.old.stage }
+        requires stands { IsBangHere text.now self.old }
+        ensures ahead { (lexemes : List (Spanned TokenView)) (fault : Option (Spanned Fault)) → IsAhead text.now self.old self.old.stage lexemes fault → IsAheadBehind text.now (Some result) self.new lexemes fault }
+        ensures code { IsAtCode text.now self.new }
+        ensures taken { IsTaken 1 self.old self.new }
+    {
+        let begin = self.at;
+        let token = Token::FStringBang;
         self.pass_token(&token, 1, text);
         (begin, token, begin + 1)
     }

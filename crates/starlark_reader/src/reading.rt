@@ -184,7 +184,8 @@ fn is_bang(text: &[u8]) -> bool
 }
 
 /// Whether a bang stands at the front of a text, by where that is and what stands before.
-fn bang_stands(reads: &mut Reads, place: LexerMode, follows_gap: bool, text: &str) -> bool
+#[inline(always)]
+pub fn bang_stands(reads: &mut Reads, place: LexerMode, follows_gap: bool, text: &str) -> bool
     ensures reads { AreReads (if result then 1 else 0) 2 reads.old reads.new }
     ensures value { (before : grammar.Before) → IsBehind follows_gap before → result ≡ (grammar.takes_bang (mode_view place) before && grammar.is_bang text.now) }
 {

@@ -16,7 +16,6 @@ HasSpared text spare reader to = (beside : ℕ) × (beside + spare ≤ 16 * to) 
 abbrev pub IsLooked : Text → Reader → (to : ℕ) → Looked → Type 0
 IsLooked text reader to looked.Nothing = IsAtCode text reader × (to ≤ reader.at) × HasSpared text 0 reader to
 IsLooked text reader to looked.Front = IsAtCode text reader × (to ≤ length text + 1) × HasSpared text 11 reader to
-IsLooked text reader to looked.Opener = IsAtCode text reader × HasSpared text 6 reader to
 IsLooked text reader to looked.All = HasSpared text 0 reader to
 
 -- quick ways go on only where no error has ended the lexer
@@ -61,9 +60,3 @@ is_nothing it = false
 abbrev pub is_front : Looked → Bool
 is_front looked.Front = true
 is_front it = false
-
--- its first two bytes were looked at, and not all that there is to look at
-abbrev pub is_begun : Looked → Bool
-is_begun looked.Front = true
-is_begun looked.Opener = true
-is_begun it = false

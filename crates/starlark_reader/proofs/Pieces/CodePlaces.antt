@@ -4,8 +4,8 @@ use Rattle.std.proofs.lemmas.List.{length-take-le}
 use Rattle.std.specs.Str.{IsUtf8, IsCharBoundary}
 use Rattle.starlark_grammar.specs.Depths.{Mode, Outside, InText, AtTop, Deeper}
 use Rattle.starlark_grammar.specs.Front.{language_front, longest_front}
-use Rattle.starlark_grammar.specs.Pieces.{Situation, Before, Nothing, Layout, Gap, Other, by_place, by_before, chunk, in_code, is_bang, takes_bang, step_at, word_step}
-use Rattle.starlark_grammar.specs.Tokens.{Opening}
+use Rattle.starlark_grammar.specs.Pieces.{Situation, Before, Nothing, Layout, Gap, Other, by_place, by_before, chunk, in_code, is_bang, takes_bang, token, step_at, word_step}
+use Rattle.starlark_grammar.specs.Tokens.{FStringBang, Opening}
 use Rattle.starlark_grammar.specs.Words.{Text, class_in, language}
 use Rattle.starlark_grammar.specs.declared.class.Class.{Class}
 use Rattle.starlark_grammar.proofs.Order.WholeTexts.{word_edge}
@@ -45,6 +45,14 @@ in_code_front : (s : Situation) (text : Text) (class : Class) (len : ℕ) → la
 unfolding language_front longest_front
 in_code_front s [] class len front bang = cc
 in_code_front s (b ∷ bs) class len front bang = rw (bang, both_false (takes_bang s.place s.before), front) refl
+
+bang_in_code : (s : Situation) (text : Text) → (takes_bang s.place s.before && is_bang text) ≡ true → in_code language s text ≡ token 1 FStringBang
+bang_in_code s [] bang = cc (both_false (takes_bang s.place s.before), bang)
+bang_in_code s (b ∷ bs) bang = rw bang refl
+
+-- a bang that may stand there is the piece
+pub bang_at : (follows_gap : Bool) (s : Situation) (text : Text) (at : Mode) → is_code at ≡ true → IsBehind follows_gap s.before → s.place ≡ at → (takes_bang at s.before && is_bang text) ≡ true → step_at language s text ≡ token 1 FStringBang
+bang_at follows_gap s text at code behind here bang = code_at follows_gap s text at code behind here ∙ bang_in_code s text (ap (λ p. takes_bang p s.before && is_bang text) here ∙ bang)
 
 -- the word there decides, where no bang stands
 pub word_at : (follows_gap : Bool) (s : Situation) (text : Text) (at : Mode) (class : Class) (len : ℕ) → is_code at ≡ true → IsBehind follows_gap s.before → s.place ≡ at → language_front text ≡ Some (class, len) → is_bang text ≡ false

@@ -32,7 +32,7 @@ use Rattle.starlark_layout.specs.Joints.Pending.{IsIdle}
 use Rattle.starlark_token.specs.declared.tokens.Token.{Token}
 use Rattle.starlark_scanner.specs.declared.scanner.word.Word.{Word}
 use Rattle.starlark_reader.specs.Joints.Pieces.{IsBehind, IsPiece, is_code, nothing_of}
-use Rattle.starlark_reader.specs.Joints.Reader.{IsAhead, IsAheadBehind, IsInCode, IsPlainTextHere, IsStateAfter, IsRead, IsWordHere, before_view, left_here, silent_sort, step_here}
+use Rattle.starlark_reader.specs.Joints.Reader.{IsAhead, IsAheadBehind, IsBangHere, IsInCode, IsPlainTextHere, IsStateAfter, IsRead, IsWordHere, before_view, left_here, silent_sort, step_here}
 use Rattle.starlark_token.specs.TokenViews.{TokenView, Whole, token_view}
 use Rattle.starlark_nesting.specs.declared.nesting.LexerMode.{LexerMode}
 use Rattle.starlark_nesting.specs.declared.nesting.LexerMode.TheVariants as mode
@@ -42,7 +42,7 @@ use Rattle.starlark_reader.specs.declared.reader.Before as sort
 use Rattle.starlark_reader.specs.declared.reader.Before.TheVariants as before
 use Rattle.starlark_reader.specs.declared.reader.Reader.{Reader}
 use Rattle.starlark_reader.specs.declared.reader.Stage.TheVariants as stage
-use Rattle.starlark_reader.proofs.Pieces.CodePlaces.{in_text, word_at, word_len}
+use Rattle.starlark_reader.proofs.Pieces.CodePlaces.{bang_at, in_text, word_at, word_len}
 use Rattle.starlark_reader.proofs.Pieces.Here.{piece_here}
 use Rattle.starlark_reader.proofs.Pieces.Taken.{none_before, read_ahead, took}
 use Rattle.starlark_layout.proofs.Indentation.Waiting.{hands_none}
@@ -155,6 +155,27 @@ digit_step text history reader digit found kept here at view = (
   refl,
   word_read text history reader (record { class = class.Decimal; len = 1 }) kept here ∙ digit_word (situation history) digit (take 1 (drop reader.at text)) (drop 1 (drop reader.at text)) at.1,
 )
+
+-- a bang, by what was read of the place
+pub bang_read : (text : Text) (history : History) (reader : Reader) (place : LexerMode) (follows_gap : Bool) (rest : Text) → rest ≡ drop reader.at text → IsStateAfter text history reader → IsInCode reader
+    → ((tokens : List Tokens.Token) → Represents tokens reader.nesting → mode_view place ≡ mode_after tokens)
+    → ((before : pieces.Before) → before_view reader.before ≡ before → IsBehind follows_gap before)
+    → ((before : pieces.Before) → IsBehind follows_gap before → true ≡ (pieces.takes_bang (mode_view place) before && pieces.is_bang rest))
+    → step_here text history reader ≡ pieces.token 1 Tokens.FStringBang
+unfolding next_step situation
+bang_read text history reader place follows_gap rest e kept code here gap bang =
+    let behind = gap history.before kept.before in
+    let at = here history.tokens kept.nesting in
+    subst (λ (t : Text). step_at language (situation history) t ≡ pieces.token 1 Tokens.FStringBang) e
+    (bang_at follows_gap (situation history) rest (mode_view place) (ap is_code at ∙ code history.tokens kept.nesting) behind (sym at) (sym (bang history.before behind)))
+
+pub bang_step : (text : Text) (history : History) (reader : Reader) → IsStateAfter text history reader → IsBangHere text reader → IsStep (step_here text history reader) (step.Token token.FStringBang 1)
+unfolding token_view
+bang_step text history reader kept here = (Tokens.FStringBang, refl, refl, here.stands history kept)
+
+pub bang_changes : change_by (token_view token.FStringBang) ≡ change.Nothing
+unfolding change_by token_view
+bang_changes = refl
 
 -- a text literal that one quote closes, and whose characters denote themselves
 plain_opener : (place : Mode) (is_raw : Bool) (quote : Quote) (begin count : ℕ) (behind : Text) → IsPlainBody is_raw quote behind count

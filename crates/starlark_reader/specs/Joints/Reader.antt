@@ -7,6 +7,7 @@ use Rattle.starlark_grammar.specs.Margins.{has_tab, is_content, margin_of, open_
 use Rattle.starlark_laws.specs.Cuts.{is_layout}
 use Rattle.starlark_grammar.specs.Depths.{is_balanced, mode_after}
 use Rattle.starlark_grammar.specs.Front.{language_front}
+use Rattle.starlark_grammar.specs.Pieces as pieces
 use Rattle.starlark_grammar.specs.Pieces.{Before, Gap, Layout, Other, Step, Piece, Fails, counts, is_bang}
 use Rattle.starlark_scanner.specs.Joints.Words.{word_view}
 use Rattle.starlark_scanner.specs.declared.scanner.word.Word.{Word}
@@ -195,6 +196,13 @@ pub record IsWordHere (text : Text) (reader : Reader) (word : Word) : Type 0 whe
   pub code : IsInCode reader
   pub front : Some (word_view word) ≡ language_front (drop reader.at text)
   pub bang : is_bang (drop reader.at text) ≡ false
+
+-- The bang of an f-string's expression stands where a reader is, and nothing else is to be handed out before it.
+pub record IsBangHere (text : Text) (reader : Reader) : Type 0 where
+  pub stage : reader.stage ≡ stage.Onward
+  pub idle : IsIdle text reader.pending
+  pub code : IsInCode reader
+  pub stands : (history : History) → IsStateAfter text history reader → step_here text history reader ≡ pieces.token 1 grammar.FStringBang
 
 -- A text of an f-string that denotes itself stands where a reader is, and nothing else is to be handed out before it.
 pub record IsPlainTextHere (text : Text) (reader : Reader) (found : PlainText) : Type 0 where

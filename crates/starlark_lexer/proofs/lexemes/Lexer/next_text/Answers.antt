@@ -73,7 +73,7 @@ invariant_of-self c =
     let front = front_looked c.self.inside.text.now c.self.inside.reader c.self.inside.looked_to c.self.inside.looked (sym c.is_front.ensures ∙ c.if-not-is_front.false) (c.self.invariant.3 (ap (λ (lexer : LexerView). lexer.has_ended) c.self.view_is ∙ c.requires)) in
     let paid = front.2 in
     let opened = here_reads c.self.inside.text.now paid.0 2 2 c.self.inside.reader c.text_opener.new.self paid.2 c.text_opener.ensures.looked in
-    (c.self.invariant.0, (λ on. (inv.0, c.text_opener.ensures.ahead _ _ inv.1)), (ap (λ (lexer : LexerView). lexer.has_ended) c.self.view_is ∙ c.requires), (λ on. (c.text_opener.ensures.code, (paid.0 + 2, omega (arith, paid.1), opened))), c.self.invariant.4)
+    (c.self.invariant.0, (λ on. (inv.0, c.text_opener.ensures.ahead _ _ inv.1)), tt, (λ on. (paid.0 + 2, omega (arith, paid.1), opened)), c.self.invariant.4)
 
 pub invariant_of-self-in-Err : goal.invariant_of-self-in-Err
 invariant_of-self-in-Err c =
@@ -82,11 +82,10 @@ invariant_of-self-in-Err c =
     let paid = front.2 in
     let opened = here_reads c.self.inside.text.now paid.0 2 2 c.self.inside.reader c.text_opener.new.self paid.2 c.text_opener.ensures.looked in
     let other = c.in-Err.ensures.other in
-    let stands = c.in-Err.ensures.stands in
     let read = here_reads c.self.inside.text.now (paid.0 + 2) 0 (2 * c.in-Err.run' + 3) c.text_opener.new.self c.plain_body_len.new.self opened other.1 in (
       c.self.invariant.0,
       (λ on. (inv.0, c.plain_body_len.ensures.ahead _ _ (c.text_opener.ensures.ahead _ _ inv.1))),
-      (ap (λ (lexer : LexerView). lexer.has_ended) c.self.view_is ∙ c.requires),
-      (λ on. (record { stage = stands.stage; idle = stands.idle; code = stands.code }, (paid.0 + 2 + (2 * c.in-Err.run' + 3), omega (arith, paid.1), read))),
+      tt,
+      (λ on. (paid.0 + 2 + (2 * c.in-Err.run' + 3), omega (arith, paid.1), read)),
       omega (arith, front.1, other.0),
     )
