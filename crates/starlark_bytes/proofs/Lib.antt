@@ -2,3 +2,4 @@ pub mod FirstCharacter
 pub mod Fronts
 pub mod LaneRuns
 pub mod EqualLanes
+pub mod NameLanes

@@ -3,4 +3,5 @@
 
 pub mod lanes;
 pub mod lines;
+pub mod names;
 pub mod reads;

@@ -11,25 +11,6 @@ ghost use Rattle.starlark_bytes.specs.Joints.Reads.{more_reads};
 use crate::lanes::LANES;
 use std::marker::Model;
 
-// An `x` stands at each byte that a name may have.
-static IN_NAME: [u8; 256] = *b"\
-    --------------------------------\
-    ----------------xxxxxxxxxx------\
-    -xxxxxxxxxxxxxxxxxxxxxxxxxx----x\
-    -xxxxxxxxxxxxxxxxxxxxxxxxxx-----\
-    --------------------------------\
-    --------------------------------\
-    --------------------------------\
-    --------------------------------";
-
-/// Whether a byte is a letter, `_` or a digit.
-#[inline(always)]
-fn is_in_name(byte: u8) -> bool
-    ensures { result ≡ grammar.is_in_name byte }
-{
-    IN_NAME[byte as usize] == b'x'
-}
-
 /// The length of the run of spaces at the front of a text. Who calls it counts that they were read.
 #[inline(always)]
 pub fn uncounted_spaces_len(text: &[u8]) -> usize
@@ -37,43 +18,6 @@ pub fn uncounted_spaces_len(text: &[u8]) -> usize
     ensures within { result ≤ length text.now }
 {
     text.iter().take_while(|byte| **byte == b' ').count()
-}
-
-/// How many bytes of a name are looked at first. The compiler unrolls the loop over as many.
-const FIRST: usize = 16;
-
-/// The length of the run of letters, digits and `_` at the front of some bytes.
-#[inline(always)]
-fn name_part_len(text: &[u8]) -> usize
-    ensures value { result ≡ prefix_len grammar.is_in_name text.now }
-    ensures within { result ≤ length text.now }
-{
-    text.iter().take_while(|byte| is_in_name(**byte)).count()
-}
-
-/// The same of bytes behind the first ones of a name, or of fewer, which stand at a text's end.
-#[inline(never)]
-fn last_name_part_len(text: &[u8]) -> usize
-    ensures value { result ≡ prefix_len grammar.is_in_name text.now }
-    ensures within { result ≤ length text.now }
-{
-    name_part_len(text)
-}
-
-/// The length of the run of letters, digits and `_` at the front of a text.
-#[inline(always)]
-fn name_len(text: &[u8]) -> usize
-    ensures value { result ≡ prefix_len grammar.is_in_name text.now }
-    ensures within { result ≤ length text.now }
-{
-    if text.len() < FIRST {
-        return last_name_part_len(text);
-    }
-    let len = name_part_len(&text[..FIRST]);
-    if len < FIRST {
-        return len;
-    }
-    FIRST + last_name_part_len(&text[FIRST..])
 }
 
 /// The length in bytes of the first character of a text; 0 where the text is empty.
@@ -141,6 +85,15 @@ impl Reads {
         ensures { self.new ≡ more_reads self.old 16 }
     {
         self.add(LANES);
+    }
+
+    /// Counts a run of so many bytes, which was read one by one, and sixteen bytes behind it that are looked at together.
+    #[inline(always)]
+    pub fn count_run_and_lanes(&mut self, len: usize)
+        requires { len < 2 ^ 64 - 16 }
+        ensures { self.new ≡ more_reads self.old (len + 16) }
+    {
+        self.add(len + LANES);
     }
 
     /// Whether a CR is the last byte of a text.
@@ -262,19 +215,6 @@ impl Reads {
             .count();
         self.add(len + 1);
         len
-    }
-
-    /// The run of letters, digits and `_`: its length, and the byte behind it.
-    #[inline(always)]
-    pub fn name_run(&mut self, text: &[u8]) -> (usize, Option<u8>)
-        ensures value { result.0 ≡ prefix_len grammar.is_in_name text.now }
-        ensures within { result.0 ≤ length text.now }
-        ensures behind { result.1 ≡ slice_get text.now result.0 }
-        ensures reads { self.new ≡ more_reads self.old (result.0 + 1) }
-    {
-        let len = name_len(text);
-        self.add(len + 1);
-        (len, text.get(len).copied())
     }
 
     /// The length of the run of bytes before a CR or an LF.

@@ -1,6 +1,6 @@
 //! Reads a text piece by piece, and keeps what later pieces depend on.
 
-ghost use Rattle.std.specs.Prelude.{◌≡◌, ◌≢◌, if◌then◌else◌, true, false, ◌<◌, ◌≤◌, ◌+◌, ◌*◌, ◌^◌, [], ℕ, None, Some, List, Option, drop, length, map, nat_lt, OnErr, OnOk, IfErr, IfOk, IfSome};
+ghost use Rattle.std.specs.Prelude.{◌≡◌, ◌≢◌, if◌then◌else◌, true, false, ◌<◌, ◌≤◌, ◌+◌, ◌-◌, ◌*◌, ◌^◌, [], ℕ, None, Some, List, Option, drop, length, map, nat_lt, OnErr, OnOk, IfErr, IfOk, IfSome};
 ghost use Rattle.std.specs.Str.{IsCharBoundary};
 ghost use Rattle.starlark_reader.specs.Joints.Steps.{IsStep};
 ghost use Rattle.starlark_token.specs.Lexemes.{shown_lexeme};
@@ -516,7 +516,7 @@ impl Reader {
         ensures onward { left_to_read text.now self.new self.new.stage ≤ left_to_read text.now self.old self.old.stage }
         ensures code { IsAtCode text.now self.new }
         ensures stands { IfSome result (λ word. IsWordHere text.now self.new word) }
-        ensures looked { HasLooked (word_len result) (word_len result + 3) self.old self.new }
+        ensures looked { HasLooked (word_len result) ((5 * word_len result - 4) + 3) self.old self.new }
     {
         let gap = self.pass_spaces(text);
         word_behind(&mut self.reads, gap, &text[self.at..])

@@ -94,7 +94,7 @@ fn word_by_front(reads: &mut Reads, front: &[u8], text: &str) -> Option<Word>
     ensures word { IfSome result (λ word. Some (word_view word) ≡ language_front text.now) }
     ensures bang { IfSome result (λ word. is_bang text.now ≡ false) }
     ensures none { result ≡ None → grammar.begins grammar.is_name_start text.now ≡ false }
-    ensures reads { AreReads (word_len result - 1) (word_len result) reads.old reads.new }
+    ensures reads { AreReads (word_len result - 1) (5 * word_len result - 4) reads.old reads.new }
     ensures same { result ≡ None → reads.new ≡ reads.old }
 {
     let first = *front.first()?;
@@ -118,7 +118,7 @@ pub fn common_word(reads: &mut Reads, text: &str) -> Option<Word>
     ensures word { IfSome result (λ word. Some (word_view word) ≡ language_front text.now) }
     ensures bang { IfSome result (λ word. is_bang text.now ≡ false) }
     ensures none { result ≡ None → grammar.begins grammar.is_name_start text.now ≡ false }
-    ensures reads { AreReads (word_len result) (word_len result + 4) reads.old reads.new }
+    ensures reads { AreReads (word_len result) ((5 * word_len result - 4) + 2) reads.old reads.new }
     ensures two { result ≡ None → reads.new ≡ more_reads reads.old 2 }
 {
     let front = reads.front(text.as_bytes(), 2);
@@ -131,7 +131,7 @@ pub fn word_behind(reads: &mut Reads, gap: usize, text: &str) -> Option<Word>
     requires { gap < 2 ^ 32 }
     ensures word { IfSome result (λ word. Some (word_view word) ≡ language_front text.now) }
     ensures bang { IfSome result (λ word. is_bang text.now ≡ false) }
-    ensures reads { AreReads (gap + word_len result) (gap + word_len result + 3) reads.old reads.new }
+    ensures reads { AreReads (gap + word_len result) (gap + (5 * word_len result - 4) + 3) reads.old reads.new }
 {
     let front = reads.front_behind(gap, text.as_bytes(), 2);
     word_by_front(reads, front, text)
@@ -220,7 +220,7 @@ pub fn unnamed_word(reads: &mut Reads, text: &str) -> Option<Word>
 /// The longest word at the front of a text, or `None` where no word stands there.
 pub fn first_word(reads: &mut Reads, text: &str) -> Option<Word>
     ensures word { option_map word_view result ≡ language_front text.now }
-    ensures reads { AreReads (word_len result) (word_len result + 11) reads.old reads.new }
+    ensures reads { AreReads (word_len result) ((5 * word_len result - 4) + 9) reads.old reads.new }
 {
     match common_word(reads, text) {
         Some(word) => Some(word),

@@ -1,5 +1,5 @@
 -- How often the bytes of a piece are read.
-use Rattle.std.proofs.Common.{◌≡◌, ◌≤◌, ◌<◌, ◌+◌, ℕ, arith}
+use Rattle.std.proofs.Common.{◌≡◌, ◌≤◌, ◌<◌, ◌+◌, ◌-◌, ◌*◌, ℕ, arith}
 use Rattle.starlark_bytes.specs.Joints.Reads.{AreReads, more_reads}
 use Rattle.starlark_reader.specs.Joints.Reads.{ArePieceReads, AreReadsBehind, AreStepReads, AreWordReads, IsOfWord}
 use Rattle.starlark_reader.specs.declared.literal.pieces.Step.{Step}
@@ -14,7 +14,7 @@ word_reads len rest (steps.Text text text_len stop taken) before after least mos
 word_reads len rest (steps.Fault begin fault end) before after least most is = omega (arith, most)
 
 -- a piece behind its word
-pub piece_reads : (passed behind rest : ℕ) (piece : Piece) (before between after : ℕ) → 0 < passed → rest ≡ passed + behind → AreReads passed (passed + 11) before between
+pub piece_reads : (passed behind rest : ℕ) (piece : Piece) (before between after : ℕ) → 0 < passed → rest ≡ passed + behind → AreReads passed ((5 * passed - 4) + 9) before between
     → AreReadsBehind passed 9 behind 9 piece between after → ArePieceReads 14 rest 7 piece before after
 piece_reads passed behind rest (piece.Nothing len is_gap) before between after some whole word reads =
     ((omega (arith, word.0, reads.0, reads.1), omega (arith, some, word.1, reads.0, reads.1)), omega (arith, some, reads.0))
@@ -31,7 +31,7 @@ piece_reads passed behind rest (piece.Lexed step) before between after some whol
 piece_reads passed behind rest piece.End before between after some whole word reads = absurd reads
 
 -- a fault where no word stands
-pub none_reads : (rest : ℕ) (step : Step) (before between after : ℕ) → 0 < rest → AreReads 0 11 before between → AreStepReads 0 1 rest 0 step between after → AreStepReads 0 14 rest 7 step before after
+pub none_reads : (rest : ℕ) (step : Step) (before between after : ℕ) → 0 < rest → AreReads 0 9 before between → AreStepReads 0 1 rest 0 step between after → AreStepReads 0 14 rest 7 step before after
 none_reads rest (steps.Token token len) before between after some none reads = ((omega (arith, none.0, reads.0.0), omega (arith, none.1, reads.0.1, reads.1)), omega (arith, reads.1))
 none_reads rest (steps.Text text text_len stop len) before between after some none reads = ((omega (arith, none.0, reads.0.0), omega (arith, none.1, reads.0.1, reads.1)), omega (arith, reads.1))
 none_reads rest (steps.Fault begin fault end) before between after some none reads = omega (arith, some, none.1, reads)

@@ -102,7 +102,7 @@ begun_reads text beside old mid new onward has looked begun =
     (omega (arith, looked.0, looked.3.0, on.0, begun.1, begun.4.0), omega (arith, looked.0, looked.2, looked.3.1, on.1, begun.0, begun.3, begun.4.1))
 
 -- and so is a line end with its margin
-pub margin_reads : (text : Text) (beside len : ℕ) (old mid new : Reader) → mid.at + len ≤ length text → 1 ≤ len → old.stage ≡ stages.Onward → HasRead text beside old → HasLooked len (len + 3) old mid
+pub margin_reads : (text : Text) (beside len : ℕ) (old mid new : Reader) → mid.at + len ≤ length text → 1 ≤ len → old.stage ≡ stages.Onward → HasRead text beside old → HasLooked len ((5 * len - 4) + 3) old mid
     → IsMarginRead text len mid new new.stage → HasRead text beside new
 margin_reads text beside len old mid new inside some onward has looked margin =
     let on : HasReadAt text beside old stages.Onward = subst (HasReadAt text beside old) onward has in

@@ -1,18 +1,19 @@
 //! Words that begin with a letter or `_`: keywords, reserved words, identifiers, and openers that have a prefix.
 
-ghost use Rattle.std.specs.Prelude.{◌≡◌, ◌≤◌, ◌<◌, ◌+◌, ◌-◌, IfSome, Some, length, slice_get, nat_eq, take, true, unwrap_or};
+ghost use Rattle.std.specs.Prelude.{◌≡◌, ◌≤◌, ◌<◌, ◌+◌, ◌-◌, ◌*◌, IfSome, Some, length, slice_get, nat_eq, take, true, unwrap_or};
 ghost use Rattle.std.specs.List.{prefix_len};
 ghost use Rattle.std.specs.Map.{lookup};
 ghost use Rattle.std.specs.Option.{option_map};
 ghost use Rattle.std.specs.Str.{bytes_eq};
 ghost use Rattle.starlark_grammar.specs.Front.{language_front};
-ghost use Rattle.starlark_bytes.specs.Joints.Reads.{AreReads, more_reads};
+ghost use Rattle.starlark_bytes.specs.Joints.Reads.{AreReads};
 ghost use Rattle.starlark_scanner.specs.Joints.Words.{begin_listed_name, class_by_length, is_other_length, is_quote, listing_view, may_be_listed, word_view};
 ghost use Rattle.starlark_grammar.specs.Words as grammar;
 ghost use Rattle.starlark_grammar.specs.declared.class.Class.TheVariants as class;
 
 use super::openers::opener_class;
 use super::{Class, Terminal, Word};
+use starlark_bytes::names::name_run;
 use starlark_bytes::reads::Reads;
 
 /// What the list of keywords and reserved words says of a name.
@@ -210,9 +211,9 @@ fn prefixed_opener(text: &str, len: usize, behind: Option<u8>) -> Option<Class>
 pub fn name_from(reads: &mut Reads, text: &str) -> Word
     requires { grammar.begins grammar.is_name_start text.now ≡ true }
     ensures word { Some (word_view result) ≡ language_front text.now }
-    ensures reads { AreReads (result.len - 1) result.len reads.old reads.new }
+    ensures reads { AreReads (result.len - 1) (5 * result.len - 4) reads.old reads.new }
 {
-    let (more, behind) = reads.name_run(&text.as_bytes()[1..]);
+    let (more, behind) = name_run(reads, &text.as_bytes()[1..]);
     let len = 1 + more;
     match prefixed_opener(text, len, behind) {
         Some(class) => Word {

@@ -1,4 +1,4 @@
-use Rattle.std.proofs.Common.{◌≡◌, ℕ, Some, ap, sym, ◌∙◌, ◌+◌, ◌≤◌, length, take, drop, arith}
+use Rattle.std.proofs.Common.{◌≡◌, ℕ, Some, ap, sym, ◌∙◌, ◌+◌, ◌-◌, ◌*◌, ◌≤◌, length, take, drop, arith}
 use Rattle.std.specs.Str.{IsUtf8, IsCharBoundary}
 use Rattle.starlark_grammar.specs.Front.{language_front}
 use Rattle.starlark_grammar.specs.Words.{Text, class_in, language}
@@ -38,7 +38,7 @@ pub returns-in-Some-clause-reads : goal.returns-in-Some-clause-reads
 returns-in-Some-clause-reads c =
     let word = fits c.args.text.now c.in-Some.word.class c.in-Some.word.len c.in-Some.ensures.word in
     let whole : length c.args.text.now ≡ length c.split_at.result.0.now + length c.split_at.result.1.now = omega (arith, c.split_at.ensures.front_len, c.split_at.ensures.back_len, word.1) in
-    let read : AreReads (length c.split_at.result.0.now) (length c.split_at.result.0.now + 11) c.args.reads.now c.first_word.new.reads = rw c.split_at.ensures.front_len c.in-Some.ensures.reads in
+    let read : AreReads (length c.split_at.result.0.now) ((5 * length c.split_at.result.0.now - 4) + 9) c.args.reads.now c.first_word.new.reads = rw c.split_at.ensures.front_len c.in-Some.ensures.reads in
     if_ok _ _ c.word_piece.result (λ piece is. piece_reads (length c.split_at.result.0.now) (length c.split_at.result.1.now) (length c.args.text.now) piece _ _ _ (omega (arith, word.0, c.split_at.ensures.front_len)) whole read is) c.word_piece.ensures.reads
 
 pub returns-in_ok-invalid_input-in-None-clause-reads : goal.returns-in_ok-invalid_input-in-None-clause-reads

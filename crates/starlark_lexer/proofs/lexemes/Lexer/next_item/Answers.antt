@@ -1,4 +1,4 @@
-use Rattle.std.proofs.Common.{◌∙◌, ◌+◌, ◌≤◌, ◌^◌, arith, map, refl, rules, sym}
+use Rattle.std.proofs.Common.{◌∙◌, ◌+◌, ◌-◌, ◌*◌, ◌≤◌, ◌^◌, arith, map, refl, rules, sym}
 use Rattle.std.proofs.lemmas.List.{length-map}
 use Rattle.starlark_reader.specs.Joints.Reads.{HasLooked}
 use Rattle.starlark_token.specs.Lexemes.{shown_lexeme}
@@ -28,7 +28,7 @@ invariant_of-self-in-Ok c =
     let paid = quick.3 in
     let word = c.in-Some.ensures.looked in
     let taken = c.in-Ok.ensures.taken in
-    let read = taken_reads c.loop-self.self-inside.text.now paid.0 c.in-Some.field-0.len (c.in-Some.field-0.len + 3) c.in-Some.field-0.len c.loop-self.self-inside.reader c.common_word.new.self c.take_name.new.self quick.1.stage paid.2 word (omega (arith)) (omega (arith, taken.0)) (taken.1, taken.2) in
+    let read = taken_reads c.loop-self.self-inside.text.now paid.0 c.in-Some.field-0.len ((5 * c.in-Some.field-0.len - 4) + 3) c.in-Some.field-0.len c.loop-self.self-inside.reader c.common_word.new.self c.take_name.new.self quick.1.stage paid.2 word (omega (arith)) (omega (arith, taken.0)) (taken.1, taken.2) in
     (rw c.loop-self.invariant.0 c.self.invariant.0, (λ on. (omega (arith, further.0, length-map (outcome c.loop-self.self-inside.text.now).lexemes shown_lexeme), rw further.1 is.2)), c.loop-self.invariant.5, (λ on. nothing_kept c.loop-self.self-inside.text.now c.take_name.new.self c.loop-self.self-inside.looked_to paid.0 c.loop-self.self-inside.looked (sym c.is_nothing.ensures ∙ c.if-not-is_nothing.false) c.in-Ok.ensures.code (omega (arith, quick.2, word.0, taken.1.0)) (omega (arith, paid.1)) read), c.loop-self.invariant.7)
 
 pub returns-in-Ok-clause-item : goal.returns-in-Ok-clause-item
@@ -65,7 +65,7 @@ invariant_of-self-in-Fixed c =
     let paid = quick.3 in
     let word = c.in-Some.ensures.looked in
     let taken = c.take_terminal-lexeme.ensures.taken in
-    let read = taken_reads c.loop-self.self-inside.text.now paid.0 c.in-Some.field-0.len (c.in-Some.field-0.len + 3) c.in-Some.field-0.len c.loop-self.self-inside.reader c.common_word.new.self c.take_terminal-lexeme.new.self quick.1.stage paid.2 word (omega (arith)) (omega (arith, taken.0)) (taken.1, taken.2) in
+    let read = taken_reads c.loop-self.self-inside.text.now paid.0 c.in-Some.field-0.len ((5 * c.in-Some.field-0.len - 4) + 3) c.in-Some.field-0.len c.loop-self.self-inside.reader c.common_word.new.self c.take_terminal-lexeme.new.self quick.1.stage paid.2 word (omega (arith)) (omega (arith, taken.0)) (taken.1, taken.2) in
     (rw c.loop-self.invariant.0 c.self.invariant.0, (λ on. (omega (arith, further.0, length-map (outcome c.loop-self.self-inside.text.now).lexemes shown_lexeme), rw further.1 is.2)), goes_on c.looked_in_code-self-inside.result _ quick.0, (λ on. found_in_code c.loop-self.self-inside.text.now c.take_terminal-lexeme.new.self c.loop-self.self-inside.looked_to paid.0 c.looked_in_code-self-inside.result c.looked_in_code-self-inside.ensures c.take_terminal-lexeme.ensures.code (omega (arith, quick.2, word.0, taken.1.0)) (omega (arith, paid.1)) read), c.loop-self.invariant.7)
 
 pub returns-in-Fixed-clause-item : goal.returns-in-Fixed-clause-item
@@ -166,9 +166,9 @@ invariant_of-self-in_default-class c =
     let inv = c.self.invariant.1 (sym c.loop-self.invariant.3 ∙ quick.0) in
     let inside = word_inside c.loop-self.self-inside.text.now c.common_word.new.self _ _ _ c.in-Some.field-0.len c.common_word.ensures.code.stage ahead (sym c.in-Some.ensures.stands.front) in
     let word = c.in-Some.ensures.looked in
-    let read = looked_reads c.loop-self.self-inside.text.now paid.0 c.in-Some.field-0.len (c.in-Some.field-0.len + 3) c.loop-self.self-inside.reader c.common_word.new.self quick.1.stage paid.2 word in
+    let read = looked_reads c.loop-self.self-inside.text.now paid.0 c.in-Some.field-0.len ((5 * c.in-Some.field-0.len - 4) + 3) c.loop-self.self-inside.reader c.common_word.new.self quick.1.stage paid.2 word in
     let place = c.at-in_default-class.ensures in
-    (rw c.loop-self.invariant.0 c.self.invariant.0, (λ on. (rw (c.loop-self.invariant.0, c.loop-self.invariant.2) inv.0, ahead)), quick.0, (λ on. (c.common_word.ensures.code, omega (arith, inside.1, place, c.in-Some.len-is), (paid.0 + (c.in-Some.field-0.len + 3), omega (arith, paid.1, quick.2, word.0, inside.0, place, c.in-Some.len-is), read))), omega (arith, inside.1, place, c.in-Some.len-is))
+    (rw c.loop-self.invariant.0 c.self.invariant.0, (λ on. (rw (c.loop-self.invariant.0, c.loop-self.invariant.2) inv.0, ahead)), quick.0, (λ on. (c.common_word.ensures.code, omega (arith, inside.1, place, c.in-Some.len-is), (paid.0 + ((5 * c.in-Some.field-0.len - 4) + 3), omega (arith, paid.1, quick.2, word.0, inside.0, place, c.in-Some.len-is), read))), omega (arith, inside.1, place, c.in-Some.len-is))
 
 pub invariant_of-self-in-Ok-Fault : goal.invariant_of-self-in-Ok-Fault
 invariant_of-self-in-Ok-Fault c =
@@ -188,7 +188,7 @@ loop-self-preserved c =
     let ahead = c.common_word.ensures.ahead _ _ (c.loop-self.invariant.4 quick.0) in
     let word = c.in-Some.ensures.looked in
     let taken = c.in-Ok-Passed.ensures.taken c.in-Ok-Passed.field-0-is in
-    let read = taken_reads c.loop-self.self-inside.text.now paid.0 c.in-Some.field-0.len (c.in-Some.field-0.len + 3) c.in-Some.field-0.len c.loop-self.self-inside.reader c.common_word.new.self c.take_line_end.new.self quick.1.stage paid.2 word (omega (arith)) (omega (arith, taken.0)) (taken.1, taken.2) in (
+    let read = taken_reads c.loop-self.self-inside.text.now paid.0 c.in-Some.field-0.len ((5 * c.in-Some.field-0.len - 4) + 3) c.in-Some.field-0.len c.loop-self.self-inside.reader c.common_word.new.self c.take_line_end.new.self quick.1.stage paid.2 word (omega (arith)) (omega (arith, taken.0)) (taken.1, taken.2) in (
       c.loop-self.invariant.0,
       c.loop-self.invariant.1,
       c.loop-self.invariant.2,

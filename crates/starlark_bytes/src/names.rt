@@ -1,0 +1,104 @@
+//! Finds where a name ends.
+
+ghost use Rattle.std.specs.Prelude.{◌≡◌, ◌≤◌, ◌+◌, ◌*◌, length, take};
+ghost use Rattle.std.specs.List.{prefix_len, slice_get};
+ghost use Rattle.starlark_grammar.specs.Words as grammar;
+ghost use Rattle.starlark_bytes.specs.Joints.Reads.{AreReads};
+
+use crate::lanes::{LANES, lowest_bit};
+use crate::reads::Reads;
+use std::simd::prelude::*;
+
+// An `x` stands at each byte that a name may have.
+static IN_NAME: [u8; 256] = *b"\
+    --------------------------------\
+    ----------------xxxxxxxxxx------\
+    -xxxxxxxxxxxxxxxxxxxxxxxxxx----x\
+    -xxxxxxxxxxxxxxxxxxxxxxxxxx-----\
+    --------------------------------\
+    --------------------------------\
+    --------------------------------\
+    --------------------------------";
+
+/// Whether a byte is a letter, `_` or a digit.
+#[inline(always)]
+fn is_in_name(byte: u8) -> bool
+    ensures { result ≡ grammar.is_in_name byte }
+{
+    IN_NAME[byte as usize] == b'x'
+}
+
+/// How many bytes of a name are looked at one by one before sixteen are looked at together.
+const ALONE: usize = 4;
+
+/// The length of the run of letters, digits and `_` at the front of some bytes, looked at one by one.
+#[inline(always)]
+fn short_name_len(text: &[u8]) -> usize
+    ensures value { result ≡ prefix_len grammar.is_in_name text.now }
+    ensures within { result ≤ length text.now }
+{
+    text.iter().take_while(|byte| is_in_name(**byte)).count()
+}
+
+/// The same of bytes behind the first ones of a name, or of fewer, which stand at a text's end.
+#[inline(never)]
+fn last_name_len(text: &[u8]) -> usize
+    ensures value { result ≡ prefix_len grammar.is_in_name text.now }
+    ensures within { result ≤ length text.now }
+{
+    short_name_len(text)
+}
+
+/// How many of the first sixteen bytes stand before the first one that is no letter, digit or `_`.
+#[inline(always)]
+fn lanes_name_len(text: &[u8]) -> usize
+    requires { 16 ≤ length text.now }
+    ensures value { result ≡ prefix_len grammar.is_in_name (take 16 text.now) }
+{
+    let lanes = u8x16::from_slice(text);
+    let capitals = lanes.simd_ge(u8x16::splat(b'A')) & lanes.simd_le(u8x16::splat(b'Z'));
+    let letters = lanes.simd_ge(u8x16::splat(b'a')) & lanes.simd_le(u8x16::splat(b'z'));
+    let digits = lanes.simd_ge(u8x16::splat(b'0')) & lanes.simd_le(u8x16::splat(b'9'));
+    let in_name = capitals | letters | lanes.simd_eq(u8x16::splat(b'_')) | digits;
+    lowest_bit((!in_name).to_bitmask())
+}
+
+/// The run of letters, digits and `_` at the front of a text. Sixteen bytes are looked at together once four were passed one
+/// by one, since the length of a longer name can't be foretold by the processor.
+#[inline(always)]
+fn name_len(reads: &mut Reads, text: &[u8]) -> usize
+    ensures value { result ≡ prefix_len grammar.is_in_name text.now }
+    ensures within { result ≤ length text.now }
+    ensures reads { AreReads (result + 1) (5 * result + 1) reads.old reads.new }
+{
+    if text.len() < ALONE + LANES {
+        let len = last_name_len(text);
+        reads.count_run(len);
+        return len;
+    }
+    let len = short_name_len(&text[..ALONE]);
+    if len < ALONE {
+        reads.count_run(len);
+        return len;
+    }
+    let more = lanes_name_len(&text[ALONE..]);
+    if more < LANES {
+        reads.count_run_and_lanes(ALONE);
+        return ALONE + more;
+    }
+    let whole = ALONE + LANES + last_name_len(&text[ALONE + LANES..]);
+    reads.count_run(whole);
+    whole
+}
+
+/// The run of letters, digits and `_` at the front of a text: its length, and the byte behind it.
+#[inline(always)]
+pub fn name_run(reads: &mut Reads, text: &[u8]) -> (usize, Option<u8>)
+    ensures value { result.0 ≡ prefix_len grammar.is_in_name text.now }
+    ensures within { result.0 ≤ length text.now }
+    ensures behind { result.1 ≡ slice_get text.now result.0 }
+    ensures reads { AreReads (result.0 + 1) (5 * result.0 + 1) reads.old reads.new }
+{
+    let len = name_len(reads, text);
+    (len, text.get(len).copied())
+}
