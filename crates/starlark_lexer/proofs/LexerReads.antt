@@ -53,10 +53,10 @@ front_looked text reader to looked.Nothing quick is = cc
 front_looked text reader to looked.Front quick is = is
 front_looked text reader to looked.All quick is = cc
 
-pub front_spared : (text : Text) (reader : Reader) (to : ℕ) (it : Looked) → is_front it ≡ true → IsLooked text reader to it → IsAtCode text reader × HasSpared text 8 reader to
+pub front_spared : (text : Text) (reader : Reader) (to : ℕ) (it : Looked) → is_front it ≡ true → IsLooked text reader to it → IsAtCode text reader × HasSpared text 11 reader to
 front_spared text reader to it quick is =
     let front = front_looked text reader to it quick is in
-    (front.0, (front.2.0, omega (arith, front.2.1), front.2.2))
+    (front.0, front.2)
 
 -- what is found out behind a lexeme
 pub found_out : (text : Text) (reader : Reader) (to beside : ℕ) (it : Looked) → IsFoundOut reader to it → IsPending text reader.pending → beside ≤ 16 * to → HasRead text beside reader → IsLooked text reader to it

@@ -275,7 +275,8 @@ impl<'a> Lexer<'a> {
     }
 
     /// The next lexeme of a lexer that no error has ended, whichever it is: quickly where it is a symbol of two bytes, an
-    /// integer of one digit, the start of an f-string, the bang of its expression or a comment.
+    /// integer of one digit, the start of an f-string, a bytes literal whose characters denote themselves, the bang of an
+    /// f-string's expression or a comment.
     #[inline(never)]
     fn next_of_all(&mut self) -> Option<Lexeme>
         requires { self.old.has_ended ≡ false }
@@ -310,6 +311,29 @@ impl<'a> Lexer<'a> {
                 }
                 Err(_) => {
                     self.has_ended = true;
+                    Some(Err(OrMemory::Memory))
+                }
+            };
+        }
+        if let Some(quote) = self.reader.bytes_opener(self.text) {
+            let kind = LiteralKind::Bytes;
+            let body = match self.reader.plain_body_len(kind, false, quote, 2, self.text) {
+                Ok(body) => body,
+                Err(run) => {
+                    self.looked_to += run;
+                    self.looked = Looked::All;
+                    return self.next_of_reader();
+                }
+            };
+            return match self.reader.take_plain_bytes(quote, body, self.text) {
+                Ok(lexeme) => {
+                    self.handed_out += 1;
+                    self.looked = looked_further(&self.reader, self.looked_to);
+                    Some(Ok(lexeme))
+                }
+                Err(_) => {
+                    self.has_ended = true;
+                    self.looked = Looked::All;
                     Some(Err(OrMemory::Memory))
                 }
             };
@@ -354,7 +378,8 @@ impl<'a> Lexer<'a> {
             self.looked = Looked::All;
             return self.next_of_all();
         };
-        let body = match self.reader.plain_body_len(is_raw, quote, len, self.text) {
+        let kind = LiteralKind::Text;
+        let body = match self.reader.plain_body_len(kind, is_raw, quote, len, self.text) {
             Ok(body) => body,
             Err(run) => {
                 self.looked_to += run;

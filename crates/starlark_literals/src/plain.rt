@@ -24,15 +24,16 @@ fn is_quote_at(reads: &mut Reads, quote: Quote, text: &[u8], at: usize) -> bool
     }
 }
 
-/// The length of the body of a text literal that one quote closes, where each of its characters denotes itself, by the
-/// text behind its opener. Where another literal stands there, how many bytes in front denote themselves.
+/// The length of the body of a literal of the given kind that one quote closes, where each of its characters denotes itself, by
+/// the text behind its opener. Where another literal stands there, how many bytes in front denote themselves.
 pub fn plain_body_len(
     reads: &mut Reads,
+    kind: LiteralKind,
     is_raw: bool,
     quote: Quote,
     text: &str,
 ) -> Result<usize, usize>
-    ensures plain { IfOk result (λ len. IsPlainBody is_raw quote text.now len) }
+    ensures plain { IfOk result (λ len. IsPlainBody kind is_raw quote text.now len) }
     ensures reads { IfOk result (λ len. AreReads (len + 1) (2 * len + 3) reads.old reads.new) }
     ensures other { IfErr result (λ run. (run ≤ length text.now) × AreReads 0 (2 * run + 3) reads.old reads.new) }
 {
@@ -41,10 +42,7 @@ pub fn plain_body_len(
         quote,
         is_triple: false,
     };
-    let literal = Literal {
-        kind: LiteralKind::Text,
-        opening,
-    };
+    let literal = Literal { kind, opening };
     let len = first_run(reads, literal, text).len();
     let bytes = text.as_bytes();
     if !is_quote_at(reads, quote, bytes, len) {

@@ -36,8 +36,8 @@ use starlark_layout::{
 use starlark_literals::plain_body_len;
 use starlark_nesting::{LexerMode, Nesting};
 use starlark_scanner::scanner::{
-    Quote, ShortWord, Terminal, TextOpener, Word, comment_len, fstring_opener, short_word,
-    text_opener, word_behind,
+    LiteralKind, Quote, ShortWord, Terminal, TextOpener, Word, bytes_opener, comment_len,
+    fstring_opener, short_word, text_opener, word_behind,
 };
 use starlark_token::lexeme_error::LexemeError;
 use starlark_token::tokens::Token;
@@ -570,6 +570,21 @@ impl Reader {
         fstring_opener(&mut self.reads, &text[self.at..])
     }
 
+    /// The quote of the bytes literal that comes next, where its opener is a `b` and that quote. `None` where something else comes.
+    /// For places of code, behind their spaces.
+    #[inline(always)]
+    pub fn bytes_opener(&mut self, text: &str) -> Option<Quote>
+        requires fits { length text.now < 2 ^ 32 }
+        requires ready { IsReady text.now self.old self.old.stage }
+        requires code { IsAtCode text.now self.old }
+        ensures ahead { (lexemes : List (Spanned TokenView)) (fault : Option (Spanned Fault)) → IsAhead text.now self.old self.old.stage lexemes fault → IsAhead text.now self.new self.new.stage lexemes fault }
+        ensures code { IsAtCode text.now self.new }
+        ensures stands { IfSome result (λ quote. IsWordHere text.now self.new (record { class = class.Opener kind.Bytes false quote; len = 2 })) }
+        ensures looked { HasLookedHere 2 2 self.old self.new }
+    {
+        bytes_opener(&mut self.reads, &text[self.at..])
+    }
+
     /// Whether the bang of an f-string's expression comes next. For places of code.
     #[inline(always)]
     pub fn bang_stands(&mut self, text: &str) -> bool
@@ -707,12 +722,13 @@ impl Reader {
         Ok((begin, token, begin + len))
     }
 
-    /// The length of the body of the text literal that comes next, behind its opener of so many bytes, where one quote
-    /// closes it and each of its characters denotes itself. Where another literal stands here, how many bytes in front
+    /// The length of the body of the literal of the given kind that comes next, behind its opener of so many bytes, where one
+    /// quote closes it and each of its characters denotes itself. Where another literal stands here, how many bytes in front
     /// denote themselves.
     #[inline(always)]
     pub fn plain_body_len(
         &mut self,
+        kind: LiteralKind,
         is_raw: bool,
         quote: Quote,
         len: usize,
@@ -720,15 +736,15 @@ impl Reader {
     ) -> Result<usize, usize>
         requires fits { length text.now < 2 ^ 32 }
         requires ready { IsReady text.now self.old self.old.stage }
-        requires stands { IsWordHere text.now self.old (record { class = class.Opener kind.Text is_raw quote; len = len }) }
+        requires stands { IsWordHere text.now self.old (record { class = class.Opener kind is_raw quote; len = len }) }
         ensures ahead { (lexemes : List (Spanned TokenView)) (fault : Option (Spanned Fault)) → IsAhead text.now self.old self.old.stage lexemes fault → IsAhead text.now self.new self.new.stage lexemes fault }
-        ensures stands { IsWordHere text.now self.new (record { class = class.Opener kind.Text is_raw quote; len = len }) }
-        ensures plain { IfOk result (λ body. IsPlainBody is_raw quote (drop len (drop self.new.at text.now)) body) }
+        ensures stands { IsWordHere text.now self.new (record { class = class.Opener kind is_raw quote; len = len }) }
+        ensures plain { IfOk result (λ body. IsPlainBody kind is_raw quote (drop len (drop self.new.at text.now)) body) }
         ensures looked { IfOk result (λ body. HasLookedHere (body + 1) (2 * body + 3) self.old self.new) }
         ensures other { IfErr result (λ run. (run ≤ length text.now) × HasLookedHere 0 (2 * run + 3) self.old self.new) }
     {
         let rest = &text[self.at..];
-        plain_body_len(&mut self.reads, is_raw, quote, &rest[len..])
+        plain_body_len(&mut self.reads, kind, is_raw, quote, &rest[len..])
     }
 
     /// Takes the text literal here, by its opener and its body of so many bytes, which one quote closes and in which each
@@ -745,7 +761,7 @@ impl Reader {
         requires fits { length text.now < 2 ^ 32 }
         requires ready { IsReady text.now self.old self.old.stage }
         requires stands { IsWordHere text.now self.old (record { class = class.Opener kind.Text is_raw quote; len = len }) }
-        requires plain { IsPlainBody is_raw quote (drop len (drop self.old.at text.now)) body }
+        requires plain { IsPlainBody kind.Text is_raw quote (drop len (drop self.old.at text.now)) body }
         ensures ahead { IfOk result (λ given. (lexemes : List (Spanned TokenView)) (fault : Option (Spanned Fault)) → IsAhead text.now self.old self.old.stage lexemes fault → IsAheadBehind text.now (Some given) self.new lexemes fault) }
         ensures memory { OnErr result ((lexemes : List (Spanned TokenView)) (fault : Option (Spanned Fault)) → IsAhead text.now self.old self.old.stage lexemes fault → IsSomething lexemes fault) }
         ensures code { OnOk result (IsAtCode text.now self.new) }
@@ -756,6 +772,35 @@ impl Reader {
         let behind = &rest[len..];
         let whole = len + body + 1;
         let token = Token::String(String::from_str(self.alloc, &behind[..body])?);
+        self.pass_token(&token, whole, text);
+        Ok((begin, token, begin + whole))
+    }
+
+    /// Takes the bytes literal here, whose opener is a `b` and this quote, by its body of so many bytes, which one quote closes and
+    /// in which each character denotes itself. After an error the reader isn't to be asked again.
+    #[inline(always)]
+    pub fn take_plain_bytes(
+        &mut self,
+        quote: Quote,
+        body: usize,
+        text: &str,
+    ) -> Result<PlacedToken, AllocError>
+        requires fits { length text.now < 2 ^ 32 }
+        requires ready { IsReady text.now self.old self.old.stage }
+        requires stands { IsWordHere text.now self.old (record { class = class.Opener kind.Bytes false quote; len = 2 }) }
+        requires plain { IsPlainBody kind.Bytes false quote (drop 2 (drop self.old.at text.now)) body }
+        ensures ahead { IfOk result (λ given. (lexemes : List (Spanned TokenView)) (fault : Option (Spanned Fault)) → IsAhead text.now self.old self.old.stage lexemes fault → IsAheadBehind text.now (Some given) self.new lexemes fault) }
+        ensures memory { OnErr result ((lexemes : List (Spanned TokenView)) (fault : Option (Spanned Fault)) → IsAhead text.now self.old self.old.stage lexemes fault → IsSomething lexemes fault) }
+        ensures code { OnOk result (IsAtCode text.now self.new) }
+        ensures taken { OnOk result (IsTaken (2 + body + 1) self.old self.new) }
+    {
+        let begin = self.at;
+        let rest = &text[begin..];
+        let behind = &rest[2..];
+        let whole = 2 + body + 1;
+        let mut value = Vec::new(self.alloc);
+        value.extend_from_slice(behind[..body].as_bytes())?;
+        let token = Token::Bytes(value);
         self.pass_token(&token, whole, text);
         Ok((begin, token, begin + whole))
     }

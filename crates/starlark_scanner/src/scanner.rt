@@ -176,7 +176,18 @@ pub fn fstring_opener(reads: &mut Reads, text: &str) -> Option<Quote>
     ensures reads { reads.new ≡ more_reads reads.old 2 }
 {
     let front = reads.front(text.as_bytes(), 2);
-    openers::fstring_opener(front)
+    openers::quote_behind(b'f', front)
+}
+
+/// The quote of the opener at the front of a text, where that is a `b` and a quote.
+#[inline(always)]
+pub fn bytes_opener(reads: &mut Reads, text: &str) -> Option<Quote>
+    ensures word { IfSome result (λ quote. Some (class.Opener kind.Bytes false quote, 2) ≡ language_front text.now) }
+    ensures bang { IfSome result (λ quote. is_bang text.now ≡ false) }
+    ensures reads { reads.new ≡ more_reads reads.old 2 }
+{
+    let front = reads.front(text.as_bytes(), 2);
+    openers::quote_behind(b'b', front)
 }
 
 /// The length of the comment at the front of a text. `None` where something else stands there.

@@ -11,6 +11,7 @@ use Rattle.starlark_grammar.specs.Items.{Stop, Stops, Closing, OpeningBrace, clo
 use Rattle.starlark_grammar.specs.Tokens.{Opening}
 use Rattle.starlark_grammar.specs.Pieces.{opening_of}
 use Rattle.starlark_grammar.specs.Words.{Text}
+use Rattle.starlark_grammar.specs.declared.class.LiteralKind.{LiteralKind}
 use Rattle.starlark_grammar.specs.declared.class.Quote.{Quote}
 use Rattle.starlark_grammar.specs.declared.class.Quote.TheVariants.{Single as SingleQuote, Double as DoubleQuote}
 use Rattle.starlark_literals.specs.Joints.Literals.{IsPlainBody, IsPlainChunk, fstring_literal, single_literal}
@@ -21,12 +22,12 @@ use Rattle.starlark_literals.proofs.Literals.Found.{closes}
 use Rattle.starlark_literals.proofs.Literals.ReadFronts.{closes_by_three}
 
 -- its quote closes a literal
-closed_by : (is_raw : Bool) (quote : Quote) (text : Text) → (get_or text 0 0 == quote_byte quote) ≡ true → found_at (single_literal is_raw quote) text ≡ Stops Closing
+closed_by : (kind : LiteralKind) (is_raw : Bool) (quote : Quote) (text : Text) → (get_or text 0 0 == quote_byte quote) ≡ true → found_at (single_literal kind is_raw quote) text ≡ Stops Closing
 unfolding found_at
-closed_by is_raw SingleQuote [] h = cc
-closed_by is_raw DoubleQuote [] h = cc
-closed_by is_raw SingleQuote (b ∷ bs) h = let same : b ≡ 39 = eqb-true b 39 h in rw same refl
-closed_by is_raw DoubleQuote (b ∷ bs) h = let same : b ≡ 34 = eqb-true b 34 h in rw same refl
+closed_by kind is_raw SingleQuote [] h = cc
+closed_by kind is_raw DoubleQuote [] h = cc
+closed_by kind is_raw SingleQuote (b ∷ bs) h = let same : b ≡ 39 = eqb-true b 39 h in rw same refl
+closed_by kind is_raw DoubleQuote (b ∷ bs) h = let same : b ≡ 34 = eqb-true b 34 h in rw same refl
 
 flipped : (q b : ℕ) → (b == q) ≡ false → nat_eq q b ≡ false
 flipped q b h = grind (arith, nat_tests)
@@ -42,35 +43,35 @@ single_by_second is_raw quote (a ∷ []) h = both_false (nat_eq (quote_byte quot
 single_by_second is_raw quote (a ∷ b ∷ rest) h = rw (flipped (quote_byte quote) b h) (both_false (nat_eq (quote_byte quote) a))
 
 -- nor behind a byte of a run
-pub single_by_first : (is_raw : Bool) (quote : Quote) (text : Text) → 0 < prefix_len (is_in_run (single_literal is_raw quote)) text → (opening_of is_raw quote text).is_triple ≡ false
-single_by_first is_raw quote [] some = absurd (omega (arith, some))
-single_by_first is_raw quote (b ∷ bs) some = go (is_in_run (single_literal is_raw quote) b) refl some
+pub single_by_first : (kind : LiteralKind) (is_raw : Bool) (quote : Quote) (text : Text) → 0 < prefix_len (is_in_run (single_literal kind is_raw quote)) text → (opening_of is_raw quote text).is_triple ≡ false
+single_by_first kind is_raw quote [] some = absurd (omega (arith, some))
+single_by_first kind is_raw quote (b ∷ bs) some = go (is_in_run (single_literal kind is_raw quote) b) refl some
   where
-    go : (passes : Bool) → is_in_run (single_literal is_raw quote) b ≡ passes → 0 < (if passes then 1 + prefix_len (is_in_run (single_literal is_raw quote)) bs else 0) → starts_with nat_eq (b ∷ bs) (quote_byte quote ∷ quote_byte quote ∷ []) ≡ false
+    go : (passes : Bool) → is_in_run (single_literal kind is_raw quote) b ≡ passes → 0 < (if passes then 1 + prefix_len (is_in_run (single_literal kind is_raw quote)) bs else 0) → starts_with nat_eq (b ∷ bs) (quote_byte quote ∷ quote_byte quote ∷ []) ≡ false
     go false e some = absurd (omega (arith, some))
-    go true e some = rw (flipped (quote_byte quote) b (others (single_literal is_raw quote) b e).quote) refl
+    go true e some = rw (flipped (quote_byte quote) b (others (single_literal kind is_raw quote) b e).quote) refl
 
 -- A run up to the quote is the body.
-pub plain_body : (is_raw : Bool) (quote : Quote) (text run : Text) → IsUtf8 text → run ≡ take (prefix_len (is_in_run (single_literal is_raw quote)) text) text → IsCharBoundary text (length run)
-    → (get_or text (length run) 0 == quote_byte quote) ≡ true → (opening_of is_raw quote text).is_triple ≡ false → IsPlainBody is_raw quote text (length run)
-plain_body is_raw quote text run utf8 same boundary closes single =
-    let literal = single_literal is_raw quote in
+pub plain_body : (kind : LiteralKind) (is_raw : Bool) (quote : Quote) (text run : Text) → IsUtf8 text → run ≡ take (prefix_len (is_in_run (single_literal kind is_raw quote)) text) text → IsCharBoundary text (length run)
+    → (get_or text (length run) 0 == quote_byte quote) ≡ true → (opening_of is_raw quote text).is_triple ≡ false → IsPlainBody kind is_raw quote text (length run)
+plain_body kind is_raw quote text run utf8 same boundary closes single =
+    let literal = single_literal kind is_raw quote in
     let whole : length run ≡ prefix_len (is_in_run literal) text = ap (λ (t : Text). length t) same ∙ length-prefix_len (is_in_run literal) text in
     let plus : length run + 0 ≡ length run = omega arith in
     let here : get_or (drop (length run) text) 0 0 ≡ get_or text (length run) 0 = get_or-drop (length run) text 0 0 ∙ ap (λ n. get_or text n 0) plus in
-    let end = front_stops literal text (length run) run Closing (run_front literal text run utf8 same) (closed_by is_raw quote (drop (length run) text) (ap (λ b. b == quote_byte quote) here ∙ closes)) in
+    let end = front_stops literal text (length run) run Closing (run_front literal text run utf8 same) (closed_by kind is_raw quote (drop (length run) text) (ap (λ b. b == quote_byte quote) here ∙ closes)) in
     record { single = single; boundary = boundary; len = sym end.0; value = sym end.1 ∙ same ∙ ap (λ n. take n text) (sym whole); stop = sym end.2 }
 
 -- the same by what was looked at: the run, the byte behind it, and where it is empty the second byte
-pub plain_run : (is_raw : Bool) (quote : Quote) (text run : Text) → run ≡ take (prefix_len (is_in_run (single_literal is_raw quote)) text) text → (length run ≡ 0 → (get_or text 1 0 == quote_byte quote) ≡ false) → (opening_of is_raw quote text).is_triple ≡ false
-plain_run is_raw quote text run same second = go (length run) refl
+pub plain_run : (kind : LiteralKind) (is_raw : Bool) (quote : Quote) (text run : Text) → run ≡ take (prefix_len (is_in_run (single_literal kind is_raw quote)) text) text → (length run ≡ 0 → (get_or text 1 0 == quote_byte quote) ≡ false) → (opening_of is_raw quote text).is_triple ≡ false
+plain_run kind is_raw quote text run same second = go (length run) refl
   where
-    whole : length run ≡ prefix_len (is_in_run (single_literal is_raw quote)) text
-    whole = ap (λ (t : Text). length t) same ∙ length-prefix_len (is_in_run (single_literal is_raw quote)) text
+    whole : length run ≡ prefix_len (is_in_run (single_literal kind is_raw quote)) text
+    whole = ap (λ (t : Text). length t) same ∙ length-prefix_len (is_in_run (single_literal kind is_raw quote)) text
 
     go : (n : ℕ) → length run ≡ n → (opening_of is_raw quote text).is_triple ≡ false
     go zero e = single_by_second is_raw quote text (second e)
-    go (suc n) e = single_by_first is_raw quote text (omega (arith, e, whole))
+    go (suc n) e = single_by_first kind is_raw quote text (omega (arith, e, whole))
 
 -- A run up to what stops an f-string's text is that text.
 pub plain_chunk : (opening : Opening) (text run : Text) (stop : Stop) → IsUtf8 text → run ≡ take (prefix_len (is_in_run (fstring_literal opening)) text) text → IsCharBoundary text (length run)

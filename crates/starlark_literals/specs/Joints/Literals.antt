@@ -3,7 +3,8 @@ use Rattle.std.specs.Prelude.{◌≡◌, ℕ, Bool, true, false, [], ◌∷◌, 
 use Rattle.std.specs.Str.{IsCharBoundary}
 use Rattle.starlark_grammar.specs.Words.{Text}
 use Rattle.starlark_grammar.specs.declared.class.Quote.{Quote}
-use Rattle.starlark_grammar.specs.declared.class.LiteralKind.TheVariants.{Text as OfText, FString as OfFString}
+use Rattle.starlark_grammar.specs.declared.class.LiteralKind.{LiteralKind}
+use Rattle.starlark_grammar.specs.declared.class.LiteralKind.TheVariants.{FString as OfFString}
 use Rattle.starlark_grammar.specs.Pieces.{opening_of}
 use Rattle.starlark_grammar.specs.Tokens as grammar
 use Rattle.starlark_grammar.specs.Items as items
@@ -84,17 +85,17 @@ pub record IsBody (body : items.Body) (found : Body) : Type 0 where
   pub value : bytes_of found.value ≡ items.body_value body
   pub stop : stop_view found.stop ≡ body.stop
 
--- a text literal that one quote closes
-abbrev pub single_literal : Bool → Quote → items.Literal
-single_literal is_raw quote = record { kind = OfText; opening = record { is_raw = is_raw; quote = quote; is_triple = false } }
+-- a literal that one quote closes
+abbrev pub single_literal : LiteralKind → Bool → Quote → items.Literal
+single_literal kind is_raw quote = record { kind = kind; opening = record { is_raw = is_raw; quote = quote; is_triple = false } }
 
--- Behind the opener of a text literal one quote closes it, and its body has so many bytes, which denote themselves.
-pub record IsPlainBody (is_raw : Bool) (quote : Quote) (text : Text) (count : ℕ) : Type 0 where
+-- Behind the opener of a literal one quote closes it, and its body has so many bytes, which denote themselves.
+pub record IsPlainBody (kind : LiteralKind) (is_raw : Bool) (quote : Quote) (text : Text) (count : ℕ) : Type 0 where
   pub single : (opening_of is_raw quote text).is_triple ≡ false
   pub boundary : IsCharBoundary text count
-  pub len : items.body_len (items.body_at (single_literal is_raw quote) text) ≡ count
-  pub value : items.body_value (items.body_at (single_literal is_raw quote) text) ≡ take count text
-  pub stop : (items.body_at (single_literal is_raw quote) text).stop ≡ items.Closing
+  pub len : items.body_len (items.body_at (single_literal kind is_raw quote) text) ≡ count
+  pub value : items.body_value (items.body_at (single_literal kind is_raw quote) text) ≡ take count text
+  pub stop : (items.body_at (single_literal kind is_raw quote) text).stop ≡ items.Closing
 
 -- an f-string, as far as its texts are read by it
 abbrev pub fstring_literal : grammar.Opening → items.Literal

@@ -1,6 +1,6 @@
 -- What a reader makes of the piece that stands where it is.
 use Rattle.std.proofs.Common.{◌≡◌, ◌≢◌, ℕ, ◌+◌, ◌≤◌, ◌==◌, ◌&&◌, Bool, true, false, List, [], ◌∷◌, length, drop, refl, sym, ap, ◌∙◌, subst, arith, append-nil, take, None}
-use Rattle.std.specs.Prelude.{IfOk, Ok, Err, Result, Option, String, string_bytes, if◌then◌else◌}
+use Rattle.std.specs.Prelude.{IfOk, Ok, Err, Result, Option, String, Vec, string_bytes, if◌then◌else◌}
 use Rattle.std.specs.Str.{IsCharBoundary, IsUtf8}
 use Rattle.std.specs.declared.alloc.Global.{Global}
 use Rattle.starlark_grammar.specs.Words.{Text, language}
@@ -8,7 +8,8 @@ use Rattle.starlark_grammar.specs.Numbers.{integer_of}
 use Rattle.starlark_grammar.specs.Tokens as Tokens
 use Rattle.starlark_grammar.specs.Tokens.{Fault, Spanned}
 use Rattle.starlark_grammar.specs.declared.class.Class.TheVariants as class
-use Rattle.starlark_grammar.specs.declared.class.LiteralKind.TheVariants.{Text as OfText, FString as OfFString}
+use Rattle.starlark_grammar.specs.declared.class.LiteralKind.{LiteralKind}
+use Rattle.starlark_grammar.specs.declared.class.LiteralKind.TheVariants.{Text as OfText, Bytes as OfBytes, FString as OfFString}
 use Rattle.starlark_grammar.specs.declared.class.Quote.{Quote}
 use Rattle.starlark_grammar.specs.declared.class.Terminal.{Terminal}
 use Rattle.starlark_grammar.specs.Depths.{InText, Mode}
@@ -130,6 +131,10 @@ pub text_changes : (value : String Global) → change_by (token_view (token.Stri
 unfolding token_view change_by
 text_changes value = refl
 
+pub bytes_changes : (value : Vec ℕ Global) → change_by (token_view (token.Bytes value)) ≡ change.Nothing
+unfolding token_view change_by
+bytes_changes value = refl
+
 pub comment_changes : (value : String Global) → change_by (token_view (token.Comment value)) ≡ change.Nothing
 unfolding token_view change_by
 comment_changes value = refl
@@ -177,35 +182,50 @@ pub bang_changes : change_by (token_view token.FStringBang) ≡ change.Nothing
 unfolding change_by token_view
 bang_changes = refl
 
--- a text literal that one quote closes, and whose characters denote themselves
-plain_opener : (place : Mode) (is_raw : Bool) (quote : Quote) (begin count : ℕ) (behind : Text) → IsPlainBody is_raw quote behind count
-    → pieces.opener place OfText (pieces.opening_of is_raw quote behind) begin behind ≡ pieces.token (begin + count + 1) (Tokens.String (take count behind))
-plain_opener place is_raw quote begin count behind plain =
-    opener_plain place OfText (pieces.opening_of is_raw quote behind) begin behind other plain.single ∙ ap (λ opening. pieces.literal place OfText opening begin behind) same ∙ closed
+-- a literal that one quote closes, and whose characters denote themselves
+plain_opener : (place : Mode) (kind : LiteralKind) (is_raw : Bool) (quote : Quote) (begin count : ℕ) (behind : Text) → kind ≢ OfFString → IsPlainBody kind is_raw quote behind count
+    → pieces.opener place kind (pieces.opening_of is_raw quote behind) begin behind ≡ pieces.token (begin + count + 1) (pieces.literal_token kind (take count behind))
+plain_opener place kind is_raw quote begin count behind other plain =
+    opener_plain place kind (pieces.opening_of is_raw quote behind) begin behind other plain.single ∙ ap (λ opening. pieces.literal place kind opening begin behind) same ∙ closed
   where
     single : Tokens.Opening
     single = record { is_raw = is_raw; quote = quote; is_triple = false }
 
-    other : OfText ≢ OfFString
-    other e = cc
-
     same : pieces.opening_of is_raw quote behind ≡ single
     same = ap (λ (triple : Bool). record { is_raw = is_raw; quote = quote; is_triple = triple }) plain.single
 
-    closed : pieces.literal place OfText single begin behind ≡ pieces.token (begin + count + 1) (Tokens.String (take count behind))
+    closed : pieces.literal place kind single begin behind ≡ pieces.token (begin + count + 1) (pieces.literal_token kind (take count behind))
     closed = rw (plain.stop, plain.len, plain.value) refl
 
+plain_front : (text : Text) (history : History) (reader : Reader) (kind : LiteralKind) (is_raw : Bool) (quote : Quote) (len count : ℕ) → kind ≢ OfFString → IsStateAfter text history reader
+    → IsWordHere text reader (record { class = class.Opener kind is_raw quote; len = len }) → IsPlainBody kind is_raw quote (drop len (drop reader.at text)) count
+    → step_here text history reader ≡ pieces.token (len + count + 1) (pieces.literal_token kind (take count (drop len (drop reader.at text))))
+unfolding situation
+plain_front text history reader kind is_raw quote len count other kept here plain =
+    word_read text history reader (record { class = class.Opener kind is_raw quote; len = len }) kept here
+    ∙ ap (λ n. pieces.opener (mode_after history.tokens) kind (pieces.opening_of is_raw quote (drop len (drop reader.at text))) n (drop len (drop reader.at text))) (word_len (drop reader.at text) (class.Opener kind is_raw quote) len (sym here.front))
+    ∙ plain_opener (mode_after history.tokens) kind is_raw quote len count (drop len (drop reader.at text)) other plain
+
 pub literal_step : (text : Text) (history : History) (reader : Reader) (is_raw : Bool) (quote : Quote) (len count : ℕ) (value : String Global) → IsStateAfter text history reader
-    → IsWordHere text reader (record { class = class.Opener OfText is_raw quote; len = len }) → IsPlainBody is_raw quote (drop len (drop reader.at text)) count
+    → IsWordHere text reader (record { class = class.Opener OfText is_raw quote; len = len }) → IsPlainBody OfText is_raw quote (drop len (drop reader.at text)) count
     → string_bytes value ≡ take count (drop len (drop reader.at text)) → IsStep (step_here text history reader) (step.Token (token.String value) (len + count + 1))
 unfolding token_view situation
 literal_step text history reader is_raw quote len count value kept here plain is = (
   Tokens.String (take count (drop len (drop reader.at text))),
   ap (λ t. Whole (Tokens.String t)) is,
   refl,
-  word_read text history reader (record { class = class.Opener OfText is_raw quote; len = len }) kept here
-      ∙ ap (λ n. pieces.opener (mode_after history.tokens) OfText (pieces.opening_of is_raw quote (drop len (drop reader.at text))) n (drop len (drop reader.at text))) (word_len (drop reader.at text) (class.Opener OfText is_raw quote) len (sym here.front))
-      ∙ plain_opener (mode_after history.tokens) is_raw quote len count (drop len (drop reader.at text)) plain,
+  plain_front text history reader OfText is_raw quote len count (λ e. cc) kept here plain,
+)
+
+pub bytes_step : (text : Text) (history : History) (reader : Reader) (quote : Quote) (count : ℕ) (value : Vec ℕ Global) → IsStateAfter text history reader
+    → IsWordHere text reader (record { class = class.Opener OfBytes false quote; len = 2 }) → IsPlainBody OfBytes false quote (drop 2 (drop reader.at text)) count
+    → value.items ≡ take count (drop 2 (drop reader.at text)) → IsStep (step_here text history reader) (step.Token (token.Bytes value) (2 + count + 1))
+unfolding token_view situation
+bytes_step text history reader quote count value kept here plain is = (
+  Tokens.Bytes (take count (drop 2 (drop reader.at text))),
+  ap (λ t. Whole (Tokens.Bytes t)) is,
+  refl,
+  plain_front text history reader OfBytes false quote 2 count (λ e. cc) kept here plain,
 )
 
 pub terminal_step : (text : Text) (history : History) (reader : Reader) (terminal : Terminal) (len : ℕ) (found : Token) → IsStateAfter text history reader → IsWordHere text reader (record { class = class.Fixed terminal; len = len })

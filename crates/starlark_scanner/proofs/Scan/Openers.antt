@@ -4,15 +4,17 @@ use Rattle.std.proofs.lemmas.Bool.{eqb-true}
 use Rattle.std.proofs.lemmas.Bool.Decides.{nat_tests}
 use Rattle.std.proofs.lemmas.List.{get_or-take}
 use Rattle.std.specs.List.{prefix_len}
-use Rattle.std.specs.Option.{option_map}
+use Rattle.std.specs.Option.{option_map, unwrap_or}
 use Rattle.std.specs.Prelude.{IfSome}
 use Rattle.starlark_grammar.specs.Front.{language_front}
 use Rattle.starlark_grammar.specs.Pieces.{is_bang}
 use Rattle.starlark_grammar.specs.Words.{Text, openers, is_in_name}
-use Rattle.starlark_scanner.specs.Joints.Words.{fstring_opener, is_quote, opener_view, plain_opener, quote_of, raw_opener, text_opener}
+use Rattle.starlark_scanner.specs.Joints.Words.{is_quote, opener_view, plain_opener, quote_behind, quote_of, raw_opener, text_opener}
 use Rattle.starlark_grammar.specs.declared.class.Class.TheVariants.{Opener}
-use Rattle.starlark_grammar.specs.declared.class.LiteralKind.TheVariants.{FString}
+use Rattle.starlark_grammar.specs.declared.class.LiteralKind.{LiteralKind}
+use Rattle.starlark_grammar.specs.declared.class.LiteralKind.TheVariants.{Bytes, FString}
 use Rattle.starlark_grammar.specs.declared.class.Quote.{Quote}
+use Rattle.starlark_grammar.specs.declared.class.Quote.TheVariants.{Double, Single}
 use Rattle.starlark_scanner.specs.declared.scanner.word.TextOpener.{TextOpener}
 use Rattle.starlark_scanner.proofs.Scan.ByFirst.{front_double_quote, front_named, front_single_quote}
 use Rattle.starlark_scanner.proofs.Scan.Listed.{opener_of, all_pass, lookup_fails}
@@ -119,42 +121,74 @@ pub opener_found : (text : Text) (found : Option TextOpener) → ((i : ℕ) → 
 opener_found text None small h = tt
 opener_found text (Some opener) small h = (front_of_opener text opener small (sym h)).0
 
--- the opener of an f-string by the first two bytes
+-- the opener that a letter and a quote are
 
-IsFStringOf : Quote → Text → Type 0
-IsFStringOf quote text = (Some (Opener FString false quote, 2) ≡ language_front text) × (is_bang text ≡ false)
+IsLettered : LiteralKind → Quote → Text → Type 0
+IsLettered kind quote text = (Some (Opener kind false quote, 2) ≡ language_front text) × (is_bang text ≡ false)
 
-fstring_front : (b : ℕ) (rest : Text) (quote : Quote) → ((i : ℕ) → get_or (102 ∷ b ∷ rest) i 0 < 256) → quote_of b ≡ Some quote → IsFStringOf quote (102 ∷ b ∷ rest)
-unfolding IsFStringOf openers
-fstring_front b rest quote small h = go (b == 39) (b == 34) refl refl
+-- each letter opens literals of one kind
+IsLetterOf : ℕ → LiteralKind → Type 0
+IsLetterOf letter kind = (quote : ℕ) (rest : Text) → ((i : ℕ) → get_or (letter ∷ quote ∷ rest) i 0 < 256) → (quote ≡ 39 → IsLettered kind Single (letter ∷ quote ∷ rest)) × (quote ≡ 34 → IsLettered kind Double (letter ∷ quote ∷ rest))
+
+opens_fstrings : IsLetterOf 102 FString
+unfolding IsLetterOf IsLettered openers
+opens_fstrings quote rest small = (single, double)
   where
-    go : (single double : Bool) → (b == 39) ≡ single → (b == 34) ≡ double → IsFStringOf quote (102 ∷ b ∷ rest)
-    go true double e f =
-        let byte : b ≡ 39 = eqb-true b 39 e in
-        let same = rw byte at h in
-        let front = front_named (102 ∷ 39 ∷ rest) 1 (subst (λ (n : ℕ). (i : ℕ) → get_or (102 ∷ n ∷ rest) i 0 < 256) byte small) refl refl in
-        subst (λ (n : ℕ). IsFStringOf quote (102 ∷ n ∷ rest)) (sym byte) (ap (option_map (λ q. (Opener FString false q, 2))) (sym same) ∙ sym front, refl)
-    go false true e f =
-        let byte : b ≡ 34 = eqb-true b 34 f in
-        let same = rw byte at h in
-        let front = front_named (102 ∷ 34 ∷ rest) 1 (subst (λ (n : ℕ). (i : ℕ) → get_or (102 ∷ n ∷ rest) i 0 < 256) byte small) refl refl in
-        subst (λ (n : ℕ). IsFStringOf quote (102 ∷ n ∷ rest)) (sym byte) (ap (option_map (λ q. (Opener FString false q, 2))) (sym same) ∙ sym front, refl)
+    single : quote ≡ 39 → IsLettered FString Single (102 ∷ quote ∷ rest)
+    single e =
+        let front = front_named (102 ∷ 39 ∷ rest) 1 (subst (λ (n : ℕ). (i : ℕ) → get_or (102 ∷ n ∷ rest) i 0 < 256) e small) refl refl in
+        subst (λ (n : ℕ). IsLettered FString Single (102 ∷ n ∷ rest)) (sym e) (sym front, refl)
+
+    double : quote ≡ 34 → IsLettered FString Double (102 ∷ quote ∷ rest)
+    double e =
+        let front = front_named (102 ∷ 34 ∷ rest) 1 (subst (λ (n : ℕ). (i : ℕ) → get_or (102 ∷ n ∷ rest) i 0 < 256) e small) refl refl in
+        subst (λ (n : ℕ). IsLettered FString Double (102 ∷ n ∷ rest)) (sym e) (sym front, refl)
+
+opens_bytes : IsLetterOf 98 Bytes
+unfolding IsLetterOf IsLettered openers
+opens_bytes quote rest small = (single, double)
+  where
+    single : quote ≡ 39 → IsLettered Bytes Single (98 ∷ quote ∷ rest)
+    single e =
+        let front = front_named (98 ∷ 39 ∷ rest) 1 (subst (λ (n : ℕ). (i : ℕ) → get_or (98 ∷ n ∷ rest) i 0 < 256) e small) refl refl in
+        subst (λ (n : ℕ). IsLettered Bytes Single (98 ∷ n ∷ rest)) (sym e) (sym front, refl)
+
+    double : quote ≡ 34 → IsLettered Bytes Double (98 ∷ quote ∷ rest)
+    double e =
+        let front = front_named (98 ∷ 34 ∷ rest) 1 (subst (λ (n : ℕ). (i : ℕ) → get_or (98 ∷ n ∷ rest) i 0 < 256) e small) refl refl in
+        subst (λ (n : ℕ). IsLettered Bytes Double (98 ∷ n ∷ rest)) (sym e) (sym front, refl)
+
+quoted : (letter : ℕ) (kind : LiteralKind) → IsLetterOf letter kind → (b : ℕ) (rest : Text) (quote : Quote) → ((i : ℕ) → get_or (letter ∷ b ∷ rest) i 0 < 256) → quote_of b ≡ Some quote → IsLettered kind quote (letter ∷ b ∷ rest)
+unfolding IsLetterOf
+quoted letter kind opens b rest quote small h = go (b == 39) (b == 34) refl refl
+  where
+    go : (single double : Bool) → (b == 39) ≡ single → (b == 34) ≡ double → IsLettered kind quote (letter ∷ b ∷ rest)
+    go true double e f = let same : Some Single ≡ Some quote = rw e at h in subst (λ q. IsLettered kind q (letter ∷ b ∷ rest)) (ap (λ found. unwrap_or found Single) same) ((opens b rest small).0 (eqb-true b 39 e))
+    go false true e f = let same : Some Double ≡ Some quote = rw (e, f) at h in subst (λ q. IsLettered kind q (letter ∷ b ∷ rest)) (ap (λ found. unwrap_or found Double) same) ((opens b rest small).1 (eqb-true b 34 f))
     go false false e f = let none = rw (e, f) at h in cc
 
-front_of_fstring : (text : Text) (quote : Quote) → ((i : ℕ) → get_or text i 0 < 256) → fstring_opener text ≡ Some quote → IsFStringOf quote text
-front_of_fstring [] quote small h = cc
-front_of_fstring (b ∷ []) quote small h = cc
-front_of_fstring (b ∷ c ∷ rest) quote small h = go (b == 102) refl h
+front_of_quoted : (letter : ℕ) (kind : LiteralKind) → IsLetterOf letter kind → (text : Text) (quote : Quote) → ((i : ℕ) → get_or text i 0 < 256) → quote_behind letter text ≡ Some quote → IsLettered kind quote text
+front_of_quoted letter kind opens [] quote small h = cc
+front_of_quoted letter kind opens (b ∷ []) quote small h = cc
+front_of_quoted letter kind opens (b ∷ c ∷ rest) quote small h = go (b == letter) refl h
   where
-    go : (f : Bool) → (b == 102) ≡ f → fstring_opener (b ∷ c ∷ rest) ≡ Some quote → IsFStringOf quote (b ∷ c ∷ rest)
+    go : (stands : Bool) → (b == letter) ≡ stands → quote_behind letter (b ∷ c ∷ rest) ≡ Some quote → IsLettered kind quote (b ∷ c ∷ rest)
     go true e h =
-        let byte : b ≡ 102 = eqb-true b 102 e in
-        let same = rw byte at h in
-        subst (λ (n : ℕ). IsFStringOf quote (n ∷ c ∷ rest)) (sym byte) (fstring_front c rest quote (subst (λ (n : ℕ). (i : ℕ) → get_or (n ∷ c ∷ rest) i 0 < 256) byte small) same)
+        let byte : b ≡ letter = eqb-true b letter e in
+        let same = rw e at h in
+        subst (λ (n : ℕ). IsLettered kind quote (n ∷ c ∷ rest)) (sym byte) (quoted letter kind opens c rest quote (subst (λ (n : ℕ). (i : ℕ) → get_or (n ∷ c ∷ rest) i 0 < 256) byte small) same)
     go false e h = let none = rw e at h in cc
 
-pub fstring_found : (text : Text) (found : Option Quote) → ((i : ℕ) → get_or text i 0 < 256) → found ≡ fstring_opener text
+found_by : (letter : ℕ) (kind : LiteralKind) → IsLetterOf letter kind → (text : Text) (found : Option Quote) → ((i : ℕ) → get_or text i 0 < 256) → found ≡ quote_behind letter text
+    → IfSome found (λ quote. Some (Opener kind false quote, 2) ≡ language_front text) × IfSome found (λ quote. is_bang text ≡ false)
+unfolding IsLettered
+found_by letter kind opens text None small h = (tt, tt)
+found_by letter kind opens text (Some quote) small h = front_of_quoted letter kind opens text quote small (sym h)
+
+pub fstring_found : (text : Text) (found : Option Quote) → ((i : ℕ) → get_or text i 0 < 256) → found ≡ quote_behind 102 text
     → IfSome found (λ quote. Some (Opener FString false quote, 2) ≡ language_front text) × IfSome found (λ quote. is_bang text ≡ false)
-unfolding IsFStringOf
-fstring_found text None small h = (tt, tt)
-fstring_found text (Some quote) small h = front_of_fstring text quote small (sym h)
+fstring_found = found_by 102 FString opens_fstrings
+
+pub bytes_found : (text : Text) (found : Option Quote) → ((i : ℕ) → get_or text i 0 < 256) → found ≡ quote_behind 98 text
+    → IfSome found (λ quote. Some (Opener Bytes false quote, 2) ≡ language_front text) × IfSome found (λ quote. is_bang text ≡ false)
+bytes_found = found_by 98 Bytes opens_bytes

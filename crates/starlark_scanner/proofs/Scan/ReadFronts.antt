@@ -3,7 +3,7 @@ use Rattle.std.proofs.Common.{◌≡◌, ℕ, ◌+◌, ◌≤◌, Bool, true, []
 use Rattle.std.specs.List.{prefix_len, slice_get}
 use Rattle.starlark_grammar.specs.Front.{longest_front}
 use Rattle.starlark_grammar.specs.Words.{Text, begins, has_base, is_in_name, is_name_start, sign_len}
-use Rattle.starlark_scanner.specs.Joints.Words.{begins_number, fstring_opener, is_digit_alone, is_mark_alone, mark_of_two, text_opener}
+use Rattle.starlark_scanner.specs.Joints.Words.{begins_number, is_digit_alone, is_mark_alone, mark_of_two, quote_behind, text_opener}
 use Rattle.starlark_scanner.proofs.Scan.Marks.{front_three, mark_of}
 
 pub begins_by_one : (test : ℕ → Bool) (text : Text) → begins test (take 1 text) ≡ begins test text
@@ -34,10 +34,10 @@ opener_by_two [] = refl
 opener_by_two (a ∷ []) = refl
 opener_by_two (a ∷ b ∷ rest) = refl
 
-pub fstring_by_two : (text : Text) → fstring_opener (take 2 text) ≡ fstring_opener text
-fstring_by_two [] = refl
-fstring_by_two (a ∷ []) = refl
-fstring_by_two (a ∷ b ∷ rest) = refl
+pub behind_by_two : (letter : ℕ) (text : Text) → quote_behind letter (take 2 text) ≡ quote_behind letter text
+behind_by_two letter [] = refl
+behind_by_two letter (a ∷ []) = refl
+behind_by_two letter (a ∷ b ∷ rest) = refl
 
 pub digit_by_three : (text : Text) → is_digit_alone (take 3 text) ≡ is_digit_alone text
 digit_by_three [] = refl

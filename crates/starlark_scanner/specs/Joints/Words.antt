@@ -135,7 +135,7 @@ text_opener [] = None
 text_opener (a ∷ []) = option_map plain_opener (quote_of a)
 text_opener (a ∷ b ∷ rest) = if a == 114 then option_map raw_opener (quote_of b) else option_map plain_opener (quote_of a)
 
--- the quote of the opener of an f-string that the first two bytes of a text are
-abbrev pub fstring_opener : grammar.Text → Option Quote
-fstring_opener (a ∷ b ∷ rest) = if a == 102 then quote_of b else None
-fstring_opener text = None
+-- the quote that stands behind a letter at the front of a text
+abbrev pub quote_behind : ℕ → grammar.Text → Option Quote
+quote_behind letter (a ∷ b ∷ rest) = if a == letter then quote_of b else None
+quote_behind letter text = None

@@ -6,7 +6,7 @@ ghost use Rattle.std.specs.Option.{option_map};
 ghost use Rattle.std.specs.Str.{bytes_eq};
 ghost use Rattle.starlark_grammar.specs.Words as grammar;
 ghost use Rattle.starlark_grammar.specs.declared.class.Class.TheVariants as class;
-ghost use Rattle.starlark_scanner.specs.Joints.Words.{fstring_opener, plain_opener, quote_of, raw_opener, text_opener};
+ghost use Rattle.starlark_scanner.specs.Joints.Words.{plain_opener, quote_behind, quote_of, raw_opener, text_opener};
 
 use super::{Class, LiteralKind, Quote, TextOpener};
 
@@ -67,13 +67,13 @@ pub fn text_opener(text: &[u8]) -> Option<TextOpener>
     }
 }
 
-/// The quote of the opener that the first two bytes of a text are, if they are an `f` and a quote.
+/// The quote behind a letter, where the first two bytes of a text are these.
 #[inline(always)]
-pub fn fstring_opener(text: &[u8]) -> Option<Quote>
-    ensures { result ≡ fstring_opener text.now }
+pub fn quote_behind(letter: u8, text: &[u8]) -> Option<Quote>
+    ensures { result ≡ quote_behind letter text.now }
 {
     match text {
-        [b'f', second, ..] => quote_of(*second),
+        [first, second, ..] if *first == letter => quote_of(*second),
         _ => None,
     }
 }

@@ -13,8 +13,8 @@ returns-clause-plain c =
     let closes : (get_or c.args.text.now (length run) 0 == quote_byte c.args.quote) ≡ true =
     sym (ap (λ (t : List ℕ). get_or t (length run) 0 == quote_byte c.args.quote) bytes) ∙ sym c.is_quote_at.ensures.value ∙ c.if-not-is_quote_at.false in
     let single : (opening_of c.args.is_raw c.args.quote c.args.text.now).is_triple ≡ false = elim c.else-len-eq0.branch [
-      | else-len-eq0-via-then-len-eq0+else-is_quote_at w ↦ plain_run c.args.is_raw c.args.quote c.args.text.now run same (λ none.
+      | else-len-eq0-via-then-len-eq0+else-is_quote_at w ↦ plain_run c.args.kind c.args.is_raw c.args.quote c.args.text.now run same (λ none.
           sym (ap (λ (t : List ℕ). get_or t 1 0 == quote_byte c.args.quote) bytes) ∙ sym w.is_quote_at-then-len-eq0.ensures.value ∙ w.if-is_quote_at.false)
-      | else-len-eq0-via-else-len-eq0 w ↦ plain_run c.args.is_raw c.args.quote c.args.text.now run same (λ none. absurd (omega (arith, none, w.if-len-eq0.false)))
+      | else-len-eq0-via-else-len-eq0 w ↦ plain_run c.args.kind c.args.is_raw c.args.quote c.args.text.now run same (λ none. absurd (omega (arith, none, w.if-len-eq0.false)))
     ] in
-    plain_body c.args.is_raw c.args.quote c.args.text.now run c.utf8.text same c.first_run-len.ensures.boundary closes single
+    plain_body c.args.kind c.args.is_raw c.args.quote c.args.text.now run c.utf8.text same c.first_run-len.ensures.boundary closes single
