@@ -1,6 +1,6 @@
 //! Finds what ends a line.
 
-ghost use Rattle.std.specs.Prelude.{◌≡◌, ◌+◌, ◌*◌, ◌≤◌, drop, length, take};
+ghost use Rattle.std.specs.Prelude.{◌≡◌, ◌+◌, ◌-◌, ◌*◌, ◌≤◌, drop, length, take};
 ghost use Rattle.std.specs.List.{prefix_len};
 ghost use Rattle.starlark_bytes.specs.Joints.Reads.{AreReads, more_reads};
 ghost use Rattle.starlark_bytes.specs.Joints.Lines.{is_in_front};
@@ -10,7 +10,7 @@ use crate::reads::Reads;
 use std::simd::prelude::*;
 
 /// How many bytes of a line are looked at one by one before sixteen are looked at together.
-const ALONE: usize = 8;
+const ALONE: usize = 5;
 
 /// How many bytes stand before the first LF or the first `other` byte, looked at one by one.
 #[inline(always)]
@@ -41,12 +41,12 @@ fn lanes_front_len(reads: &mut Reads, text: &[u8], at: usize, other: u8) -> usiz
 }
 
 /// How many bytes of a text stand before its first LF or its first `other` byte. Sixteen bytes are looked at together once
-/// eight were passed one by one.
+/// five were passed one by one.
 #[inline(always)]
 pub fn front_len(reads: &mut Reads, text: &[u8], other: u8) -> usize
     ensures value { result ≡ prefix_len (is_in_front other) text.now }
     ensures within { result ≤ length text.now }
-    ensures reads { AreReads (result + 1) (3 * result + 1) reads.old reads.new }
+    ensures reads { AreReads (result + 1) (5 * (result - 1) + 2) reads.old reads.new }
 {
     if text.len() < LANES {
         return short_front_len(reads, text, other);

@@ -1,6 +1,6 @@
 //! Finds the LF that ends a line.
 
-ghost use Rattle.std.specs.Prelude.{◌≡◌, ◌+◌, ◌*◌, ◌≤◌, length, not};
+ghost use Rattle.std.specs.Prelude.{◌≡◌, ◌+◌, ◌-◌, ◌*◌, ◌≤◌, length, not};
 ghost use Rattle.std.specs.List.{prefix_len};
 ghost use Rattle.starlark_grammar.specs.Margins as grammar;
 ghost use Rattle.starlark_bytes.specs.Joints.Reads.{AreReads};
@@ -12,7 +12,7 @@ use starlark_bytes::reads::Reads;
 pub fn before_feed_len(reads: &mut Reads, text: &[u8]) -> usize
     ensures value { result ≡ prefix_len (λ b. not (grammar.is_feed b)) text.now }
     ensures within { result ≤ length text.now }
-    ensures reads { AreReads (result + 1) (3 * result + 1) reads.old reads.new }
+    ensures reads { AreReads (result + 1) (5 * (result - 1) + 2) reads.old reads.new }
 {
     front_len(reads, text, b'\n')
 }

@@ -53,11 +53,6 @@ front_looked text reader to looked.Nothing quick is = cc
 front_looked text reader to looked.Front quick is = is
 front_looked text reader to looked.All quick is = cc
 
-pub front_spared : (text : Text) (reader : Reader) (to : ℕ) (it : Looked) → is_front it ≡ true → IsLooked text reader to it → IsAtCode text reader × HasSpared text 11 reader to
-front_spared text reader to it quick is =
-    let front = front_looked text reader to it quick is in
-    (front.0, front.2)
-
 -- what is found out behind a lexeme
 pub found_out : (text : Text) (reader : Reader) (to beside : ℕ) (it : Looked) → IsFoundOut reader to it → IsPending text reader.pending → beside ≤ 16 * to → HasRead text beside reader → IsLooked text reader to it
 found_out text reader to beside looked.Nothing is pending paid has = (is.1 text pending, is.0, (beside, omega (arith, paid), has))

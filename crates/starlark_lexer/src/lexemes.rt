@@ -379,7 +379,10 @@ impl<'a> Lexer<'a> {
             return self.next_of_all();
         };
         let kind = LiteralKind::Text;
-        let body = match self.reader.plain_body_len(kind, is_raw, quote, len, self.text) {
+        let body = match self
+            .reader
+            .plain_body_len(kind, is_raw, quote, len, self.text)
+        {
             Ok(body) => body,
             Err(run) => {
                 self.looked_to += run;

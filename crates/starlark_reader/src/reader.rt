@@ -610,7 +610,7 @@ impl Reader {
         ensures ahead { (lexemes : List (Spanned TokenView)) (fault : Option (Spanned Fault)) → IsAhead text.now self.old self.old.stage lexemes fault → IsAhead text.now self.new self.new.stage lexemes fault }
         ensures code { IsAtCode text.now self.new }
         ensures stands { IfSome result (λ len. IsWordHere text.now self.new (record { class = class.Comment; len = len })) }
-        ensures looked { IfSome result (λ len. HasLookedHere len (3 * len + 2) self.old self.new) }
+        ensures looked { IfSome result (λ len. HasLookedHere len (5 * len + 3) self.old self.new) }
         ensures none { result ≡ None → HasLookedHere 1 1 self.old self.new }
     {
         comment_len(&mut self.reads, &text[self.at..])
@@ -797,12 +797,12 @@ impl Reader {
         let begin = self.at;
         let rest = &text[begin..];
         let behind = &rest[2..];
-        let whole = 2 + body + 1;
+        let len = 2 + body + 1;
         let mut value = Vec::new(self.alloc);
         value.extend_from_slice(behind[..body].as_bytes())?;
         let token = Token::Bytes(value);
-        self.pass_token(&token, whole, text);
-        Ok((begin, token, begin + whole))
+        self.pass_token(&token, len, text);
+        Ok((begin, token, begin + len))
     }
 
     /// Takes the start of the f-string here, whose opener is an `f` and this quote. After an error the reader isn't to be asked

@@ -195,7 +195,7 @@ pub fn bytes_opener(reads: &mut Reads, text: &str) -> Option<Quote>
 pub fn comment_len(reads: &mut Reads, text: &str) -> Option<usize>
     ensures word { IfSome result (λ len. Some (class.Comment, len) ≡ language_front text.now) }
     ensures bang { IfSome result (λ len. is_bang text.now ≡ false) }
-    ensures reads { IfSome result (λ len. AreReads len (3 * len + 2) reads.old reads.new) }
+    ensures reads { IfSome result (λ len. AreReads len (5 * len + 3) reads.old reads.new) }
     ensures none { result ≡ None → reads.new ≡ more_reads reads.old 1 }
 {
     let bytes = text.as_bytes();

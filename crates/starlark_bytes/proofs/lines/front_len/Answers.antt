@@ -10,18 +10,18 @@ pub returns-then-at-lt-ALONE-clause-value : goal.returns-then-at-lt-ALONE-clause
 returns-then-at-lt-ALONE-clause-value c =
     let counted = c.short_front_len-at.ensures.value in
     let less = c.if-at-lt-ALONE.true in
-    counted ∙ run_ends (is_in_front c.args.other) 8 c.args.text.now (omega (arith, c.if-text-lt-LANES.false)) (omega (arith, counted, less))
+    counted ∙ run_ends (is_in_front c.args.other) 5 c.args.text.now (omega (arith, c.if-text-lt-LANES.false)) (omega (arith, counted, less))
 
 pub loop-at-init : goal.loop-at-init
 loop-at-init c =
     let long = c.if-text-lt-LANES.false in
-    let room : 8 ≤ length c.args.text.now = omega (arith, long) in
+    let room : 5 ≤ length c.args.text.now = omega (arith, long) in
     let counted = c.short_front_len-at.ensures.value in
-    let within = run_within (is_in_front c.args.other) 8 c.args.text.now room in
-    let whole : c.short_front_len-at.result ≡ 8 = omega (arith, counted, within, c.if-at-lt-ALONE.false) in
+    let within = run_within (is_in_front c.args.other) 5 c.args.text.now room in
+    let whole : c.short_front_len-at.result ≡ 5 = omega (arith, counted, within, c.if-at-lt-ALONE.false) in
     record {
       within = omega (arith, whole, room);
-      value = run_goes_on (is_in_front c.args.other) 8 c.args.text.now room (sym counted ∙ whole) ∙ ap (λ n. n + prefix_len (is_in_front c.args.other) (drop n c.args.text.now)) (sym whole);
+      value = run_goes_on (is_in_front c.args.other) 5 c.args.text.now room (sym counted ∙ whole) ∙ ap (λ n. n + prefix_len (is_in_front c.args.other) (drop n c.args.text.now)) (sym whole);
       some = omega (arith, whole);
       reads = (omega (arith, c.short_front_len-at.ensures.reads, whole), omega (arith, c.short_front_len-at.ensures.reads, whole));
     }

@@ -8,7 +8,7 @@ abbrev pub invariant-loop-at : goal.invariant-loop-at
 invariant-loop-at l = record {
   within : l.at ≤ length l.text;
   value : prefix_len (is_in_front l.other) l.text ≡ l.at + prefix_len (is_in_front l.other) (drop l.at l.text);
-  some : 8 ≤ l.at;
+  some : 5 ≤ l.at;
   reads : AreReads (l.at + 1) (l.at + 1) l.fn.reads l.reads;
 }
 

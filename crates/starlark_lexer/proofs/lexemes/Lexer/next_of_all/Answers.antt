@@ -8,7 +8,7 @@ use Rattle.starlark_grammar.specs.Reading.{outcome}
 use Rattle.starlark_lexer.proofs.LexerItems.{lexeme_item, lexeme_within, one_more, some_item}
 use Rattle.starlark_grammar.proofs.Order.Inside.{lexemes_few}
 use Rattle.starlark_reader.proofs.Pieces.ReaderReads.{begun_reads, here_reads, here_taken_reads}
-use Rattle.starlark_lexer.proofs.LexerReads.{found_further, found_further_in_code, front_looked, front_spared, goes_on, plain_reads}
+use Rattle.starlark_lexer.proofs.LexerReads.{found_further, found_further_in_code, front_looked, goes_on, plain_reads}
 use Rattle.starlark_lexer.proofs.lexemes.Lexer.next_of_all.Goals as goal
 
 pub overflow_add-self : goal.overflow_add-self
@@ -23,8 +23,8 @@ invariant_of-self c =
     let inv = c.self.invariant.1 (ap (λ (lexer : LexerView). lexer.has_ended) c.self.view_is ∙ c.requires) in
     let is = c.take_terminal-lexeme.ensures.ahead _ _ (c.short_word.ensures.ahead _ _ inv.1) in
     let further = one_more (map shown_lexeme (outcome c.self.inside.text.now).lexemes) c.self.inside.handed_out _ is.0 is.1 in
-    let looked = front_spared c.self.inside.text.now c.self.inside.reader c.self.inside.looked_to c.self.inside.looked (sym c.is_front.ensures ∙ c.if-not-is_front.false) (c.self.invariant.3 (ap (λ (lexer : LexerView). lexer.has_ended) c.self.view_is ∙ c.requires)) in
-    let paid = looked.1 in
+    let looked = front_looked c.self.inside.text.now c.self.inside.reader c.self.inside.looked_to c.self.inside.looked (sym c.is_front.ensures ∙ c.if-not-is_front.false) (c.self.invariant.3 (ap (λ (lexer : LexerView). lexer.has_ended) c.self.view_is ∙ c.requires)) in
+    let paid = looked.2 in
     let read = here_taken_reads c.self.inside.text.now paid.0 3 3 2 c.self.inside.reader c.short_word.new.self c.take_terminal-lexeme.new.self looked.0.stage paid.2 c.short_word.ensures.looked (omega (arith)) (omega (arith)) (c.take_terminal-lexeme.ensures.taken.1, c.take_terminal-lexeme.ensures.taken.2) in (
       c.self.invariant.0,
       (λ on. (omega (arith, further.0, length-map (outcome c.self.inside.text.now).lexemes shown_lexeme), rw further.1 is.2)),
@@ -57,8 +57,8 @@ invariant_of-self-in-Some-Digit c =
     let inv = c.self.invariant.1 (ap (λ (lexer : LexerView). lexer.has_ended) c.self.view_is ∙ c.requires) in
     let is = c.take_digit-lexeme.ensures.ahead _ _ (c.short_word.ensures.ahead _ _ inv.1) in
     let further = one_more (map shown_lexeme (outcome c.self.inside.text.now).lexemes) c.self.inside.handed_out _ is.0 is.1 in
-    let looked = front_spared c.self.inside.text.now c.self.inside.reader c.self.inside.looked_to c.self.inside.looked (sym c.is_front.ensures ∙ c.if-not-is_front.false) (c.self.invariant.3 (ap (λ (lexer : LexerView). lexer.has_ended) c.self.view_is ∙ c.requires)) in
-    let paid = looked.1 in
+    let looked = front_looked c.self.inside.text.now c.self.inside.reader c.self.inside.looked_to c.self.inside.looked (sym c.is_front.ensures ∙ c.if-not-is_front.false) (c.self.invariant.3 (ap (λ (lexer : LexerView). lexer.has_ended) c.self.view_is ∙ c.requires)) in
+    let paid = looked.2 in
     let read = here_taken_reads c.self.inside.text.now paid.0 3 3 1 c.self.inside.reader c.short_word.new.self c.take_digit-lexeme.new.self looked.0.stage paid.2 c.short_word.ensures.looked (omega (arith)) (omega (arith)) (c.take_digit-lexeme.ensures.taken.1, c.take_digit-lexeme.ensures.taken.2) in (
       c.self.invariant.0,
       (λ on. (omega (arith, further.0, length-map (outcome c.self.inside.text.now).lexemes shown_lexeme), rw further.1 is.2)),
@@ -91,8 +91,8 @@ invariant_of-self-in-Ok c =
     let inv = c.self.invariant.1 (ap (λ (lexer : LexerView). lexer.has_ended) c.self.view_is ∙ c.requires) in
     let is = c.in-Ok.ensures.ahead _ _ (c.fstring_opener.ensures.ahead _ _ (c.short_word.ensures.ahead _ _ inv.1)) in
     let further = one_more (map shown_lexeme (outcome c.self.inside.text.now).lexemes) c.self.inside.handed_out _ is.0 is.1 in
-    let looked = front_spared c.self.inside.text.now c.self.inside.reader c.self.inside.looked_to c.self.inside.looked (sym c.is_front.ensures ∙ c.if-not-is_front.false) (c.self.invariant.3 (ap (λ (lexer : LexerView). lexer.has_ended) c.self.view_is ∙ c.requires)) in
-    let paid = looked.1 in
+    let looked = front_looked c.self.inside.text.now c.self.inside.reader c.self.inside.looked_to c.self.inside.looked (sym c.is_front.ensures ∙ c.if-not-is_front.false) (c.self.invariant.3 (ap (λ (lexer : LexerView). lexer.has_ended) c.self.view_is ∙ c.requires)) in
+    let paid = looked.2 in
     let short = here_reads c.self.inside.text.now paid.0 3 3 c.self.inside.reader c.short_word.new.self paid.2 c.short_word.ensures.looked in
     let read = begun_reads c.self.inside.text.now (paid.0 + 3) c.short_word.new.self c.fstring_opener.new.self c.take_fstring.new.self (c.short_word.ensures.looked.1 ∙ looked.0.stage) short c.fstring_opener.ensures.looked c.in-Ok.ensures.begun in (
       c.self.invariant.0,
@@ -192,8 +192,8 @@ invariant_of-self-then-bang_stands c =
     let inv = c.self.invariant.1 (ap (λ (lexer : LexerView). lexer.has_ended) c.self.view_is ∙ c.requires) in
     let is = c.take_bang-lexeme.ensures.ahead _ _ (c.bang_stands.ensures.ahead _ _ (c.bytes_opener.ensures.ahead _ _ (c.fstring_opener.ensures.ahead _ _ (c.short_word.ensures.ahead _ _ inv.1)))) in
     let further = one_more (map shown_lexeme (outcome c.self.inside.text.now).lexemes) c.self.inside.handed_out _ is.0 is.1 in
-    let looked = front_spared c.self.inside.text.now c.self.inside.reader c.self.inside.looked_to c.self.inside.looked (sym c.is_front.ensures ∙ c.if-not-is_front.false) (c.self.invariant.3 (ap (λ (lexer : LexerView). lexer.has_ended) c.self.view_is ∙ c.requires)) in
-    let paid = looked.1 in
+    let looked = front_looked c.self.inside.text.now c.self.inside.reader c.self.inside.looked_to c.self.inside.looked (sym c.is_front.ensures ∙ c.if-not-is_front.false) (c.self.invariant.3 (ap (λ (lexer : LexerView). lexer.has_ended) c.self.view_is ∙ c.requires)) in
+    let paid = looked.2 in
     let short = here_reads c.self.inside.text.now paid.0 3 3 c.self.inside.reader c.short_word.new.self paid.2 c.short_word.ensures.looked in
     let opener = here_reads c.self.inside.text.now (paid.0 + 3) 2 2 c.short_word.new.self c.fstring_opener.new.self short c.fstring_opener.ensures.looked in
     let bytes = here_reads c.self.inside.text.now (paid.0 + 3 + 2) 2 2 c.fstring_opener.new.self c.bytes_opener.new.self opener c.bytes_opener.ensures.looked in
@@ -230,14 +230,14 @@ invariant_of-self-in-Ok-take_comment c =
     let inv = c.self.invariant.1 (ap (λ (lexer : LexerView). lexer.has_ended) c.self.view_is ∙ c.requires) in
     let is = c.in-Ok-take_comment.ensures.ahead _ _ (c.comment_len.ensures.ahead _ _ (c.bang_stands.ensures.ahead _ _ (c.bytes_opener.ensures.ahead _ _ (c.fstring_opener.ensures.ahead _ _ (c.short_word.ensures.ahead _ _ inv.1))))) in
     let further = one_more (map shown_lexeme (outcome c.self.inside.text.now).lexemes) c.self.inside.handed_out _ is.0 is.1 in
-    let looked = front_spared c.self.inside.text.now c.self.inside.reader c.self.inside.looked_to c.self.inside.looked (sym c.is_front.ensures ∙ c.if-not-is_front.false) (c.self.invariant.3 (ap (λ (lexer : LexerView). lexer.has_ended) c.self.view_is ∙ c.requires)) in
-    let paid = looked.1 in
+    let looked = front_looked c.self.inside.text.now c.self.inside.reader c.self.inside.looked_to c.self.inside.looked (sym c.is_front.ensures ∙ c.if-not-is_front.false) (c.self.invariant.3 (ap (λ (lexer : LexerView). lexer.has_ended) c.self.view_is ∙ c.requires)) in
+    let paid = looked.2 in
     let short = here_reads c.self.inside.text.now paid.0 3 3 c.self.inside.reader c.short_word.new.self paid.2 c.short_word.ensures.looked in
     let opener = here_reads c.self.inside.text.now (paid.0 + 3) 2 2 c.short_word.new.self c.fstring_opener.new.self short c.fstring_opener.ensures.looked in
     let bytes = here_reads c.self.inside.text.now (paid.0 + 3 + 2) 2 2 c.fstring_opener.new.self c.bytes_opener.new.self opener c.bytes_opener.ensures.looked in
     let bang = here_reads c.self.inside.text.now (paid.0 + 3 + 2 + 2) _ 2 c.bytes_opener.new.self c.bang_stands.new.self bytes c.bang_stands.ensures.looked in
     let some = c.in-Ok-take_comment.ensures.taken.0 in
-    let read = here_taken_reads c.self.inside.text.now (paid.0 + 3 + 2 + 2 + 2) c.in-Some-comment_len.len (3 * c.in-Some-comment_len.len + 2) c.in-Some-comment_len.len c.bang_stands.new.self c.comment_len.new.self c.take_comment.new.self (c.bang_stands.ensures.looked.1 ∙ c.bytes_opener.ensures.looked.1 ∙ c.fstring_opener.ensures.looked.1 ∙ c.short_word.ensures.looked.1 ∙ looked.0.stage) bang c.in-Some-comment_len.ensures.looked
+    let read = here_taken_reads c.self.inside.text.now (paid.0 + 3 + 2 + 2 + 2) c.in-Some-comment_len.len (5 * c.in-Some-comment_len.len + 3) c.in-Some-comment_len.len c.bang_stands.new.self c.comment_len.new.self c.take_comment.new.self (c.bang_stands.ensures.looked.1 ∙ c.bytes_opener.ensures.looked.1 ∙ c.fstring_opener.ensures.looked.1 ∙ c.short_word.ensures.looked.1 ∙ looked.0.stage) bang c.in-Some-comment_len.ensures.looked
     (omega (arith)) (omega (arith, some)) (c.in-Ok-take_comment.ensures.taken.1, c.in-Ok-take_comment.ensures.taken.2) in (
       c.self.invariant.0,
       (λ on. (omega (arith, further.0, length-map (outcome c.self.inside.text.now).lexemes shown_lexeme), rw further.1 is.2)),
@@ -267,8 +267,8 @@ returns-in-Err-take_comment-clause-item c =
 pub invariant_of-self-in_default-comment_len : goal.invariant_of-self-in_default-comment_len
 invariant_of-self-in_default-comment_len c =
     let inv = c.self.invariant.1 (ap (λ (lexer : LexerView). lexer.has_ended) c.self.view_is ∙ c.requires) in
-    let looked = front_spared c.self.inside.text.now c.self.inside.reader c.self.inside.looked_to c.self.inside.looked (sym c.is_front.ensures ∙ c.if-not-is_front.false) (c.self.invariant.3 (ap (λ (lexer : LexerView). lexer.has_ended) c.self.view_is ∙ c.requires)) in
-    let paid = looked.1 in
+    let looked = front_looked c.self.inside.text.now c.self.inside.reader c.self.inside.looked_to c.self.inside.looked (sym c.is_front.ensures ∙ c.if-not-is_front.false) (c.self.invariant.3 (ap (λ (lexer : LexerView). lexer.has_ended) c.self.view_is ∙ c.requires)) in
+    let paid = looked.2 in
     let short = here_reads c.self.inside.text.now paid.0 3 3 c.self.inside.reader c.short_word.new.self paid.2 c.short_word.ensures.looked in
     let opener = here_reads c.self.inside.text.now (paid.0 + 3) 2 2 c.short_word.new.self c.fstring_opener.new.self short c.fstring_opener.ensures.looked in
     let bytes = here_reads c.self.inside.text.now (paid.0 + 3 + 2) 2 2 c.fstring_opener.new.self c.bytes_opener.new.self opener c.bytes_opener.ensures.looked in
