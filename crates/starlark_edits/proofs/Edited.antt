@@ -4,9 +4,10 @@ use Rattle.std.proofs.lemmas.Str.{IsCharBoundary-from_take, IsUtf8-take}
 use Rattle.std.specs.Str.{IsUtf8}
 use Rattle.starlark_base.specs.Places.{Text}
 use Rattle.starlark_edits.specs.Edits.{edited_text, text_after, text_after_one}
-use Rattle.starlark_edits.specs.Joints.Versions.{AreVersions, Fits, Follows, IsRefusal, newest_text}
+use Rattle.starlark_edits.specs.Joints.Versions.{AreVersions, Fits, Follows, IsRefusal, WasRelexed, newest_text}
 use Rattle.starlark_edits.specs.declared.edits.Edit.{Edit}
 use Rattle.starlark_edits.specs.declared.versions.Version.{Version}
+use Rattle.starlark_lexed_text.specs.LexedTexts.{IsReadFrom, LexedView}
 use Rattle.starlark_lines.specs.declared.ends.TheConstants.{GREATEST_LEN}
 use Rattle.starlark_lines.specs.declared.ends.RunFault.{RunFault}
 use Rattle.starlark_lines.specs.declared.ends.RunFault.TheVariants as fault
@@ -80,3 +81,18 @@ after_refused at text edit edits fault.Write is = is
 pub one_refused : (at : ℕ) (text : Text) (edits : List Edit) (none : Edit) (why : RunFault) → at < length edits → IsRefusal (text_after_one at text (slice_index_or edits at none)) why → IsRefusal (text_after at text (drop at edits)) why
 one_refused at text edits none why inside is =
     subst (λ left. IsRefusal (text_after at text left) why) (sym (drop_at edits at none inside)) (after_refused at text (slice_index_or edits at none) (drop (at + 1) edits) why is)
+
+-- the versions that are left begin with the one at their place
+next_version : (versions : List Version) (at : ℕ) (version : Version) → at < length versions → version ≡ slice_index_or versions at version → drop at versions ≡ version ∷ drop (at + 1) versions
+next_version versions at version inside is = drop_at versions at version inside ∙ ap (λ (v : Version). v ∷ drop (at + 1) versions) (sym is)
+
+pub left_after : (text : Text) (versions : List Version) (at : ℕ) (version : Version) → at < length versions → version ≡ slice_index_or versions at version → AreVersions text (drop at versions) → AreVersions (string_bytes version.text) (drop (at + 1) versions)
+left_after text versions at version inside is are = (subst (AreVersions text) (next_version versions at version inside is) are).1
+
+pub newest_after : (text newest : Text) (versions : List Version) (at : ℕ) (version : Version) → at < length versions → version ≡ slice_index_or versions at version → newest_text text (drop at versions) ≡ newest → newest_text (string_bytes version.text) (drop (at + 1) versions) ≡ newest
+newest_after text newest versions at version inside is same = subst (λ (vs : List Version). newest_text text vs ≡ newest) (next_version versions at version inside is) same
+
+-- what one version more was lexed from
+pub relexed_more : (start lexed edited : LexedView) (versions : List Version) (at : ℕ) (version : Version) → at < length versions → version ≡ slice_index_or versions at version → ((last : LexedView) → WasRelexed lexed (drop at versions) last → WasRelexed start versions last) → edited.text ≡ string_bytes version.text → IsReadFrom lexed (string_bytes version.text) version.from edited → (last : LexedView) → WasRelexed edited (drop (at + 1) versions) last → WasRelexed start versions last
+relexed_more start lexed edited versions at version inside is before text reads last after =
+    before last (subst (λ (vs : List Version). WasRelexed lexed vs last) (sym (next_version versions at version inside is)) (edited, text, reads, after))

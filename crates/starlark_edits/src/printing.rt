@@ -1,23 +1,23 @@
 //! Prints the lexemes of a lexed text.
 
-ghost use Rattle.std.specs.Prelude.{◌≡◌, ◌++◌, [], false, IfOk};
+ghost use Rattle.std.specs.Prelude.{◌≡◌, ◌++◌, false, IfOk};
 ghost use Rattle.starlark_base.specs.Sources.{SourceFile};
 ghost use Rattle.starlark_grammar.specs.Reading.{outcome};
 ghost use Rattle.starlark_lexed_text.specs.LexedTexts.{IsLexed};
 ghost use Rattle.starlark_lines.specs.Output.{output};
 ghost use Rattle.starlark_lines.specs.Runs.{status_of};
-ghost use Rattle.starlark_lines.specs.Writing.{Writes};
+ghost use Rattle.starlark_lines.specs.Writing.{Writes, WritesAll};
 
 use starlark_lexed_text::LexedText;
+use starlark_lines::devices::WriteDevice;
 use starlark_lines::ends::{RunFault, RunStatus};
 use starlark_lines::place::Place;
 use starlark_lines::printer::Printer;
 use starlark_lines::watched::Watched;
 use std::alloc::Global;
-use std::io::Write;
 
 /// Puts the lines of a lexed text, and says whether the text has a fault.
-fn put_lexed<W: Write>(
+fn put_lexed<W: WriteDevice>(
     printer: &mut Printer,
     writer: &mut Watched<W>,
     name: &str,
@@ -25,7 +25,7 @@ fn put_lexed<W: Write>(
 ) -> Result<RunStatus, RunFault>
     requires sound { writer.old.failed ≡ false }
     requires lexed { (file : SourceFile) × IsLexed file lexed.now }
-    ensures writes { Writes W.contents writer.old writer.new (printer.old.buffer ++ output name.now lexed.now.text) printer.new.buffer result }
+    ensures writes { Writes W.calls writer.old writer.new (printer.old.buffer ++ output name.now lexed.now.text) printer.new.buffer result }
     ensures status { IfOk result (λ status. status ≡ status_of (outcome lexed.now.text).fault) }
 {
     let text = lexed.text();
@@ -41,7 +41,7 @@ fn put_lexed<W: Write>(
 }
 
 /// Prints the output for a lexed text that has this name, and says whether it has a fault.
-pub fn print_lexed<W: Write>(
+pub fn print_lexed<W: WriteDevice>(
     alloc: Global,
     name: &str,
     lexed: &LexedText<'_>,
@@ -49,7 +49,7 @@ pub fn print_lexed<W: Write>(
 ) -> Result<RunStatus, RunFault>
     requires sound { writer.old.failed ≡ false }
     requires lexed { (file : SourceFile) × IsLexed file lexed.now }
-    ensures writes { Writes W.contents writer.old writer.new (output name.now lexed.now.text) [] result }
+    ensures writes { WritesAll W.calls writer.old writer.new (output name.now lexed.now.text) result }
     ensures status { IfOk result (λ status. status ≡ status_of (outcome lexed.now.text).fault) }
 {
     let mut printer = Printer::new(alloc)?;

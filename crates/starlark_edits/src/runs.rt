@@ -1,18 +1,19 @@
 //! Reads a text, edits it, and prints its lexemes.
 
 ghost use Rattle.std.specs.Prelude.{◌≡◌, ◌↔◌, ℕ, List, true, false, OnOk, IsErrOf};
-ghost use Rattle.std.specs.Io.KnownBytes.{Consumes};
+ghost use Rattle.std.specs.Io.KnownBytes.{IsAtEnd};
+ghost use Rattle.starlark_lines.specs.Calls.{Came};
 ghost use Rattle.starlark_lines.specs.Runs.{IsRun};
 ghost use Rattle.starlark_edits.specs.Edits.{text_after};
 
 use crate::edits::Edit;
 use crate::printing::print_lexed;
 use crate::versions::{relexed, versions_of};
+use starlark_lines::devices::{ReadDevice, WriteDevice};
 use starlark_lines::ends::{RunFault, RunStatus};
 use starlark_lines::reading::read_text;
 use starlark_lines::watched::Watched;
 use std::alloc::Global;
-use std::io::{Read, Write};
 
 /// Reads a text to its end as `run` does, edits it, and prints what `run` prints of the text that the edits leave. Each
 /// edit is one of the text that those before it leave.
@@ -21,7 +22,7 @@ use std::io::{Read, Write};
 /// that is refused is told, and nothing is written then. All edits are tried before anything is lexed. Behind them only
 /// what stands behind the last place before an edit at which the text may be cut is lexed again. The texts that the edits
 /// leave are all held until then.
-pub fn run_edits<R: Read, W: Write>(
+pub fn run_edits<R: ReadDevice, W: WriteDevice>(
     alloc: Global,
     name: &str,
     reader: &mut Watched<R>,
@@ -32,14 +33,17 @@ pub fn run_edits<R: Read, W: Write>(
     requires reader_not_ended { reader.old.ended ≡ false }
     requires writer_sound { writer.old.failed ≡ false }
 
-    // What was read and what was written, by how the run ended.
-    ensures run { (came : List ℕ) × Consumes (R.remaining reader.old.device) (R.remaining reader.new.device) came
-        × IsRun W.contents name.now came (text_after 0 came edits.now) reader.new writer.old writer.new result }
+    // What was read and what was written, by which calls, by how the run ended.
+    ensures run { (came : List ℕ) × Came R.calls reader.old.device reader.new.device reader.new.ended reader.new.failed came
+        × IsRun W.calls name.now came (text_after 0 came edits.now) reader.new writer.old writer.new result }
 
     // The faults of the devices are told, and no others are.
     ensures read { IsErrOf result RunFault.Read ↔ (reader.new.failed ≡ true) }
     ensures write { IsErrOf result RunFault.Write ↔ (writer.new.failed ≡ true) }
     ensures ended { OnOk result (reader.new.ended ≡ true) }
+
+    // The input was read to its end.
+    ensures nothing_left { OnOk result (IsAtEnd (R.calls.remaining reader.new.device)) }
 {
     let first = read_text(alloc, reader)?;
     let versions = versions_of(alloc, first.as_str(), edits)?;

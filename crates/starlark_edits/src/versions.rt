@@ -3,10 +3,10 @@
 ghost use Rattle.std.specs.Prelude.{◌≡◌, ◌≤◌, ◌+◌, IfErr, IfOk, Ok, length, string_bytes};
 ghost use Rattle.starlark_base.specs.Sources.{SourceFile};
 ghost use Rattle.starlark_edits.specs.Edits.{text_after, text_after_one};
-ghost use Rattle.starlark_edits.specs.Joints.Versions.{AreVersions, Follows, IsRefusal, newest_text};
+ghost use Rattle.starlark_edits.specs.Joints.Versions.{AreVersions, Follows, IsRefusal, WasLexed, WasRelexed, newest_text};
 ghost use Rattle.starlark_lines.specs.declared.ends.RunFault.TheVariants.{Memory};
 ghost use Rattle.starlark_lines.specs.declared.ends.TheConstants.{GREATEST_LEN};
-ghost use Rattle.starlark_lexed_text.specs.LexedTexts.{IsLexed};
+ghost use Rattle.starlark_lexed_text.specs.LexedTexts.{IsLexed, LexedView};
 
 use crate::edits::{Edit, edited, fits, kept_len};
 use starlark_base::codemap::{CodeMap, OrMemory};
@@ -74,6 +74,7 @@ fn lex_first<'v>(alloc: Global, text: &'v str, file: CodeMap) -> Result<LexedTex
     requires { length text.now ≤ GREATEST_LEN }
     ensures text { IfOk result (λ lexed. lexed.text ≡ text.now) }
     ensures lexed { IfOk result (λ lexed. IsLexed file lexed) }
+    ensures reads { IfOk result (WasLexed text.now) }
     ensures refused { IfErr result (λ fault. fault ≡ Memory) }
 {
     match LexedText::lex(alloc, text, &Dialect::Extended, file) {
@@ -93,6 +94,7 @@ pub fn relexed<'v>(
     requires versions { AreVersions first.now versions.now }
     ensures text { IfOk result (λ lexed. lexed.text ≡ newest_text first.now versions.now) }
     ensures lexed { IfOk result (λ lexed. (file : SourceFile) × IsLexed file lexed) }
+    ensures relexed { IfOk result (λ lexed. (start : LexedView) × WasLexed first.now start × WasRelexed start versions.now lexed) }
     ensures refused { IfErr result (λ fault. fault ≡ Memory) }
 {
     let file = empty_file(alloc)?;

@@ -2,4 +2,5 @@ mod Rows
 pub mod Items
 pub mod Places
 pub mod Endings
+pub mod Calls
 pub mod Writing

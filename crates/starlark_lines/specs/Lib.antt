@@ -1,3 +1,4 @@
+pub mod Calls
 pub mod Watch
 pub mod Places
 pub mod Output

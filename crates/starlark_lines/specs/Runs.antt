@@ -1,10 +1,10 @@
 -- What a run read and wrote, by how it ended.
-use Rattle.std.specs.Prelude.{◌≡◌, ◌≤◌, ◌<◌, true, false, ◌⊎◌, [], length, Option, Some, None, Result, Ok, Err}
-use Rattle.std.specs.Io.KnownBytes.{Appends}
+use Rattle.std.specs.Prelude.{◌≡◌, ◌≤◌, ◌<◌, true, false, ◌⊎◌, length, Option, Some, None, Result, Ok, Err}
 use Rattle.std.specs.Str.{IsUtf8}
 use Rattle.starlark_base.specs.Places.{Text}
 use Rattle.starlark_grammar.specs.Reading.{outcome}
 use Rattle.starlark_grammar.specs.Tokens as grammar
+use Rattle.starlark_lines.specs.Calls.{WriterCalls, Going, Done, Broken, Went}
 use Rattle.starlark_lines.specs.Output.{output}
 use Rattle.starlark_lines.specs.Watch.{Watch}
 use Rattle.starlark_lines.specs.Writing.{TakesBeginning}
@@ -47,10 +47,14 @@ IsRead bytes_of came reader (Err Read) = IsBroken reader came
 IsRead bytes_of came reader (Err Memory) = IsStopped reader came
 IsRead bytes_of came reader (Err fault) = ⊥
 
--- the writer took all of the text and nothing else, and didn't fail
-pub record TookAll {W : Type 0} (contents : W → Option Text) (old new : Watch W) (text : Text) : Type 0 where
-  pub bytes : Appends (contents old.device) (contents new.device) text
+-- the writer took all of the text and nothing else, was flushed then, and didn't fail
+pub record TookAll {W : Type 0} (calls : WriterCalls W) (old new : Watch W) (text : Text) : Type 0 where
+  pub went : Went calls Done old.device new.device text
   pub sound : new.failed ≡ false
+
+-- the writer wasn't called
+abbrev pub IsUntouched : {W : Type 0} → (old new : Watch W) → Type 0
+IsUntouched old new = new ≡ old
 
 -- whether a text is read whole or up to a fault
 abbrev pub status_of : Option (grammar.Spanned grammar.Fault) → RunStatus
@@ -58,24 +62,24 @@ status_of None = Clean
 status_of (Some fault) = Fault
 
 -- What the writer took, by how printing ended. `last` is the text that is printed, or the fault for which there is none: then
--- nothing is written. `name` is printed before the place of a fault.
-abbrev pub IsPrinted : {W : Type 0} → (W → Option Text) → (name : Text) → (last : Result Text RunFault) → (old new : Watch W) → Result RunStatus RunFault → Type 0
-IsPrinted contents name (Ok text) old new (Ok status) = TookAll contents old new (output name text) × (status ≡ status_of (outcome text).fault)
-IsPrinted contents name (Ok text) old new (Err Write) = TakesBeginning contents old new (output name text) × (new.failed ≡ true)
-IsPrinted contents name (Ok text) old new (Err Memory) = TakesBeginning contents old new (output name text) × (new.failed ≡ false)
-IsPrinted contents name (Err TooLong) old new (Err TooLong) = TookAll contents old new []
-IsPrinted contents name (Err (BadEdit at)) old new (Err (BadEdit told)) = TookAll contents old new [] × (told ≡ at)
-IsPrinted contents name (Err fault) old new (Err Memory) = TookAll contents old new []
-IsPrinted contents name last old new result = ⊥
+-- the writer isn't called. `name` is printed before the place of a fault. A call of the writer that failed is its last one.
+abbrev pub IsPrinted : {W : Type 0} → WriterCalls W → (name : Text) → (last : Result Text RunFault) → (old new : Watch W) → Result RunStatus RunFault → Type 0
+IsPrinted calls name (Ok text) old new (Ok status) = TookAll calls old new (output name text) × (status ≡ status_of (outcome text).fault)
+IsPrinted calls name (Ok text) old new (Err Write) = TakesBeginning calls Broken old new (output name text) × (new.failed ≡ true)
+IsPrinted calls name (Ok text) old new (Err Memory) = TakesBeginning calls Going old new (output name text) × (new.failed ≡ false)
+IsPrinted calls name (Err TooLong) old new (Err TooLong) = IsUntouched old new
+IsPrinted calls name (Err (BadEdit at)) old new (Err (BadEdit told)) = IsUntouched old new × (told ≡ at)
+IsPrinted calls name (Err fault) old new (Err Memory) = IsUntouched old new
+IsPrinted calls name last old new result = ⊥
 
 -- What came from the reader, and what the writer took, by how the run ended. `last` is what is made of the text that came.
-abbrev pub IsRun : {R W : Type 0} → (W → Option Text) → (name came : Text) → (last : Result Text RunFault) → Watch R → (old new : Watch W) → Result RunStatus RunFault → Type 0
-IsRun contents name came last reader old new (Err NotUtf8) = IsWhole reader came × (¬ IsUtf8 came) × TookAll contents old new []
-IsRun contents name came last reader old new (Err Read) = IsBroken reader came × TookAll contents old new []
-IsRun contents name came last reader old new (Err TooLong) =
-    (IsTooLong reader came × TookAll contents old new [])
-    ⊎ (IsWhole reader came × IsUtf8 came × IsPrinted contents name last old new (Err TooLong))
-IsRun contents name came last reader old new (Err Memory) =
-    (IsStopped reader came × TookAll contents old new [])
-    ⊎ (IsWhole reader came × IsUtf8 came × IsPrinted contents name last old new (Err Memory))
-IsRun contents name came last reader old new result = IsWhole reader came × IsUtf8 came × IsPrinted contents name last old new result
+abbrev pub IsRun : {R W : Type 0} → WriterCalls W → (name came : Text) → (last : Result Text RunFault) → Watch R → (old new : Watch W) → Result RunStatus RunFault → Type 0
+IsRun calls name came last reader old new (Err NotUtf8) = IsWhole reader came × (¬ IsUtf8 came) × IsUntouched old new
+IsRun calls name came last reader old new (Err Read) = IsBroken reader came × IsUntouched old new
+IsRun calls name came last reader old new (Err TooLong) =
+    (IsTooLong reader came × IsUntouched old new)
+    ⊎ (IsWhole reader came × IsUtf8 came × IsPrinted calls name last old new (Err TooLong))
+IsRun calls name came last reader old new (Err Memory) =
+    (IsStopped reader came × IsUntouched old new)
+    ⊎ (IsWhole reader came × IsUtf8 came × IsPrinted calls name last old new (Err Memory))
+IsRun calls name came last reader old new result = IsWhole reader came × IsUtf8 came × IsPrinted calls name last old new result

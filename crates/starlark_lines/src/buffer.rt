@@ -1,12 +1,12 @@
 //! A buffer in front of a writer.
 
 ghost use Rattle.std.specs.Prelude.{◌≡◌, ◌≤◌, ◌+◌, ◌⊎◌, ◌++◌, [], false, length, IfOk, OnOk};
-ghost use Rattle.starlark_lines.specs.Writing.{Writes};
+ghost use Rattle.starlark_lines.specs.Writing.{Writes, WritesAll};
 
+use crate::devices::WriteDevice;
 use crate::ends::RunFault;
 use crate::watched::Watched;
 use std::alloc::{AllocError, Global};
-use std::io::Write;
 use std::marker::Model;
 
 /// How many bytes a buffer holds.
@@ -28,9 +28,9 @@ impl Model for Buffer {
 
 #[tactic(auto, unfolding(crate::specs::Writing::Writes))]
 /// Writes all of the bytes, or up to the first failure.
-fn write_all<W: Write>(writer: &mut Watched<W>, bytes: &[u8]) -> Result<(), RunFault>
+fn write_all<W: WriteDevice>(writer: &mut Watched<W>, bytes: &[u8]) -> Result<(), RunFault>
     requires { writer.old.failed ≡ false }
-    ensures { Writes W.contents writer.old writer.new bytes.now [] result }
+    ensures { Writes W.calls writer.old writer.new bytes.now [] result }
 {
     let mut written = 0;
     while written < bytes.len() {
@@ -54,9 +54,9 @@ impl Buffer {
 
     #[tactic(auto, unfolding(crate::specs::Writing::Writes))]
     /// Writes what waits.
-    fn send<W: Write>(&mut self, writer: &mut Watched<W>) -> Result<(), RunFault>
+    fn send<W: WriteDevice>(&mut self, writer: &mut Watched<W>) -> Result<(), RunFault>
         requires { writer.old.failed ≡ false }
-        ensures writes { Writes W.contents writer.old writer.new self.old [] result }
+        ensures writes { Writes W.calls writer.old writer.new self.old [] result }
         ensures empty { OnOk result (self.new ≡ []) }
     {
         write_all(writer, self.waiting.as_slice())?;
@@ -66,10 +66,14 @@ impl Buffer {
 
     #[tactic(auto, unfolding(crate::specs::Writing::Writes))]
     /// Makes room for so many bytes, or as much as there can be.
-    fn make_room<W: Write>(&mut self, writer: &mut Watched<W>, len: usize) -> Result<(), RunFault>
+    fn make_room<W: WriteDevice>(
+        &mut self,
+        writer: &mut Watched<W>,
+        len: usize,
+    ) -> Result<(), RunFault>
         requires { writer.old.failed ≡ false }
         ensures room { OnOk result ((self.new ≡ []) ⊎ (length self.new + len ≤ BUFFER_LEN)) }
-        ensures writes { Writes W.contents writer.old writer.new self.old self.new result }
+        ensures writes { Writes W.calls writer.old writer.new self.old self.new result }
     {
         if len >= BUFFER_LEN || self.waiting.len() > BUFFER_LEN - len {
             return self.send(writer);
@@ -78,10 +82,14 @@ impl Buffer {
     }
 
     /// Adds a text to what waits. A text that is as long as the buffer is written as it is.
-    pub fn put<W: Write>(&mut self, writer: &mut Watched<W>, text: &[u8]) -> Result<(), RunFault>
+    pub fn put<W: WriteDevice>(
+        &mut self,
+        writer: &mut Watched<W>,
+        text: &[u8],
+    ) -> Result<(), RunFault>
         requires { writer.old.failed ≡ false }
         ensures held { OnOk result (length self.new ≤ BUFFER_LEN) }
-        ensures writes { Writes W.contents writer.old writer.new (self.old ++ text.now) self.new result }
+        ensures writes { Writes W.calls writer.old writer.new (self.old ++ text.now) self.new result }
     {
         self.make_room(writer, text.len())?;
         if self.waiting.is_empty() && text.len() >= BUFFER_LEN {
@@ -91,13 +99,15 @@ impl Buffer {
         Ok(())
     }
 
-    #[tactic(auto, unfolding(crate::specs::Writing::Writes))]
     /// Writes what waits, and flushes the writer.
-    pub fn finish<W: Write>(&mut self, writer: &mut Watched<W>) -> Result<(), RunFault>
+    pub fn finish<W: WriteDevice>(&mut self, writer: &mut Watched<W>) -> Result<(), RunFault>
         requires { writer.old.failed ≡ false }
-        ensures { Writes W.contents writer.old writer.new self.old [] result }
+        ensures { WritesAll W.calls writer.old writer.new self.old result }
     {
         self.send(writer)?;
-        writer.flush().map_err(|_| RunFault::Write)
+        match writer.flush() {
+            Ok(()) => Ok(()),
+            Err(_) => Err(RunFault::Write),
+        }
     }
 }

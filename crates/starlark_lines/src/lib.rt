@@ -3,6 +3,7 @@
 #![tactic(auto)]
 
 pub mod buffer;
+pub mod devices;
 pub mod ends;
 mod lines;
 pub mod place;

@@ -15,6 +15,7 @@ ghost use Rattle.starlark_token.specs.Lexemes.{lexeme_view};
 ghost use Rattle.starlark_token.specs.TextItems.{Given};
 
 use crate::buffer::Buffer;
+use crate::devices::WriteDevice;
 use crate::ends::RunFault;
 use crate::lines::{fault_line, lexeme_line};
 use crate::place::Place;
@@ -24,7 +25,6 @@ use starlark_error::error::ErrorKind;
 use starlark_error::eval_exception::EvalException;
 use starlark_token::tokens::Token;
 use std::alloc::{AllocError, Global};
-use std::io::Write;
 
 /// The line that is made, and the lines that wait to be written.
 #[derive(Drop)]
@@ -46,7 +46,7 @@ impl Printer {
     }
 
     /// Puts the line of a lexeme that stands behind a place, and says the place at its end.
-    pub fn put_lexeme<W: Write>(
+    pub fn put_lexeme<W: WriteDevice>(
         &mut self,
         writer: &mut Watched<W>,
         text: &str,
@@ -59,7 +59,7 @@ impl Printer {
         requires order { lexeme.now.0 ≤ lexeme.now.2 }
         requires begin { IsCharBoundary text.now lexeme.now.0 }
         requires end { IsCharBoundary text.now lexeme.now.2 }
-        ensures writes { Writes W.contents writer.old writer.new
+        ensures writes { Writes W.calls writer.old writer.new
             (self.old.buffer ++ item_line [] text.now (Given (lexeme_view lexeme.now))) self.new.buffer result }
         ensures at { IfOk result (λ place. place.at ≡ lexeme.now.2) }
         ensures place { IfOk result (λ place. IsPlace text.now place) }
@@ -73,7 +73,7 @@ impl Printer {
     }
 
     /// Puts the line of a lexeme, as `put_lexeme` does, and drops it.
-    pub fn lexeme<W: Write>(
+    pub fn lexeme<W: WriteDevice>(
         &mut self,
         writer: &mut Watched<W>,
         text: &str,
@@ -86,7 +86,7 @@ impl Printer {
         requires order { lexeme.0 ≤ lexeme.2 }
         requires begin { IsCharBoundary text.now lexeme.0 }
         requires end { IsCharBoundary text.now lexeme.2 }
-        ensures writes { Writes W.contents writer.old writer.new
+        ensures writes { Writes W.calls writer.old writer.new
             (self.old.buffer ++ item_line [] text.now (Given (lexeme_view lexeme))) self.new.buffer result }
         ensures at { IfOk result (λ place. place.at ≡ lexeme.2) }
         ensures place { IfOk result (λ place. IsPlace text.now place) }
@@ -95,7 +95,7 @@ impl Printer {
     }
 
     /// Puts the line of a fault of a text that has this name. The fault may begin before the place.
-    fn fault<W: Write>(
+    fn fault<W: WriteDevice>(
         &mut self,
         writer: &mut Watched<W>,
         name: &str,
@@ -109,7 +109,7 @@ impl Printer {
         requires order { span.begin ≤ span.end }
         requires begin { IsCharBoundary text.now span.begin }
         requires end { IsCharBoundary text.now span.end }
-        ensures { Writes W.contents writer.old writer.new
+        ensures { Writes W.calls writer.old writer.new
             (self.old.buffer ++ fault_text span.begin span.end name.now (place_text text.now span.begin span.end) (kind_text kind.now)) self.new.buffer result }
     {
         let begin = place.moved_to(text, span.begin().get() as usize);
@@ -119,7 +119,7 @@ impl Printer {
     }
 
     /// Puts the line of the fault of a text that has this name. The fault may begin before the place.
-    pub fn exception<W: Write>(
+    pub fn exception<W: WriteDevice>(
         &mut self,
         writer: &mut Watched<W>,
         name: &str,
@@ -130,7 +130,7 @@ impl Printer {
         requires sound { writer.old.failed ≡ false }
         requires here { IsPlace text.now place }
         requires thrown { (file : SourceFile) × IsFaultIn file (outcome text.now).fault (Some exception.now) }
-        ensures { Writes W.contents writer.old writer.new (self.old.buffer ++ fault_lines name.now text.now) self.new.buffer result }
+        ensures { Writes W.calls writer.old writer.new (self.old.buffer ++ fault_lines name.now text.now) self.new.buffer result }
     {
         let span = place_of(exception).span;
         self.fault(writer, name, text, place, span, exception.error().kind())

@@ -1,15 +1,16 @@
 //! Reads a text to the end of a reader.
 
 ghost use Rattle.std.specs.Prelude.{◌≡◌, ◌+◌, ◌<◌, ◌≤◌, ◌||◌, ℕ, List, length, take, drop, string_bytes, false, is_err, IfOk, OnOk};
-ghost use Rattle.std.specs.Io.KnownBytes.{Consumes, ReadConsumes};
+ghost use Rattle.std.specs.Io.KnownBytes.{ReadConsumes};
+ghost use Rattle.starlark_lines.specs.Calls.{Came, count_of};
 ghost use Rattle.starlark_lines.specs.Runs.{IsRead};
 ghost use Rattle.starlark_lines.specs.Watch.{reads_end};
 
+use crate::devices::ReadDevice;
 use crate::ends::{GREATEST_LEN, RunFault};
 use crate::watched::Watched;
 use std::alloc::{AllocError, Global};
 use std::io;
-use std::io::Read;
 
 /// How many bytes a read has room for, at least.
 const CHUNK_LEN: usize = 65_536;
@@ -28,7 +29,7 @@ fn make_room(bytes: &mut Vec<u8>, filled: usize) -> Result<(), AllocError>
 }
 
 /// Reads into the room behind the first `filled` bytes, and leaves those as they are.
-fn read_behind<R: Read>(
+fn read_behind<R: ReadDevice>(
     reader: &mut Watched<R>,
     bytes: &mut Vec<u8>,
     filled: usize,
@@ -37,7 +38,8 @@ fn read_behind<R: Read>(
     ensures len { length bytes.new.items ≡ length bytes.old.items }
     ensures front { take filled bytes.new.items ≡ take filled bytes.old.items }
     ensures within { IfOk result (λ count. filled + count ≤ length bytes.new.items) }
-    ensures bytes { ReadConsumes (R.remaining reader.old.device) (R.remaining reader.new.device) result (drop filled bytes.new.items) }
+    ensures bytes { ReadConsumes (R.calls.remaining reader.old.device) (R.calls.remaining reader.new.device) result (drop filled bytes.new.items) }
+    ensures call { R.calls.read reader.old.device (drop filled bytes.new.items) (count_of result) reader.new.device }
     ensures failed { reader.new.failed ≡ (reader.old.failed || is_err result) }
     ensures ended { reader.new.ended ≡ (reader.old.ended || reads_end result (drop filled bytes.new.items)) }
 {
@@ -46,10 +48,10 @@ fn read_behind<R: Read>(
 }
 
 /// Reads all that comes, in chunks, into one buffer that grows.
-fn read_bytes<R: Read>(alloc: Global, reader: &mut Watched<R>) -> Result<Vec<u8>, RunFault>
+fn read_bytes<R: ReadDevice>(alloc: Global, reader: &mut Watched<R>) -> Result<Vec<u8>, RunFault>
     requires sound { reader.old.failed ≡ false }
     requires not_ended { reader.old.ended ≡ false }
-    ensures { (came : List ℕ) × Consumes (R.remaining reader.old.device) (R.remaining reader.new.device) came
+    ensures { (came : List ℕ) × Came R.calls reader.old.device reader.new.device reader.new.ended reader.new.failed came
         × IsRead (λ bytes. bytes.items) came reader.new result }
 {
     let mut bytes = Vec::new(alloc);
@@ -69,10 +71,10 @@ fn read_bytes<R: Read>(alloc: Global, reader: &mut Watched<R>) -> Result<Vec<u8>
 }
 
 /// Reads a text to the reader's end.
-pub fn read_text<R: Read>(alloc: Global, reader: &mut Watched<R>) -> Result<String, RunFault>
+pub fn read_text<R: ReadDevice>(alloc: Global, reader: &mut Watched<R>) -> Result<String, RunFault>
     requires sound { reader.old.failed ≡ false }
     requires not_ended { reader.old.ended ≡ false }
-    ensures { (came : List ℕ) × Consumes (R.remaining reader.old.device) (R.remaining reader.new.device) came
+    ensures { (came : List ℕ) × Came R.calls reader.old.device reader.new.device reader.new.ended reader.new.failed came
         × IsRead string_bytes came reader.new result }
 {
     let bytes = read_bytes(alloc, reader)?;

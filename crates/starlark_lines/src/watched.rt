@@ -1,12 +1,13 @@
 //! A reader or a writer that remembers whether it failed or ended.
 
-ghost use Rattle.std.specs.Prelude.{◌≡◌, ◌||◌, true, false, is_err};
+ghost use Rattle.std.specs.Prelude.{◌≡◌, ◌||◌, true, false, is_err, IfErr};
 ghost use Rattle.std.specs.Io.{ReadsAtMost, WritesAtMost};
 ghost use Rattle.std.specs.Io.KnownBytes.{Keeps, ReadConsumes, WriteAppends};
+ghost use Rattle.starlark_lines.specs.Calls.{count_of, is_ok_of};
 ghost use Rattle.starlark_lines.specs.Watch.{reads_end, fails_to_write};
 
+use crate::devices::{ReadDevice, WriteDevice};
 use std::io;
-use std::io::{Read, Write};
 use std::marker::Model;
 
 /// A device, and two flags that rise and never fall: whether a call of it failed, and whether a
@@ -62,15 +63,18 @@ impl<D> Watched<D> {
     }
 }
 
-impl<D: Read> Watched<D> {
-    /// Reads from the device as `std::io::Read::read` does, and answers what it answered.
+impl<D: ReadDevice> Watched<D> {
+    /// Reads from the device by one call of it, as `std::io::Read::read` does, and returns what it
+    /// returned. A call that failed isn't tried again.
     pub fn read(&mut self, buf: &mut [u8]) -> io::Result<usize>
         ensures bound { ReadsAtMost result buf.new }
-        ensures bytes { ReadConsumes (D.remaining self.old.device) (D.remaining self.new.device) result buf.new }
+        ensures bytes { ReadConsumes (D.calls.remaining self.old.device) (D.calls.remaining self.new.device) result buf.new }
+        ensures call { D.calls.read self.old.device buf.new (count_of result) self.new.device }
+        ensures failure { IfErr result (λ error. D.calls.failure self.old.device error self.new.device) }
         ensures failed { self.new.failed ≡ (self.old.failed || is_err result) }
         ensures ended { self.new.ended ≡ (self.old.ended || reads_end result buf.new) }
     {
-        let result = self.device.read(buf);
+        let result = self.device.read_once(buf);
         match &result {
             Ok(count) => {
                 if *count == 0 && !buf.is_empty() {
@@ -83,15 +87,18 @@ impl<D: Read> Watched<D> {
     }
 }
 
-impl<D: Write> Watched<D> {
-    /// Writes to the device as `std::io::Write::write` does, and answers what it answered.
+impl<D: WriteDevice> Watched<D> {
+    /// Writes to the device by one call of it, as `std::io::Write::write` does, and returns what it
+    /// returned. A call that failed isn't tried again.
     pub fn write(&mut self, buf: &[u8]) -> io::Result<usize>
         ensures bound { WritesAtMost result buf.now }
-        ensures bytes { WriteAppends (D.contents self.old.device) (D.contents self.new.device) result buf.now }
+        ensures bytes { WriteAppends (D.calls.contents self.old.device) (D.calls.contents self.new.device) result buf.now }
+        ensures call { D.calls.write self.old.device buf.now (count_of result) self.new.device }
+        ensures failure { IfErr result (λ error. D.calls.failure self.old.device error self.new.device) }
         ensures failed { self.new.failed ≡ (self.old.failed || fails_to_write result buf.now) }
         ensures ended { self.new.ended ≡ self.old.ended }
     {
-        let result = self.device.write(buf);
+        let result = self.device.write_once(buf);
         match &result {
             Ok(count) => {
                 if *count == 0 && !buf.is_empty() {
@@ -103,13 +110,16 @@ impl<D: Write> Watched<D> {
         result
     }
 
-    /// Flushes the device as `std::io::Write::flush` does, and answers what it answered.
+    /// Flushes the device by one call of it, as `std::io::Write::flush` does, and returns what it
+    /// returned. A call that failed isn't tried again.
     pub fn flush(&mut self) -> io::Result<()>
-        ensures bytes { Keeps (D.contents self.old.device) (D.contents self.new.device) }
+        ensures bytes { Keeps (D.calls.contents self.old.device) (D.calls.contents self.new.device) }
+        ensures call { D.calls.flush self.old.device (is_ok_of result) self.new.device }
+        ensures failure { IfErr result (λ error. D.calls.failure self.old.device error self.new.device) }
         ensures failed { self.new.failed ≡ (self.old.failed || is_err result) }
         ensures ended { self.new.ended ≡ self.old.ended }
     {
-        let result = self.device.flush();
+        let result = self.device.flush_once();
         if result.is_err() {
             self.failed = true;
         }

@@ -4,22 +4,22 @@ ghost use Rattle.std.specs.Prelude.{◌≡◌, ◌≤◌, ◌++◌, [], length, 
 ghost use Rattle.starlark_grammar.specs.Reading.{outcome};
 ghost use Rattle.starlark_lines.specs.Output.{output};
 ghost use Rattle.starlark_lines.specs.Runs.{status_of};
-ghost use Rattle.starlark_lines.specs.Writing.{Writes};
+ghost use Rattle.starlark_lines.specs.Writing.{Writes, WritesAll};
 ghost use Rattle.starlark_lines.specs.declared.ends.RunFault.TheVariants.{Memory};
 ghost use Rattle.starlark_lines.specs.declared.ends.TheConstants.{GREATEST_LEN};
 
 use starlark_base::codemap::{OrMemory, SourceTooLong};
 use starlark_lexer::Lexer;
+use starlark_lines::devices::WriteDevice;
 use starlark_lines::ends::{RunFault, RunStatus};
 use starlark_lines::place::Place;
 use starlark_lines::printer::{Printer, empty_file};
 use starlark_lines::watched::Watched;
 use starlark_text::dialect::Dialect;
 use std::alloc::Global;
-use std::io::Write;
 
 /// Puts the lines of a text, of which the lexer has handed out nothing yet, and says whether the text has a fault.
-fn put_items<W: Write>(
+fn put_items<W: WriteDevice>(
     printer: &mut Printer,
     writer: &mut Watched<W>,
     name: &str,
@@ -28,7 +28,7 @@ fn put_items<W: Write>(
 ) -> Result<RunStatus, RunFault>
     requires sound { writer.old.failed ≡ false }
     requires fresh { lexer.old ≡ record { text = text.now; code_map = lexer.old.code_map; handed_out = 0; has_ended = false } }
-    ensures writes { Writes W.contents writer.old writer.new (printer.old.buffer ++ output name.now text.now) printer.new.buffer result }
+    ensures writes { Writes W.calls writer.old writer.new (printer.old.buffer ++ output name.now text.now) printer.new.buffer result }
     ensures status { IfOk result (λ status. status ≡ status_of (outcome text.now).fault) }
 {
     let mut place = Place::START;
@@ -59,7 +59,7 @@ fn lexer_of(alloc: Global, text: &str) -> Result<Lexer<'_>, RunFault>
 }
 
 /// Prints the output for a text that has this name, and says whether it has a fault.
-pub fn print<W: Write>(
+pub fn print<W: WriteDevice>(
     alloc: Global,
     name: &str,
     text: &str,
@@ -67,7 +67,7 @@ pub fn print<W: Write>(
 ) -> Result<RunStatus, RunFault>
     requires sound { writer.old.failed ≡ false }
     requires fits { length text.now ≤ GREATEST_LEN }
-    ensures writes { Writes W.contents writer.old writer.new (output name.now text.now) [] result }
+    ensures writes { WritesAll W.calls writer.old writer.new (output name.now text.now) result }
     ensures status { IfOk result (λ status. status ≡ status_of (outcome text.now).fault) }
 {
     let mut lexer = lexer_of(alloc, text)?;

@@ -9,18 +9,23 @@ use std::test::Fail;
 
 const MANY: usize = 1_000_000;
 
-/// A reader that gives so many bytes a call, and fails once its calls are used up.
+/// A reader that gives so many bytes a call. Once its calls are used up it fails, and where it
+/// recovers, works again after one failure.
 #[derive(Drop)]
 struct Source<'b> {
     rest: &'b [u8],
     piece: usize,
     calls: usize,
     kind: ErrorKind,
+    recovers: bool,
 }
 
 impl Read for Source<'_> {
     fn read(&mut self, buf: &mut [u8]) -> io::Result<usize> {
         if self.calls == 0 {
+            if self.recovers {
+                self.calls = MANY;
+            }
             return Err(io::Error::from(self.kind));
         }
         self.calls -= 1;
@@ -30,7 +35,8 @@ impl Read for Source<'_> {
 }
 
 /// A writer that takes so many bytes a call. Once its calls are used up it fails, or takes nothing
-/// where there is no kind of failure. It compares what comes with what is wanted.
+/// where there is no kind of failure. So many of its flushes fail. Where it recovers, it works again
+/// after one failed write. It compares what comes with what is wanted.
 #[derive(Drop)]
 struct Sink<'b> {
     wanted: &'b [u8],
@@ -38,12 +44,16 @@ struct Sink<'b> {
     piece: usize,
     calls: usize,
     failure: Option<ErrorKind>,
-    flush_fails: bool,
+    failing_flushes: usize,
+    recovers: bool,
 }
 
 impl Write for Sink<'_> {
     fn write(&mut self, buf: &[u8]) -> io::Result<usize> {
         if self.calls == 0 {
+            if self.recovers {
+                self.calls = MANY;
+            }
             return match self.failure {
                 Some(kind) => Err(io::Error::from(kind)),
                 None => Ok(0),
@@ -59,10 +69,11 @@ impl Write for Sink<'_> {
     }
 
     fn flush(&mut self) -> io::Result<()> {
-        if self.flush_fails {
-            return Err(io::Error::from(ErrorKind::Other));
+        if self.failing_flushes == 0 {
+            return Ok(());
         }
-        Ok(())
+        self.failing_flushes -= 1;
+        Err(io::Error::from(self.failure.unwrap_or(ErrorKind::Other)))
     }
 }
 
@@ -73,6 +84,7 @@ fn source_of(rest: &[u8], piece: usize) -> Source<'_> {
         piece,
         calls: MANY,
         kind: ErrorKind::Other,
+        recovers: false,
     }
 }
 
@@ -84,7 +96,8 @@ fn sink_of(wanted: &[u8], piece: usize) -> Sink<'_> {
         piece,
         calls: MANY,
         failure: None,
-        flush_fails: false,
+        failing_flushes: 0,
+        recovers: false,
     }
 }
 
@@ -151,11 +164,18 @@ fn check(
 #[test]
 fn readers_that_fail_or_give_no_text(rt: HostRuntime) -> Result<(), Fail> {
     let alloc = rt.alloc();
-    for kind in [ErrorKind::Other, ErrorKind::Interrupted] {
+    let kinds = [ErrorKind::Other, ErrorKind::Interrupted];
+    for (kind, recovers) in [
+        (kinds[0], false),
+        (kinds[0], true),
+        (kinds[1], false),
+        (kinds[1], true),
+    ] {
         for calls in 0..4 {
             let source = Source {
                 calls,
                 kind,
+                recovers,
                 ..source_of(b"abc", 1)
             };
             let want = "cannot read the input, reader failed, nothing missing";
@@ -185,12 +205,20 @@ fn writers_that_fail_or_take_nothing(rt: HostRuntime) -> Result<(), Fail> {
     let alloc = rt.alloc();
     let name = vec![in alloc; b'a'; 150_000]?;
     let lines = lines_of_name(alloc, name.as_slice())?;
-    let failures = [Some(ErrorKind::Other), Some(ErrorKind::Interrupted), None];
-    for failure in failures {
+    let failures = [
+        (Some(ErrorKind::Other), false),
+        (Some(ErrorKind::Other), true),
+        (Some(ErrorKind::Interrupted), false),
+        (Some(ErrorKind::Interrupted), true),
+        (None, false),
+        (None, true),
+    ];
+    for (failure, recovers) in failures {
         for calls in 0..7 {
             let sink = Sink {
                 calls,
                 failure,
+                recovers,
                 ..sink_of(lines.as_slice(), 30_000)
             };
             let missing = if calls == 0 { "all" } else { "an end" };
@@ -214,18 +242,20 @@ fn one_byte_a_call_and_a_failing_flush(rt: HostRuntime) -> Result<(), Fail> {
     let alloc = rt.alloc();
     let name = vec![in alloc; b'a'; 150_000]?;
     let lines = lines_of_name(alloc, name.as_slice())?;
+    let clean = "Clean, reader ended, nothing missing";
+    let failed = "cannot write the output, reader ended and writer failed, nothing missing";
     let rows = [
-        (1, false, "Clean, reader ended, nothing missing"),
-        (MANY, false, "Clean, reader ended, nothing missing"),
-        (
-            MANY,
-            true,
-            "cannot write the output, reader ended and writer failed, nothing missing",
-        ),
+        (1, 0, None, clean),
+        (MANY, 0, None, clean),
+        (MANY, 1, None, failed),
+        (MANY, 1, Some(ErrorKind::Interrupted), failed),
+        (MANY, MANY, None, failed),
+        (MANY, MANY, Some(ErrorKind::Interrupted), failed),
     ];
-    for (piece, flush_fails, want) in rows {
+    for (piece, failing_flushes, failure, want) in rows {
         let sink = Sink {
-            flush_fails,
+            failing_flushes,
+            failure,
             ..sink_of(lines.as_slice(), piece)
         };
         check(&rt, alloc, source_of(name.as_slice(), piece), sink, want)?;
@@ -233,29 +263,47 @@ fn one_byte_a_call_and_a_failing_flush(rt: HostRuntime) -> Result<(), Fail> {
     Ok(())
 }
 
-/// The kind of a reader's failure, as it is handed on.
+/// The kind of a reader's one failure. The call after it works.
 fn failure_of_read(kind: ErrorKind) -> Option<ErrorKind> {
     let source = Source {
         calls: 0,
         kind,
-        ..source_of(b"", 1)
+        recovers: true,
+        ..source_of(b"a", 1)
     };
-    match Watched::new(source).read(&mut [0]) {
-        Ok(_) => None,
-        Err(error) => Some(error.kind()),
+    let mut reader = Watched::new(source);
+    match (reader.read(&mut [0]), reader.read(&mut [0])) {
+        (Err(error), Ok(1)) => Some(error.kind()),
+        _ => None,
     }
 }
 
-/// The kind of a writer's failure, as it is handed on.
+/// The kind of a writer's one failed write. The call after it works.
 fn failure_of_write(kind: ErrorKind) -> Option<ErrorKind> {
     let sink = Sink {
         calls: 0,
         failure: Some(kind),
+        recovers: true,
+        ..sink_of(b"a", 1)
+    };
+    let mut writer = Watched::new(sink);
+    match (writer.write(b"a"), writer.write(b"a")) {
+        (Err(error), Ok(1)) => Some(error.kind()),
+        _ => None,
+    }
+}
+
+/// The kind of a writer's one failed flush. The call after it works.
+fn failure_of_flush(kind: ErrorKind) -> Option<ErrorKind> {
+    let sink = Sink {
+        failure: Some(kind),
+        failing_flushes: 1,
         ..sink_of(b"", 1)
     };
-    match Watched::new(sink).write(b"a") {
-        Ok(_) => None,
-        Err(error) => Some(error.kind()),
+    let mut writer = Watched::new(sink);
+    match (writer.flush(), writer.flush()) {
+        (Err(error), Ok(())) => Some(error.kind()),
+        _ => None,
     }
 }
 
@@ -268,6 +316,7 @@ fn watched_devices_answer_as_the_devices_do(rt: HostRuntime) -> Result<(), Fail>
     for kind in [ErrorKind::Other, ErrorKind::Interrupted] {
         assert!(rt; failure_of_read(kind) == Some(kind));
         assert!(rt; failure_of_write(kind) == Some(kind));
+        assert!(rt; failure_of_flush(kind) == Some(kind));
     }
     Ok(())
 }

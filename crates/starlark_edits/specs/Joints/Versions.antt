@@ -1,11 +1,12 @@
 -- The versions of a text, as the code keeps them.
-use Rattle.std.specs.Prelude.{◌≡◌, ◌≤◌, List, [], ◌∷◌, length, take, string_bytes, Result, Err, ⊤}
+use Rattle.std.specs.Prelude.{◌≡◌, ◌≤◌, ◌+◌, ◌*◌, List, [], ◌∷◌, length, take, string_bytes, Result, Err, ⊤}
 use Rattle.std.specs.Str.{IsCharBoundary}
 use Rattle.starlark_base.specs.Places.{Text}
 use Rattle.starlark_base.specs.Sources.{Holds}
 use Rattle.starlark_edits.specs.Edits.{edit_span}
 use Rattle.starlark_edits.specs.declared.edits.Edit.{Edit}
 use Rattle.starlark_edits.specs.declared.versions.Version.{Version}
+use Rattle.starlark_lexed_text.specs.LexedTexts.{LexedView, IsReadFrom}
 use Rattle.starlark_lines.specs.declared.ends.TheConstants.{GREATEST_LEN}
 use Rattle.starlark_lines.specs.declared.ends.RunFault.{RunFault}
 use Rattle.starlark_lines.specs.declared.ends.RunFault.TheVariants.{TooLong, BadEdit, Memory}
@@ -30,6 +31,18 @@ AreVersions text (version ∷ versions) = Follows text version × AreVersions (s
 abbrev pub newest_text : Text → List Version → Text
 newest_text text [] = text
 newest_text text (version ∷ versions) = newest_text (string_bytes version.text) versions
+
+-- A lexed text of some versions was made of the one before the first of them, version by version: each was read from the last
+-- kept cut before its edit on, and what stands before that cut was kept.
+abbrev pub WasRelexed : LexedView → List Version → LexedView → Type 0
+WasRelexed first [] last = last ≡ first
+WasRelexed first (version ∷ versions) last =
+    (next : LexedView) × (next.text ≡ string_bytes version.text) × IsReadFrom first (string_bytes version.text) version.from next × WasRelexed next versions last
+
+-- A lexed text was read whole: it has the lexemes of its text, and its bytes were read some sixteen times at most.
+pub record WasLexed (text : Text) (lexed : LexedView) : Type 0 where
+  pub same : lexed.text ≡ text
+  pub most : lexed.reads ≤ 16 * (length text + 1)
 
 -- why there are no versions: an edit is refused, or memory is
 abbrev pub IsRefusal : Result Text RunFault → RunFault → Type 0

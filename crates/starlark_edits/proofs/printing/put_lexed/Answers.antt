@@ -20,7 +20,7 @@ loop-lexeme-init g c =
     record {
       place = place_start text c.text-text.utf8;
       order = (all.0, all.2);
-      written = writes_waiting g.W.Write.contents c.args.writer.now (c.args.printer.now.buffer ++ lines_of c.args.name.now text (items text)) (tt {0}) c.requires.sound;
+      written = writes_waiting g.W.WriteDevice.calls c.args.writer.now (c.args.printer.now.buffer ++ lines_of c.args.name.now text (items text)) (tt {0}) c.requires.sound;
     }
 
 pub put_lexeme-requires-clause-sound : goal.put_lexeme-requires-clause-sound

@@ -12,5 +12,5 @@ abbrev pub invariant-loop-lexeme : goal.invariant-loop-lexeme
 invariant-loop-lexeme g l = record {
   place : IsPlace l.text l.place;
   order : (to : ℕ) × InOrder l.text l.place.at (drop l.lexeme-index (outcome l.text).lexemes) to;
-  written : Writes {T = Unit {0}} g.W.Write.contents l.fn.writer l.writer (l.fn.printer.buffer ++ output l.name l.text) (l.printer.buffer ++ lines_of l.name l.text (drop l.lexeme-index (items l.text))) (Ok tt);
+  written : Writes {T = Unit {0}} g.W.WriteDevice.calls l.fn.writer l.writer (l.fn.printer.buffer ++ output l.name l.text) (l.printer.buffer ++ lines_of l.name l.text (drop l.lexeme-index (items l.text))) (Ok tt);
 }

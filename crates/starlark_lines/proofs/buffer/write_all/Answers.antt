@@ -1,9 +1,17 @@
-use Rattle.std.proofs.Common.{◌≡◌, take, drop, refl, ◌∙◌, take-append-drop, take-add, append-nil, length-drop, arith, rules}
-use Rattle.std.proofs.KnownBytes.{Appends-kept, Appends-trans}
+use Rattle.std.proofs.Common.{◌≡◌, ◌<◌, Some, None, length, take, drop, refl, ◌∙◌, take-append-drop, length-drop, arith, rules}
 use Rattle.std.proofs.lemmas.List.{take_rest}
+use Rattle.starlark_lines.specs.Calls.{Wrote}
 use Rattle.starlark_lines.specs.Writing.{Writes}
+use Rattle.starlark_lines.proofs.Calls.{keeps_none, went_broken, went_more, went_nil}
 use Rattle.starlark_lines.proofs.Writing.{is_nothing-some, is_nothing-none}
 use Rattle.starlark_lines.proofs.buffer.write_all.Goals as goal
+
+pub loop-written-init : goal.loop-written-init
+loop-written-init g c = record {
+  within = omega arith;
+  taken = went_nil g.W.WriteDevice.calls c.args.writer.now.device;
+  sound = c.requires;
+}
 
 pub loop-written-preserved : goal.loop-written-preserved
 unfolding Writes
@@ -13,9 +21,11 @@ loop-written-preserved g c =
     let written = c.loop-written.written in
     let bound = rw take_rest at c.in-Ok.ensures.bound in
     let more = rw take_rest at c.in-Ok.ensures.bytes in
+    let call = rw take_rest at c.in-Ok.ensures.call in
+    let some = c.in-Ok.count-test.1 in
     record {
       within = omega (arith, inv.within, bound, length-drop written bytes);
-      taken = rw (take-add written c.in-Ok.count bytes) (Appends-trans _ _ _ _ _ inv.taken more);
+      taken = went_more g.W.WriteDevice.calls _ _ _ bytes written c.in-Ok.count inv.taken more call (omega (arith, some));
       sound = c.in-Ok.ensures.failed ∙ rw inv.sound (is_nothing-some c.in-Ok.count _ c.in-Ok.count-test.1);
     }
 
@@ -27,9 +37,12 @@ returns-in-Ok-eq0 g c =
     let written = c.loop-written.written in
     let zero : c.in-Ok-eq0.field-0 ≡ 0 = search rules in
     let none = rw zero at c.in-Ok-eq0.ensures.bytes in
-    let taken = rw (append-nil (take written bytes)) at (Appends-trans _ _ _ _ _ inv.taken none) in (
-      (drop written bytes, (take written bytes, taken, take-append-drop written bytes)),
-      c.in-Ok-eq0.ensures.failed ∙ rw (inv.sound, take_rest) (is_nothing-none c.in-Ok-eq0.field-0 _ zero (omega (arith, length-drop written bytes))),
+    let call = rw take_rest at c.in-Ok-eq0.ensures.call in
+    let some : 0 < length (drop written bytes) = omega (arith, c.loop-written-test.true, length-drop written bytes) in
+    let last = Wrote (drop written bytes) (Some c.in-Ok-eq0.field-0) c.write.new.self.device in
+    let broken = went_broken g.W.WriteDevice.calls _ _ _ _ last inv.taken (keeps_none _ _ none) (call, refl) (zero, some) in (
+      (drop written bytes, (take written bytes, broken, take-append-drop written bytes)),
+      c.in-Ok-eq0.ensures.failed ∙ rw (inv.sound, take_rest) (is_nothing-none c.in-Ok-eq0.field-0 _ zero some),
     )
 
 pub returns-in-Err : goal.returns-in-Err
@@ -38,4 +51,7 @@ returns-in-Err g c =
     let inv = c.loop-written.invariant in
     let bytes = c.args.bytes.now in
     let written = c.loop-written.written in
-    ((drop written bytes, (take written bytes, Appends-kept _ _ _ _ inv.taken c.in-Err.ensures.bytes, take-append-drop written bytes)), c.in-Err.ensures.failed ∙ rw inv.sound refl)
+    let call = rw take_rest at c.in-Err.ensures.call in
+    let last = Wrote (drop written bytes) None c.write.new.self.device in
+    let broken = went_broken g.W.WriteDevice.calls _ _ _ _ last inv.taken c.in-Err.ensures.bytes (call, refl) tt in
+    ((drop written bytes, (take written bytes, broken, take-append-drop written bytes)), c.in-Err.ensures.failed ∙ rw inv.sound refl)

@@ -1,12 +1,12 @@
 use Rattle.std.proofs.Common.{◌≡◌, ◌-◌, ◌≤◌, false, length, take}
-use Rattle.std.specs.Io.KnownBytes.{Appends}
+use Rattle.starlark_lines.specs.Calls.{Going, Went}
 use Rattle.starlark_lines.proofs.buffer.write_all.Given as goal
 
 -- the bytes before `written` are taken
 abbrev pub invariant-loop-written : goal.invariant-loop-written
 invariant-loop-written g l = record {
   within : l.written ≤ length l.bytes;
-  taken : Appends (g.W.Write.contents l.fn.writer.device) (g.W.Write.contents l.writer.device) (take l.written l.bytes);
+  taken : Went g.W.WriteDevice.calls Going l.fn.writer.device l.writer.device (take l.written l.bytes);
   sound : l.writer.failed ≡ false;
 }
 

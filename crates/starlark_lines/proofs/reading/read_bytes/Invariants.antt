@@ -1,12 +1,12 @@
 use Rattle.std.proofs.Common.{◌≡◌, ◌+◌, ◌-◌, ◌≤◌, false, length, take}
-use Rattle.std.specs.Io.KnownBytes.{Consumes}
+use Rattle.starlark_lines.specs.Calls.{Came}
 use Rattle.starlark_lines.proofs.reading.read_bytes.Given as goal
 
 -- what came is the part of the buffer that is filled
 abbrev pub invariant-loop-filled : goal.invariant-loop-filled
 invariant-loop-filled g l = record {
   within : l.filled ≤ length l.bytes.items;
-  came : Consumes (g.R.Read.remaining l.fn.reader.device) (g.R.Read.remaining l.reader.device) (take l.filled l.bytes.items);
+  came : Came g.R.ReadDevice.calls l.fn.reader.device l.reader.device false false (take l.filled l.bytes.items);
   sound : l.reader.failed ≡ false;
   not_ended : l.reader.ended ≡ false;
 }

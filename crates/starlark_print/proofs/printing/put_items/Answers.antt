@@ -25,14 +25,14 @@ loop-item-init g c =
     let fresh = c.requires.fresh in
     let handed : c.args.lexer.now.handed_out ≡ 0 = ap (λ (l : LexerView). l.handed_out) fresh in
     let all = (outcome_order text).0 in
-    let waiting = writes_waiting g.W.Write.contents c.args.writer.now (buffer ++ lines_of name text (items text)) (tt {0}) c.requires.sound in
+    let waiting = writes_waiting g.W.WriteDevice.calls c.args.writer.now (buffer ++ lines_of name text (items text)) (tt {0}) c.requires.sound in
     record {
       place = place_start text c.utf8.text;
       order = (all.0, subst (λ n. InOrder text 0 (drop n (outcome text).lexemes) all.0) (sym handed) all.2);
       few = subst (λ n. n ≤ length (outcome text).lexemes) (sym handed) (omega arith);
       going = ap (λ (l : LexerView). l.has_ended) fresh;
       text = ap (λ (l : LexerView). l.text) fresh;
-      written = subst (λ n. Writes {T = Unit {0}} g.W.Write.contents c.args.writer.now c.args.writer.now (buffer ++ lines_of name text (items text)) (buffer ++ lines_of name text (drop n (items text))) (Ok tt)) (sym handed) waiting;
+      written = subst (λ n. Writes {T = Unit {0}} g.W.WriteDevice.calls c.args.writer.now c.args.writer.now (buffer ++ lines_of name text (items text)) (buffer ++ lines_of name text (drop n (items text))) (Ok tt)) (sym handed) waiting;
     }
 
 pub lexeme-requires-clause-sound : goal.lexeme-requires-clause-sound

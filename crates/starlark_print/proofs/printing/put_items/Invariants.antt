@@ -15,7 +15,7 @@ invariant-loop-item g l = record {
   few : l.lexer.handed_out ≤ length (outcome l.text).lexemes;
   going : l.lexer.has_ended ≡ false;
   text : l.lexer.text ≡ l.text;
-  written : Writes {T = Unit {0}} g.W.Write.contents l.fn.writer l.writer (l.fn.printer.buffer ++ output l.name l.text) (l.printer.buffer ++ lines_of l.name l.text (drop l.lexer.handed_out (items l.text))) (Ok tt);
+  written : Writes {T = Unit {0}} g.W.WriteDevice.calls l.fn.writer l.writer (l.fn.printer.buffer ++ output l.name l.text) (l.printer.buffer ++ lines_of l.name l.text (drop l.lexer.handed_out (items l.text))) (Ok tt);
 }
 
 abbrev pub decreases-loop-item : goal.decreases-loop-item

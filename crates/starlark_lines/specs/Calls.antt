@@ -1,0 +1,152 @@
+-- The calls of readers and writers, one by one.
+use Rattle.std.specs.Prelude.{◌≡◌, ◌<◌, ℕ, Bool, true, false, List, [], ◌∷◌, ◌++◌, take, length, Option, Some, None, Result, Ok, Err, ⊤}
+use Rattle.std.specs.List.{AllByRecursion, flat_map}
+use Rattle.std.specs.Io.KnownBytes.{Appends, Consumes, IsAtEnd, Keeps}
+use Rattle.starlark_base.specs.Places.{Text}
+
+-- What a reader says of itself: the bytes that it has left, where they are known, what one read does, and what a failed one
+-- returns. Of a read are told the reader before it, the buffer after it, how many bytes it gave, none where it failed, and
+-- the reader after it.
+pub record ReaderCalls (R : Type 0) : Type 1 where
+  pub remaining : R → Option Text
+  pub read : R → Text → Option ℕ → R → Type 0
+  pub failure : {E : Type 0} → R → E → R → Type 0
+
+-- What a writer says of itself: the bytes that it holds, where they are known, what one write does, by the piece and how many
+-- bytes of it were taken, what one flush does, by whether it succeeded, and what a failed call returns.
+pub record WriterCalls (W : Type 0) : Type 1 where
+  pub contents : W → Option Text
+  pub write : W → Text → Option ℕ → W → Type 0
+  pub flush : W → Bool → W → Type 0
+  pub failure : {E : Type 0} → W → E → W → Type 0
+
+-- how many bytes a call gave or took, none where it failed
+abbrev pub count_of : {E : Type 0} → Result ℕ E → Option ℕ
+count_of (Ok count) = Some count
+count_of (Err e) = None
+
+-- whether a call succeeded
+abbrev pub is_ok_of : {T E : Type 0} → Result T E → Bool
+is_ok_of (Ok value) = true
+is_ok_of (Err e) = false
+
+-- what std's `Read` says of a read
+abbrev pub StdRead : {R : Type 0} → (R → Option Text) → R → Text → Option ℕ → R → Type 0
+StdRead remaining old room (Some count) new = Consumes (remaining old) (remaining new) (take count room)
+StdRead remaining old room None new = Keeps (remaining old) (remaining new)
+
+-- a reader of which std's `Read` is all that is known
+abbrev pub std_reader : {R : Type 0} → (R → Option Text) → ReaderCalls R
+std_reader remaining = record { remaining = remaining; read = StdRead remaining; failure = λ old error new. ⊤ }
+
+-- what std's `Write` says of a write
+abbrev pub StdWrite : {W : Type 0} → (W → Option Text) → W → Text → Option ℕ → W → Type 0
+StdWrite contents old piece (Some count) new = Appends (contents old) (contents new) (take count piece)
+StdWrite contents old piece None new = Keeps (contents old) (contents new)
+
+-- a writer of which std's `Write` is all that is known
+abbrev pub std_writer : {W : Type 0} → (W → Option Text) → WriterCalls W
+std_writer contents = record {
+  contents = contents;
+  write = StdWrite contents;
+  flush = λ old is_ok new. Keeps (contents old) (contents new);
+  failure = λ old error new. ⊤;
+}
+
+-- One call of a reader: the buffer after it, how many bytes it gave, none where it failed, and the reader after it.
+pub record ReadCall (R : Type 0) : Type 0 where
+  pub room : Text
+  pub count : Option ℕ
+  pub after : R
+
+-- These calls were made of a reader, one after another, and no others.
+abbrev pub WasRead : {R : Type 0} → ReaderCalls R → R → List (ReadCall R) → R → Type 0
+WasRead calls old [] new = new ≡ old
+WasRead calls old (call ∷ more) new = calls.read old call.room call.count call.after × WasRead calls call.after more new
+
+-- the bytes that a call gave
+abbrev pub given_by : {R : Type 0} → ReadCall R → Text
+given_by call = by call.count
+  where
+    by : Option ℕ → Text
+    by None = []
+    by (Some count) = take count call.room
+
+-- the call gave some bytes
+abbrev pub GaveSome : {R : Type 0} → ReadCall R → Type 0
+GaveSome call = by call.count
+  where
+    by : Option ℕ → Type 0
+    by None = ⊥
+    by (Some count) = 0 < count
+
+-- How reading stopped: by a call that came to the reader's end, by one that failed, or by none, before either.
+abbrev pub StoppedBy : {R : Type 0} → (ended failed : Bool) → List (ReadCall R) → Type 0
+StoppedBy false false [] = ⊤
+StoppedBy true false (call ∷ []) = (call.count ≡ Some 0) × (0 < length call.room)
+StoppedBy false true (call ∷ []) = call.count ≡ None
+StoppedBy ended failed calls = ⊥
+
+-- A text came from a reader: by calls that gave its bytes in order, and, where the reader ended or failed, one call more,
+-- the last. So no failed call was tried again. Where the reader ended, nothing is left in it.
+pub record Came {R : Type 0} (calls : ReaderCalls R) (old new : R) (ended failed : Bool) (came : Text) : Type 0 where
+  pub bytes : Consumes (calls.remaining old) (calls.remaining new) came
+  pub nothing_left : ended ≡ true → IsAtEnd (calls.remaining new)
+  pub log : List (ReadCall R)
+  pub last : List (ReadCall R)
+  pub order : WasRead calls old (log ++ last) new
+  pub some : AllByRecursion GaveSome log
+  pub given : flat_map given_by log ≡ came
+  pub stopped : StoppedBy ended failed last
+
+-- One call of a writer, and the writer after it: a write of a piece, of which so many bytes were taken, none where it failed,
+-- or a flush.
+pub data WriterCall (W : Type 0) : Type 0 where
+  Wrote : (piece : Text) (count : Option ℕ) (after : W) → WriterCall W
+  Flushed : (is_ok : Bool) (after : W) → WriterCall W
+
+-- These calls were made of a writer, one after another, and no others.
+abbrev pub WasWritten : {W : Type 0} → WriterCalls W → W → List (WriterCall W) → W → Type 0
+WasWritten calls old [] new = new ≡ old
+WasWritten calls old (Wrote piece count after ∷ more) new = calls.write old piece count after × WasWritten calls after more new
+WasWritten calls old (Flushed is_ok after ∷ more) new = calls.flush old is_ok after × WasWritten calls after more new
+
+-- the bytes that a call took
+abbrev pub taken_by : {W : Type 0} → WriterCall W → Text
+taken_by (Wrote piece (Some count) after) = take count piece
+taken_by call = []
+
+-- the call took some bytes
+abbrev pub TookSome : {W : Type 0} → WriterCall W → Type 0
+TookSome (Wrote piece (Some count) after) = 0 < count
+TookSome call = ⊥
+
+-- the call failed, or took nothing of some bytes
+abbrev pub IsFailed : {W : Type 0} → WriterCall W → Type 0
+IsFailed (Wrote piece (Some count) after) = (count ≡ 0) × (0 < length piece)
+IsFailed (Wrote piece None after) = ⊤
+IsFailed (Flushed is_ok after) = is_ok ≡ false
+
+-- Where writing stands: it goes on, or it is done, by a flush, or it stopped at a failure.
+pub data Ending : Type 0 where
+  Going : Ending
+  Done : Ending
+  Broken : Ending
+
+-- the last call, by where writing stands
+abbrev pub EndedBy : {W : Type 0} → Ending → List (WriterCall W) → Type 0
+EndedBy Going [] = ⊤
+EndedBy Done (Flushed is_ok after ∷ []) = is_ok ≡ true
+EndedBy Broken (call ∷ []) = IsFailed call
+EndedBy ending calls = ⊥
+
+-- A text went to a writer: by writes that took its bytes in order, and, where writing is done, a flush, or where it stopped,
+-- one call that failed, the last. So no failed call was tried again.
+pub record Went {W : Type 0} (calls : WriterCalls W) (ending : Ending) (old new : W) (taken : Text) : Type 0 where
+  pub bytes : Appends (calls.contents old) (calls.contents new) taken
+  pub log : List (WriterCall W)
+  pub last : List (WriterCall W)
+  pub order : WasWritten calls old (log ++ last) new
+  pub some : AllByRecursion TookSome log
+  pub given : flat_map taken_by log ≡ taken
+  pub ended : EndedBy ending last
