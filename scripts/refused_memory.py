@@ -264,9 +264,9 @@ def tried_join(allocator, program):
     requests, and each word that is lexed again would make one."""
     tries, joined = requests_of_join(allocator, program, b"")
     _, apart = requests_of_join(allocator, program, b"$")
-    if joined.output != b"0\n" or apart.output != b"not joined\n":
-        tries.report(0, joined)
-        tries.report(0, apart)
+    for run, answer in [(joined, b"0\n"), (apart, b"not joined\n")]:
+        if run.output != answer or run.requests < 1:
+            tries.report(0, run)
     if joined.requests > apart.requests + MOST_FOR_JOIN:
         tries.wrong.append(f"a join made {joined.requests} requests, and the run without it {apart.requests}")
     return tries
