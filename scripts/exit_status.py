@@ -1,11 +1,13 @@
 #!/usr/bin/env python3
-"""Compares how the built program ends with what docs/OUTPUT.md says: its exit status, standard output and standard error.
+"""Compares how the built program ends with docs/OUTPUT.md: exit status, standard output and error.
 
-    scripts/exit_status.py [PROGRAM]    runs starlark_lex as it is built, or another program in its place
+    scripts/exit_status.py [PROGRAM]    runs starlark_lex as it is built, or another program
 
-Texts without fault, with a fault, and that are no text; the argument NAME, too many arguments, and one that is no text; a
-standard input that can't be read, and a standard output that can't be written. The program is proved and built first where it isn't,
-or is older than a source. The exit status is 0 where every run ended as it has to, and 1 where one didn't.
+It runs the program over texts with and without a fault and over bytes that are not UTF-8, with and
+without NAME, with too many arguments and with one that is not UTF-8, with a standard input that
+can't be read, and with a standard output that can't be written. It proves and builds the program
+first where that is missing, or older than a source. The exit status is 0 where every run ended as
+it has to, and 1 where one didn't.
 """
 
 import os

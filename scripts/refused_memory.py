@@ -11,7 +11,8 @@ of `starlark_rows` and `starlark_lexer_rows`, one row a run, texts behind edits 
   `starlark_lex` has printed, and `starlark_texts` behind edits, has to be a beginning of all its lines.
 
 With no request refused a row has the answer that is stored, a text behind edits prints what the plain lexer of fuzz.py does,
-and no run ends in want of memory. Two texts of many words are joined with few requests, so that none of them is lexed again.
+and no run ends in want of memory. Two texts of many words
+are joined with few requests, so that none of them is lexed again.
 
     scripts/refused_memory.py [--rows N]    tries N rows of each call that takes no memory itself; 1 if it isn't given
 
@@ -48,7 +49,7 @@ WHOLE_GROUPS = {b"errors", b"files", b"refusals", b"words"}
 # A call that lexes thousands of texts, with too many requests to refuse each.
 LEFT_OUT = {(b"lexed_text", b"each_byte")}
 
-# A text of 200 words, as a row has it, and how many requests more than lexing may be made to join it to another.
+# A text of 200 words as a row has it, and how many requests a join may make.
 MANY_WORDS = b"word\\n" * 200
 MOST_FOR_JOIN = 20
 
@@ -252,7 +253,7 @@ def tried_edited(allocator, program, stored):
 
 
 def requests_of_join(allocator, program, last):
-    """How many requests a row makes that joins two texts of many words, of which the second ends with some text."""
+    """The run of a row that joins two texts of many words, with `last` at the end of the second."""
     tries = Tries(allocator, program, b"lexed_text\tjoin_reads\t" + MANY_WORDS + b"\t" + MANY_WORDS + last + b"\n")
     run = tries.run(0)
     tries.runs = 1
@@ -260,8 +261,8 @@ def requests_of_join(allocator, program, last):
 
 
 def tried_join(allocator, program):
-    """Two texts of many words that are joined, and that aren't since the second has a fault. Joining has to make few
-    requests, and each word that is lexed again would make one."""
+    """Two texts of many words that are joined, compared with two that aren't, since the second has a
+    fault. A join makes few requests. If it lexed the words again, each would make one."""
     tries, joined = requests_of_join(allocator, program, b"")
     _, apart = requests_of_join(allocator, program, b"$")
     for run, answer in [(joined, b"0\n"), (apart, b"not joined\n")]:

@@ -4,9 +4,10 @@
     scripts/stored_indices.py            says how many answers agree, or where the first differs
     scripts/stored_indices.py --write    stores the rows and the answers that it made
 
-The files `stdin` and `stdout` of a program over rows of calls have them, each a line, in the group `index_grid`. One row has a text
-and a first index; its answer has the part for each last index. An index is missing, or one from -30 to 29. The answers are
-made here without the program, from lists of characters. The exit status is 0 where all agree, and 1 where one differs.
+The files `stdin` and `stdout` of a program over rows of calls have them, in the group `index_grid`.
+A row has a text and a first index; its answer has the part for each last index. An index is
+missing, or one from -30 to 29. This script makes the answers without the program, from lists of
+characters. The exit status is 0 where all agree, and 1 where one differs.
 """
 
 import sys
@@ -19,35 +20,35 @@ INDICES = [None, *range(-30, 30)]
 
 
 def clamped(index, count):
-    """An index counted from the start of a text of so many characters, of which it is none or one, or their count."""
+    """The offset of an index in a text of `count` characters; a negative index counts from the end."""
     if index < 0:
         index += count
     return min(max(index, 0), count)
 
 
 def is_reversed(start, end):
-    """Whether two indices that count from one side are in the wrong order."""
+    """Whether two indices that count from the same side are in the wrong order."""
     if start is None or end is None:
         return False
     return (start < 0) == (end < 0) and start > end
 
 
 def is_past(start, end, count):
-    """Whether a first index lies past a text of so many characters, with a last index that doesn't count from its end."""
+    """Whether a first index lies past `count` characters and the last one doesn't count from the end."""
     return start is not None and start > count and (end is None or end >= 0)
 
 
 def part(text, start, end):
-    """The first place of the part between two indices and its characters; None where there is no such part."""
+    """The offset and the characters of the part between two indices; None where there is no part."""
     characters = list(text)
     count = len(characters)
     if is_reversed(start, end) or is_past(start, end, count):
         return None
     begin = 0 if start is None else clamped(start, count)
-    behind = count if end is None else clamped(end, count)
-    if begin > behind:
+    stop = count if end is None else clamped(end, count)
+    if begin > stop:
         return None
-    return begin, "".join(characters[begin:behind])
+    return begin, "".join(characters[begin:stop])
 
 
 def shown(found):
