@@ -13,7 +13,7 @@ fn bytes(alloc: Global, text: &str) -> Answer {
     format!(in alloc; "{steps:?} {}", cursor.pos())
 }
 
-/// Three bytes of a text as characters, and the place that was come to.
+/// Three bytes of a text as characters, and the offset after them.
 fn bytes_as_characters(alloc: Global, text: &str) -> Answer {
     let mut cursor = CursorBytes::new(text);
     let steps = (cursor.next_char(), cursor.next_char(), cursor.next_char());
