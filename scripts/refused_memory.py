@@ -11,13 +11,15 @@ of `starlark_rows` and `starlark_lexer_rows`, one row a run, texts behind edits 
   `starlark_lex` has printed, and `starlark_texts` behind edits, has to be a beginning of all its lines.
 
 With no request refused a row has the answer that is stored, a text behind edits prints what the plain lexer of fuzz.py does,
-and no run ends in want of memory.
+and no run ends in want of memory. Two texts of many words
+are joined with few requests, so that none of them is lexed again.
 
     scripts/refused_memory.py [--rows N]    tries N rows of each call that takes no memory itself; 1 if it isn't given
 
 It needs a C compiler (`CC`, `cc`, `gcc` or `clang`) and the GNU C library: refusing_allocator.c is loaded into the programs.
 Programs that aren't built, or are older than a source, are proved and built first. The exit status is 0 where every run
-was as it has to be, 1 where one was not, and 2 where nothing could be tried, or nothing was refused; a line says which.
+was as it has to be, 2 where there is no C compiler, and else 1: where a run was not as it has to be, a program can't be built, or
+nothing was refused. A line says which.
 """
 
 import argparse
@@ -35,6 +37,7 @@ from stored_texts import Edit, edited_record, runs_of
 TOP = Path(__file__).resolve().parent.parent
 WANT_OF_MEMORY = b"out of memory"
 MOST_REQUESTS = 100_000
+NO_COMPILER = 2
 
 # The programs over rows of calls.
 ROW_PROGRAMS = ["starlark_rows", "starlark_lexer_rows"]
@@ -45,6 +48,10 @@ WHOLE_GROUPS = {b"errors", b"files", b"refusals", b"words"}
 
 # A call that lexes thousands of texts, with too many requests to refuse each.
 LEFT_OUT = {(b"lexed_text", b"each_byte")}
+
+# A text of 200 words as a row has it, and how many requests a join may make.
+MANY_WORDS = b"word\\n" * 200
+MOST_FOR_JOIN = 20
 
 TEXTS = [
     b"",
@@ -72,10 +79,10 @@ EDITED = [
 ]
 
 
-def give_up(why):
+def give_up(why, status=1):
     """Ends where nothing could be tried."""
     print(why, file=sys.stderr)
-    sys.exit(2)
+    sys.exit(status)
 
 
 class Run:
@@ -166,7 +173,7 @@ def compiler():
     for name in [os.environ.get("CC"), "cc", "gcc", "clang"]:
         if name and shutil.which(name):
             return name
-    give_up("nothing was tried: there is no C compiler, as cc, gcc or clang, for refusing_allocator.c")
+    give_up("nothing was tried: there is no C compiler, as cc, gcc or clang, for refusing_allocator.c", NO_COMPILER)
 
 
 def built_allocator(folder):
@@ -245,6 +252,27 @@ def tried_edited(allocator, program, stored):
     return tried_answer(allocator, program, stored, lines, lambda run: is_edited_kept(run, lines))
 
 
+def requests_of_join(allocator, program, last):
+    """The run of a row that joins two texts of many words, with `last` at the end of the second."""
+    tries = Tries(allocator, program, b"lexed_text\tjoin_reads\t" + MANY_WORDS + b"\t" + MANY_WORDS + last + b"\n")
+    run = tries.run(0)
+    tries.runs = 1
+    return tries, run
+
+
+def tried_join(allocator, program):
+    """Two texts of many words that are joined, compared with two that aren't, since the second has a
+    fault. A join makes few requests. If it lexed the words again, each would make one."""
+    tries, joined = requests_of_join(allocator, program, b"")
+    _, apart = requests_of_join(allocator, program, b"$")
+    for run, answer in [(joined, b"0\n"), (apart, b"not joined\n")]:
+        if run.output != answer or run.requests < 1:
+            tries.report(0, run)
+    if joined.requests > apart.requests + MOST_FOR_JOIN:
+        tries.wrong.append(f"a join made {joined.requests} requests, and the run without it {apart.requests}")
+    return tries
+
+
 def tried_text(allocator, program, text):
     """A text with each of the program's requests refused in turn. With none refused no memory may be wanting."""
     tries = Tries(allocator, program, text)
@@ -259,6 +287,7 @@ def main():
     arguments = argparse.ArgumentParser(description=__doc__.splitlines()[0])
     arguments.add_argument("--rows", type=int, default=1, metavar="N")
     most = arguments.parse_args().rows
+    compiler()
     row_programs = {name: built(name) for name in ROW_PROGRAMS}
     texts, lex = built("starlark_texts"), built("starlark_lex")
     with tempfile.TemporaryDirectory() as folder, ThreadPoolExecutor(os.cpu_count()) as pool:
@@ -268,6 +297,7 @@ def main():
             for name, program in row_programs.items()
             for row, answer in tried_rows(name, most)
         ]
+        started += [pool.submit(tried_join, allocator, row_programs["starlark_lexer_rows"])]
         started += [pool.submit(tried_edited, allocator, texts, stored) for stored in EDITED]
         started += [pool.submit(tried_text, allocator, lex, text) for text in TEXTS]
         tried = [it.result() for it in started]

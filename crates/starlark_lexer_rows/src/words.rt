@@ -79,15 +79,20 @@ fn add_next(alloc: Global, list: &mut String, lexer: &mut Lexer<'_>) -> Result<b
     Ok(true)
 }
 
-/// A lexer of a text, over a code map that has this source.
-fn lexer<'a>(alloc: Global, text: &'a str, source: &str) -> Result<Lexer<'a>, AllocError> {
-    let map = code_map(alloc, "f", source)?;
+/// A lexer of a text, over a code map of this name and source.
+fn lexer<'a>(
+    alloc: Global,
+    text: &'a str,
+    name: &str,
+    source: &str,
+) -> Result<Lexer<'a>, AllocError> {
+    let map = code_map(alloc, name, source)?;
     given(Lexer::new(alloc, text, &Dialect::Standard, map))
 }
 
-/// The lexemes of a text, or those before want of memory, over a code map that has this source.
-pub fn lexemes(alloc: Global, text: &str, source: &str) -> Answer {
-    let mut lexer = lexer(alloc, text, source)?;
+/// The lexemes of a text, or those before want of memory, over a code map of this name and source.
+fn lexemes_in(alloc: Global, text: &str, name: &str, source: &str) -> Answer {
+    let mut lexer = lexer(alloc, text, name, source)?;
     let mut list = String::new(alloc);
     for _ in 0..u64::MAX {
         if !add_next(alloc, &mut list, &mut lexer)? {
@@ -95,6 +100,11 @@ pub fn lexemes(alloc: Global, text: &str, source: &str) -> Answer {
         }
     }
     Ok(list)
+}
+
+/// The lexemes of a text, or those before want of memory, over a code map named `f` that has this source.
+pub fn lexemes(alloc: Global, text: &str, source: &str) -> Answer {
+    lexemes_in(alloc, text, "f", source)
 }
 
 /// The answer to a call with a text.
@@ -105,6 +115,7 @@ pub fn answer(alloc: Global, row: &Row) -> Answer {
         "lex_exactly_one_identifier" => shown(alloc, &lex_exactly_one_identifier(alloc, text)?),
         "lexemes" => lexemes(alloc, text, text),
         "lexemes_of_other_source" => lexemes(alloc, text, row.text(3)),
+        "lexemes_in_file" => lexemes_in(alloc, text, row.text(3), row.text(4)),
         _ => unknown(alloc, row),
     }
 }

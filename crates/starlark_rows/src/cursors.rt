@@ -13,6 +13,13 @@ fn bytes(alloc: Global, text: &str) -> Answer {
     format!(in alloc; "{steps:?} {}", cursor.pos())
 }
 
+/// Three bytes of a text as characters, and the offset after them.
+fn bytes_as_characters(alloc: Global, text: &str) -> Answer {
+    let mut cursor = CursorBytes::new(text);
+    let steps = (cursor.next_char(), cursor.next_char(), cursor.next_char());
+    format!(in alloc; "{steps:?} {}", cursor.pos())
+}
+
 /// The character behind an offset, and the places before it, behind it, and before it again.
 fn characters(alloc: Global, text: &str, offset: usize) -> Answer {
     if !text.is_char_boundary(offset) {
@@ -33,6 +40,7 @@ pub fn answer(alloc: Global, row: &Row) -> Answer {
     let (open, close) = (EscapeCurlyBrace::Open, EscapeCurlyBrace::Close);
     match row.text(1) {
         "bytes" => bytes(alloc, row.text(2)),
+        "bytes_as_characters" => bytes_as_characters(alloc, row.text(2)),
         "characters" => characters(alloc, row.text(2), row.count(3) as usize),
         "sum" => shown(alloc, &(CharIndex(2) + CharIndex(3)).0),
         "difference" => shown(alloc, &(CharIndex(3) - CharIndex(2)).0),

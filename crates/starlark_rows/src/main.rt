@@ -10,6 +10,7 @@ mod cursors;
 mod errors;
 mod files;
 mod formats;
+mod index_grid;
 mod places;
 mod refusals;
 mod strings;
@@ -27,6 +28,7 @@ fn answer(alloc: Global, row: &Row) -> Answer {
         "errors" => errors::answer(alloc, row),
         "files" => files::answer(alloc, row),
         "format" => formats::answer(alloc, row),
+        "index_grid" => index_grid::answer(alloc, row),
         "places" => places::answer(alloc, row),
         "refusals" => refusals::answer(alloc, row),
         "strings" => strings::answer(alloc, row),
