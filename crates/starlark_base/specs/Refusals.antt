@@ -1,4 +1,4 @@
--- Whether a call was refused for another reason than want of memory.
+-- Calls that failed with an error of their own, not out of memory.
 use Rattle.std.specs.Prelude.{⊤, Result, Ok, Err}
 use Rattle.starlark_text.specs.declared.refusals.OrMemory.{OrMemory}
 use Rattle.starlark_text.specs.declared.refusals.OrMemory.TheVariants.{Error, Memory}
