@@ -8,18 +8,20 @@
 //! - `convert_indices`, `fast_string`, `cursors`: indices and strings by characters.
 //! - `laws`: what is proved of all texts.
 //!
-//! Number of tokens of a text:
+//! The identifiers of a text, or its first error:
 //!
 //! ```rust
-//! fn token_count(alloc: Global, name: String, text: String) -> Result<usize, SourceError> {
+//! fn identifiers(alloc: Global, name: String, text: String) -> Result<Vec<String>, SourceError> {
 //!     let file = CodeMap::new(alloc, CodeMapId::new(1), name, text)?;
 //!     let lexer = Lexer::new(alloc, file.source(), &Dialect::Standard, file.dupe()?)?;
-//!     let mut count = 0;
+//!     let mut names = Vec::new(alloc);
 //!     for lexeme in lexer {
-//!         let (_begin, _token, _end) = lexeme?;
-//!         count += 1;
+//!         let (_begin, token, _end) = lexeme?;
+//!         if let Token::Identifier(name) = token {
+//!             names.push(name)?;
+//!         }
 //!     }
-//!     Ok(count)
+//!     Ok(names)
 //! }
 //! ```
 #![tactic(auto)]
