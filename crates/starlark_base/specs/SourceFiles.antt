@@ -5,6 +5,7 @@ use Rattle.std.specs.FinMap.{FinMap, entries, empty, insert, from_entries}
 use Rattle.std.specs.Ordering.{nat_cmp}
 use Rattle.starlark_base.specs.Sources.{SourceFile}
 
+-- the finite maps from numbers to source files
 abbrev pub SourceFiles : Type 0
 SourceFiles = FinMap nat_cmp SourceFile
 

@@ -101,8 +101,7 @@ fn print_places(rt: &HostRuntime, file: &CodeMap, count: u32) -> Result<(), Benc
     Ok(println!(rt; "{bytes} {lines} {tally} {}", elapsed.as_nanos())?)
 }
 
-/// Lexes the source of a code map, and again after an edit, `count` times, and prints a line each
-/// time.
+/// Lexes a source, and again after an edit, `count` times, and prints a line each time.
 fn print_edited(rt: &HostRuntime, file: &CodeMap, count: u32) -> Result<(), BenchFault> {
     let from = middle(file.source());
     let edited = edited_in_the_middle(rt.alloc(), file.source(), from)?;

@@ -10,7 +10,7 @@ const STRIDE: u64 = 2_654_435_761;
 /// Bytes of a span, except for one at the end of the source.
 const SPAN_LEN: u32 = 8;
 
-/// Number of resolved spans, and a checksum of their lines and columns. Printed as both numbers.
+/// Number of resolved spans, and a checksum of their lines and columns.
 #[derive(Clone, Copy)]
 pub struct PlaceTally {
     spans: u64,
@@ -18,6 +18,7 @@ pub struct PlaceTally {
 }
 
 impl PlaceTally {
+    /// No spans.
     const NONE: PlaceTally = PlaceTally {
         spans: 0,
         checksum: 0,
@@ -39,6 +40,7 @@ impl PlaceTally {
     }
 }
 
+/// Prints the number of spans and the checksum.
 impl fmt::Display for PlaceTally {
     fn fmt<W: fmt::Write>(&self, f: &mut fmt::Formatter<W>) -> fmt::Result {
         write!(f, "{} {}", self.spans, self.checksum)

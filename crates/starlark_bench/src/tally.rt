@@ -42,7 +42,7 @@ impl From<OrMemory<SourceTooLong>> for BenchFault {
     }
 }
 
-/// Number of lexemes and faults, and a checksum of the lexemes' offsets. Printed as three numbers.
+/// Number of lexemes and faults, and a checksum of the lexemes' offsets.
 #[derive(Clone, Copy)]
 pub struct Tally {
     lexemes: u64,
@@ -51,6 +51,7 @@ pub struct Tally {
 }
 
 impl Tally {
+    /// No lexemes and no faults.
     const NONE: Tally = Tally {
         lexemes: 0,
         faults: 0,
@@ -72,6 +73,7 @@ impl Tally {
     }
 }
 
+/// Prints the numbers of lexemes and faults, and the checksum.
 impl fmt::Display for Tally {
     fn fmt<W: fmt::Write>(&self, f: &mut fmt::Formatter<W>) -> fmt::Result {
         write!(f, "{} {} {}", self.lexemes, self.faults, self.checksum)

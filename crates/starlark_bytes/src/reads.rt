@@ -88,8 +88,7 @@ impl Reads {
         self.add(LANES);
     }
 
-    /// Counts a run of `len` bytes that was read one by one, and the 16 bytes of a SIMD step after
-    /// it.
+    /// Counts a run of `len` bytes that was read one by one, and the SIMD step after it.
     #[inline(always)]
     pub fn count_run_and_lanes(&mut self, len: usize)
         requires { len < 2 ^ 64 - 16 }

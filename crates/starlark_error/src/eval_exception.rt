@@ -51,8 +51,7 @@ impl EvalException {
         EvalException { error }
     }
 
-    /// An exception of an error with a span of a code map, and with the calls that a function
-    /// returns.
+    /// An exception of an error with a span of a code map, and with a function's calls.
     ///
     /// A span and calls that the error has are kept. The function is called only for an error
     /// without calls. It allocates only for an error without a span. The error is the unchanged
@@ -76,8 +75,7 @@ impl EvalException {
         Ok(exception)
     }
 
-    /// An internal error with a span of a code map, and with the printed form of a value as its
-    /// message.
+    /// An internal error with a span of a code map. Its message is the printed form of a value.
     ///
     /// `AllocError` drops the value.
     pub fn internal_error<D: fmt::Display + Drop>(

@@ -28,6 +28,7 @@ impl<'a> From<AllocError> for FormatFault<'a> {
     }
 }
 
+/// Prints the format string's error, the missing name, or `out of memory`.
 impl fmt::Display for FormatFault<'_> {
     fn fmt<W: fmt::Write>(&self, f: &mut fmt::Formatter<W>) -> fmt::Result {
         match self {

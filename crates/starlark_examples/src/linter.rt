@@ -18,6 +18,7 @@ pub enum Rule {
     Address,
 }
 
+/// Prints what the rule says of a finding.
 impl fmt::Display for Rule {
     fn fmt<W: fmt::Write>(&self, f: &mut fmt::Formatter<W>) -> fmt::Result {
         match self {
@@ -30,7 +31,9 @@ impl fmt::Display for Rule {
 /// A rule that a file breaks, and the position at which it does.
 #[derive(Clone, Copy)]
 pub struct Finding {
+    /// The rule.
     pub rule: Rule,
+    /// The position, in bytes.
     pub place: Pos,
 }
 
@@ -74,8 +77,7 @@ impl Linter {
         Ok(())
     }
 
-    /// Checks the next token, of `width` bytes at `place`, and stores the rule that it breaks, if
-    /// any.
+    /// Checks the next token, of `width` bytes at `place`, and stores the rule that it breaks.
     fn look_at(&mut self, token: Token, width: usize, place: Pos) -> Result<(), AllocError> {
         let outer = self.widths.last().copied().unwrap_or(0);
         if let Some(rule) = broken_rule(&token, width, outer) {

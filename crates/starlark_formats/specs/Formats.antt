@@ -8,17 +8,21 @@ use Rattle.starlark_formats.specs.declared.dot_format_parser.FormatConv.TheVaria
 use Rattle.starlark_formats.specs.declared.dot_format_parser.FormatErrorKind.{FormatErrorKind}
 use Rattle.starlark_formats.specs.declared.dot_format_parser.FormatErrorKind.TheVariants.{StandaloneClose, UnmatchedOpen, MissingConversion, InvalidConversion}
 
+-- the bytes of a text
 abbrev pub Text : Type 0
 Text = List ℕ
 
 -- ---- characters that mean something
 
+-- `{`
 abbrev pub is_open : ℕ → Bool
 is_open b = b == 123
 
+-- `}`
 abbrev pub is_close : ℕ → Bool
 is_close b = b == 125
 
+-- `{` or `}`
 abbrev pub is_brace : ℕ → Bool
 is_brace b = is_open b || is_close b
 
@@ -26,9 +30,11 @@ is_brace b = is_open b || is_close b
 abbrev pub ends_name : ℕ → Bool
 ends_name b = is_brace b || b == 33
 
+-- a text without braces
 abbrev pub IsPlain : Text → Type 0
 IsPlain text = IsTrue (list_all (λ b. not (is_brace b)) text)
 
+-- a text that can be the name of a capture; it may be empty
 abbrev pub IsName : Text → Type 0
 IsName name = IsTrue (list_all (λ b. not (ends_name b)) name)
 
@@ -50,11 +56,13 @@ pub data Suffix : Type 0 where
   bang_s : Suffix
   bang_r : Suffix
 
+-- the conversion as a format string has it
 abbrev pub suffix_text : Suffix → Text
 suffix_text bare = []
 suffix_text bang_s = codes "!s"
 suffix_text bang_r = codes "!r"
 
+-- what the conversion means
 abbrev pub conversion : Suffix → FormatConv
 conversion bare = Str
 conversion bang_s = Str
@@ -66,19 +74,23 @@ pub data Piece : Type 0 where
   capture : Text → Suffix → Piece
   escape : EscapeCurlyBrace → Piece
 
+-- the brace that an escape stands for
 abbrev pub brace_text : EscapeCurlyBrace → Text
 brace_text Open = codes "{"
 brace_text Close = codes "}"
 
+-- the escape as a format string has it
 abbrev pub escape_text : EscapeCurlyBrace → Text
 escape_text Open = codes "{{"
 escape_text Close = codes "}}"
 
+-- the piece as a format string has it
 abbrev pub written : Piece → Text
 written (plain text) = text
 written (capture name suffix) = codes "{" ++ (name ++ (suffix_text suffix ++ codes "}"))
 written (escape brace) = escape_text brace
 
+-- plain text is not empty and has no braces, and the name of a capture is one
 abbrev pub IsPiece : Piece → Type 0
 IsPiece (plain text) = (0 < length text) × IsPlain text
 IsPiece (capture name suffix) = IsName name
@@ -98,6 +110,7 @@ pub record StandsAt (piece : Piece) (text rest : Text) : Type 0 where
 
 -- ---- errors, where no piece begins
 
+-- no piece begins the text
 abbrev pub NoPiece : Text → Type 0
 NoPiece text = (piece : Piece) (rest : Text) → ¬ StandsAt piece text rest
 
@@ -146,10 +159,12 @@ token_of at (plain text) = verbatim text
 token_of at (capture name suffix) = captured name (at + 1) (conversion suffix)
 token_of at (escape brace) = escaped brace
 
+-- the tokens of pieces, the first of which begins at byte `at`
 abbrev pub tokens_from : ℕ → List Piece → List Token
 tokens_from at [] = []
 tokens_from at (piece ∷ pieces) = token_of at piece ∷ tokens_from (at + length (written piece)) pieces
 
+-- the text has a reading, and these are the tokens of its pieces
 abbrev pub ParsesTo : Text → List Token → Type 0
 ParsesTo text tokens = (pieces : List Piece) × IsReading pieces text × (tokens ≡ tokens_from 0 pieces)
 
@@ -164,6 +179,7 @@ token_text (verbatim text) = text
 token_text (captured name at conv) = codes "{" ++ (name ++ (conversion_text conv ++ codes "}"))
 token_text (escaped brace) = escape_text brace
 
+-- tokens, written back as a format string
 abbrev pub written_back : List Token → Text
 written_back tokens = flat_map token_text tokens
 
@@ -175,6 +191,7 @@ without_place (escaped brace) = escaped brace
 
 -- ---- printed errors
 
+-- the printed text of an error, up to the format string
 abbrev pub fault_text : FormatErrorKind → Text
 fault_text StandaloneClose = codes "Standalone '}' in format string `"
 fault_text UnmatchedOpen = codes "Unmatched '{' in format string `"

@@ -18,6 +18,7 @@ token_view (Text text) = verbatim text.now
 token_view (Capture name at conv) = captured name.now at conv
 token_view (Escape brace) = escaped brace
 
+-- the rest of the format string from the position on
 abbrev pub rest_of : Parser → List ℕ
 rest_of parser = drop parser.at parser.text
 

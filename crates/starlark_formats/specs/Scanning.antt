@@ -36,13 +36,16 @@ is_doubled [] = false
 is_doubled (b ∷ []) = false
 is_doubled (b ∷ c ∷ rest) = b == c
 
+-- the capture of a name, by what follows it
 abbrev pub with_name : Text → Result Suffix FormatErrorKind → Result Piece FormatErrorKind
 with_name name (Ok suffix) = Ok (capture name suffix)
 with_name name (Err kind) = Err kind
 
+-- the number of bytes before the first brace or `!`
 abbrev pub name_width : Text → ℕ
 name_width text = prefix_len (λ b. not (ends_name b)) text
 
+-- the number of bytes before the first brace
 abbrev pub plain_width : Text → ℕ
 plain_width text = prefix_len (λ b. not (is_brace b)) text
 
@@ -64,6 +67,7 @@ abbrev pub token_found : ℕ → Result Piece FormatErrorKind → Result (Token 
 token_found at (Ok piece) = Ok (token_of at piece, length (written piece))
 token_found at (Err kind) = Err kind
 
+-- what the code returns, without where the token's parts lie in memory
 abbrev pub found_view : Result (FormatToken × ℕ) FormatErrorKind → Result (Token × ℕ) FormatErrorKind
 found_view (Ok found) = Ok (token_view found.0, found.1)
 found_view (Err kind) = Err kind

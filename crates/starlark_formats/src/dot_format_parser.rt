@@ -95,8 +95,9 @@ pub struct FormatError<'a> {
     pub original: &'a str,
 }
 
-/// Prints what is wrong and the whole format string, as in ``Standalone '}' in format string `a}`
-/// ``.
+/// Prints what is wrong and the whole format string.
+///
+/// An example is ``Standalone '}' in format string `a}` ``.
 impl<'a> fmt::Display for FormatError<'a> {
     ghost use Rattle.std.specs.Prelude.{◌++◌, Some, codes};
     ghost use Rattle.starlark_formats.specs.Formats.{fault_text};
@@ -261,8 +262,9 @@ fn close_token(text: &str) -> Result<(FormatToken<'_>, usize), FormatErrorKind>
     }
 }
 
-/// The first token of `text`, which begins at byte `at` of the format string, and its length in
-/// bytes.
+/// The first token of `text`, and its length in bytes.
+///
+/// `at` is the offset in bytes of `text` in the format string.
 fn token_at(text: &str, at: usize) -> Result<(FormatToken<'_>, usize), FormatErrorKind>
     requires some { 0 < length text.now }
     requires fits { at + length text.now < 2 ^ 64 }

@@ -17,8 +17,7 @@ pub fn one_outcome()
     ensures reading { law.OneReading }
 {}
 
-/// What a parser returns, call by call up to the end or an error, is the outcome of its format
-/// string.
+/// What a parser returns, up to the end or an error, is the outcome of its format string.
 pub fn answers_are_the_outcome()
     ensures { law.AnswersOutcome }
 {}

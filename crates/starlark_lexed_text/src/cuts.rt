@@ -7,15 +7,20 @@ ghost use Rattle.starlark_lexed_text.specs.Joints.LexedTexts.{AllNearCuts, AreBe
 /// A cut: its offset in bytes, and the number of lexemes before it.
 #[derive(Clone, Copy)]
 pub struct Cut {
+    /// Offset in bytes.
     pub at: usize,
+    /// Number of lexemes before it.
     pub lexemes: usize,
 }
 
 /// Where lexing begins again: an offset in bytes, and how many lexemes and cuts before it are kept.
 #[derive(Clone, Copy)]
 pub struct Begin {
+    /// Offset in bytes.
     pub at: usize,
+    /// Number of lexemes before it.
     pub lexemes: usize,
+    /// Number of cuts up to it.
     pub cuts: usize,
 }
 

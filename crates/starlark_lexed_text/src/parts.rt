@@ -22,15 +22,20 @@ pub type PlacedFault = (usize, LexemeError, usize);
 
 /// The result of lexing a text: lexemes, fault, cuts, and number of reads.
 ///
-/// `is_cut` says whether the text is a clean cut, and `has_tab` whether its first indentation has a
-/// tab before content.
+/// Offsets count from the start of the text that was lexed.
 #[derive(Drop)]
 pub struct Part {
+    /// The lexemes up to the fault, or all.
     pub lexemes: Vec<PlacedToken>,
+    /// The first fault, if there is one.
     pub fault: Option<PlacedFault>,
+    /// The offsets where the text can be cut, in order.
     pub cuts: Vec<Cut>,
+    /// Whether the text is a clean cut.
     pub is_cut: bool,
+    /// Whether the first margin has a tab before content.
     pub has_tab: bool,
+    /// Number of reads of bytes.
     pub reads: u64,
 }
 

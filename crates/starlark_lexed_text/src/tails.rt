@@ -58,15 +58,16 @@ pub fn last_newline(lexemes: &[PlacedToken]) -> Option<usize>
     None
 }
 
-/// What is kept of a lexed text: how many lexemes and cuts.
-///
-/// A fault of the text that is lexed again is moved by `fault_at` bytes. Its lexemes are dropped
-/// unless `gives_more`.
+/// What is kept of a lexed text that is lexed again from a cut on.
 #[derive(Clone, Copy)]
 pub struct Kept {
+    /// Number of lexemes that are kept.
     pub lexemes: usize,
+    /// Number of cuts that are kept.
     pub cuts: usize,
+    /// Bytes by which a fault of the rest is moved.
     pub fault_at: usize,
+    /// Whether the lexemes of the rest are appended. Else they are dropped.
     pub gives_more: bool,
 }
 

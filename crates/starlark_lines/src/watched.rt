@@ -49,8 +49,7 @@ impl<D> Watched<D> {
         self.failed
     }
 
-    /// Whether a read into a buffer that isn't empty returned 0 bytes, which is the end of the
-    /// input.
+    /// Whether the input ended: a read into a buffer that isn't empty returned 0 bytes.
     pub fn ended(&self) -> bool
         ensures { result ≡ self.now.ended }
     {

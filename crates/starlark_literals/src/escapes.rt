@@ -65,8 +65,7 @@ fn byte_of<'a>(len: usize, number: u32) -> Found<'a>
     }
 }
 
-/// The escape of `len` bytes for the character of a number; a bad one if there is no such
-/// character.
+/// The escape of `len` bytes for the character of a number; a bad one if there is none.
 fn character_of<'a>(len: usize, number: u32) -> Found<'a>
     requires { len ≤ 10 }
     ensures value { found_view result ≡ grammar.numbered len false number }
@@ -186,8 +185,7 @@ fn escaped_feed<'a>(reads: &mut Reads, behind: &str) -> Found<'a>
     }
 }
 
-/// The character of an escape of two bytes, such as `\n`, by its second byte; `None` if it is no
-/// such.
+/// The character of an escape of two bytes, such as `\n`, by its second byte, if it is one.
 #[tactic(auto, unfolding(starlark_grammar::specs::Items::simple_escapes))]
 #[inline(always)]
 fn simple_value(byte: u8) -> Option<char>
@@ -225,8 +223,7 @@ fn simple<'a>(reads: &mut Reads, first: u8, text: &'a str) -> Found<'a>
     part(len, &text[..len])
 }
 
-/// The character of an escape of two bytes at the start of the rest of a body; `None` if it is no
-/// such.
+/// The character of the escape of two bytes at the start of the rest of a body, if it is one.
 ///
 /// `front` is the first three bytes of the rest, read already.
 #[inline(always)]

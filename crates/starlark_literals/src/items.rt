@@ -16,7 +16,9 @@ use starlark_grammar::class::{LiteralKind, Opening, Quote};
 /// The kind and the opening of a literal, by which its body is read.
 #[derive(Clone, Copy)]
 pub struct Literal {
+    /// Whether it is a string, a bytes literal or an f-string.
     pub kind: LiteralKind,
+    /// Its quotes, and whether it is raw.
     pub opening: Opening,
 }
 

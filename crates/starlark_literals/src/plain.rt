@@ -56,8 +56,7 @@ pub fn plain_body_len(
     Ok(len)
 }
 
-/// The stop of an f-string's text at its closing quotes or at an expression; `None` at anything
-/// else.
+/// The stop of an f-string's text, if closing quotes or an expression are there.
 ///
 /// `front` is the first three bytes there, read already.
 #[inline(always)]
@@ -77,8 +76,7 @@ fn stop_by(opening: Opening, front: &[u8]) -> Option<Stop>
     }
 }
 
-/// Length in bytes and stop of an f-string's text without escapes, up to its quotes or an
-/// expression.
+/// Length in bytes and stop of an f-string's text that has no escapes.
 ///
 /// The error is the length of the first run, for any other text: one with escapes, doubled braces,
 /// or a fault.

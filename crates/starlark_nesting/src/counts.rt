@@ -14,7 +14,9 @@ use starlark_grammar::class::Opening;
 /// How many brackets were opened and closed. Each count saturates.
 #[derive(Clone, Copy)]
 pub struct Brackets {
+    /// Number of opening brackets.
     pub opened: usize,
+    /// Number of closing brackets.
     pub closed: usize,
 }
 

@@ -18,10 +18,9 @@ use starlark_lines::watched::Watched;
 use starlark_text::dialect::Dialect;
 use std::alloc::Global;
 
-/// Prints the lines of a text whose lexer has yielded nothing yet, without the last write and
-/// flush.
+/// Prints the lines of a text, without the last write and flush, and returns its status.
 ///
-/// Returns whether the text has a fault.
+/// The lexer must have yielded nothing yet.
 fn put_items<W: WriteDevice>(
     printer: &mut Printer,
     writer: &mut Watched<W>,

@@ -3,6 +3,7 @@ use Rattle.std.specs.Prelude.{◌≡◌, ℕ, ◌+◌, ◌-◌, List, drop, slic
 use Rattle.std.specs.Char.{len_utf8}
 use Rattle.std.specs.Str.{chars}
 
+-- a text, and a byte offset in it
 pub record Cursor : Type 0 where
   pub text : List ℕ
   pub at : ℕ

@@ -23,6 +23,7 @@ use std::ops::{Add, Sub};
 #[derive(Clone, Copy, Debug, PartialEq, Eq, PartialOrd, Ord)]
 pub struct CharIndex(pub usize);
 
+/// Adds the numbers of characters. The sum must be below 2^64.
 impl Add for CharIndex {
     type Output = CharIndex;
 
@@ -35,6 +36,7 @@ impl Add for CharIndex {
     }
 }
 
+/// Subtracts the numbers of characters. The right side must not be greater than the left one.
 impl Sub for CharIndex {
     type Output = CharIndex;
 
@@ -120,8 +122,7 @@ fn are_reversed(start: Option<i32>, end: Option<i32>) -> bool
     }
 }
 
-/// Whether the start counts from the front and is more than `count`, and no end counts from the
-/// end.
+/// Whether the start counts from the front, is over `count`, and no end counts from the end.
 fn begins_past(count: usize, start: Option<i32>, end: Option<i32>) -> bool
     ensures { result ≡ spec.begins_past count start end }
 {

@@ -1,5 +1,4 @@
-//! Plain walks over a text, one character at a time, and the law that the fast ones agree with
-//! them.
+//! Plain walks over a text, one character at a time, and the law that the SIMD walks agree.
 
 ghost use Rattle.std.specs.Prelude.{◌≡◌, ◌<◌, MatchOption, true, slice_get};
 ghost use Rattle.std.specs.Option.{option_map};
@@ -36,8 +35,7 @@ fn from_char(text: &str, index: usize) -> Option<&str>
     Some(rest.as_str())
 }
 
-/// The first `index` characters of a text, found one by one, and the rest; `None` where it has
-/// fewer.
+/// The first `index` characters of a text, found one by one, and the rest; `None` if it has fewer.
 pub fn walked_split_at(text: &str, index: CharIndex) -> Option<(&str, &str)>
     ensures { option_map cut_view result ≡ spec.cut text.now index.0 }
 {

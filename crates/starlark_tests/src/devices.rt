@@ -1,5 +1,4 @@
-//! Tests of runs over readers and writers that fail, take nothing, or give and take one byte a
-//! call.
+//! Tests of runs over readers and writers that fail, take nothing, or move one byte a call.
 
 use starlark_run::{RunFault, RunStatus, Watched, run};
 use std::alloc::{AllocError, Global};
@@ -8,6 +7,7 @@ use std::io::{ErrorKind, Read, Write};
 use std::process::Abort;
 use std::test::Fail;
 
+/// More bytes or calls than any test needs.
 const MANY: usize = 1_000_000;
 
 /// A reader that gives at most `piece` bytes a call, and fails after `calls` calls.

@@ -42,8 +42,9 @@ fn is_gap(text: &str, from: usize, to: usize) -> bool {
     true
 }
 
-/// Whether the lexemes are in order, with only gaps between them, and after them if there is no
-/// fault.
+/// Whether the lexemes are in order, with only gaps between them.
+///
+/// If there is no fault, only a gap may be after the last one.
 fn is_in_order(lexed: &LexedText<'_>) -> bool {
     let mut at = 0;
     for (begin, _, end) in lexed.lexemes() {
@@ -134,8 +135,9 @@ fn is_fault(
     }
 }
 
-/// Whether a lexer with a code map of an empty text yields the same lexemes and fault, and then
-/// `None`.
+/// Whether a lexer with a code map of an empty text yields the same lexemes and fault.
+///
+/// After these it must yield `None`, twice.
 fn is_handed_out(alloc: Global, lexed: &LexedText<'_>) -> Result<bool, AllocError> {
     let file = file_of(alloc, "")?;
     let Ok(mut lexer) = Lexer::new(alloc, lexed.text(), &Dialect::Standard, file) else {

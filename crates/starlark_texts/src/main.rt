@@ -1,10 +1,11 @@
 //! Runs the lexer over stored texts, so that its whole output is compared with a stored one.
 //!
-//! Module `stored` has the format of standard input. Records are numbered from 1. For a text, edited
-//! or not, the program prints a line `text NUMBER: STATUS`, and then what `starlark_lex` prints for
-//! it. For the fronts of a text, and for a repeated text, it prints a line `text NUMBER: COUNTS`.
-//! Where a check finds something wrong it prints one more line, which for fronts is of the first.
-//! Edited texts aren't checked. It ends with an error where standard input is no such list.
+//! Module `stored` has the format of standard input. Records are numbered from 1. For a text,
+//! edited or not, the program prints a line `text NUMBER: STATUS`, and then what `starlark_lex`
+//! prints for it. For the fronts of a text, and for a repeated text, it prints a line
+//! `text NUMBER: COUNTS`. Where a check finds something wrong it prints one more line, which for
+//! fronts is of the first. Edited texts aren't checked. It ends with an error where standard input
+//! is no such list.
 #![tactic(auto)]
 
 mod checks;

@@ -22,7 +22,9 @@ pub enum Task {
 /// A text, and the task for it.
 #[derive(Clone, Copy)]
 pub struct Record<'b> {
+    /// What is done with the text.
     pub task: Task,
+    /// The text, which needn't be UTF-8.
     pub text: &'b [u8],
 }
 

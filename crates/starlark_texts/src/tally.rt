@@ -30,6 +30,7 @@ fn sum_on(sum: u64, printed: &[u8]) -> u64 {
 }
 
 impl Tally {
+    /// No texts.
     const NONE: Tally = Tally {
         texts: 0,
         lexemes: 0,
@@ -43,8 +44,7 @@ impl Tally {
         self.sum
     }
 
-    /// The length in bytes of the first text in which a check found something wrong, and what it
-    /// found.
+    /// What a check found wrong first, after the length in bytes of the text.
     pub fn wrong(&self) -> Option<(usize, &'static str)> {
         self.wrong
     }
@@ -73,6 +73,7 @@ impl Tally {
     }
 }
 
+/// Prints the numbers of texts, lexemes and faults, as in `3 texts, 12 lexemes, 1 faults`.
 impl fmt::Display for Tally {
     fn fmt<W: fmt::Write>(&self, f: &mut fmt::Formatter<W>) -> fmt::Result {
         write!(f, "{} texts, {} lexemes, ", self.texts, self.lexemes)?;

@@ -116,8 +116,9 @@ impl Eq for BigInt {
     ghost laws = { Prim.search (comparing, rules) };
 }
 
-/// Prints `-` for a negative number and the digits, and then the base unless it is 10, as in
-/// `ffffffffff (base 16)`.
+/// Prints a `-` if it is negative, the digits, and then the base unless it is 10.
+///
+/// An example is `ffffffffff (base 16)`.
 #[tactic(auto, unfolding(crate::specs::BigIntegers::big_text))]
 impl fmt::Display for BigInt {
     ghost use Rattle.std.specs.Prelude.{Some};

@@ -3,13 +3,13 @@
 /// The quotes around an f-string.
 #[derive(Clone, Copy, Debug, PartialEq, Eq)]
 pub enum FStringQuote {
-    /// `f'...'`
+    /// `f'...'`.
     Single,
-    /// `f"..."`
+    /// `f"..."`.
     Double,
-    /// `f'''...'''`
+    /// `f'''...'''`.
     TripleSingle,
-    /// `f"""..."""`
+    /// `f"""..."""`.
     TripleDouble,
 }
 

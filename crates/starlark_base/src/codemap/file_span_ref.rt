@@ -53,8 +53,9 @@ impl<'a> FileSpanRef<'a> {
     }
 }
 
-/// Prints `name:` and lines and columns from 1, as in `BUILD:1:3-5`; where the code map doesn't
-/// hold the span, `name:@begin-end` in bytes.
+/// Prints the file's name, and the span's lines and columns from 1, as in `BUILD:1:3-5`.
+///
+/// Where the code map doesn't hold the span, it prints bytes, as in `BUILD:@2-4`.
 #[tactic(auto, unfolding(crate::specs::Sources::file_span_text))]
 impl fmt::Display for FileSpanRef<'_> {
     ghost use Rattle.std.specs.Prelude.{Some};

@@ -37,6 +37,7 @@ impl Pos {
     }
 }
 
+/// Moves a position on by a number of bytes. The sum must be below 2^32.
 impl Add<u32> for Pos {
     type Output = Pos;
 
@@ -49,6 +50,7 @@ impl Add<u32> for Pos {
     }
 }
 
+/// Moves a position back by a number of bytes, which must not be greater than the position.
 impl Sub<u32> for Pos {
     type Output = Pos;
 
@@ -61,6 +63,7 @@ impl Sub<u32> for Pos {
     }
 }
 
+/// Moves a position on by a number of bytes. The sum must be below 2^32.
 impl AddAssign<u32> for Pos {
     ghost can_add_assign = { λ pos count. pos + count < 2 ^ 32 };
 

@@ -63,8 +63,7 @@ impl Span {
         }
     }
 
-    /// The least span that holds all spans of an iterator, which must end; 0..0 where there is
-    /// none.
+    /// The least span that holds all spans of an iterator, which must end; 0..0 if it has none.
     pub fn merge_all<I: Iterator<Item = Span> + Drop>(mut spans: I) -> Span
         requires can { I.can_next spans }
         requires ends { IsFinite (I.remaining spans) }

@@ -81,8 +81,9 @@ impl<T: Drop> From<AllocFailed<T>> for SourceError {
     }
 }
 
-/// Prints `source is longer than 4294967295 bytes`, the fault with its file span, or
-/// `out of memory`.
+/// Prints the fault with its file span, or what else failed.
+///
+/// That is `source is longer than 4294967295 bytes` or `out of memory`.
 impl fmt::Display for SourceError {
     ghost use Rattle.starlark_syntax.specs.SourceErrors.{source_error_text};
 
