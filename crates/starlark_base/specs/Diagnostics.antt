@@ -1,17 +1,17 @@
--- What is known of a value besides itself.
+-- Values with a file span and a call stack.
 use Rattle.std.specs.Prelude.{List, [], Option, Some, None, ◌≢◌, refl, unwrap_or, ◌++◌, codes}
 use Rattle.starlark_base.specs.Spans.{ByteSpan}
 use Rattle.starlark_base.specs.Places.{Text}
 use Rattle.starlark_base.specs.Sources.{SourceFile, file_span_text}
 use Rattle.starlark_base.specs.declared.codemap.file_span.FileSpan.{FileSpan}
 
--- a value, the place that it belongs to, if that is known, and the calls that led there
+-- a value, its file span if that is known, and the calls that led there
 pub record Diagnosed (T : Type 0) : Type 0 where
   pub value : T
   pub span : Option FileSpan
   pub call_stack : List Text
 
--- what an option holds that isn't empty
+-- the value of an option that is not `None`
 abbrev pub held : {T : Type 0} → (o : Option T) → o ≢ None → T
 held (Some x) h = x
 held None h = absurd (h refl)
@@ -20,24 +20,24 @@ held None h = absurd (h refl)
 abbrev pub place_in : SourceFile → ByteSpan → FileSpan
 place_in file span = record { file = file; span = span }
 
--- a value of which nothing else is known
+-- a value without a span and without calls
 abbrev pub unplaced : {T : Type 0} → T → Diagnosed T
 unplaced value = record { value = value; span = None; call_stack = [] }
 
--- another value at the same place, after the same calls
+-- another value with the span and the calls of the first
 abbrev pub with_value : {T U : Type 0} → Diagnosed T → U → Diagnosed U
 with_value d value = record { value = value; span = d.span; call_stack = d.call_stack }
 
--- the place that was known first is kept
+-- the value with the span, unless it has one: the first is kept
 abbrev pub with_span : {T : Type 0} → Diagnosed T → FileSpan → Diagnosed T
 with_span d span = record d { span = Some (unwrap_or d.span span) }
 
--- ` at ` and the place, where it is known
+-- ` at ` and the file span, if it is known
 abbrev pub place_suffix : Option FileSpan → Text
 place_suffix None = []
 place_suffix (Some span) = codes " at " ++ file_span_text span.file span.span
 
--- the value's text, if it is stated, and the place
+-- the printed text of the value, if that is stated, and the file span
 abbrev pub diagnosed_text : Option Text → Option FileSpan → Option Text
 diagnosed_text None span = None
 diagnosed_text (Some text) span = Some (text ++ place_suffix span)

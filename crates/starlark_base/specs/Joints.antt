@@ -1,2 +1,2 @@
--- What only contracts of private functions, and proofs, speak of.
+-- Definitions that only contracts of private functions, and proofs, cite.
 pub mod CharacterCounts

@@ -1,20 +1,20 @@
--- The lines of a text: each ends behind a line feed, and the last at the text's end.
+-- The lines of a text: each ends after an LF, and the last at the end of the text.
 use Rattle.std.specs.Prelude.{ℕ, zero, suc, ◌+◌, ◌-◌, Bool, ◌==◌, ◌||◌, if◌then◌else◌, List, [], ◌∷◌, map, nat_eq, length, take, count_by, slice_range}
 use Rattle.std.specs.List.{suffix_len, ends_with, range_with_len}
 use Rattle.starlark_base.specs.Spans.{ByteSpan}
 use Rattle.starlark_base.specs.Places.{Text, is_line_feed}
 
--- one more than there are line feeds
+-- the number of lines: one more than there are LF
 abbrev pub line_count : Text → ℕ
 line_count text = count_by is_line_feed text + 1
 
--- How many bytes stand before a line: all through as many line feeds, or the whole text where it has fewer.
+-- the offset at which a line begins: after as many LF, or at the end of a text that has fewer
 abbrev pub line_begin : Text → ℕ → ℕ
 line_begin text zero = 0
 line_begin [] (suc line) = 0
 line_begin (b ∷ rest) (suc line) = suc (if is_line_feed b then line_begin rest line else line_begin rest (suc line))
 
--- a line with its line feed
+-- the span of a line, with its LF
 abbrev pub line_span : Text → ℕ → ByteSpan
 line_span text line = record { begin = line_begin text line; end = line_begin text (line + 1) }
 
@@ -33,18 +33,18 @@ without_last b text span =
     then record { begin = span.begin; end = span.end - 1 }
     else span
 
--- a line without its line feed, and then without one carriage return at its end
+-- the span of a line without its LF, and then without one CR at its end
 abbrev pub trimmed_line_span : Text → ℕ → ByteSpan
 trimmed_line_span text line = without_last 13 text (without_last 10 text (line_span text line))
 
--- a line feed or a carriage return
+-- LF or CR
 abbrev pub is_line_end : ℕ → Bool
 is_line_end b = b == 10 || b == 13
 
--- the text without all line feeds and carriage returns at its end
+-- the text without all LF and CR at its end
 abbrev pub without_line_ends : Text → Text
 without_line_ends text = take (length text - suffix_len is_line_end text) text
 
--- the text of a line, without them
+-- the text of a line, without all LF and CR at its end
 abbrev pub line_text : Text → ℕ → Text
 line_text text line = without_line_ends (text_of text (line_span text line))

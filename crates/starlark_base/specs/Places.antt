@@ -11,23 +11,25 @@ use Rattle.starlark_base.specs.declared.codemap.resolved.ResolvedSpan.{ResolvedS
 abbrev pub Text : Type 0
 Text = List ℕ
 
+-- LF
 abbrev pub is_line_feed : ℕ → Bool
 is_line_feed b = b == 10
 
--- The place behind a front of a text: how many line feeds it has, and how many characters follow the last of them.
+-- the line and column after the first part of a text: how many LF it has, and how many characters
+-- are after the last of them
 unfoldable pub place_after : Text → ResolvedPos
 place_after front =
     record { line = count_by is_line_feed front; column = length (chars (after_last is_line_feed front)) }
 
--- the place at a byte of a text
+-- the line and column of a byte offset
 abbrev pub place_at : Text → ℕ → ResolvedPos
 place_at text at = place_after (take at text)
 
--- the places at the ends of a span
+-- the lines and columns of the two ends of a span
 abbrev pub resolved : Text → ByteSpan → ResolvedSpan
 resolved text span = record { begin = place_at text span.begin; end = place_at text span.end }
 
--- one place stands before another
+-- one line and column is before another
 abbrev pub StandsBefore : ResolvedPos → ResolvedPos → Type 0
 StandsBefore a b = (a.line < b.line) ⊎ ((a.line ≡ b.line) × (a.column < b.column))
 
@@ -35,7 +37,8 @@ StandsBefore a b = (a.line < b.line) ⊎ ((a.line ≡ b.line) × (a.column < b.c
 abbrev pub place_text : ResolvedPos → Text
 place_text p = decimal (p.line + 1) ++ codes ":" ++ decimal (p.column + 1)
 
--- one place where both are the same, one line where both are on it, and else both places
+-- `line:column` if both are equal, `line:column-column` if both are on one line, or else
+-- `line:column-line:column`
 unfoldable pub span_text : ResolvedPos → ResolvedPos → Text
 span_text begin end =
     if begin.line == end.line

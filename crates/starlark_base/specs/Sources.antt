@@ -1,4 +1,4 @@
--- What a code map is to its user, which spans lie in it, and how they are printed.
+-- Code maps as their users see them, the spans that lie in them, and their printed forms.
 use Rattle.std.specs.Prelude.{ℕ, Bool, ◌&&◌, nat_le, ◌++◌, length, take, codes, if◌then◌else◌}
 use Rattle.std.specs.Str.{is_utf8, IsCharBoundary}
 use Rattle.std.specs.Fmt.{decimal}
@@ -11,16 +11,17 @@ pub record SourceFile : Type 0 where
   pub filename : Text
   pub source : Text
 
--- both ends of the span stand between two characters of the text
+-- both ends of the span are character boundaries of the text
 pub record Holds (text : Text) (span : ByteSpan) : Type 0 where
   pub begin : IsCharBoundary text span.begin
   pub end : IsCharBoundary text span.end
 
--- the same as a test: what stands before each end is whole characters
+-- whether both ends are character boundaries: before each end there are whole characters
 unfoldable pub holds : Text → ByteSpan → Bool
 holds text span = nat_le span.begin (length text) && nat_le span.end (length text) && is_utf8 (take span.begin text) && is_utf8 (take span.end text)
 
--- `name:` and the places of the span, or `name:@begin-end` in bytes where the text doesn't hold it
+-- `name:` and the span's lines and columns, or `name:@begin-end` in bytes if the text doesn't hold
+-- it
 unfoldable pub file_span_text : SourceFile → ByteSpan → Text
 file_span_text file span =
     file.filename ++ codes ":" ++ (if holds file.source span

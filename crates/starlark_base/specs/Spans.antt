@@ -1,4 +1,4 @@
--- Spans, by the bytes before their begin and before their end.
+-- Spans, by the byte offsets of their begin and their end.
 use Rattle.std.specs.Prelude.{◌≤◌, ℕ, min, max, List, [], ◌∷◌, fold}
 
 -- what lies between two positions

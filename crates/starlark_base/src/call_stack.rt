@@ -1,10 +1,10 @@
-//! The calls that led to a place.
+//! Call stacks of values with diagnostics.
 
 ghost use Rattle.std.specs.Prelude.{◌≡◌, ◌↔◌, [], IsTrue, map, string_bytes};
 
 use std::marker::Model;
 
-/// The calls that led to a place, each a text. In a contract it is the list of their bytes.
+/// The calls that led to a position, each as a text. In a contract it is the list of their bytes.
 #[derive(Debug, Drop)]
 pub struct CallStack {
     frames: Option<Vec<String>>,
@@ -21,14 +21,14 @@ impl Model for CallStack {
 }
 
 impl CallStack {
-    /// No calls. It takes no memory.
+    /// A call stack without calls. It doesn't allocate.
     pub fn empty() -> CallStack
         ensures { result ≡ [] }
     {
         CallStack { frames: None }
     }
 
-    /// These calls, in this order.
+    /// A call stack of the given calls, in their order.
     pub fn from_frames(frames: Vec<String>) -> CallStack
         ensures { result ≡ map string_bytes frames.items }
     {

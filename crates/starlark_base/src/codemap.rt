@@ -1,4 +1,7 @@
-//! Positions and spans in a source text, and what they are there: lines, columns, texts.
+//! Code maps, positions and spans, and their lines, columns and texts.
+//!
+//! Positions are bytes from 0. Lines and columns count from 0 and are printed from 1; columns count
+//! characters.
 
 mod character_counts;
 mod code_map;

@@ -1,4 +1,4 @@
-//! Values with their places.
+//! Values with a file span and a call stack.
 
 ghost use Rattle.std.specs.Prelude.{◌≡◌, ◌≢◌, [], Some, None, option_copied, IsOk, IsSome, IfOk, IfErr, OnOk, OnErr};
 ghost use Rattle.starlark_base.specs.Diagnostics.{place_in, unplaced, with_span};
@@ -9,7 +9,7 @@ use std::alloc::{AllocError, AllocFailed, Global};
 use std::fmt;
 use std::marker::Model;
 
-/// What a box has room for. The value is missing only until `map` has it.
+/// The boxed fields of a `WithDiagnostic`. The value is absent only inside `map`.
 #[derive(Drop)]
 struct Parts<T> {
     value: Option<T>,
@@ -17,10 +17,9 @@ struct Parts<T> {
     call_stack: CallStack,
 }
 
-/// A value, the place that it belongs to, if that is known, and the calls that led there. In a contract
-/// it is these three.
+/// A value, its file span if that is known, and its call stack. In a contract it is these three.
 ///
-/// The place and the calls that were known first are kept: what is told later doesn't replace them.
+/// The first span and the first call stack are kept: later ones don't replace them.
 #[derive(Drop)]
 pub struct WithDiagnostic<T> {
     parts: Box<Parts<T>>,
@@ -36,7 +35,9 @@ impl<T> Model for WithDiagnostic<T> {
 }
 
 impl<T> WithDiagnostic<T> {
-    /// A value at a place, with no calls. Want of memory hands the value back.
+    /// A value with a span of a code map, and with no calls.
+    ///
+    /// The code map is shared. The error is the value, where memory runs out.
     pub fn new_spanned(alloc: Global, t: T, span: Span, codemap: &CodeMap) -> Result<Self, T>
         ensures ok { IfOk result (λ it. it ≡ with_span (unplaced t) (place_in codemap.now span)) }
         ensures refused { IfErr result (λ given. given ≡ t) }
@@ -62,7 +63,7 @@ impl<T> WithDiagnostic<T> {
         self.parts.value.as_ref().unwrap()
     }
 
-    /// The value alone.
+    /// Returns the value, and drops its span and calls.
     pub fn into_inner(self) -> T
         ensures { result ≡ self.value }
     {
@@ -70,7 +71,7 @@ impl<T> WithDiagnostic<T> {
         value
     }
 
-    /// The value, its place and its calls.
+    /// Returns the value, its span and its calls.
     pub fn into_parts(self) -> (T, Option<FileSpan>, CallStack)
         ensures value { result.0 ≡ self.value }
         ensures span { result.1 ≡ self.span }
@@ -80,8 +81,10 @@ impl<T> WithDiagnostic<T> {
         (parts.value.unwrap(), parts.span, parts.call_stack)
     }
 
-    /// What a function makes of the value, with the same place and calls. The function is called once
-    /// there is memory; want of memory hands the old value back, and the function wasn't called.
+    /// Applies a function to the value, and keeps the span and the calls.
+    ///
+    /// The function is called after the allocation. The error is the unchanged `self`, where memory
+    /// runs out: then the function wasn't called.
     pub fn map<U, F: FnOnce(T) -> U + Drop>(
         self,
         alloc: Global,
@@ -120,7 +123,7 @@ impl<T> WithDiagnostic<T> {
         }
     }
 
-    /// The place, if it is known.
+    /// The file span, if it is known.
     pub fn span(&self) -> Option<&FileSpan>
         ensures { option_copied result ≡ self.now.span }
     {
@@ -134,8 +137,9 @@ impl<T> WithDiagnostic<T> {
         &self.parts.call_stack
     }
 
-    /// Tells the place, unless one is known. Want of memory changes nothing; where a place is known
-    /// no memory is taken.
+    /// Sets the span, unless one is known. Then nothing is allocated.
+    ///
+    /// Nothing changes on `AllocError`.
     pub fn set_span(&mut self, span: Span, codemap: &CodeMap) -> Result<(), AllocError>
         ensures ok { OnOk result (self.new ≡ with_span self.old (place_in codemap.now span)) }
         ensures known { IsSome self.old.span → IsOk result }
@@ -147,7 +151,7 @@ impl<T> WithDiagnostic<T> {
         Ok(())
     }
 
-    /// Tells the calls, unless some are known. Only where none are is the function called.
+    /// Sets the calls, unless some are known. Then the function isn't called.
     pub fn set_call_stack<F: FnOnce() -> CallStack + Drop>(&mut self, call_stack: F)
         requires { self.old.call_stack ≡ [] → F.pre call_stack }
         ensures value { self.new.value ≡ self.old.value }
@@ -161,6 +165,7 @@ impl<T> WithDiagnostic<T> {
     }
 }
 
+/// Prints the value, and ` at ` with its file span where that is known. Calls aren't printed.
 impl<T: fmt::Display> fmt::Display for WithDiagnostic<T> {
     ghost use Rattle.starlark_base.specs.Diagnostics.{diagnosed_text};
 
@@ -175,6 +180,7 @@ impl<T: fmt::Display> fmt::Display for WithDiagnostic<T> {
     }
 }
 
+/// Prints what `Display` prints.
 impl<T: fmt::Display> fmt::Debug for WithDiagnostic<T> {
     ghost use Rattle.starlark_base.specs.Diagnostics.{diagnosed_text};
 

@@ -1,5 +1,4 @@
-//! What follows from the definitions for all texts, spans and code maps: each law is the contract of a
-//! function that does nothing.
+//! Laws on texts, spans and code maps. Each is the contract of a function with an empty body.
 
 ghost use Rattle.std.specs.Prelude.{◌≡◌, ◌<◌, ◌+◌, ◌↔◌, ℕ, IsTrue, length, count_by};
 ghost use Rattle.std.specs.List.{concat};
@@ -15,13 +14,14 @@ use crate::codemap::{CodeMap, FileSpan, ResolvedPos};
 use std::cmp::{Ord, Ordering};
 use std::hash::Hash;
 
-/// Where one span intersects another, the other intersects it.
+/// If one span intersects another, the other intersects it.
 pub fn intersecting_is_symmetric()
     ensures { (a b : ByteSpan) → Meets a b → Meets b a }
 {}
 
-/// Of two positions between characters of a text, the earlier resolves to the earlier place: to one before it
-/// by line and column, and less than it as places are ordered.
+/// Resolving keeps the order of positions: the earlier one gets the earlier line and column.
+///
+/// Both must be character boundaries. Earlier means by line, then column, as `Ord` has it.
 pub fn resolving_keeps_order()
     ensures before { (text : Text) (a b : ℕ) → IsUtf8 text → IsCharBoundary text a → IsCharBoundary text b → a < b
         → StandsBefore (place_at text a) (place_at text b) }
@@ -29,23 +29,23 @@ pub fn resolving_keeps_order()
         → ⟦<ResolvedPos as Ord>⟧.cmp (place_at text a) (place_at text b) ≡ Ordering.Less }
 {}
 
-/// The spans of the lines cut a text into one piece more than it has line feeds, and the pieces join to it.
+/// The lines of a text are one more than its LF, and they join to the text.
 pub fn lines_join_to_the_text()
     ensures pieces { (text : Text) → length (line_texts text) ≡ count_by is_line_feed text + 1 }
     ensures joined { (text : Text) → concat (line_texts text) ≡ text }
 {}
 
-/// Where two maps of source files are joined, the first map's file of a number is kept.
+/// Joining two collections of source files keeps the first one's file of each number.
 pub fn joining_keeps_the_first()
     ensures { (a b : SourceFiles) (id : ℕ) → map.get (joined a b) id ≡ option_or (map.get a id) (map.get b id) }
 {}
 
-/// Equal code maps hash alike.
+/// Equal code maps have equal hashes.
 pub fn equal_code_maps_hash_alike(a: &CodeMap, b: &CodeMap)
     ensures { IsTrue (⟦<CodeMap as PartialEq>⟧.eq a.now b.now) → ⟦<CodeMap as Hash>⟧.hash_input a.now ≡ ⟦<CodeMap as Hash>⟧.hash_input b.now }
 {}
 
-/// File spans are equal exactly where neither is ordered before the other, and equal ones hash alike.
+/// File spans are equal exactly where they compare as equal, and equal ones have equal hashes.
 pub fn file_spans_agree(a: &FileSpan, b: &FileSpan)
     ensures order { IsTrue (⟦<FileSpan as PartialEq>⟧.eq a.now b.now) ↔ (⟦<FileSpan as Ord>⟧.cmp a.now b.now ≡ Ordering.Equal) }
     ensures hash { IsTrue (⟦<FileSpan as PartialEq>⟧.eq a.now b.now) → ⟦<FileSpan as Hash>⟧.hash_input a.now ≡ ⟦<FileSpan as Hash>⟧.hash_input b.now }

@@ -1,5 +1,6 @@
-//! Positions in source texts, code maps, places as they are printed, and values with their places; and what the
-//! crate below has for texts.
+//! Positions and spans of source texts, code maps, lines and columns, and values with file spans.
+//!
+//! It re-exports the dialects of `starlark_text`.
 #![tactic(auto)]
 
 pub mod call_stack;

@@ -1,4 +1,4 @@
-//! Lexes a text again behind an edit in its middle.
+//! Lexes a text again after an edit in its middle.
 
 ghost use Rattle.std.specs.Prelude.{◌≡◌, take, true};
 ghost use Rattle.std.specs.Str.{IsCharBoundary};
@@ -10,7 +10,7 @@ use starlark_text::dialect::Dialect;
 use std::alloc::{AllocError, Global};
 use std::time::Instant;
 
-/// The place behind the first line feed in the second half of a text; its begin where there is none.
+/// Offset in bytes after the first LF in the second half of a text; 0 if there is none.
 pub fn middle(text: &str) -> usize {
     let half = text.len() / 2;
     for (at, byte) in text.as_bytes().iter().enumerate() {
@@ -21,7 +21,7 @@ pub fn middle(text: &str) -> usize {
     0
 }
 
-/// A text with a line feed more at a place.
+/// A text with one more LF at a byte offset. It is empty if that is no character boundary.
 pub fn edited_in_the_middle(alloc: Global, text: &str, from: usize) -> Result<String, AllocError> {
     let mut edited = String::new(alloc);
     if let Some((front, back)) = text.split_at_checked(from) {
@@ -32,7 +32,7 @@ pub fn edited_in_the_middle(alloc: Global, text: &str, from: usize) -> Result<St
     Ok(edited)
 }
 
-/// Whether two texts have the same bytes up to a place between characters of both.
+/// Whether two texts have the same bytes up to byte `from`, a character boundary of both.
 fn agree(first: &str, second: &str, from: usize) -> bool
     ensures { result ≡ true → IsCharBoundary first.now from × IsCharBoundary second.now from × (take from first.now ≡ take from second.now) }
 {
@@ -42,7 +42,7 @@ fn agree(first: &str, second: &str, from: usize) -> bool
     first[..from] == second[..from]
 }
 
-/// Lexes the source of a code map, and again where it has become another text from a place on, and prints a line.
+/// Lexes the source of a code map, and again after an edit at byte `from`, and prints a line.
 pub fn print_relexed(
     rt: &HostRuntime,
     file: &CodeMap,

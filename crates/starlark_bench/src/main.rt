@@ -1,17 +1,22 @@
-//! `starlark_bench [--bench N | --relex N]` lexes the Starlark text on standard input N times, or once, and prints a line
-//! each time: the text's bytes, its lexemes, its faults (0 or 1) and a checksum over their places. With `--bench` the
-//! line also has the nanoseconds from making the lexer to letting go of the last lexeme.
+//! Benchmark of the lexer over the Starlark text on standard input.
 //!
-//! `starlark_bench --places N` resolves N spans that lie spread over the text, but for those with an end inside of a
-//! character, and prints one line: the text's bytes, its lines, the spans that were resolved, a checksum over their
-//! places, and nanoseconds.
+//! `starlark_bench` lexes the text once, and prints a line: the text's bytes, its lexemes, its
+//! faults (0 or 1) and a checksum of their offsets.
 //!
-//! With `--relex` a line has the text's bytes, and then twice how often bytes were read and the nanoseconds: of lexing
-//! the text with all its lexemes kept, and of lexing it again with an empty line more in its middle.
+//! `starlark_bench --bench N` does so N times, and prints a line each time. The line also has the
+//! nanoseconds from making the lexer to dropping the last lexeme.
 //!
-//! Reading the text, checking that it is UTF-8, editing it and making its code map are not measured.
+//! `starlark_bench --relex N` lexes the text into a `LexedText`, and again with one more blank line
+//! in its middle, N times. A line has the text's bytes, and for each of the two the number of bytes
+//! read and the nanoseconds.
 //!
-//! The exit status is 2 where the arguments are wrong or the run gave up: then standard error says why.
+//! `starlark_bench --places N` resolves N spans that are spread over the text, except those with an
+//! end inside of a character. It prints one line: the text's bytes, its lines, the spans that were
+//! resolved, a checksum of their lines and columns, and the nanoseconds.
+//!
+//! Reading the text, checking UTF-8, editing and making the code map are not measured.
+//!
+//! The exit status is 2 where the arguments are wrong or the run failed. Standard error says why.
 #![tactic(auto)]
 
 mod edited;
@@ -27,16 +32,19 @@ use std::rt::Env;
 use std::time::Instant;
 use std::{env, io};
 
-/// The exit status for wrong arguments, and where a run gave up.
+/// The exit status for wrong arguments, and for a run that failed.
 const TROUBLE: u8 = 2;
 
-/// What a call asks for: to lex once, without a time, or so many times, the text alone or also behind an edit in its middle;
-/// or to resolve so many spans.
+/// What the arguments ask for.
 #[derive(Clone, Copy)]
 enum Request {
+    /// Lex once, without a time.
     Once,
+    /// Lex the given number of times.
     Timed(u32),
+    /// Resolve the given number of spans.
     Places(u32),
+    /// Lex, and lex again after an edit, the given number of times.
     Relexed(u32),
 }
 
@@ -73,7 +81,7 @@ fn print_once(rt: &HostRuntime, file: &CodeMap) -> Result<(), BenchFault> {
     Ok(println!(rt; "{} {tally}", file.source().len())?)
 }
 
-/// Lexes the source of a code map so many times, and prints a line each time.
+/// Lexes the source of a code map `count` times, and prints a line each time.
 fn print_timed(rt: &HostRuntime, file: &CodeMap, count: u32) -> Result<(), BenchFault> {
     for _ in 0..count {
         let start = Instant::now(rt)?;
@@ -84,7 +92,7 @@ fn print_timed(rt: &HostRuntime, file: &CodeMap, count: u32) -> Result<(), Bench
     Ok(())
 }
 
-/// Resolves so many spans of a code map, and prints a line.
+/// Resolves `count` spans of a code map, and prints a line.
 fn print_places(rt: &HostRuntime, file: &CodeMap, count: u32) -> Result<(), BenchFault> {
     let start = Instant::now(rt)?;
     let tally = tally_of_places(file, count);
@@ -93,7 +101,7 @@ fn print_places(rt: &HostRuntime, file: &CodeMap, count: u32) -> Result<(), Benc
     Ok(println!(rt; "{bytes} {lines} {tally} {}", elapsed.as_nanos())?)
 }
 
-/// Lexes the source of a code map so many times, and again behind an edit, and prints a line each time.
+/// Lexes a source, and again after an edit, `count` times, and prints a line each time.
 fn print_edited(rt: &HostRuntime, file: &CodeMap, count: u32) -> Result<(), BenchFault> {
     let from = middle(file.source());
     let edited = edited_in_the_middle(rt.alloc(), file.source(), from)?;
@@ -103,6 +111,7 @@ fn print_edited(rt: &HostRuntime, file: &CodeMap, count: u32) -> Result<(), Benc
     Ok(())
 }
 
+/// Does what the arguments ask for.
 fn bench(rt: &HostRuntime, request: Request) -> Result<(), BenchFault> {
     let file = read_code_map(rt)?;
     match request {

@@ -1,4 +1,4 @@
-//! Counts what a lexer hands out.
+//! Counts the items of a lexer.
 
 use starlark_base::codemap::{CodeMap, OrMemory, SourceTooLong};
 use starlark_syntax::lexer::{Lexeme, Lexer};
@@ -7,13 +7,16 @@ use std::alloc::{AllocError, Global};
 use std::{fmt, io};
 use thiserror::Error;
 
-/// Why there is no line.
+/// Why a run failed.
 #[derive(Debug, Drop, Error)]
 pub enum BenchFault {
+    /// Standard input, standard output or the clock failed.
     #[error("cannot read, write or tell the time: {0}")]
     Device(#[from] io::Error),
+    /// The text, or the edited text, is longer than 4294967295 bytes.
     #[error("input is longer than 4294967295 bytes")]
     TooLong,
+    /// An allocation failed.
     #[error("out of memory")]
     Memory,
 }
@@ -39,7 +42,7 @@ impl From<OrMemory<SourceTooLong>> for BenchFault {
     }
 }
 
-/// How many lexemes and faults came, and a sum over the lexemes' places.
+/// Number of lexemes and faults, and a checksum of the lexemes' offsets.
 #[derive(Clone, Copy)]
 pub struct Tally {
     lexemes: u64,
@@ -48,13 +51,14 @@ pub struct Tally {
 }
 
 impl Tally {
+    /// No lexemes and no faults.
     const NONE: Tally = Tally {
         lexemes: 0,
         faults: 0,
         checksum: 0,
     };
 
-    /// Counts what came next. Want of memory is no fault of the text.
+    /// Adds an item of a lexer. Out of memory is an `AllocError`, not a fault.
     fn add(&mut self, item: &Lexeme) -> Result<(), AllocError> {
         match item {
             Ok((begin, _, end)) => {
@@ -69,13 +73,14 @@ impl Tally {
     }
 }
 
+/// Prints the numbers of lexemes and faults, and the checksum.
 impl fmt::Display for Tally {
     fn fmt<W: fmt::Write>(&self, f: &mut fmt::Formatter<W>) -> fmt::Result {
         write!(f, "{} {} {}", self.lexemes, self.faults, self.checksum)
     }
 }
 
-/// Lexes the source of a code map, and counts what comes.
+/// Lexes the source of a code map, and counts its lexemes and faults.
 pub fn tally_of(alloc: Global, file: &CodeMap) -> Result<Tally, BenchFault> {
     let lexer = Lexer::new(alloc, file.source(), &Dialect::Extended, file.dupe()?)?;
     let mut tally = Tally::NONE;

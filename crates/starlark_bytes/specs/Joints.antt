@@ -1,3 +1,3 @@
--- What only contracts of inner functions and proofs speak of.
+-- Definitions that only contracts of inner functions, and proofs, cite.
 pub mod Reads
 pub mod Lines

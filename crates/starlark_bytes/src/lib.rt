@@ -1,4 +1,4 @@
-//! Looks at bytes of a text: one by one and counted, sixteen together, up to the end of a line.
+//! Reads bytes of a text and counts the reads: one by one, or by SIMD 16 at a time.
 #![tactic(auto)]
 
 pub mod lanes;

@@ -1,4 +1,4 @@
-//! Finds what ends a line.
+//! Finds the first LF, or the first of another byte.
 
 ghost use Rattle.std.specs.Prelude.{◌≡◌, ◌+◌, ◌-◌, ◌*◌, ◌≤◌, drop, length, take};
 ghost use Rattle.std.specs.List.{prefix_len};
@@ -9,10 +9,10 @@ use crate::lanes::{LANES, lowest_bit};
 use crate::reads::Reads;
 use std::simd::prelude::*;
 
-/// How many bytes of a line are looked at one by one before sixteen are looked at together.
+/// Bytes of a line that are read one by one before the first SIMD step.
 const ALONE: usize = 5;
 
-/// How many bytes stand before the first LF or the first `other` byte, looked at one by one.
+/// Number of bytes before the first LF or `other` byte, or all of them, one byte at a time.
 #[inline(always)]
 fn short_front_len(reads: &mut Reads, text: &[u8], other: u8) -> usize
     ensures value { result ≡ prefix_len (is_in_front other) text.now }
@@ -27,7 +27,7 @@ fn short_front_len(reads: &mut Reads, text: &[u8], other: u8) -> usize
     len
 }
 
-/// How many of the sixteen bytes from `at` on stand before the first LF or the first `other` byte among them.
+/// Number of bytes before the first LF or `other` byte among the 16 bytes from `at` on; 16 if none.
 #[inline(always)]
 fn lanes_front_len(reads: &mut Reads, text: &[u8], at: usize, other: u8) -> usize
     requires { at + 16 ≤ length text.now }
@@ -40,8 +40,9 @@ fn lanes_front_len(reads: &mut Reads, text: &[u8], at: usize, other: u8) -> usiz
     lowest_bit(ends.to_bitmask())
 }
 
-/// How many bytes of a text stand before its first LF or its first `other` byte. Sixteen bytes are looked at together once
-/// five were passed one by one.
+/// Number of bytes before the first LF or `other` byte of a text, or all of them.
+///
+/// It reads five bytes one by one, and then 16 at a time.
 #[inline(always)]
 pub fn front_len(reads: &mut Reads, text: &[u8], other: u8) -> usize
     ensures value { result ≡ prefix_len (is_in_front other) text.now }

@@ -1,4 +1,4 @@
-//! Finds where a name ends.
+//! Finds the end of a name.
 
 ghost use Rattle.std.specs.Prelude.{◌≡◌, ◌≤◌, ◌+◌, ◌*◌, length, take};
 ghost use Rattle.std.specs.List.{prefix_len, slice_get};
@@ -9,7 +9,7 @@ use crate::lanes::{LANES, lowest_bit};
 use crate::reads::Reads;
 use std::simd::prelude::*;
 
-// An `x` stands at each byte that a name may have.
+// `x` marks each byte that a name can have.
 static IN_NAME: [u8; 256] = *b"\
     --------------------------------\
     ----------------xxxxxxxxxx------\
@@ -28,10 +28,10 @@ fn is_in_name(byte: u8) -> bool
     IN_NAME[byte as usize] == b'x'
 }
 
-/// How many bytes of a name are looked at one by one before sixteen are looked at together.
+/// Bytes of a name that are read one by one before the SIMD step.
 const ALONE: usize = 4;
 
-/// The length of the run of letters, digits and `_` at the front of some bytes, looked at one by one.
+/// Number of letters, digits and `_` at the start of a text, by one byte at a time.
 #[inline(always)]
 fn short_name_len(text: &[u8]) -> usize
     ensures value { result ≡ prefix_len grammar.is_in_name text.now }
@@ -40,7 +40,7 @@ fn short_name_len(text: &[u8]) -> usize
     text.iter().take_while(|byte| is_in_name(**byte)).count()
 }
 
-/// The same of bytes behind the first ones of a name, or of fewer, which stand at a text's end.
+/// Scalar tail of `name_len`: the bytes after its SIMD step, or a text too short for one.
 #[inline(never)]
 fn last_name_len(text: &[u8]) -> usize
     ensures value { result ≡ prefix_len grammar.is_in_name text.now }
@@ -49,7 +49,7 @@ fn last_name_len(text: &[u8]) -> usize
     short_name_len(text)
 }
 
-/// How many of the first sixteen bytes stand before the first one that is no letter, digit or `_`.
+/// Number of letters, digits and `_` at the start of the first 16 bytes, by SIMD.
 #[inline(always)]
 fn lanes_name_len(text: &[u8]) -> usize
     requires { 16 ≤ length text.now }
@@ -63,8 +63,10 @@ fn lanes_name_len(text: &[u8]) -> usize
     lowest_bit((!in_name).to_bitmask())
 }
 
-/// The run of letters, digits and `_` at the front of a text. Sixteen bytes are looked at together once four were passed one
-/// by one, since the length of a longer name can't be foretold by the processor.
+/// Number of letters, digits and `_` at the start of a text.
+///
+/// It reads four bytes one by one, and then 16 by SIMD: the processor can't predict the length of a
+/// longer name.
 #[inline(always)]
 fn name_len(reads: &mut Reads, text: &[u8]) -> usize
     ensures value { result ≡ prefix_len grammar.is_in_name text.now }
@@ -91,7 +93,7 @@ fn name_len(reads: &mut Reads, text: &[u8]) -> usize
     whole
 }
 
-/// The run of letters, digits and `_` at the front of a text: its length, and the byte behind it.
+/// Number of letters, digits and `_` at the start of a text, and the byte after them.
 #[inline(always)]
 pub fn name_run(reads: &mut Reads, text: &[u8]) -> (usize, Option<u8>)
     ensures value { result.0 ≡ prefix_len grammar.is_in_name text.now }

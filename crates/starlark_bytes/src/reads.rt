@@ -1,4 +1,4 @@
-//! Reads bytes of a text, and counts them.
+//! Reads bytes of a text, and counts the reads.
 
 ghost use Rattle.std.specs.Prelude.{◌≡◌, ◌==◌, get_or, ◌≤◌, ◌<◌, ◌+◌, ◌-◌, ◌^◌, ℕ, length, take, nat_eq};
 ghost use Rattle.std.specs.Char.{is_ascii_digit, is_ascii_hexdigit};
@@ -11,7 +11,7 @@ ghost use Rattle.starlark_bytes.specs.Joints.Reads.{more_reads};
 use crate::lanes::LANES;
 use std::marker::Model;
 
-/// The length of the run of spaces at the front of a text. Who calls it counts that they were read.
+/// Number of spaces at the start of a text. The caller has to count the reads.
 #[inline(always)]
 pub fn uncounted_spaces_len(text: &[u8]) -> usize
     ensures value { result ≡ prefix_len (nat_eq 32) text.now }
@@ -20,7 +20,7 @@ pub fn uncounted_spaces_len(text: &[u8]) -> usize
     text.iter().take_while(|byte| **byte == b' ').count()
 }
 
-/// The length in bytes of the first character of a text; 0 where the text is empty.
+/// Length in bytes of the first character of a text; 0 if the text is empty. Not counted.
 fn first_character_len(text: &str) -> usize
     ensures character { take result text.now ≡ first_character text.now }
     ensures whole { result ≡ length (first_character text.now) }
@@ -32,10 +32,11 @@ fn first_character_len(text: &str) -> usize
     }
 }
 
-/// Reads bytes of a text, and counts each time that a byte is looked at. All code that decides by bytes of a text reads
-/// them through this type. In a contract it is the count, which stops at the greatest number that it can have.
+/// A counter of reads of bytes, which saturates.
 ///
-/// The length of a run is that of the longest one at the front of a text. The byte that ends it is read, too.
+/// All code that decides by bytes of a text reads them through this type, so that contracts can
+/// bound the reads. A `_len` call returns the length of the longest run at the start of a text; the
+/// byte that ends the run is read too. In a contract it is the count.
 #[derive(Drop)]
 pub struct Reads {
     count: u64,
@@ -48,21 +49,21 @@ impl Model for Reads {
 }
 
 impl Reads {
-    /// Nothing is read.
+    /// A counter at 0.
     pub fn new() -> Self
         ensures { result ≡ 0 }
     {
         Reads { count: 0 }
     }
 
-    /// How often bytes were read.
+    /// Number of reads so far. A byte that was read twice counts twice.
     pub fn count(&self) -> u64
         ensures { result ≡ self.now }
     {
         self.count
     }
 
-    /// Counts more reads.
+    /// Adds to the count.
     #[inline(always)]
     fn add(&mut self, more: usize)
         ensures { self.new ≡ more_reads self.old more }
@@ -70,7 +71,7 @@ impl Reads {
         self.count = self.count.saturating_add(more as u64);
     }
 
-    /// Counts a run of so many bytes, which was read one by one, and the byte that ended it.
+    /// Counts a run of `len` bytes that was read one by one, and the byte that ended it.
     #[inline(always)]
     pub fn count_run(&mut self, len: usize)
         requires { len < 2 ^ 64 - 1 }
@@ -79,7 +80,7 @@ impl Reads {
         self.add(len + 1);
     }
 
-    /// Counts sixteen bytes that are looked at together.
+    /// Counts the 16 bytes of a SIMD step.
     #[inline(always)]
     pub fn count_lanes(&mut self)
         ensures { self.new ≡ more_reads self.old 16 }
@@ -87,7 +88,7 @@ impl Reads {
         self.add(LANES);
     }
 
-    /// Counts a run of so many bytes, which was read one by one, and sixteen bytes behind it that are looked at together.
+    /// Counts a run of `len` bytes that was read one by one, and the SIMD step after it.
     #[inline(always)]
     pub fn count_run_and_lanes(&mut self, len: usize)
         requires { len < 2 ^ 64 - 16 }
@@ -96,7 +97,7 @@ impl Reads {
         self.add(len + LANES);
     }
 
-    /// Whether a CR is the last byte of a text.
+    /// Whether the last byte of a text is a CR.
     pub fn ends_with_return(&mut self, text: &[u8]) -> bool
         ensures value { result ≡ (get_or text.now (length text.now - 1) 0 == 13) }
         ensures reads { self.new ≡ more_reads self.old 1 }
@@ -105,7 +106,7 @@ impl Reads {
         matches!(text, [.., b'\r'])
     }
 
-    /// The byte at a place of a text.
+    /// The byte at an offset of a text; `None` if the text is no longer than that.
     #[inline(always)]
     pub fn at(&mut self, text: &[u8], place: usize) -> Option<u8>
         ensures byte { result ≡ slice_get text.now place }
@@ -115,7 +116,7 @@ impl Reads {
         text.get(place).copied()
     }
 
-    /// The length in bytes of the first character of a text; 0 where the text is empty.
+    /// Length in bytes of the first character of a text; 0 if the text is empty.
     pub fn character_len(&mut self, text: &str) -> usize
         ensures character { take result text.now ≡ first_character text.now }
         ensures whole { result ≡ length (first_character text.now) }
@@ -127,7 +128,7 @@ impl Reads {
         len
     }
 
-    /// The first bytes of a text, at most so many.
+    /// The first `most` bytes of a text, or all if it has fewer. `most` reads are counted.
     #[inline(always)]
     pub fn front<'a>(&mut self, text: &'a [u8], most: usize) -> &'a [u8]
         ensures bytes { result.now ≡ take most text.now }
@@ -137,8 +138,9 @@ impl Reads {
         &text[..most.min(text.len())]
     }
 
-    /// The first bytes of a text, at most so many, behind a run of so many bytes, which is counted with them. Each byte of the
-    /// run was read once, and the byte that ended it.
+    /// The first `most` bytes of the text after a run, or all if it has fewer.
+    ///
+    /// The reads of the run are counted here: its `run` bytes, and the byte that ended it.
     #[inline(always)]
     pub fn front_behind<'a>(&mut self, run: usize, text: &'a [u8], most: usize) -> &'a [u8]
         requires { run + most + 1 < 2 ^ 64 }
@@ -149,7 +151,8 @@ impl Reads {
         &text[..most.min(text.len())]
     }
 
-    /// The first bytes of a text, at most so many, of which the first ones, so many as are known, were read before.
+    /// The first `most` bytes of a text, or all if it has fewer. The first `known` aren't counted
+    /// again.
     #[inline(always)]
     pub fn more_front<'a>(&mut self, text: &'a [u8], known: usize, most: usize) -> &'a [u8]
         requires { known ≤ most }
@@ -160,7 +163,7 @@ impl Reads {
         &text[..most.min(text.len())]
     }
 
-    /// The length of the run of digits.
+    /// Number of decimal digits at the start of a text.
     #[inline(always)]
     pub fn digits_len(&mut self, text: &[u8]) -> usize
         ensures value { result ≡ prefix_len is_ascii_digit text.now }
@@ -172,7 +175,7 @@ impl Reads {
         len
     }
 
-    /// The length of the run of hexadecimal digits.
+    /// Number of hexadecimal digits at the start of a text.
     #[inline(always)]
     pub fn hexadecimal_len(&mut self, text: &[u8]) -> usize
         ensures value { result ≡ prefix_len is_ascii_hexdigit text.now }
@@ -187,7 +190,7 @@ impl Reads {
         len
     }
 
-    /// The length of the run of octal digits.
+    /// Number of octal digits at the start of a text.
     #[inline(always)]
     pub fn octal_len(&mut self, text: &[u8]) -> usize
         ensures value { result ≡ prefix_len grammar.is_octal_digit text.now }
@@ -202,7 +205,7 @@ impl Reads {
         len
     }
 
-    /// The length of the run of binary digits.
+    /// Number of binary digits at the start of a text.
     #[inline(always)]
     pub fn binary_len(&mut self, text: &[u8]) -> usize
         ensures value { result ≡ prefix_len grammar.is_binary_digit text.now }
@@ -217,7 +220,7 @@ impl Reads {
         len
     }
 
-    /// The length of the run of bytes before a CR or an LF.
+    /// Number of bytes of a text before its first CR or LF, or all of them.
     #[inline(always)]
     pub fn line_len(&mut self, text: &[u8]) -> usize
         ensures value { result ≡ prefix_len grammar.is_in_line text.now }
@@ -232,7 +235,7 @@ impl Reads {
         len
     }
 
-    /// The length of the run of spaces.
+    /// Number of spaces at the start of a text.
     #[inline(always)]
     pub fn spaces_len(&mut self, text: &[u8]) -> usize
         ensures value { result ≡ prefix_len (nat_eq 32) text.now }
@@ -244,7 +247,7 @@ impl Reads {
         len
     }
 
-    /// The length of the run of tabs.
+    /// Number of tabs at the start of a text.
     #[inline(always)]
     pub fn tabs_len(&mut self, text: &[u8]) -> usize
         ensures value { result ≡ prefix_len (nat_eq 9) text.now }

@@ -1,2 +1,2 @@
--- What only contracts inside of the crate and proofs speak of: the versions of a text.
+-- Definitions that only contracts inside the crate, and proofs, cite: the versions of a text.
 pub mod Versions

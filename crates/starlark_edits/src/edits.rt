@@ -1,4 +1,4 @@
-//! Edits of a text.
+//! Edits of texts.
 
 ghost use Rattle.std.specs.Prelude.{◌≡◌, ◌+◌, ◌↔◌, IfOk, IsTrue, length, string_bytes, true};
 ghost use Rattle.starlark_base.specs.Sources.{Holds, holds};
@@ -7,16 +7,20 @@ ghost use Rattle.starlark_edits.specs.Joints.Versions.{Fits};
 
 use std::alloc::{AllocError, Global};
 
-/// An edit of a text: the bytes from one place to another give way to other text. Places are counted in bytes. An edit
-/// fits a text where its places stand in order between characters of it.
+/// An edit of a text: replaces the bytes from `from` to `to` by `text`.
+///
+/// It fits a text if `from` is at most `to`, and both are character boundaries of the text.
 #[derive(Clone, Copy, Debug, PartialEq, Eq)]
 pub struct Edit<'e> {
+    /// Offset of the first byte to replace.
     pub from: usize,
+    /// Offset after the last byte to replace. It equals `from` in an insertion.
     pub to: usize,
+    /// The text to put there. It is empty in a deletion.
     pub text: &'e str,
 }
 
-/// Whether both places of an edit stand between characters of a text.
+/// Whether both offsets of an edit are character boundaries of a text.
 fn is_held(text: &str, edit: &Edit<'_>) -> bool
     ensures held { IsTrue result ↔ Holds text.now (edit_span edit.now) }
     ensures test { result ≡ holds text.now (edit_span edit.now) }
@@ -32,7 +36,7 @@ pub fn fits(text: &str, edit: &Edit<'_>) -> bool
     edit.from <= edit.to && is_held(text, edit)
 }
 
-/// How many bytes of a text an edit leaves as they are.
+/// Number of bytes of a text that an edit keeps.
 pub fn kept_len(text: &str, edit: &Edit<'_>) -> usize
     requires { Fits text.now edit.now }
     ensures { result + edit.now.to ≡ length text.now + edit.now.from }
@@ -40,7 +44,7 @@ pub fn kept_len(text: &str, edit: &Edit<'_>) -> usize
     text.len() - (edit.to - edit.from)
 }
 
-/// The text that an edit leaves, which is of this length.
+/// The text after an edit. `len` is its length in bytes. `AllocError` where memory runs out.
 pub fn edited(alloc: Global, text: &str, edit: &Edit<'_>, len: usize) -> Result<String, AllocError>
     requires { Fits text.now edit.now }
     ensures { IfOk result (λ edited. string_bytes edited ≡ edited_text text.now edit.now) }

@@ -1,5 +1,4 @@
-//! Reads a text from a reader, edits it, and prints the lexemes or the first fault of what a list of edits leaves to a
-//! writer.
+//! Reads a text, edits it, and prints the lexemes and the first fault of the edited text.
 #![tactic(auto)]
 
 mod edits;

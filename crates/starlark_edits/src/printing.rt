@@ -16,7 +16,9 @@ use starlark_lines::printer::Printer;
 use starlark_lines::watched::Watched;
 use std::alloc::Global;
 
-/// Puts the lines of a lexed text, and says whether the text has a fault.
+/// Prints the lines of a lexed text, without the last write and flush.
+///
+/// Returns whether the text has a fault.
 fn put_lexed<W: WriteDevice>(
     printer: &mut Printer,
     writer: &mut Watched<W>,
@@ -40,7 +42,7 @@ fn put_lexed<W: WriteDevice>(
     Ok(RunStatus::Fault)
 }
 
-/// Prints the output for a lexed text that has this name, and says whether it has a fault.
+/// Prints the whole output for the lexed text `name`, flushes, and returns whether it has a fault.
 pub fn print_lexed<W: WriteDevice>(
     alloc: Global,
     name: &str,

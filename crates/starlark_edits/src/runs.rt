@@ -1,4 +1,4 @@
-//! Reads a text, edits it, and prints its lexemes.
+//! Reads a text, edits it, and prints the lexemes of the edited text.
 
 ghost use Rattle.std.specs.Prelude.{◌≡◌, ◌↔◌, ℕ, List, true, false, OnOk, IsErrOf};
 ghost use Rattle.std.specs.Io.KnownBytes.{IsAtEnd};
@@ -15,13 +15,12 @@ use starlark_lines::reading::read_text;
 use starlark_lines::watched::Watched;
 use std::alloc::Global;
 
-/// Reads a text to its end as `run` does, edits it, and prints what `run` prints of the text that the edits leave. Each
-/// edit is one of the text that those before it leave.
+/// Reads a text to its end, edits it, and prints what `run` prints for the edited text.
 ///
-/// An edit that doesn't fit is refused, and one that leaves more than 4294967295 bytes is `RunFault::TooLong`; the first
-/// that is refused is told, and nothing is written then. All edits are tried before anything is lexed. Behind them only
-/// what stands behind the last place before an edit at which the text may be cut is lexed again. The texts that the edits
-/// leave are all held until then.
+/// Each edit is one of the text after the edits before it. The first that doesn't fit is
+/// `RunFault::BadEdit`; one that leaves more than 4294967295 bytes is `RunFault::TooLong`. Then
+/// nothing is written: all edits are tried before anything is lexed. After each edit the text is
+/// lexed again from the last cut before it on. The texts after all edits are in memory at once.
 pub fn run_edits<R: ReadDevice, W: WriteDevice>(
     alloc: Global,
     name: &str,
@@ -33,11 +32,11 @@ pub fn run_edits<R: ReadDevice, W: WriteDevice>(
     requires reader_not_ended { reader.old.ended ≡ false }
     requires writer_sound { writer.old.failed ≡ false }
 
-    // What was read and what was written, by which calls, by how the run ended.
+    // What was read and written, by which calls, for each result.
     ensures run { (came : List ℕ) × Came R.calls reader.old.device reader.new.device reader.new.ended reader.new.failed came
         × IsRun W.calls name.now came (text_after 0 came edits.now) reader.new writer.old writer.new result }
 
-    // The faults of the devices are told, and no others are.
+    // `Read` and `Write` are returned exactly if a call of the reader or writer failed.
     ensures read { IsErrOf result RunFault.Read ↔ (reader.new.failed ≡ true) }
     ensures write { IsErrOf result RunFault.Write ↔ (writer.new.failed ≡ true) }
     ensures ended { OnOk result (reader.new.ended ≡ true) }

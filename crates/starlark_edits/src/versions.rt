@@ -1,4 +1,4 @@
-//! The versions of a text, each of which an edit leaves of the one before.
+//! The versions of a text: the texts after each edit of a list.
 
 ghost use Rattle.std.specs.Prelude.{◌≡◌, ◌≤◌, ◌+◌, IfErr, IfOk, Ok, length, string_bytes};
 ghost use Rattle.starlark_base.specs.Sources.{SourceFile};
@@ -16,14 +16,17 @@ use starlark_lines::printer::empty_file;
 use starlark_text::dialect::Dialect;
 use std::alloc::Global;
 
-/// A text that an edit left, and where the edit began. Up to there it has the bytes of the text before.
+/// The text after an edit, and the offset in bytes up to which it equals the text before.
 #[derive(Debug, Drop)]
 pub struct Version {
     from: usize,
     text: String,
 }
 
-/// The version that an edit leaves of a text, where the edit stands at this place of a list.
+/// The version after the edit of index `at`.
+///
+/// Fails with `BadEdit` if the edit doesn't fit, `TooLong` if the new text is too long, and
+/// `Memory`.
 fn next_version(alloc: Global, text: &str, at: usize, edit: &Edit<'_>) -> Result<Version, RunFault>
     requires { length text.now ≤ GREATEST_LEN }
     ensures follows { IfOk result (Follows text.now) }
@@ -44,7 +47,7 @@ fn next_version(alloc: Global, text: &str, at: usize, edit: &Edit<'_>) -> Result
     })
 }
 
-/// The text of the last version; the first text where there is none.
+/// The text of the last version; the first text if there is none.
 fn newest<'v>(first: &'v str, versions: &'v [Version]) -> &'v str
     ensures { result.now ≡ newest_text first.now versions.now }
 {
@@ -54,7 +57,7 @@ fn newest<'v>(first: &'v str, versions: &'v [Version]) -> &'v str
     }
 }
 
-/// The versions that edits leave of a text, one after another.
+/// The versions of a text after each edit of a list. Fails at the first edit that fails.
 pub fn versions_of(alloc: Global, first: &str, edits: &[Edit<'_>]) -> Result<Vec<Version>, RunFault>
     requires { length first.now ≤ GREATEST_LEN }
     ensures versions { IfOk result (λ versions. AreVersions first.now versions.items) }
@@ -69,7 +72,7 @@ pub fn versions_of(alloc: Global, first: &str, edits: &[Edit<'_>]) -> Result<Vec
     Ok(versions)
 }
 
-/// A text with its lexemes.
+/// Lexes a text. Fails only with `Memory`.
 fn lex_first<'v>(alloc: Global, text: &'v str, file: CodeMap) -> Result<LexedText<'v>, RunFault>
     requires { length text.now ≤ GREATEST_LEN }
     ensures text { IfOk result (λ lexed. lexed.text ≡ text.now) }
@@ -84,7 +87,9 @@ fn lex_first<'v>(alloc: Global, text: &'v str, file: CodeMap) -> Result<LexedTex
     }
 }
 
-/// The last version with its lexemes: the first text is lexed, and what each edit changes is lexed again.
+/// The last version with its lexemes: the first text is lexed, and lexed again after each edit.
+///
+/// Fails only with `Memory`.
 pub fn relexed<'v>(
     alloc: Global,
     first: &'v str,

@@ -1,4 +1,4 @@
-//! Errors, each with what it says, the place it belongs to and the calls that led there.
+//! Errors with a kind, a file span and a call stack.
 
 ghost use Rattle.std.specs.Prelude.{◌≡◌, ◌≢◌, [], Some, None, option_copied, IsOk, IsSome, IfOk, IfErr, OnOk, OnErr};
 ghost use Rattle.starlark_base.specs.Diagnostics.{place_in, unplaced, with_value, with_span};
@@ -16,6 +16,7 @@ use std::alloc::{AllocError, AllocFailed, Global};
 use std::marker::Model;
 use std::{fmt, mem};
 
+/// The boxed fields of an error.
 #[derive(Drop)]
 struct Parts {
     kind: ErrorKind,
@@ -23,10 +24,10 @@ struct Parts {
     call_stack: CallStack,
 }
 
-/// An error: its kind with what it says, the place that it belongs to, if that is known, and the calls
-/// that led there. In a contract it is these three.
+/// An error: its kind with a message, its file span if that is known, and its call stack.
 ///
-/// The place and the calls that were known first are kept: what is told later doesn't replace them.
+/// The first span and the first call stack are kept: later ones don't replace them. In a contract
+/// an error is these three.
 #[derive(Drop)]
 pub struct Error {
     parts: Box<Parts>,
@@ -42,7 +43,9 @@ impl Model for Error {
 }
 
 impl Error {
-    /// An error of a kind, with no place and no calls. Want of memory hands the kind back.
+    /// An error of a kind, without a span and without calls.
+    ///
+    /// The error is the kind, where memory runs out.
     pub fn new_kind(alloc: Global, kind: ErrorKind) -> Result<Error, ErrorKind>
         ensures ok { IfOk result (λ it. it ≡ unplaced kind) }
         ensures refused { IfErr result (λ given. given ≡ kind) }
@@ -58,29 +61,30 @@ impl Error {
         }
     }
 
-    /// The kind.
+    /// The kind, with its message.
     pub fn kind(&self) -> &ErrorKind
         ensures { result.now ≡ self.now.value }
     {
         &self.parts.kind
     }
 
-    /// The place, if it is known.
+    /// The file span, if it is known.
     pub fn span(&self) -> Option<&FileSpan>
         ensures { option_copied result ≡ self.now.span }
     {
         self.parts.span.as_ref()
     }
 
-    /// The calls.
+    /// The call stack.
     pub fn call_stack(&self) -> &CallStack
         ensures { result.now ≡ self.now.call_stack }
     {
         &self.parts.call_stack
     }
 
-    /// Tells the place, unless one is known. Want of memory changes nothing; where a place is known
-    /// no memory is taken.
+    /// Sets the span, unless one is known. Then nothing is allocated.
+    ///
+    /// Nothing changes on `AllocError`.
     pub fn set_span(&mut self, span: Span, codemap: &CodeMap) -> Result<(), AllocError>
         ensures ok { OnOk result (self.new ≡ with_span self.old (place_in codemap.now span)) }
         ensures known { IsSome self.old.span → IsOk result }
@@ -92,7 +96,7 @@ impl Error {
         Ok(())
     }
 
-    /// Tells the calls, unless some are known. Only where none are is the function called.
+    /// Sets the calls, unless some are known. Then the function isn't called.
     pub fn set_call_stack<F: FnOnce() -> CallStack + Drop>(&mut self, call_stack: F)
         requires { self.old.call_stack ≡ [] → F.pre call_stack }
         ensures value { self.new.value ≡ self.old.value }
@@ -105,9 +109,11 @@ impl Error {
         }
     }
 
+    /// Makes the error an internal one, with the same message, span and calls.
+    ///
+    /// It allocates only for an error of the lexer. The error is the unchanged `self`, where memory
+    /// runs out.
     #[tactic(auto, unfolding(crate::specs::Errors::kind_text, crate::specs::Errors::message_text))]
-    /// The error as one of this code, with the same message, place and calls. Only for a fault of the
-    /// lexer is memory taken; want of it hands the error back.
     pub fn into_internal_error(self, alloc: Global) -> Result<Error, Error>
         ensures kind { IfOk result (λ it. IsInternal it.value (Some (kind_text self.value))) }
         ensures span { IfOk result (λ it. it.span ≡ self.span) }
@@ -134,7 +140,9 @@ impl Error {
     }
 }
 
-/// A fault of the lexer as an error, with no place and no calls. Want of memory hands the fault back.
+/// An error of the lexer as an `Error`, without a span and without calls.
+///
+/// The error is the unchanged argument, where memory runs out.
 pub fn error_from_lexeme(alloc: Global, fault: LexemeError) -> Result<Error, LexemeError>
     ensures ok { IfOk result (λ it. it ≡ unplaced (ErrorKind.Parser (ParserMessage.Lexeme fault))) }
     ensures refused { IfErr result (λ given. given ≡ fault) }
@@ -146,7 +154,9 @@ pub fn error_from_lexeme(alloc: Global, fault: LexemeError) -> Result<Error, Lex
     }
 }
 
-/// A fault of the lexer as an error, with its place and calls. Want of memory hands the fault back.
+/// An error of the lexer as an `Error`, with its span and calls.
+///
+/// The error is the unchanged argument, where memory runs out.
 pub fn error_from_diagnostic(
     alloc: Global,
     diagnostic: WithDiagnostic<LexemeError>,
@@ -171,7 +181,7 @@ pub fn error_from_diagnostic(
 impl From<WithDiagnostic<Error>> for Error {
     ghost from_gives = { λ outer it. it ≡ with_value outer outer.value.value };
 
-    /// The error inside, with the place and the calls of the outside. It takes no memory.
+    /// The inner error, with the span and the calls of the outer value. It doesn't allocate.
     fn from(diagnostic: WithDiagnostic<Error>) -> Error {
         let (mut error, span, call_stack) = diagnostic.into_parts();
         error.parts.span = span;
@@ -180,6 +190,7 @@ impl From<WithDiagnostic<Error>> for Error {
     }
 }
 
+/// Prints the message, and ` at ` with the file span where that is known. Calls aren't printed.
 impl fmt::Display for Error {
     ghost use Rattle.starlark_error.specs.Errors.{error_text};
 
@@ -194,6 +205,7 @@ impl fmt::Display for Error {
     }
 }
 
+/// Prints what `Display` prints.
 impl fmt::Debug for Error {
     ghost use Rattle.starlark_error.specs.Errors.{error_text};
 

@@ -1,4 +1,4 @@
-//! Errors that should have a place.
+//! Errors that have a file span, or are known to have none.
 
 ghost use Rattle.std.specs.Prelude.{◌≡◌, ◌≢◌, [], Some, None, IsOk, IsSome, IfSome, IfNone, IfOk, IfErr, OnErr};
 ghost use Rattle.starlark_base.specs.Diagnostics.{place_in, with_value, with_span};
@@ -13,7 +13,7 @@ use std::alloc::{AllocError, Global};
 use std::fmt;
 use std::marker::Model;
 
-/// An error that was given a place, or said to have none. In a contract it is what the error is.
+/// An error that was given a span, or is known to have none. In a contract it is that error.
 #[derive(Drop)]
 pub struct EvalException {
     error: Error,
@@ -29,8 +29,10 @@ impl Model for EvalException {
 }
 
 impl EvalException {
-    /// An error at a place. A place and calls that it has already are kept. Want of memory hands the
-    /// error back; where a place is known no memory is taken.
+    /// An exception of an error with a span of a code map. A span that the error has is kept.
+    ///
+    /// It allocates only for an error without a span. The error is the unchanged argument, where
+    /// memory runs out.
     pub fn new(mut error: Error, span: Span, codemap: &CodeMap) -> Result<Self, Error>
         ensures ok { IfOk result (λ it. it ≡ with_span error (place_in codemap.now span)) }
         ensures known { IsSome error.span → IsOk result }
@@ -42,16 +44,18 @@ impl EvalException {
         }
     }
 
-    /// An error whose place isn't known. It takes no memory.
+    /// An exception of an error whose span isn't known. It doesn't allocate.
     pub fn new_unknown_span(error: Error) -> Self
         ensures { result ≡ error }
     {
         EvalException { error }
     }
 
-    /// An error at a place, with the calls that a function tells. A place and calls that it has already
-    /// are kept, and only where it has no calls is the function called. Want of memory hands the error
-    /// back, and the function wasn't called; where a place is known no memory is taken.
+    /// An exception of an error with a span of a code map, and with a function's calls.
+    ///
+    /// A span and calls that the error has are kept. The function is called only for an error
+    /// without calls. It allocates only for an error without a span. The error is the unchanged
+    /// argument, where memory runs out: then the function wasn't called.
     pub fn new_with_callstack<F: FnOnce() -> CallStack + Drop>(
         error: Error,
         span: Span,
@@ -71,7 +75,9 @@ impl EvalException {
         Ok(exception)
     }
 
-    /// An error of this code at a place, which says what a value prints. Want of memory drops the value.
+    /// An internal error with a span of a code map. Its message is the printed form of a value.
+    ///
+    /// `AllocError` drops the value.
     pub fn internal_error<D: fmt::Display + Drop>(
         alloc: Global,
         error: D,
@@ -89,22 +95,24 @@ impl EvalException {
         EvalException::new(error, span, codemap).map_err(|_| AllocError)
     }
 
-    /// The error.
+    /// The error of the exception.
     pub fn error(&self) -> &Error
         ensures { result.now ≡ self.now }
     {
         &self.error
     }
 
-    /// The error alone.
+    /// Returns the error of the exception.
     pub fn into_error(self) -> Error
         ensures { result ≡ self }
     {
         self.error
     }
 
-    /// The error as one of this code, with the same message, place and calls. Only for a fault of the
-    /// lexer is memory taken; want of it hands the error back.
+    /// Makes the error an internal one, with the same message, span and calls.
+    ///
+    /// It allocates only for an error of the lexer. The error is the unchanged `self`, where memory
+    /// runs out.
     pub fn into_internal_error(self, alloc: Global) -> Result<Self, Self>
         ensures kind { IfOk result (λ it. IsInternal it.value (Some (kind_text self.value))) }
         ensures span { IfOk result (λ it. it.span ≡ self.span) }
@@ -118,8 +126,10 @@ impl EvalException {
         }
     }
 
-    /// The lines and columns of an error's place, for tests; `None` where the place isn't known, or isn't
-    /// in its file.
+    /// The lines and columns of an error's span, for tests.
+    ///
+    /// `None` where the span isn't known, or its code map doesn't hold it. `AllocError` where
+    /// memory for the file's name runs out.
     pub fn _testing_loc(
         alloc: Global,
         error: &Error,
@@ -137,7 +147,7 @@ impl EvalException {
 impl From<WithDiagnostic<Error>> for EvalException {
     ghost from_gives = { λ outer it. it ≡ with_value outer outer.value.value };
 
-    /// The error inside, with the place and the calls of the outside. It takes no memory.
+    /// The inner error, with the span and the calls of the outer value. It doesn't allocate.
     fn from(diagnostic: WithDiagnostic<Error>) -> EvalException {
         EvalException {
             error: Error::from(diagnostic),
@@ -145,6 +155,7 @@ impl From<WithDiagnostic<Error>> for EvalException {
     }
 }
 
+/// Prints the message, and ` at ` with the file span where that is known. Calls aren't printed.
 impl fmt::Display for EvalException {
     ghost use Rattle.starlark_error.specs.Errors.{error_text};
 
@@ -155,6 +166,7 @@ impl fmt::Display for EvalException {
     }
 }
 
+/// Prints what `Display` prints.
 impl fmt::Debug for EvalException {
     ghost use Rattle.starlark_error.specs.Errors.{error_text};
 

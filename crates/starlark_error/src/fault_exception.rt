@@ -1,4 +1,4 @@
-//! The fault of a text as an exception.
+//! Exceptions of lexing errors.
 
 ghost use Rattle.std.specs.Prelude.{◌≡◌, ◌<◌, ◌≤◌, ◌^◌, IfOk};
 ghost use Rattle.starlark_base.specs.Diagnostics.{place_in, unplaced, with_span};
@@ -9,7 +9,9 @@ use starlark_base::codemap::{CodeMap, Pos, Span};
 use starlark_token::lexeme_error::LexemeError;
 use std::alloc::{AllocError, Global};
 
-/// A fault of a text as an exception, at its place in a code map.
+/// The exception of a lexing error, with its span in a code map.
+///
+/// `begin` and `end` count bytes. `AllocError` drops the error.
 pub fn exception(
     alloc: Global,
     begin: usize,

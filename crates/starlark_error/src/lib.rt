@@ -1,4 +1,6 @@
-//! The faults of a text, and errors with their places and calls; and what the crates below have.
+//! Errors with their spans and call stacks.
+//!
+//! It re-exports the modules of `starlark_base`, except for its laws.
 #![tactic(auto)]
 
 pub mod error;

@@ -1,4 +1,5 @@
-//! An editor: a text that is kept lexed from one version to the next, and places as editors count them.
+//! An editor: a text that stays lexed from one version to the next, and columns as editors count
+//! them.
 
 ghost use Rattle.std.specs.Prelude.{◌≡◌, take, true};
 ghost use Rattle.std.specs.Str.{IsCharBoundary};
@@ -8,20 +9,21 @@ use starlark_syntax::dialect::Dialect;
 use starlark_syntax::lexer::{LexedText, SourceError};
 use std::alloc::Global;
 
-/// Whether two texts have the same bytes up to a place between characters of both.
+/// Whether two texts have the same bytes up to byte `from`, a character boundary of both.
 fn agree(old: &str, new: &str, from: usize) -> bool
     ensures { result ≡ true → IsCharBoundary old.now from × IsCharBoundary new.now from × (take from old.now ≡ take from new.now) }
 {
     old.is_char_boundary(from) && new.is_char_boundary(from) && old[..from] == new[..from]
 }
 
-/// The lexed text of a file that is opened.
+/// Lexes a file when it is opened.
 pub fn opened<'a>(alloc: Global, file: &'a CodeMap) -> Result<LexedText<'a>, SourceError> {
     Ok(LexedText::lex(alloc, file.source(), &Dialect::Standard, file.dupe()?)?)
 }
 
-/// The lexed text of a new version, which differs from the old one only behind a place. Where that isn't so, all of it is
-/// lexed anew.
+/// Lexes a new version of a file, which differs from the old one only from byte `from` on.
+///
+/// If that isn't so, all of it is lexed.
 pub fn update<'a>(
     alloc: Global,
     old: LexedText<'a>,
@@ -35,7 +37,9 @@ pub fn update<'a>(
         .map_err(|_| SourceError::Memory)
 }
 
-/// The line and the column of a place, both from 0, with columns in UTF-16 units; `None` where the file has no such place.
+/// Line and column of a position, both from 0, with columns in UTF-16 units.
+///
+/// `None` where the position is out of range, or inside a character.
 pub fn utf16_place(file: &CodeMap, place: Pos) -> Option<(usize, usize)> {
     if !file.has_pos(place) {
         return None;

@@ -1,18 +1,18 @@
-//! An evaluator's format strings, as `str.format` takes them.
+//! An evaluator: format strings, as `str.format` takes them.
 
 use starlark_syntax::dot_format_parser::{FormatConv, FormatError, FormatParser, FormatToken};
 use std::alloc::{AllocError, Global};
 use std::fmt;
 use std::fmt::Write;
 
-/// Why a format string gives no text.
+/// Why formatting failed.
 #[derive(Drop)]
 pub enum FormatFault<'a> {
-    /// It is no format string.
+    /// The format string has an error.
     Refused(FormatError<'a>),
-    /// It asks for a value that isn't there.
+    /// No value has the name of this capture.
     NoValue(&'a str),
-    /// Memory was wanting.
+    /// An allocation failed.
     Memory,
 }
 
@@ -28,6 +28,7 @@ impl<'a> From<AllocError> for FormatFault<'a> {
     }
 }
 
+/// Prints the format string's error, the missing name, or `out of memory`.
 impl fmt::Display for FormatFault<'_> {
     fn fmt<W: fmt::Write>(&self, f: &mut fmt::Formatter<W>) -> fmt::Result {
         match self {
@@ -38,7 +39,7 @@ impl fmt::Display for FormatFault<'_> {
     }
 }
 
-/// The text of the value that has a name.
+/// The value of a name, if there is one.
 fn value_of<'v>(values: &[(&str, &'v str)], name: &str) -> Option<&'v str> {
     for (known, text) in values {
         if *known == name {
@@ -48,7 +49,7 @@ fn value_of<'v>(values: &[(&str, &'v str)], name: &str) -> Option<&'v str> {
     None
 }
 
-/// Adds what a part of a format string stands for.
+/// Appends the text of a token of a format string.
 fn add<'a>(
     out: &mut String,
     part: FormatToken<'a>,
@@ -70,7 +71,7 @@ fn add<'a>(
     Ok(())
 }
 
-/// A format string with its values put in.
+/// Formats values by a format string.
 pub fn formatted<'a>(
     alloc: Global,
     template: &'a str,

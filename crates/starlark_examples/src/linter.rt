@@ -6,18 +6,19 @@ use starlark_syntax::lexer::{Lexer, SourceError, Token};
 use std::alloc::{AllocError, Global};
 use std::fmt;
 
-/// How many spaces a block is to be indented by.
+/// Spaces by which each block must be indented.
 const STEP: usize = 4;
 
-/// What a file should do.
+/// A rule for files.
 #[derive(Clone, Copy)]
 pub enum Rule {
-    /// Indent each block by so many spaces.
+    /// Each block is indented by `STEP` spaces more than the block around it.
     Indentation,
-    /// Have no address that is read in the clear.
+    /// No string is an address with `http:`.
     Address,
 }
 
+/// Prints what the rule says of a finding.
 impl fmt::Display for Rule {
     fn fmt<W: fmt::Write>(&self, f: &mut fmt::Formatter<W>) -> fmt::Result {
         match self {
@@ -27,26 +28,29 @@ impl fmt::Display for Rule {
     }
 }
 
-/// The rule that is broken at a place.
+/// A rule that a file breaks, and the position at which it does.
 #[derive(Clone, Copy)]
 pub struct Finding {
+    /// The rule.
     pub rule: Rule,
+    /// The position, in bytes.
     pub place: Pos,
 }
 
-/// A finding as it is printed: `file:line:column: text`.
+/// The printed line of a finding: `file:line:column: text`.
 pub fn line_of(alloc: Global, file: &CodeMap, finding: Finding) -> Result<String, AllocError> {
     let span = Span::new(finding.place, finding.place);
     let place = FileSpanRef { file, span };
     format!(in alloc; "{place}: {}", finding.rule)
 }
 
-/// Whether a text is an address that is read in the clear.
+/// Whether a text is an address with `http:`.
 fn is_clear_address(text: &str) -> bool {
     text.starts_with("http://")
 }
 
-/// The rule that a token breaks. Of an indent the width is given, and that of the block round it.
+/// The rule that a token breaks, if any. `width` is that of an indent, `outer` that of the block
+/// around.
 fn broken_rule(token: &Token, width: usize, outer: usize) -> Option<Rule> {
     match token {
         Token::Indent if width != outer.saturating_add(STEP) => Some(Rule::Indentation),
@@ -55,7 +59,7 @@ fn broken_rule(token: &Token, width: usize, outer: usize) -> Option<Rule> {
     }
 }
 
-/// A linter: what it has found, and the widths of the blocks that are open.
+/// A linter: its findings so far, and the widths of the open blocks.
 #[derive(Drop)]
 struct Linter {
     found: Vec<Finding>,
@@ -63,7 +67,7 @@ struct Linter {
 }
 
 impl Linter {
-    /// Keeps the width of a block that a token begins, or forgets that of one that it ends.
+    /// Pushes the width of a block that a token begins, or pops that of one that it ends.
     fn keep_width(&mut self, token: &Token, width: usize) -> Result<(), AllocError> {
         match token {
             Token::Indent => self.widths.push(width)?,
@@ -73,7 +77,7 @@ impl Linter {
         Ok(())
     }
 
-    /// Looks at the next token, of a width at a place, and keeps the rule that it breaks, if it breaks one.
+    /// Checks the next token, of `width` bytes at `place`, and stores the rule that it breaks.
     fn look_at(&mut self, token: Token, width: usize, place: Pos) -> Result<(), AllocError> {
         let outer = self.widths.last().copied().unwrap_or(0);
         if let Some(rule) = broken_rule(&token, width, outer) {
@@ -83,7 +87,7 @@ impl Linter {
     }
 }
 
-/// All that the rules find in a file, in its order.
+/// All findings in a file, in order.
 pub fn findings(alloc: Global, file: &CodeMap) -> Result<Vec<Finding>, SourceError> {
     let lexer = Lexer::new(alloc, file.source(), &Dialect::Standard, file.dupe()?)?;
     let mut linter = Linter {

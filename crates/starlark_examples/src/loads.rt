@@ -1,23 +1,25 @@
 //! A build tool: the files that a file loads.
+//!
+//! It keeps the last one or two tokens, since a label is the string after `load` and a bracket.
 
 use starlark_syntax::codemap::CodeMap;
 use starlark_syntax::dialect::Dialect;
 use starlark_syntax::lexer::{Lexeme, Lexer, SourceError, Token};
 use std::alloc::Global;
 
-/// What stands before a lexeme.
+/// The tokens before a lexeme, as far as they matter.
 #[derive(Clone, Copy)]
 enum Before {
-    /// `load`
+    /// `load`.
     Load,
-    /// `load` and an opening bracket
+    /// `load` and an opening bracket.
     LoadAndBracket,
     /// Anything else.
     Other,
 }
 
 impl Before {
-    /// What stands before a lexeme behind an opening bracket.
+    /// The state after an opening bracket.
     fn bracket(self) -> Before {
         match self {
             Before::Load => Before::LoadAndBracket,
@@ -25,7 +27,7 @@ impl Before {
         }
     }
 
-    /// What stands before a lexeme behind a lexeme. The label of a `load` statement is kept.
+    /// The state after a lexeme. The label of a `load` statement goes to `labels`.
     fn lexeme(self, lexeme: Lexeme, labels: &mut Vec<String>) -> Result<Before, SourceError> {
         let (_, token, _) = lexeme?;
         match token {

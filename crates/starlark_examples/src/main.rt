@@ -1,8 +1,8 @@
-//! Runs the examples of docs/use, but for the parser and the formatter, over the sections of standard input, and prints what
-//! each makes of its section.
+//! Runs examples of docs/use over the sections of standard input, and prints their output.
 //!
-//! A section begins with a line `%%% EXAMPLE`. In that of the build tool each file begins with a line
-//! `--- NAME`, and in that of the editor a line `---` stands between a text before an edit and behind it.
+//! The parser and the formatter are in `starlark_parser_examples`. A section begins with a line
+//! `%%% EXAMPLE`. In that of the build tool each file begins with a line `--- NAME`. In that of the
+//! editor a line `---` is between the text before an edit and the text after it.
 #![tactic(auto)]
 
 mod editor;
@@ -18,14 +18,14 @@ use std::alloc::{AllocError, Global};
 use std::fmt::Write;
 use std::io;
 
-/// A file of a name.
+/// A code map of a file's name and text.
 fn file_of(alloc: Global, name: &str, text: &str) -> Result<CodeMap, SourceError> {
     let name = String::from_str(alloc, name)?;
     let source = String::from_str(alloc, text)?;
     Ok(CodeMap::new(alloc, CodeMapId::new(1), name, source)?)
 }
 
-/// The linter's answer: a line for each finding.
+/// The linter's output: a line for each finding.
 fn linted(alloc: Global, text: &str) -> Result<String, SourceError> {
     let file = file_of(alloc, "BUILD", text)?;
     let findings = linter::findings(alloc, &file)?;
@@ -46,7 +46,8 @@ fn finding_lines(
     Ok(lines)
 }
 
-/// The build tool's answer: what each file loads, or its fault. A fault of one file stops none of the others.
+/// The build tool's output: what each file loads, or its fault. A fault doesn't stop the other
+/// files.
 fn loaded(alloc: Global, files: &str) -> Result<String, SourceError> {
     let mut lines = String::new(alloc);
     for file in files.split("--- ") {
@@ -57,7 +58,7 @@ fn loaded(alloc: Global, files: &str) -> Result<String, SourceError> {
     Ok(lines)
 }
 
-/// Adds what a file loads, or its fault.
+/// Appends what a file loads, or its fault.
 fn add_loads(alloc: Global, lines: &mut String, name: &str, text: &str) -> Result<(), SourceError> {
     let file = file_of(alloc, name, text)?;
     match loads::loads(alloc, &file) {
@@ -66,7 +67,7 @@ fn add_loads(alloc: Global, lines: &mut String, name: &str, text: &str) -> Resul
     }
 }
 
-/// Adds a line for each label that a file loads.
+/// Appends a line for each label that a file loads.
 fn add_labels(lines: &mut String, name: &str, labels: &[String]) -> Result<(), AllocError> {
     for label in labels {
         write!(lines, "{name} loads {label}\n")?;
@@ -74,7 +75,7 @@ fn add_labels(lines: &mut String, name: &str, labels: &[String]) -> Result<(), A
     Ok(())
 }
 
-/// Adds the place of a fault, if it has one, as editors count.
+/// Appends line and column of a fault, if it has a span, as editors count them.
 fn add_place(lines: &mut String, fault: &EvalException) -> Result<(), AllocError> {
     let Some(place) = fault.error().span() else {
         return Ok(());
@@ -85,7 +86,7 @@ fn add_place(lines: &mut String, fault: &EvalException) -> Result<(), AllocError
     }
 }
 
-/// Adds a line for a version: its lexemes, and the place of its fault.
+/// Appends a line for a version: its number of lexemes, and line and column of its fault.
 fn add_version(lines: &mut String, lexed: &LexedText<'_>) -> Result<(), AllocError> {
     write!(lines, "{} lexemes", lexed.lexemes().len())?;
     if let Some(fault) = lexed.fault() {
@@ -94,7 +95,7 @@ fn add_version(lines: &mut String, lexed: &LexedText<'_>) -> Result<(), AllocErr
     lines.push('\n')
 }
 
-/// How many bytes two texts have in common at their fronts.
+/// Number of bytes that two texts have in common at their starts.
 fn common_len(old: &str, new: &str) -> usize {
     old.bytes()
         .zip(new.bytes())
@@ -102,7 +103,7 @@ fn common_len(old: &str, new: &str) -> usize {
         .count()
 }
 
-/// Adds a line for each of two versions of a file.
+/// Appends a line for each of two versions of a file.
 fn add_versions(
     alloc: Global,
     lines: &mut String,
@@ -116,7 +117,7 @@ fn add_versions(
     Ok(add_version(lines, &lexed)?)
 }
 
-/// The editor's answer: a line for a text before an edit, and one for it behind the edit.
+/// The editor's output: a line for the text before an edit, and one for the text after it.
 fn edited(alloc: Global, versions: &str) -> Result<String, SourceError> {
     let mut lines = String::new(alloc);
     if let Some((old, new)) = versions.split_once("---\n") {
@@ -127,7 +128,7 @@ fn edited(alloc: Global, versions: &str) -> Result<String, SourceError> {
     Ok(lines)
 }
 
-/// Adds what a format string gives.
+/// Appends the text of a format string, or its error.
 fn add_formatted(alloc: Global, lines: &mut String, template: &str) -> Result<(), AllocError> {
     let values = [("name", "lexer"), ("0", "don't")];
     match evaluator::formatted(alloc, template, &values) {
@@ -136,7 +137,7 @@ fn add_formatted(alloc: Global, lines: &mut String, template: &str) -> Result<()
     }
 }
 
-/// The evaluator's answer: what each line gives as a format string.
+/// The evaluator's output: the text of each line as a format string.
 fn evaluated(alloc: Global, templates: &str) -> Result<String, SourceError> {
     let mut lines = String::new(alloc);
     for template in templates.lines() {
@@ -145,7 +146,7 @@ fn evaluated(alloc: Global, templates: &str) -> Result<String, SourceError> {
     Ok(lines)
 }
 
-/// What an example makes of its section.
+/// The output of an example for its section.
 fn answer(alloc: Global, example: &str, text: &str) -> Result<String, SourceError> {
     match example {
         "linter" => linted(alloc, text),
@@ -156,7 +157,7 @@ fn answer(alloc: Global, example: &str, text: &str) -> Result<String, SourceErro
     }
 }
 
-/// What is printed of a section: its example, and the answer or a fault.
+/// The printed lines of a section: its example, and the output or an error.
 fn section_lines(alloc: Global, section: &str) -> Result<String, AllocError> {
     let Some((example, text)) = section.split_once('\n') else {
         return Ok(String::new(alloc));

@@ -1,5 +1,7 @@
-//! Format strings, as `str.format` takes them: text, captures `{name}`, `{name!s}` and `{name!r}`, and
-//! the escapes `{{` and `}}`.
+//! A parser of format strings, as `str.format` takes them.
+//!
+//! A format string has text, captures `{name}`, `{name!s}` and `{name!r}`, and escapes `{{` and
+//! `}}`.
 
 ghost use Rattle.std.specs.Prelude.{◌≡◌, ◌+◌, ◌<◌, ◌≤◌, ◌^◌, ℕ, length};
 ghost use Rattle.starlark_formats.specs.Formats as spec;
@@ -11,26 +13,26 @@ ghost use Rattle.starlark_formats.specs.Scanning.{plain_width, name_width, endin
 use std::fmt;
 use std::marker::Model;
 
-/// How a captured value becomes text.
+/// The conversion of a capture: how its value becomes text.
 #[derive(Clone, Copy, Debug, PartialEq)]
 pub enum FormatConv {
-    /// As `str` has it.
+    /// By `str`: no conversion, or `!s`.
     Str,
-    /// As `repr` has it.
+    /// By `repr`: `!r`.
     Repr,
 }
 
-/// A brace that stands for itself.
+/// An escaped brace, which stands for itself.
 #[derive(Debug, PartialEq, Drop)]
 pub enum EscapeCurlyBrace {
-    /// The brace `{`.
+    /// `{`, written `{{`.
     Open,
-    /// The brace `}`.
+    /// `}`, written `}}`.
     Close,
 }
 
 impl EscapeCurlyBrace {
-    /// The brace.
+    /// The brace that the escape stands for: `{` or `}`.
     pub fn as_str(&self) -> &'static str
         ensures { result.now ≡ spec.brace_text self.now }
     {
@@ -40,7 +42,7 @@ impl EscapeCurlyBrace {
         }
     }
 
-    /// The brace as it is written in a format string.
+    /// The escape as a format string has it: `{{` or `}}`.
     pub fn back_to_escape(&self) -> &'static str
         ensures { result.now ≡ spec.escape_text self.now }
     {
@@ -51,46 +53,51 @@ impl EscapeCurlyBrace {
     }
 }
 
-/// A part of a format string.
+/// A token of a format string.
 #[derive(Debug, PartialEq, Drop)]
 pub enum FormatToken<'a> {
-    /// Text to copy as it stands: not empty, and without braces.
+    /// Text to copy unchanged: not empty, and without braces.
     Text(&'a str),
-    /// A value to put in.
+    /// A capture: a value to insert.
     Capture {
-        /// What stands between the brace and the conversion or the closing brace. It may be empty.
+        /// The text between the opening brace and the conversion or closing brace. It may be empty.
         capture: &'a str,
-        /// The byte of the format string at which that begins.
+        /// Offset in bytes of `capture` in the format string.
         pos: usize,
         /// How the value becomes text.
+        ///
+        /// `{name}` and `{name!s}` give the same.
         conv: FormatConv,
     },
-    /// A brace.
+    /// An escaped brace.
     Escape(EscapeCurlyBrace),
 }
 
-/// What is wrong with a format string.
+/// The kinds of errors in format strings.
 #[derive(Clone, Copy, Debug, PartialEq)]
 pub enum FormatErrorKind {
-    /// A closing brace that closes nothing.
+    /// A single `}` outside of a capture.
     StandaloneClose,
-    /// An opening brace that begins no capture and no escape.
+    /// A `{` that begins neither a capture nor an escape.
     UnmatchedOpen,
-    /// A closing brace right behind the bang.
+    /// No conversion after `!`, as in `{name!}`.
     MissingConversion,
-    /// Neither `s` nor `r` behind the bang.
+    /// Another conversion than `s` or `r` after `!`, as in `{name!x}`.
     InvalidConversion,
 }
 
-/// A format string that is refused.
+/// An error in a format string.
 #[derive(Debug, PartialEq, Drop)]
 pub struct FormatError<'a> {
-    /// What is wrong with it.
+    /// What is wrong with the format string.
     pub kind: FormatErrorKind,
     /// The whole format string.
     pub original: &'a str,
 }
 
+/// Prints what is wrong and the whole format string.
+///
+/// An example is ``Standalone '}' in format string `a}` ``.
 impl<'a> fmt::Display for FormatError<'a> {
     ghost use Rattle.std.specs.Prelude.{◌++◌, Some, codes};
     ghost use Rattle.starlark_formats.specs.Formats.{fault_text};
@@ -103,7 +110,7 @@ impl<'a> fmt::Display for FormatError<'a> {
 }
 
 impl FormatErrorKind {
-    /// What is said before the format string.
+    /// The printed text of an error of this kind, up to the format string.
     fn message(self) -> &'static str
         ensures { result.now ≡ spec.fault_text self }
     {
@@ -116,7 +123,7 @@ impl FormatErrorKind {
     }
 }
 
-/// Reads a format string, a token at a time.
+/// A parser that yields the tokens of a format string one by one.
 #[derive(Drop)]
 pub struct FormatParser<'a> {
     text: &'a str,
@@ -138,7 +145,7 @@ impl<'a> Model for FormatParser<'a> {
 impl<'a> FormatParser<'a> {
     ghost use Rattle.std.specs.Prelude.{None};
 
-    /// A parser at the begin of a format string.
+    /// A parser at the start of a format string.
     pub fn new(s: &'a str) -> FormatParser<'a>
         ensures { result ≡ record { text = s.now; at = 0; fault = None } }
     {
@@ -149,8 +156,9 @@ impl<'a> FormatParser<'a> {
         }
     }
 
-    /// The next token; `None` at the end of the format string. Where no token stands it answers what is
-    /// wrong there, and each later call answers the same.
+    /// Returns the next token; `None` at the end of the format string.
+    ///
+    /// Fails where no token begins. After an error each later call fails with the same error.
     pub fn next(&mut self) -> Result<Option<FormatToken<'a>>, FormatError<'a>>
         ensures { Answers self.old result self.new }
     {
@@ -180,7 +188,7 @@ impl<'a> FormatParser<'a> {
     }
 }
 
-/// How many bytes stand before the first brace.
+/// Number of bytes before the first brace, or all of them.
 fn plain_len(text: &[u8]) -> usize
     ensures value { result ≡ plain_width text.now }
     ensures within { result ≤ length text.now }
@@ -190,7 +198,7 @@ fn plain_len(text: &[u8]) -> usize
         .count()
 }
 
-/// How many bytes stand before the first brace or bang.
+/// Number of bytes before the first brace or `!`, or all of them.
 fn name_len(text: &[u8]) -> usize
     ensures value { result ≡ name_width text.now }
     ensures within { result ≤ length text.now }
@@ -200,15 +208,15 @@ fn name_len(text: &[u8]) -> usize
         .count()
 }
 
-/// Whether a text begins with the same byte twice.
+/// Whether the first two bytes of a text are equal.
 fn is_doubled(text: &[u8]) -> bool
     ensures { result ≡ scan.is_doubled text.now }
 {
     matches!(text, [first, second, ..] if first == second)
 }
 
-/// How a capture goes on behind its name: the conversion, and how many bytes the conversion and the
-/// closing brace take.
+/// Parses the rest of a capture after its name: the conversion, and its length in bytes with the
+/// brace.
 fn ending(tail: &[u8]) -> Result<(FormatConv, usize), FormatErrorKind>
     ensures { result ≡ ending_view (scan.ending tail.now) }
 {
@@ -223,7 +231,7 @@ fn ending(tail: &[u8]) -> Result<(FormatConv, usize), FormatErrorKind>
     }
 }
 
-/// The token that begins with an opening brace, with its length in bytes.
+/// The token that begins with `{` at byte `at` of the format string, and its length in bytes.
 fn open_token(text: &str, at: usize) -> Result<(FormatToken<'_>, usize), FormatErrorKind>
     requires brace { BeginsWith spec.is_open text.now }
     requires fits { at + length text.now < 2 ^ 64 }
@@ -243,7 +251,7 @@ fn open_token(text: &str, at: usize) -> Result<(FormatToken<'_>, usize), FormatE
     Ok((capture, end + more))
 }
 
-/// The token that begins with a closing brace, with its length in bytes.
+/// The token that begins with `}`, and its length in bytes.
 fn close_token(text: &str) -> Result<(FormatToken<'_>, usize), FormatErrorKind>
     ensures { (at : ℕ) → found_view result ≡ token_found at (scan.close_piece text.now) }
 {
@@ -254,8 +262,9 @@ fn close_token(text: &str) -> Result<(FormatToken<'_>, usize), FormatErrorKind>
     }
 }
 
-/// The token at the front of a text that begins at a place of the format string, with its length in
-/// bytes.
+/// The first token of `text`, and its length in bytes.
+///
+/// `at` is the offset in bytes of `text` in the format string.
 fn token_at(text: &str, at: usize) -> Result<(FormatToken<'_>, usize), FormatErrorKind>
     requires some { 0 < length text.now }
     requires fits { at + length text.now < 2 ^ 64 }

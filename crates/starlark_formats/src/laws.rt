@@ -1,8 +1,8 @@
-//! What follows from the definitions of format strings alone. Each law is the contract of a function that does nothing.
+//! Laws on format strings. Each is the contract of a function with an empty body.
 
 ghost use Rattle.starlark_formats.specs.FormatLaws as law;
 
-/// At each place of a format string either one piece stands there, or one fault.
+/// Where text is left of a format string, exactly one piece or exactly one error is there.
 pub fn one_piece_or_fault()
     ensures something { law.SomethingStands }
     ensures never_both { law.NeverBoth }
@@ -10,20 +10,19 @@ pub fn one_piece_or_fault()
     ensures fault { law.OneFault }
 {}
 
-/// Each format string has one outcome, and so one reading at most.
+/// Each format string has exactly one outcome, and so at most one reading.
 pub fn one_outcome()
     ensures some { law.SomeOutcome }
     ensures one { law.OneOutcome }
     ensures reading { law.OneReading }
 {}
 
-/// What a parser answers, call by call up to the end or a fault, is the outcome of its format string.
+/// What a parser returns, up to the end or an error, is the outcome of its format string.
 pub fn answers_are_the_outcome()
     ensures { law.AnswersOutcome }
 {}
 
-/// The tokens of a format string, written as a format string again, parse to the same tokens but for
-/// their places.
+/// Tokens that are written back as a format string parse to the same tokens, except for positions.
 pub fn tokens_parse_back()
     ensures { law.ParsesBack }
 {}

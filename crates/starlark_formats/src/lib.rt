@@ -1,4 +1,6 @@
-//! Format strings, as `str.format` of a Starlark evaluator takes them. Nothing here takes memory.
+//! Format strings, as `str.format` of a Starlark evaluator takes them.
+//!
+//! Nothing here allocates.
 #![tactic(auto)]
 
 pub mod dot_format_parser;

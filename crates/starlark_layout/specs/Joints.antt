@@ -1,4 +1,4 @@
--- What only contracts of inner functions, of the reader too, and proofs speak of.
+-- Definitions that only contracts of inner functions, of the reader too, and proofs cite.
 pub mod TextEnds
 pub mod Pending
 pub mod MarginLines

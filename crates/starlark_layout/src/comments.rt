@@ -1,4 +1,4 @@
-//! Comments of the comment-only lines of a margin.
+//! Comments of comment-only lines.
 
 ghost use Rattle.std.specs.Prelude.{◌≡◌, ◌+◌, ◌-◌, ◌<◌, ◌≤◌, ◌*◌, length, not, IfOk};
 ghost use Rattle.std.specs.List.{prefix_len};
@@ -13,8 +13,9 @@ use starlark_bytes::reads::Reads;
 use starlark_token::tokens::Token;
 use std::alloc::{AllocError, Global};
 
-/// How far the comment of a text's first line goes, of which so many bytes stand before the LF or the text's end: up to
-/// a CR at their end.
+/// Length in bytes of the first line's comment: without the LF, and without one CR before it.
+///
+/// `feed` is the length of the line without its LF.
 fn comment_end(reads: &mut Reads, text: &[u8], feed: usize) -> usize
     requires { feed ≡ prefix_len (λ b. not (grammar.is_feed b)) text.now }
     ensures value { result ≡ length (grammar.comment_part text.now) }
@@ -27,8 +28,10 @@ fn comment_end(reads: &mut Reads, text: &[u8], feed: usize) -> usize
     }
 }
 
-/// The comment of the first of the comment-only lines from one place of a text to another, and the length of that
-/// line with its LF.
+/// The comment of the first of the comment-only lines from byte `from` to `to` of a text.
+///
+/// Returns the length of that line with its LF too. `AllocError` where memory for the text runs
+/// out.
 #[inline(always)]
 pub fn first_comment(
     reads: &mut Reads,

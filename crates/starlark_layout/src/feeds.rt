@@ -8,7 +8,7 @@ ghost use Rattle.starlark_bytes.specs.Joints.Reads.{AreReads};
 use starlark_bytes::lines::front_len;
 use starlark_bytes::reads::Reads;
 
-/// The length of the front of a text that its first LF ends.
+/// Number of bytes of a text before its first LF, or all of them.
 pub fn before_feed_len(reads: &mut Reads, text: &[u8]) -> usize
     ensures value { result ≡ prefix_len (λ b. not (grammar.is_feed b)) text.now }
     ensures within { result ≤ length text.now }

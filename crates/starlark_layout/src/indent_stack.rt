@@ -1,4 +1,4 @@
-//! The widths that are open.
+//! The indentation stack.
 
 ghost use Rattle.std.specs.Prelude.{◌≡◌, ◌∷◌, ◌++◌, ◌≤◌, ℕ, List, [], length, take, OnOk};
 ghost use Rattle.starlark_layout.specs.Joints.Layout.{IsLeftBy, greatest_of};
@@ -6,8 +6,10 @@ ghost use Rattle.starlark_layout.specs.Joints.Layout.{IsLeftBy, greatest_of};
 use std::alloc::{AllocError, Global};
 use std::marker::Model;
 
-/// The open ones of the widths of the content lines so far, the least first. A content line looks at the ones that it
-/// closes and at one more, so that the cost of all lines together is linear in the text.
+/// The indentation stack: the open indents as widths in spaces, the least first.
+///
+/// A content line reads those that it closes and one more, so the cost of all lines is linear. In a
+/// contract it is the list of widths.
 #[derive(Drop)]
 pub struct IndentStack {
     widths: Vec<usize>,
@@ -20,7 +22,7 @@ impl Model for IndentStack {
 }
 
 impl IndentStack {
-    /// No width is open.
+    /// An empty stack. It doesn't allocate.
     pub fn new(alloc: Global) -> Self
         ensures { result ≡ [] }
     {
@@ -29,14 +31,14 @@ impl IndentStack {
         }
     }
 
-    /// How many widths are open.
+    /// Number of open indents.
     pub fn len(&self) -> usize
         ensures { result ≡ length self.now }
     {
         self.widths.len()
     }
 
-    /// The greatest open width; 0 where none is open.
+    /// The greatest open width; 0 if none is open.
     #[inline(always)]
     pub fn greatest(&self) -> usize
         ensures { result ≡ greatest_of self.now }
@@ -47,7 +49,7 @@ impl IndentStack {
         }
     }
 
-    /// The greatest of the first so many open widths; 0 where that is none.
+    /// The greatest of the first `count` open widths; 0 if `count` is 0.
     #[inline(always)]
     pub fn greatest_of(&self, count: usize) -> usize
         requires { count ≤ length self.now }
@@ -60,7 +62,7 @@ impl IndentStack {
         }
     }
 
-    /// How many open widths a content line of a width leaves open.
+    /// Number of open indents that a content line of a width leaves open.
     #[inline(always)]
     pub fn left_by(&self, width: usize) -> usize
         ensures { IsLeftBy self.now width result }
@@ -72,7 +74,9 @@ impl IndentStack {
         count
     }
 
-    /// Opens a width that is greater than every open one. After an error the open widths are not known.
+    /// Opens an indent, whose width must be greater than every open one.
+    ///
+    /// After an `AllocError` the stack isn't known.
     #[inline(always)]
     pub fn open(&mut self, width: usize) -> Result<(), AllocError>
         ensures { OnOk result (self.new ≡ self.old ++ width ∷ []) }
@@ -81,7 +85,7 @@ impl IndentStack {
         Ok(())
     }
 
-    /// Leaves the first so many widths open.
+    /// Closes all indents but the first `count`.
     #[inline(always)]
     pub fn keep_first(&mut self, count: usize)
         ensures { self.new ≡ take count self.old }

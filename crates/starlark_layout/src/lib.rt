@@ -1,4 +1,7 @@
-//! Reads margins, which stand at the begin of lines, and keeps the widths that are open and the lexemes that wait.
+//! Layout: the margins of lines, the indentation stack, and pending lexemes.
+//!
+//! A margin is what is before the content of a line: comment-only lines, and then the blanks of the
+//! line.
 #![tactic(auto)]
 
 mod comments;

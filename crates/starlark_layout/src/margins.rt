@@ -1,4 +1,4 @@
-//! What the margin at the front of a text is.
+//! Reads the margin at the start of a text.
 
 ghost use Rattle.std.specs.Prelude.{◌≡◌, ◌+◌, ◌*◌, ◌≤◌, ◌<◌, ◌^◌, ◌∷◌, if◌then◌else◌, drop, get_or, length, nat_eq, not, take};
 ghost use Rattle.std.specs.List.{prefix_len};
@@ -9,23 +9,29 @@ ghost use Rattle.starlark_bytes.specs.Joints.Reads.{AreReads, more_reads};
 use crate::feeds::before_feed_len;
 use starlark_bytes::reads::{Reads, uncounted_spaces_len};
 
-/// The blanks at the front of a text: how many, how many of them are spaces, and whether one is a tab.
+/// The blanks at the start of a line: spaces, tabs and CR.
 #[derive(Clone, Copy)]
 pub struct Blanks {
+    /// Number of blanks, in bytes.
     pub len: usize,
+    /// Number of spaces among them.
     pub width: usize,
+    /// Whether one of them is a tab.
     pub has_tab: bool,
 }
 
-/// A margin: where its last line begins behind its comment-only lines, the blanks there, and whether content follows.
+/// A margin: comment-only lines, and then the blanks of the next line.
 #[derive(Clone, Copy)]
 pub struct Margin {
+    /// Length of the comment-only lines, in bytes.
     pub at: usize,
+    /// The blanks of the line after them.
     pub blanks: Blanks,
+    /// Whether content follows: neither an LF nor the end of the text.
     pub is_content: bool,
 }
 
-/// The length of the run of spaces, tabs and CRs at the front of a text.
+/// Number of spaces, tabs and CR at the start of a text.
 pub fn blanks_len(reads: &mut Reads, text: &[u8]) -> usize
     ensures value { result ≡ grammar.blanks_len text.now }
     ensures within { result ≤ length text.now }
@@ -39,7 +45,7 @@ pub fn blanks_len(reads: &mut Reads, text: &[u8]) -> usize
     len
 }
 
-/// The length of the first line of a text with its LF, by how many bytes stand before that.
+/// Length of the first line of a text with its LF. `feed` is its length without that.
 pub fn line_len(text: &[u8], feed: usize) -> usize
     requires { feed ≡ prefix_len (λ b. not (grammar.is_feed b)) text.now }
     ensures line { 0 < length text.now → grammar.lines text.now ≡ take result text.now ∷ grammar.lines (drop result text.now) }
@@ -50,7 +56,7 @@ pub fn line_len(text: &[u8], feed: usize) -> usize
     if feed < text.len() { feed + 1 } else { feed }
 }
 
-/// The blanks at the front of a text that begins with so many spaces, behind which a tab or a CR stands.
+/// The blanks at the start of a text that begins with `spaces` spaces and then a tab or a CR.
 #[inline(always)]
 fn blanks_behind(text: &[u8], spaces: usize, is_tab: bool) -> Blanks
     requires spaces { spaces ≤ prefix_len (nat_eq 32) text.now }
@@ -78,7 +84,7 @@ fn blanks_behind(text: &[u8], spaces: usize, is_tab: bool) -> Blanks
     }
 }
 
-/// The blanks at the front of a text.
+/// The blanks at the start of a text. The reads aren't counted.
 #[inline(always)]
 fn blanks_in_front(text: &[u8]) -> Blanks
     ensures value { IsBlanks (take (grammar.blanks_len text.now) text.now) result }
@@ -95,7 +101,9 @@ fn blanks_in_front(text: &[u8]) -> Blanks
     }
 }
 
-/// The blanks at the front of a text, counted, and once more the byte that ends them, which tells what follows.
+/// The blanks at the start of a text, with their reads counted.
+///
+/// The byte after them counts twice, since the caller reads it again.
 #[inline(always)]
 fn blanks_of(reads: &mut Reads, text: &[u8]) -> Blanks
     ensures value { IsBlanks (take (grammar.blanks_len text.now) text.now) result }
@@ -107,20 +115,21 @@ fn blanks_of(reads: &mut Reads, text: &[u8]) -> Blanks
     blanks
 }
 
+/// Whether a text begins with `#`.
 fn begins_comment(text: &[u8]) -> bool
     ensures { result ≡ grammar.begins_comment text.now }
 {
     matches!(text, [b'#', ..])
 }
 
-/// Whether content stands at the front of a text: neither its end nor an LF.
+/// Whether content is at the start of a text: neither its end nor an LF.
 fn is_content(text: &[u8]) -> bool
     ensures { result ≡ grammar.is_content text.now }
 {
     !matches!(text, [] | [b'\n', ..])
 }
 
-/// The margin at the front of a text.
+/// The margin at the start of a text.
 #[inline(always)]
 pub fn margin_of(reads: &mut Reads, text: &str) -> Margin
     ensures margin { IsMargin (grammar.margin_of text.now) result }

@@ -1,4 +1,4 @@
-//! Lexemes that were read, and are made when they are asked for.
+//! Pending lexemes: read already, and made one by one as the lexer yields them.
 
 ghost use Rattle.std.specs.Prelude.{◌≡◌, ◌<◌, ◌≤◌, ◌+◌, ◌*◌, [], nat_lt, true, None, Some, OnErr, OnOk, IfOk};
 ghost use Rattle.starlark_layout.specs.Joints.Pending.{IsFirst, IsFirstBehind, IsPending, behind_lexemes, owed, pending_lexemes};
@@ -13,18 +13,20 @@ use starlark_bytes::reads::Reads;
 use starlark_token::tokens::Token;
 use std::alloc::{AllocError, Global};
 
-/// What is still to be handed out behind the comments: so many `Dedent`s at a place, an `Indent`, or what ends a text
-/// of an f-string.
+/// The lexemes that are pending after the comments. Offsets count bytes.
 #[derive(Clone, Copy)]
 pub enum Behind {
+    /// `count` `Dedent`s at one offset; none if `count` is 0.
     Dedents {
         at: usize,
         count: usize,
     },
+    /// One `Indent`.
     Indent {
         begin: usize,
         end: usize,
     },
+    /// The token that ends a text of an f-string.
     TextEnd {
         begin: usize,
         stop: TextEnd,
@@ -32,26 +34,30 @@ pub enum Behind {
     },
 }
 
-/// What was read of a text and is still to be handed out: the comments of the comment-only lines from one place to
-/// another, and what stands behind them. Places are in bytes.
+/// All pending lexemes: the comments of some comment-only lines, and what is pending after them.
+///
+/// Offsets count bytes.
 #[derive(Clone, Copy)]
 pub struct Pending {
+    /// Start of the comment-only lines whose comments are pending.
     pub from: usize,
+    /// End of those lines. There are none if it equals `from`.
     pub to: usize,
+    /// The lexemes that are pending after the comments.
     pub behind: Behind,
-    /// Whether no width is open before the margin of the comments, and nothing behind them was handed out yet.
+    /// Whether no indent is open before the comments, and no lexeme after them was yielded yet.
     pub is_flat: bool,
 }
 
 impl Behind {
-    /// Nothing.
+    /// No pending lexeme.
     pub const fn nothing() -> Self
         ensures { behind_lexemes result ≡ [] }
     {
         Behind::Dedents { at: 0, count: 0 }
     }
 
-    /// The first lexeme, which is then no longer to be handed out; `None` where there is none.
+    /// Takes the first pending lexeme; `None` if there is none.
     #[tactic(auto, unfolding(starlark_token::specs::TokenViews::token_view))]
     fn next(&mut self) -> Option<PlacedToken>
         ensures { IsFirstBehind self.old self.new result }
@@ -75,14 +81,14 @@ impl Behind {
 }
 
 impl Pending {
-    /// Nothing.
+    /// No pending lexeme and no comment.
     pub fn nothing() -> Self
         ensures { (text : Text) → (pending_lexemes text result ≡ []) × IsPending text result }
     {
         Pending::only(Behind::nothing())
     }
 
-    /// What stands behind no comments.
+    /// Pending lexemes without comments before them.
     pub fn only(behind: Behind) -> Self
         ensures { (text : Text) → (pending_lexemes text result ≡ behind_lexemes behind) × IsPending text result }
     {
@@ -94,7 +100,7 @@ impl Pending {
         }
     }
 
-    /// Waits for the comments of comment-only lines, from one place to another, before what it waited for.
+    /// Makes the comments of the lines from byte `from` to `to` pending, before the other lexemes.
     #[inline(always)]
     pub fn wait_for_comments(&mut self, from: usize, to: usize, is_flat: bool)
         ensures { self.new ≡ record self.old { from = from; to = to; is_flat = is_flat } }
@@ -104,7 +110,7 @@ impl Pending {
         self.is_flat = is_flat;
     }
 
-    /// Whether nothing is to be handed out.
+    /// Whether no lexeme is pending.
     #[inline(always)]
     pub fn is_nothing(&self) -> bool
         ensures { result ≡ true → (text : Text) → pending_lexemes text self.now ≡ [] }
@@ -115,7 +121,7 @@ impl Pending {
         }
     }
 
-    /// Whether comments are to be handed out before all else.
+    /// Whether comments are pending.
     #[inline(always)]
     pub fn has_comments(&self) -> bool
         ensures { result ≡ nat_lt self.now.from self.now.to }
@@ -123,7 +129,7 @@ impl Pending {
         self.from < self.to
     }
 
-    /// The first comment, which is then no longer to be handed out. A refused call changes nothing.
+    /// Takes the first pending comment. Nothing pending changes on `AllocError`.
     #[inline(always)]
     pub fn next_comment(
         &mut self,
@@ -143,7 +149,7 @@ impl Pending {
         Ok(comment)
     }
 
-    /// The first lexeme where no comments are, which is then no longer to be handed out; `None` where there is none.
+    /// Takes the first pending lexeme where no comments are pending; `None` if there is none.
     #[inline(always)]
     pub fn next_mark(&mut self) -> Option<PlacedToken>
         requires none { self.old.to ≤ self.old.from }
@@ -159,8 +165,8 @@ impl Pending {
         Some(first)
     }
 
-    /// The first lexeme, which is then no longer to be handed out; `None` where there is none. A refused call changes
-    /// nothing.
+    /// Takes the first pending lexeme; `None` if there is none. Nothing pending changes on
+    /// `AllocError`.
     pub fn next(
         &mut self,
         reads: &mut Reads,

@@ -1,6 +1,6 @@
-//! Tokens with their places.
+//! Tokens with their offsets.
 
 use starlark_token::tokens::Token;
 
-/// A token with the places, in bytes, where it begins and ends.
+/// A token with its begin and end in bytes.
 pub type PlacedToken = (usize, Token, usize);

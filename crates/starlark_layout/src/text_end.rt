@@ -1,4 +1,4 @@
-//! What ends a text of an f-string.
+//! The ends of f-string texts.
 
 ghost use Rattle.std.specs.Prelude.{◌≡◌};
 ghost use Rattle.starlark_layout.specs.Joints.TextEnds.{text_end_node};
@@ -6,15 +6,17 @@ ghost use Rattle.starlark_token.specs.TokenViews.{Whole, token_view};
 
 use starlark_token::tokens::Token;
 
-/// What ends a text of an f-string: the start of an expression, or the end of the f-string.
+/// What ends a text of an f-string.
 #[derive(Clone, Copy)]
 pub enum TextEnd {
+    /// The `{` before an expression.
     Expression,
+    /// The closing quotes of the f-string.
     FString,
 }
 
 impl TextEnd {
-    /// As a token.
+    /// The token of the end.
     #[tactic(auto, unfolding(starlark_token::specs::TokenViews::token_view))]
     pub fn token(self) -> Token
         ensures { token_view result ≡ Whole (text_end_node self) }

@@ -1,4 +1,4 @@
-//! Takes margins: what they give waits to be handed out, and their widths become the open ones.
+//! Takes margins: their lexemes become pending, and their widths go to the indentation stack.
 
 ghost use Rattle.std.specs.Prelude.{◌≡◌, ◌+◌, ◌<◌, ◌^◌, ℕ, List, [], true, false, IfOk, OnOk};
 ghost use Rattle.starlark_layout.specs.Joints.Layout.{IsFaultFound, IsLaid, IsMargin, keeps_widths, margin_fault};
@@ -12,8 +12,9 @@ use crate::pending::{Behind, Pending};
 use starlark_token::lexeme_error::LexemeError;
 use std::alloc::AllocError;
 
-/// The fault of a margin that has one, behind a line end of `len` bytes, and where it ends, in bytes from the line end's
-/// begin on. A tab goes before a width that doesn't fit.
+/// The fault of a margin that has one, after a newline of `len` bytes, and the end of the fault.
+///
+/// The end is in bytes from the start of the newline. A tab goes before a width of no open indent.
 #[inline(always)]
 pub fn margin_fault(len: usize, margin: Margin) -> (LexemeError, usize)
     requires { len + margin.at + margin.blanks.len < 2 ^ 64 }
@@ -26,8 +27,9 @@ pub fn margin_fault(len: usize, margin: Margin) -> (LexemeError, usize)
     (LexemeError::Indentation, end)
 }
 
-/// Whether a margin leaves the open widths as they are, and gives nothing behind its comments: where no content follows, or
-/// its width is the greatest open one.
+/// Whether a margin neither opens nor closes an indent.
+///
+/// That is so if no content follows, or if its width is the greatest open one.
 #[inline(always)]
 fn keeps_widths(levels: &IndentStack, margin: Margin) -> bool
     ensures { result ≡ keeps_widths margin levels.now }
@@ -35,8 +37,10 @@ fn keeps_widths(levels: &IndentStack, margin: Margin) -> bool
     !margin.is_content || !margin.blanks.has_tab && margin.blanks.width == levels.greatest()
 }
 
-/// Takes the width of a margin before content, which begins at `begin` and has no tab: an `Indent` waits, or a `Dedent`
-/// for each width that it closes. Answers whether it fits; else nothing changes.
+/// Takes the width of a margin before content, which begins at byte `begin` and has no tab.
+///
+/// An `Indent` becomes pending, or a `Dedent` for each indent that it closes. Returns `false` where
+/// the width is that of no open indent: then nothing changes.
 #[inline(always)]
 fn take_width(
     levels: &mut IndentStack,
@@ -72,9 +76,11 @@ fn take_width(
     Ok(true)
 }
 
-/// Takes a margin, which begins at `begin`: its lexemes wait to be handed out, and its width, where it leads to content,
-/// is one of the open ones. Answers whether it has no fault; with one, its comments wait alone, and the open widths are
-/// what they were. After an error these are not known.
+/// Takes a margin, which begins at byte `begin`.
+///
+/// Its lexemes become pending, and its width goes to the stack if content follows. Returns `false`
+/// where it has a fault: then only its comments become pending, and the stack doesn't change. After
+/// an `AllocError` the stack isn't known.
 #[inline(always)]
 pub fn take_margin(
     levels: &mut IndentStack,

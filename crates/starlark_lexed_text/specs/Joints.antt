@@ -1,2 +1,2 @@
--- What only contracts of inner functions and proofs speak of: what a lexed text keeps.
+-- Definitions that only contracts of inner functions, and proofs, cite: the cuts of a lexed text.
 pub mod LexedTexts

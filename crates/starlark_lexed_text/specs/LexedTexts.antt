@@ -1,4 +1,4 @@
--- What a lexed text is to its user.
+-- Lexed texts, as their users see them.
 use Rattle.std.specs.Prelude.{◌≡◌, ◌≤◌, ◌+◌, ◌*◌, ◌-◌, ◌⊎◌, true, ℕ, List, ◌++◌, map, take, length, Option, None}
 use Rattle.std.specs.List.{AllByRecursion}
 use Rattle.starlark_base.specs.Sources.{SourceFile}
@@ -12,19 +12,21 @@ pub use Rattle.starlark_error.specs.Exceptions.{IsFaultIn}
 use Rattle.starlark_token.specs.Lexemes.{shown_lexeme}
 use Rattle.starlark_token.specs.TokenViews.{TokenView}
 
--- A lexed text: its text, its lexemes, the exception of its fault, and how often bytes of it were read for that.
+-- a lexed text: its text, its lexemes, the exception of its fault, and the number of bytes read for
+-- it
 pub record LexedView : Type 0 where
   pub text : Text
   pub lexemes : List (grammar.Spanned TokenView)
   pub fault : Option (Diagnosed ErrorKind)
   pub reads : ℕ
 
--- A lexed text has the lexemes of its text, and the text's fault in a code map.
+-- the lexed text has the lexemes of its text, and the text's fault in a code map
 pub record IsLexed (file : SourceFile) (lexed : LexedView) : Type 0 where
   pub lexemes : lexed.lexemes ≡ map shown_lexeme (outcome lexed.text).lexemes
   pub fault : IsFaultIn file (outcome lexed.text).fault lexed.fault
 
--- the first of two lexed texts without its last lexeme, and the second one's lexemes behind the first text; no byte is read
+-- two lexed texts joined: the first one's lexemes without the last, and the second one's, moved by
+-- the first text's length; no byte is read
 abbrev pub joined : LexedView → LexedView → LexedView
 joined first second = record {
   text = first.text ++ second.text;
@@ -33,9 +35,10 @@ joined first second = record {
   reads = 0;
 }
 
--- A text behind an edit was read from the last of the kept cuts of the text before it on, at or before a place, or from its
--- begin where there is none: each byte behind once at least where it has no fault, and some sixteen times at most. The first
--- lexemes are the first ones of the text before the edit, and the others begin at or behind that cut.
+-- after an edit the text was read from byte `at` on, which is the old text's last kept cut at or
+-- before byte `from`, or 0 if it has none: each byte after it about sixteen times at most, and at
+-- least once if there is no fault; the first lexemes are the old text's, and the others begin at or
+-- after byte `at`
 pub record IsReadFrom (old : LexedView) (edited : Text) (from : ℕ) (lexed : LexedView) : Type 0 where
   pub at : ℕ
   pub before : at ≤ from

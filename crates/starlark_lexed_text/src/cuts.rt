@@ -1,25 +1,30 @@
-//! The places where a text may be cut.
+//! Cuts: the offsets where a text can be cut, so that lexing can begin again there.
 
 ghost use Rattle.std.specs.Prelude.{◌≡◌, ◌&&◌, ◌||◌, ◌==◌, ◌<◌, ◌≤◌, ◌+◌, ◌++◌, ◌^◌, length, map, nat_lt, take, vec_capacity, vec_len};
 ghost use Rattle.starlark_grammar.specs.Words.{Text};
 ghost use Rattle.starlark_lexed_text.specs.Joints.LexedTexts.{AllNearCuts, AreBeyond, AreCuts, IsBegin, IsUpTo, later_cut};
 
-/// A place in a text, in bytes, where it may be cut, and how many lexemes stand before it.
+/// A cut: its offset in bytes, and the number of lexemes before it.
 #[derive(Clone, Copy)]
 pub struct Cut {
+    /// Offset in bytes.
     pub at: usize,
+    /// Number of lexemes before it.
     pub lexemes: usize,
 }
 
-/// Where a text is lexed again: at a place, in bytes, behind so many lexemes and so many cuts that may be kept.
+/// Where lexing begins again: an offset in bytes, and how many lexemes and cuts before it are kept.
 #[derive(Clone, Copy)]
 pub struct Begin {
+    /// Offset in bytes.
     pub at: usize,
+    /// Number of lexemes before it.
     pub lexemes: usize,
+    /// Number of cuts up to it.
     pub cuts: usize,
 }
 
-/// How many cuts there are up to the last one at or before a place.
+/// Number of cuts up to the last one at or before byte `from`.
 pub fn cuts_up_to(cuts: &[Cut], from: usize) -> usize
     ensures bound { result ≤ length cuts.now }
     ensures last { IsUpTo cuts.now from result }
@@ -32,7 +37,7 @@ pub fn cuts_up_to(cuts: &[Cut], from: usize) -> usize
     count
 }
 
-/// The last of the cuts that lie at or before a place; the text's begin where none does.
+/// The last of the cuts at or before byte `from`, or the start of the text if there is none.
 pub fn begin_of(cuts: &[Cut], from: usize) -> Begin
     ensures { (text : Text) → AreCuts text cuts.now → IsBegin text cuts.now from result }
 {
@@ -52,16 +57,18 @@ pub fn begin_of(cuts: &[Cut], from: usize) -> Begin
     }
 }
 
-/// Whether a text is a clean cut that was read from a place on, by whether what was read is one. Where nothing was read
-/// behind a cut, it is.
+/// Whether a text is a clean cut, if lexing began at the cut `at` and `is_cut` says so of the rest.
+///
+/// It is also if the rest after a cut is empty.
 pub fn is_cut_behind(is_cut: bool, rest: &str, at: usize) -> bool
     ensures { result ≡ (is_cut || (length rest.now == 0 && nat_lt 0 at)) }
 {
     is_cut || (rest.is_empty() && at > 0)
 }
 
-/// Keeps so many cuts of a list that has room for others behind them, and puts those there, each so many bytes and
-/// lexemes further on.
+/// Keeps the first `kept` cuts, and appends others, moved by `len` bytes and `count` lexemes.
+///
+/// It doesn't allocate: the list must have room for them.
 pub fn append_cuts(cuts: &mut Vec<Cut>, kept: usize, more: Vec<Cut>, len: usize, count: usize)
     requires room { kept + vec_len more ≤ vec_capacity cuts.old }
     requires near { AllNearCuts more.items }

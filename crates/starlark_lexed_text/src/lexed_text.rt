@@ -1,4 +1,4 @@
-//! Texts with all their lexemes.
+//! Texts with all their lexemes: lexed, joined, and lexed again after an edit.
 
 ghost use Rattle.std.specs.Prelude.{◌≡◌, ◌<◌, ◌≤◌, ◌+◌, ◌*◌, ◌-◌, ◌++◌, ◌==◌, ◌||◌, ◌^◌, ◌↔◌, ℕ, List, None, length, map, true, IfOk, IfErr, option_copied, take};
 ghost use Rattle.std.specs.List.{All};
@@ -22,8 +22,11 @@ use starlark_token::tokens::Token;
 use std::alloc::Global;
 use std::marker::Model;
 
-/// A text with its lexemes and its fault, if it has one. In a contract it is these three, and how often bytes of it were
-/// read. It keeps all places where it may be cut, so that a text with an edit behind one of them is lexed from there on.
+/// A text with all its lexemes, and with its fault if it has one.
+///
+/// It stores the offsets where the text can be cut, so that after an edit only the text from the
+/// last of them on is lexed again. In a contract it is its text, lexemes, fault, and number of
+/// bytes read.
 #[derive(Drop)]
 pub struct LexedText<'a> {
     text: &'a str,
@@ -53,8 +56,10 @@ impl<'a> Model for LexedText<'a> {
 }
 
 impl<'a> LexedText<'a> {
-    /// Reads a text to its end or to its fault, which lies in a code map. A text of more than 4294967295 bytes is
-    /// refused, before want of memory is; either refusal drops the code map. The dialect isn't looked at.
+    /// Lexes a text up to its end or its first fault, which gets a span of the code map.
+    ///
+    /// Fails where the text has more than 4294967295 bytes, and else where memory runs out. Either
+    /// error drops the code map. The dialect has no effect.
     pub fn lex(
         alloc: Global,
         input: &'a str,
@@ -82,59 +87,74 @@ impl<'a> LexedText<'a> {
         })
     }
 
-    /// The text.
+    /// The text that was lexed.
     pub fn text(&self) -> &'a str
         ensures { result.now ≡ self.now.text }
     {
         self.text
     }
 
-    /// The lexemes: each token with the places, in bytes, where it begins and ends. Each begins at or before its end, and
-    /// lies inside of the text, between characters.
+    /// The lexemes in order, up to the fault if there is one: begin in bytes, token, end in bytes.
+    ///
+    /// Each lies in the text, and begins and ends at character boundaries.
     pub fn lexemes(&self) -> &[(usize, Token, usize)]
         ensures lexemes { map lexeme_view result.now ≡ self.now.lexemes }
         ensures within { All (λ lexeme. IsWithin self.now.text lexeme.0 lexeme.2) result.now }
         ensures boundaries { All (λ lexeme. IsCharBoundary self.now.text lexeme.0 × IsCharBoundary self.now.text lexeme.2) result.now }
     {
-        // What is read as a `&str` is known to be text, on which `boundaries` rests.
+        // The proof of `boundaries` needs that the text is UTF-8, which the read of a `&str` says.
         let _text = self.text();
         &self.lexemes
     }
 
-    /// The fault behind the lexemes, if the text has one.
+    /// The fault after the lexemes, if the text has one.
     pub fn fault(&self) -> Option<&EvalException>
         ensures { option_copied result ≡ self.now.fault }
     {
         self.fault.as_ref()
     }
 
-    /// How often bytes of the text were read by the call that made this: each look at a byte counts, looks ahead included,
-    /// and each byte of those that are looked at together. At most `16 * (n + 1)` after `lex`, where the text has `n` bytes,
-    /// and at least `n` where it has no fault; the same after `relex`, of the bytes behind the cut that it went on from; 0
-    /// after `join`.
+    /// Number of reads of bytes by the call that made the lexed text. A byte read twice counts
+    /// twice.
+    ///
+    /// After `lex` of `n` bytes it is at most `16 * (n + 1)`, and at least `n` if there is no
+    /// fault. After `relex` these bounds hold with the number of bytes after the cut that it began
+    /// at. After `join` it is 0. Lookahead counts, and so does each byte of a SIMD step.
     pub fn reads(&self) -> u64
         ensures { result ≡ self.now.reads }
     {
         self.reads
     }
 
-    /// Whether other texts may be joined to this one: it has no fault, its last byte is an LF that ends a line, and no
-    /// bracket, f-string or width is open behind it. No byte is looked at.
+    /// Whether the text is a clean cut, so that another text can be joined to it.
+    ///
+    /// It is if it has no fault, its last byte is an LF that ends a logical or blank line or a
+    /// comment, and no bracket, f-string or block is open after that. It is stored: no byte is
+    /// read.
     pub fn is_clean_cut(&self) -> bool
         ensures { result ≡ is_clean_cut self.now.text }
     {
         self.is_cut
     }
 
-    /// Whether this text behind a clean cut leaves one: where it is a clean cut itself, or empty.
+    /// Whether a clean cut joined with this text is a clean cut: this one is a clean cut, or empty.
     fn leaves_cut(&self) -> bool
         ensures { result ≡ (is_clean_cut self.now.text || length self.now.text == 0) }
     {
         self.is_cut || self.text.is_empty()
     }
 
-    /// This text and another behind it as one lexed text. The lexemes of the second one are moved: no byte of a text is
-    /// looked at, and what it costs is linear in them. Want of memory hands both texts back as they were.
+    /// Joins two lexed texts to one. The cost is linear in the second one's lexemes: no byte is
+    /// read.
+    ///
+    /// Four conditions must hold:
+    ///
+    /// - this text is a clean cut: `is_clean_cut` is the test;
+    /// - the second text has no fault: `fault` is `None`;
+    /// - `joined` is this text followed by the second one;
+    /// - `joined` is shorter than 4294967296 bytes.
+    ///
+    /// The error is both lexed texts, unchanged, where memory runs out.
     pub fn join(
         self,
         second: LexedText<'a>,
@@ -170,9 +190,18 @@ impl<'a> LexedText<'a> {
         })
     }
 
-    /// The lexed text behind an edit: `edited` has the same bytes as this text up to `from`, in bytes, and any behind it.
-    /// What stands behind the last place at or before `from` where this text may be cut is read, and the lexemes before that
-    /// are kept. The answer is what `lex` makes of `edited`, with its fault in this code map. Want of memory hands this text back as it was.
+    /// Lexes the text again after an edit that changes nothing before byte `from`.
+    ///
+    /// Four conditions must hold:
+    ///
+    /// - `from` is a character boundary of this text;
+    /// - `from` is a character boundary of `edited`;
+    /// - both texts have the same first `from` bytes;
+    /// - `edited` is shorter than 4294967296 bytes.
+    ///
+    /// The result is what `lex` returns for `edited`, with its fault in this code map. Only the
+    /// bytes after the last cut at or before `from` are read; the lexemes before it are kept. The
+    /// error is the lexed text, unchanged, where memory runs out.
     pub fn relex(
         self,
         from: usize,

@@ -1,4 +1,4 @@
-//! Texts with all their lexemes, which can be joined, and lexed again behind an edit.
+//! Texts with all their lexemes, which can be joined, and lexed again after an edit.
 #![tactic(auto)]
 
 mod cuts;

@@ -1,4 +1,4 @@
-//! Reads all lexemes of a text.
+//! Lexes a whole text, or the rest of one.
 
 ghost use Rattle.std.specs.Prelude.{◌≡◌, ◌<◌, ◌≤◌, ◌+◌, ◌*◌, ◌^◌, ◌++◌, Option, None, IfOk, IfSome, OnOk, codes, length, nat_eq, option_map};
 ghost use Rattle.std.specs.List.{ends_with};
@@ -17,18 +17,25 @@ use starlark_reader::reader::{Next, Reader};
 use starlark_token::lexeme_error::LexemeError;
 use std::alloc::{AllocError, Global};
 
-/// A fault with the places, in bytes, where it begins and ends.
+/// A fault with its begin and end in bytes.
 pub type PlacedFault = (usize, LexemeError, usize);
 
-/// What a text comes to: its lexemes, its fault behind them, places where it may be cut, whether its end is one,
-/// whether its first margin has a tab before content, and how often its bytes were read.
+/// The result of lexing a text: lexemes, fault, cuts, and number of reads.
+///
+/// Offsets count from the start of the text that was lexed.
 #[derive(Drop)]
 pub struct Part {
+    /// The lexemes up to the fault, or all.
     pub lexemes: Vec<PlacedToken>,
+    /// The first fault, if there is one.
     pub fault: Option<PlacedFault>,
+    /// The offsets where the text can be cut, in order.
     pub cuts: Vec<Cut>,
+    /// Whether the text is a clean cut.
     pub is_cut: bool,
+    /// Whether the first margin has a tab before content.
     pub has_tab: bool,
+    /// Number of reads of bytes.
     pub reads: u64,
 }
 
@@ -41,7 +48,7 @@ fn ends_with_feed(reads: &mut Reads, text: &str) -> bool
     text.as_bytes().ends_with(b"\n")
 }
 
-/// Puts a place behind some cuts, if it is one, before which so many lexemes stand.
+/// Appends a cut at an offset after `lexemes` lexemes, if there is an offset.
 fn push_cut(cuts: &mut Vec<Cut>, place: Option<usize>, lexemes: usize) -> Result<(), AllocError>
     ensures { OnOk result (cuts.new.items ≡ cuts.old.items ++ cuts_at place lexemes) }
 {
@@ -51,7 +58,7 @@ fn push_cut(cuts: &mut Vec<Cut>, place: Option<usize>, lexemes: usize) -> Result
     Ok(())
 }
 
-/// Some cuts of a text, and the one at its end behind them, where that is one.
+/// The cuts of a text, with one at its end if the text is a clean cut.
 fn with_end_cut(
     cuts: Vec<Cut>,
     text: &str,
@@ -71,7 +78,7 @@ fn with_end_cut(
     Ok(all)
 }
 
-/// Reads a text to its end or to its fault.
+/// Lexes a text up to its end or its first fault. Offsets count from the start of that text.
 pub fn read_part(alloc: Global, text: &str) -> Result<Part, AllocError>
     requires fits { length text.now < 2 ^ 32 }
     ensures part { IfOk result (IsPart text.now) }
@@ -114,7 +121,7 @@ pub fn read_part(alloc: Global, text: &str) -> Result<Part, AllocError>
     }
 }
 
-/// A fault that lies so many bytes further on, as an exception in a code map.
+/// The exception of a fault that is moved by `len` bytes, with its span in a code map.
 pub fn exception_of(
     alloc: Global,
     fault: Option<PlacedFault>,

@@ -1,4 +1,4 @@
-//! Lists of lexemes of which the end is put anew.
+//! Replaces the end of a list of lexemes.
 
 ghost use Rattle.std.specs.Prelude.{◌≡◌, ◌<◌, ◌≤◌, ◌+◌, ◌++◌, ◌^◌, [], ℕ, None, IfSome, OnOk, Some, if◌then◌else◌, false, length, map, take, true, vec_capacity, vec_len};
 ghost use Rattle.starlark_lexed_text.specs.Joints.LexedTexts.{AllNear, IsTakenBack, is_newline_view, last_newline_of, later};
@@ -10,7 +10,8 @@ use starlark_reader::PlacedToken;
 use starlark_token::tokens::Token;
 use std::alloc::AllocError;
 
-/// Makes room for so many items behind those of a list that are kept. A refused call changes nothing.
+/// Reserves room for `more` items after the first `kept` of a list. Nothing changes on
+/// `AllocError`.
 pub fn make_room<T>(list: &mut Vec<T>, kept: usize, more: usize) -> Result<(), AllocError>
     requires { kept + more < 2 ^ 64 }
     ensures room { OnOk result (kept + more ≤ vec_capacity list.new) }
@@ -19,8 +20,9 @@ pub fn make_room<T>(list: &mut Vec<T>, kept: usize, more: usize) -> Result<(), A
     list.reserve((kept + more).saturating_sub(list.len()))
 }
 
-/// Keeps so many lexemes of a list that has room for others behind them, and puts those there, each so many bytes
-/// further on.
+/// Keeps the first `kept` lexemes, and appends others, moved by `len` bytes.
+///
+/// It doesn't allocate: the list must have room for them.
 pub fn append_later(lexemes: &mut Vec<PlacedToken>, kept: usize, more: Vec<PlacedToken>, len: usize)
     requires room { kept + vec_len more ≤ vec_capacity lexemes.old }
     requires near { AllNear more.items }
@@ -33,6 +35,7 @@ pub fn append_later(lexemes: &mut Vec<PlacedToken>, kept: usize, more: Vec<Place
     }
 }
 
+/// Whether a token is `Newline`.
 #[tactic(auto, unfolding(starlark_token::specs::TokenViews::token_view))]
 fn is_newline(token: &Token) -> bool
     ensures { result ≡ is_newline_view (token_view token.now) }
@@ -40,7 +43,7 @@ fn is_newline(token: &Token) -> bool
     matches!(token, Token::Newline)
 }
 
-/// The place in a list of the last `Newline`.
+/// Index of the last `Newline` in a list of lexemes.
 pub fn last_newline(lexemes: &[PlacedToken]) -> Option<usize>
     ensures value { result ≡ last_newline_of (map lexeme_view lexemes.now) }
     ensures within { IfSome result (λ at. at < length lexemes.now) }
@@ -55,19 +58,24 @@ pub fn last_newline(lexemes: &[PlacedToken]) -> Option<usize>
     None
 }
 
-/// What is kept of a lexed text: so many lexemes and cuts. A fault of what was read behind them lies so many bytes
-/// further on, and its lexemes may be dropped.
+/// What is kept of a lexed text that is lexed again from a cut on.
 #[derive(Clone, Copy)]
 pub struct Kept {
+    /// Number of lexemes that are kept.
     pub lexemes: usize,
+    /// Number of cuts that are kept.
     pub cuts: usize,
+    /// Bytes by which a fault of the rest is moved.
     pub fault_at: usize,
+    /// Whether the lexemes of the rest are appended. Else they are dropped.
     pub gives_more: bool,
 }
 
-/// What is kept of a lexed text up to a place where it is lexed again, where a tab may stand in the margin there. Then the
-/// last `Newline` is taken back with all behind it, and the fault stands in its place; where there is none, the text was
-/// comments alone, and the fault stands at its begin.
+/// What is kept of a lexed text where lexing begins again at a cut.
+///
+/// If the indentation there has a tab, the last `Newline` and all lexemes after it are dropped, and
+/// the fault begins where it began. Where there is no `Newline`, all before the cut is comments,
+/// and the fault begins at the start of the text.
 pub fn kept_of(lexemes: &[PlacedToken], cuts: &[Cut], begin: Begin, has_tab: bool) -> Kept
     requires { begin.lexemes ≤ length lexemes.now }
     ensures plain { has_tab ≡ false → result ≡ record { lexemes = begin.lexemes; cuts = begin.cuts; fault_at = begin.at; gives_more = true } }
@@ -101,7 +109,7 @@ pub fn kept_of(lexemes: &[PlacedToken], cuts: &[Cut], begin: Begin, has_tab: boo
     }
 }
 
-/// The lexemes that come behind what is kept.
+/// The lexemes to append to what is kept.
 pub fn given_behind(lexemes: Vec<PlacedToken>, kept: Kept) -> Vec<PlacedToken>
     ensures { result.items ≡ (if kept.gives_more then lexemes.items else []) }
 {

@@ -1,4 +1,4 @@
-//! The lexer: a text's lexemes one after another.
+//! The lexer, which yields the lexemes of a text one by one.
 
 ghost use Rattle.std.specs.Prelude.{◌≡◌, ◌<◌, ◌≤◌, ◌+◌, ◌*◌, ◌^◌, ◌↔◌, ◌||◌, None, length, true, false, IfOk, IsErr};
 ghost use Rattle.std.specs.List.{slice_get};
@@ -16,11 +16,13 @@ use starlark_token::tokens::Token;
 use std::alloc::Global;
 use std::marker::Model;
 
-/// A token with the places, in bytes, where it begins and ends; or the fault of the text, or want of memory.
+/// An item of a lexer: begin in bytes, token, end in bytes; or the fault, or out of memory.
 pub type Lexeme = Result<(usize, Token, usize), OrMemory<EvalException>>;
 
-/// Hands out the lexemes of a text one after another, up to its fault where it has one. In a contract it is its text,
-/// its code map, how many items it has handed out, and whether an error has ended it.
+/// A lexer: an iterator over the lexemes of a text, up to its first fault if it has one.
+///
+/// Any error ends it. In a contract it is its text, its code map, how many items it has yielded, and
+/// whether an error has ended it.
 #[derive(Drop)]
 pub struct Lexer<'a> {
     alloc: Global,
@@ -157,8 +159,10 @@ impl<'a> Model for Lexer<'a> {
 }
 
 impl<'a> Lexer<'a> {
-    /// A lexer of a text, whose faults lie in a code map. A text of more than 4294967295 bytes is refused. The dialect
-    /// isn't looked at. A text of n bytes has at most 2 n + 1 lexemes and faults.
+    /// A lexer of a text, whose fault gets a span of the code map. It doesn't allocate.
+    ///
+    /// Fails where the text has more than 4294967295 bytes, and drops the code map then. The dialect has
+    /// no effect. A text of `n` bytes yields at most `2 * n + 1` items.
     pub fn new(
         alloc: Global,
         input: &'a str,
@@ -423,8 +427,10 @@ impl<'a> Lexer<'a> {
         }
     }
 
-    /// The next lexeme; `None` behind the last, and behind any error. The first error, want of memory too, ends the lexer.
-    /// What is handed out begins at or before its end, and lies inside of the text, between characters.
+    /// Returns the next lexeme or the fault; `None` after the last lexeme, and after any error.
+    ///
+    /// The first error ends the lexer, out of memory too. A lexeme or fault lies in the text, and begins
+    /// and ends at character boundaries.
     pub fn next(&mut self) -> Option<Lexeme>
         ensures ended { self.old.has_ended ≡ true → AnswersNext self.old.code_map None result }
         ensures item { self.old.has_ended ≡ false → AnswersNext self.old.code_map (slice_get (items self.old.text) self.old.handed_out) result }
@@ -432,7 +438,7 @@ impl<'a> Lexer<'a> {
         ensures between { AnswersBetween self.old.text result }
         ensures after { self.new ≡ record self.old { handed_out = self.old.handed_out + handed_out_by result; has_ended = self.old.has_ended || is_ended_by result } }
     {
-        // What is read as a `&str` is known to be text, on which `between` rests.
+        // The proof of `between` needs that the text is UTF-8, which the read of a `&str` says.
         let _text = self.text();
         self.next_item()
     }

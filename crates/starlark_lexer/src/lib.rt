@@ -1,4 +1,4 @@
-//! The lexer: a text's lexemes one after another.
+//! The lexer, which yields the lexemes of a text one by one.
 #![tactic(auto)]
 
 mod lexemes;

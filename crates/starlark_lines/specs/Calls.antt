@@ -4,23 +4,24 @@ use Rattle.std.specs.List.{AllByRecursion, flat_map}
 use Rattle.std.specs.Io.KnownBytes.{Appends, Consumes, IsAtEnd, Keeps}
 use Rattle.starlark_base.specs.Places.{Text}
 
--- What a reader says of itself: the bytes that it has left, where they are known, what one read does, and what a failed one
--- returns. Of a read are told the reader before it, the buffer after it, how many bytes it gave, none where it failed, and
--- the reader after it.
+-- a reader's account of its calls: the bytes that are left in it if they are known, what one read
+-- does, and what a failed one returns; a read has the reader before it, the buffer after it, the
+-- number of bytes that it gave or `None` if it failed, and the reader after it
 pub record ReaderCalls (R : Type 0) : Type 1 where
   pub remaining : R → Option Text
   pub read : R → Text → Option ℕ → R → Type 0
   pub failure : {E : Type 0} → R → E → R → Type 0
 
--- What a writer says of itself: the bytes that it holds, where they are known, what one write does, by the piece and how many
--- bytes of it were taken, what one flush does, by whether it succeeded, and what a failed call returns.
+-- a writer's account of its calls: the bytes that it has if they are known, what one write does,
+-- what one flush does, and what a failed call returns; a write has the piece and the number of
+-- bytes of it that were taken or `None` if it failed, and a flush has whether it succeeded
 pub record WriterCalls (W : Type 0) : Type 1 where
   pub contents : W → Option Text
   pub write : W → Text → Option ℕ → W → Type 0
   pub flush : W → Bool → W → Type 0
   pub failure : {E : Type 0} → W → E → W → Type 0
 
--- how many bytes a call gave or took, none where it failed
+-- how many bytes a call gave or took; `None` if it failed
 abbrev pub count_of : {E : Type 0} → Result ℕ E → Option ℕ
 count_of (Ok count) = Some count
 count_of (Err e) = None
@@ -53,13 +54,14 @@ std_writer contents = record {
   failure = λ old error new. ⊤;
 }
 
--- One call of a reader: the buffer after it, how many bytes it gave, none where it failed, and the reader after it.
+-- one call of a reader: the buffer after it, the number of bytes that it gave or `None` if it
+-- failed, and the reader after it
 pub record ReadCall (R : Type 0) : Type 0 where
   pub room : Text
   pub count : Option ℕ
   pub after : R
 
--- These calls were made of a reader, one after another, and no others.
+-- these calls of a reader were made, one after another, and no others
 abbrev pub WasRead : {R : Type 0} → ReaderCalls R → R → List (ReadCall R) → R → Type 0
 WasRead calls old [] new = new ≡ old
 WasRead calls old (call ∷ more) new = calls.read old call.room call.count call.after × WasRead calls call.after more new
@@ -80,15 +82,16 @@ GaveSome call = by call.count
     by None = ⊥
     by (Some count) = 0 < count
 
--- How reading stopped: by a call that came to the reader's end, by one that failed, or by none, before either.
+-- how reading stopped: by a call that found the end, by one that failed, or before either
 abbrev pub StoppedBy : {R : Type 0} → (ended failed : Bool) → List (ReadCall R) → Type 0
 StoppedBy false false [] = ⊤
 StoppedBy true false (call ∷ []) = (call.count ≡ Some 0) × (0 < length call.room)
 StoppedBy false true (call ∷ []) = call.count ≡ None
 StoppedBy ended failed calls = ⊥
 
--- A text came from a reader: by calls that gave its bytes in order, and, where the reader ended or failed, one call more,
--- the last. So no failed call was tried again. Where the reader ended, nothing is left in it.
+-- a text was read from a reader by calls that gave its bytes in order; if the reader ended or
+-- failed, one more call was made, the last, so no failed call was tried again; if it ended, nothing
+-- is left in it
 pub record Came {R : Type 0} (calls : ReaderCalls R) (old new : R) (ended failed : Bool) (came : Text) : Type 0 where
   pub bytes : Consumes (calls.remaining old) (calls.remaining new) came
   pub nothing_left : ended ≡ true → IsAtEnd (calls.remaining new)
@@ -99,13 +102,13 @@ pub record Came {R : Type 0} (calls : ReaderCalls R) (old new : R) (ended failed
   pub given : flat_map given_by log ≡ came
   pub stopped : StoppedBy ended failed last
 
--- One call of a writer, and the writer after it: a write of a piece, of which so many bytes were taken, none where it failed,
--- or a flush.
+-- one call of a writer, and the writer after it: a write of a piece with the number of bytes taken
+-- or `None` if it failed, or a flush
 pub data WriterCall (W : Type 0) : Type 0 where
   Wrote : (piece : Text) (count : Option ℕ) (after : W) → WriterCall W
   Flushed : (is_ok : Bool) (after : W) → WriterCall W
 
--- These calls were made of a writer, one after another, and no others.
+-- these calls of a writer were made, one after another, and no others
 abbrev pub WasWritten : {W : Type 0} → WriterCalls W → W → List (WriterCall W) → W → Type 0
 WasWritten calls old [] new = new ≡ old
 WasWritten calls old (Wrote piece count after ∷ more) new = calls.write old piece count after × WasWritten calls after more new
@@ -127,21 +130,21 @@ IsFailed (Wrote piece (Some count) after) = (count ≡ 0) × (0 < length piece)
 IsFailed (Wrote piece None after) = ⊤
 IsFailed (Flushed is_ok after) = is_ok ≡ false
 
--- Where writing stands: it goes on, or it is done, by a flush, or it stopped at a failure.
+-- how far writing is: it goes on, or it is done by a flush, or it stopped at a failure
 pub data Ending : Type 0 where
   Going : Ending
   Done : Ending
   Broken : Ending
 
--- the last call, by where writing stands
+-- the last call, by how far writing is
 abbrev pub EndedBy : {W : Type 0} → Ending → List (WriterCall W) → Type 0
 EndedBy Going [] = ⊤
 EndedBy Done (Flushed is_ok after ∷ []) = is_ok ≡ true
 EndedBy Broken (call ∷ []) = IsFailed call
 EndedBy ending calls = ⊥
 
--- A text went to a writer: by writes that took its bytes in order, and, where writing is done, a flush, or where it stopped,
--- one call that failed, the last. So no failed call was tried again.
+-- a text was written to a writer by calls that took its bytes in order; then a flush if writing is
+-- done, or if it stopped one call that failed, the last, so no failed call was tried again
 pub record Went {W : Type 0} (calls : WriterCalls W) (ending : Ending) (old new : W) (taken : Text) : Type 0 where
   pub bytes : Appends (calls.contents old) (calls.contents new) taken
   pub log : List (WriterCall W)

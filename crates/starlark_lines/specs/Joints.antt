@@ -1,2 +1,2 @@
--- What only contracts of inner functions and proofs speak of: the line of a text's fault.
+-- Definitions that only contracts of inner functions, and proofs, cite: the line of a text's fault.
 pub mod Lines

@@ -1,4 +1,4 @@
--- What is printed of a text.
+-- The output for a text.
 use Rattle.std.specs.Prelude.{ℕ, ◌/◌, ◌%◌, ◌∷◌, [], ◌++◌, List, codes, Bool, true, false, Option, Some, None}
 use Rattle.std.specs.List.{flat_map}
 use Rattle.std.specs.Char.{digit_char}
@@ -16,17 +16,18 @@ use Rattle.starlark_token.specs.TextItems.{LexerItem, Given, Refused, items}
 abbrev pub hex : Text → Text
 hex bytes = flat_map (λ byte. digit_char (byte / 16) ∷ digit_char (byte % 16) ∷ []) bytes
 
--- the name of an f-string's quotes
+-- the printed name of an f-string's quotes
 abbrev pub quotes_by : Quote → (is_triple : Bool) → Text
 quotes_by SingleQuote false = codes "Single"
 quotes_by DoubleQuote false = codes "Double"
 quotes_by SingleQuote true = codes "TripleSingle"
 quotes_by DoubleQuote true = codes "TripleDouble"
 
+-- the printed name of the quotes of an f-string's opening
 abbrev pub quotes_name : grammar.Opening → Text
 quotes_name opening = quotes_by opening.quote opening.is_triple
 
--- the value that is printed of a token; that of a literal in hexadecimal digits
+-- the printed value of a token; that of a string or bytes literal is in hexadecimal digits
 abbrev pub value_of : grammar.Token → Option Text
 value_of (grammar.Comment text) = Some text
 value_of (grammar.Identifier name) = Some name
@@ -38,21 +39,22 @@ value_of (grammar.FStringStart opening) = Some (quotes_name opening)
 value_of (grammar.FStringText value) = Some (hex value)
 value_of token = None
 
--- a value is printed behind a space
+-- a value, if there is one, after a space
 abbrev pub behind_space : Option Text → Text
 behind_space None = []
 behind_space (Some value) = codes " " ++ value
 
+-- the printed value of a token after a space; empty for a token without one
 unfoldable pub value_text : TokenView → Text
 value_text (Whole token) = behind_space (value_of token)
 value_text view = []
 
--- `begin-end place Kind`, and the value
+-- the line of a lexeme: `begin-end place Kind`, and the value
 unfoldable pub lexeme_text : (begin end : ℕ) → (place : Text) → TokenView → Text
 lexeme_text begin end place node =
     decimal begin ++ codes "-" ++ decimal end ++ codes " " ++ place ++ codes " " ++ kind_of node ++ value_text node ++ codes "\n"
 
--- what is said of a fault
+-- the message of a fault
 unfoldable pub message_of : grammar.Fault → Text
 message_of grammar.Indentation = codes "Parse error: incorrect indentation"
 message_of (grammar.InvalidInput text) = codes "Parse error: invalid input `" ++ text ++ codes "`"
@@ -64,7 +66,7 @@ message_of (grammar.ReservedKeyword word) = codes "Parse error: cannot use reser
 message_of (grammar.StartsZero word) = codes "Parse error: integer cannot have leading 0, got `" ++ word ++ codes "`"
 message_of grammar.UnfinishedFStringExpression = codes "Parse error: f-string expression is missing closing `}`"
 
--- `fault begin-end name:place message`
+-- the line of a fault: `fault begin-end name:place message`
 unfoldable pub fault_text : (begin end : ℕ) → (name place message : Text) → Text
 fault_text begin end name place message =
     codes "fault " ++ decimal begin ++ codes "-" ++ decimal end ++ codes " " ++ name ++ codes ":" ++ place ++ codes " " ++ message ++ codes "\n"
@@ -73,14 +75,15 @@ fault_text begin end name place message =
 abbrev pub place_text : Text → (begin end : ℕ) → Text
 place_text text begin end = span_text (place_at text begin) (place_at text end)
 
--- the line of an item of a text that has this name
+-- the line of an item of a text
 abbrev pub item_line : (name text : Text) → LexerItem → Text
 item_line name text (Given lexeme) = lexeme_text lexeme.begin lexeme.end (place_text text lexeme.begin lexeme.end) lexeme.node
 item_line name text (Refused fault) = fault_text fault.begin fault.end name (place_text text fault.begin fault.end) (message_of fault.node)
 
+-- the lines of items of a text
 unfoldable pub lines_of : (name text : Text) → List LexerItem → Text
 lines_of name text list = flat_map (item_line name text) list
 
--- The whole output for a text: a line for each lexeme, and one for the fault where there is one.
+-- the whole output for a text: a line for each lexeme, and one for the fault if there is one
 unfoldable pub output : (name text : Text) → Text
 output name text = lines_of name text (items text)

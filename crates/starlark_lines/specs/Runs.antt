@@ -1,4 +1,4 @@
--- What a run read and wrote, by how it ended.
+-- What a run read and wrote, by its result.
 use Rattle.std.specs.Prelude.{◌≡◌, ◌≤◌, ◌<◌, true, false, ◌⊎◌, length, Option, Some, None, Result, Ok, Err}
 use Rattle.std.specs.Str.{IsUtf8}
 use Rattle.starlark_base.specs.Places.{Text}
@@ -14,13 +14,13 @@ use Rattle.starlark_lines.specs.declared.ends.RunFault.TheVariants.{NotUtf8, Too
 use Rattle.starlark_lines.specs.declared.ends.RunStatus.{RunStatus}
 use Rattle.starlark_lines.specs.declared.ends.RunStatus.TheVariants.{Clean, Fault}
 
--- the reader came to its end, no read failed, and what came is no longer than a text may be
+-- the reader ended, no read failed, and what was read is at most `GREATEST_LEN` bytes
 pub record IsWhole {R : Type 0} (reader : Watch R) (came : Text) : Type 0 where
   pub ended : reader.ended ≡ true
   pub sound : reader.failed ≡ false
   pub fits : length came ≤ GREATEST_LEN
 
--- the reader gave more than a text may have
+-- the reader gave more than `GREATEST_LEN` bytes
 pub record IsTooLong {R : Type 0} (reader : Watch R) (came : Text) : Type 0 where
   pub not_ended : reader.ended ≡ false
   pub sound : reader.failed ≡ false
@@ -32,13 +32,14 @@ pub record IsBroken {R : Type 0} (reader : Watch R) (came : Text) : Type 0 where
   pub failed : reader.failed ≡ true
   pub fits : length came ≤ GREATEST_LEN
 
--- memory was refused before the reader came to its end, and no read failed
+-- memory ran out before the reader ended, and no read failed
 pub record IsStopped {R : Type 0} (reader : Watch R) (came : Text) : Type 0 where
   pub not_ended : reader.ended ≡ false
   pub sound : reader.failed ≡ false
   pub fits : length came ≤ GREATEST_LEN
 
--- What came from the reader, by how reading to its end ended; what was read is shown by `bytes_of`.
+-- what was read from the reader, by the result of reading it to its end; `bytes_of` are the
+-- result's bytes
 abbrev pub IsRead : {R T : Type 0} → (T → Text) → (came : Text) → Watch R → Result T RunFault → Type 0
 IsRead bytes_of came reader (Ok text) = IsWhole reader came × (bytes_of text ≡ came)
 IsRead bytes_of came reader (Err NotUtf8) = IsWhole reader came × (¬ IsUtf8 came)
@@ -56,13 +57,14 @@ pub record TookAll {W : Type 0} (calls : WriterCalls W) (old new : Watch W) (tex
 abbrev pub IsUntouched : {W : Type 0} → (old new : Watch W) → Type 0
 IsUntouched old new = new ≡ old
 
--- whether a text is read whole or up to a fault
+-- the status of a run over a text, by the text's fault
 abbrev pub status_of : Option (grammar.Spanned grammar.Fault) → RunStatus
 status_of None = Clean
 status_of (Some fault) = Fault
 
--- What the writer took, by how printing ended. `last` is the text that is printed, or the fault for which there is none: then
--- the writer isn't called. `name` is printed before the place of a fault. A call of the writer that failed is its last one.
+-- what the writer took, by the result of printing; `last` is the text to print, or the reason that
+-- there is none: then the writer isn't called. `name` is printed before the place of a fault. A
+-- call of the writer that failed is its last one.
 abbrev pub IsPrinted : {W : Type 0} → WriterCalls W → (name : Text) → (last : Result Text RunFault) → (old new : Watch W) → Result RunStatus RunFault → Type 0
 IsPrinted calls name (Ok text) old new (Ok status) = TookAll calls old new (output name text) × (status ≡ status_of (outcome text).fault)
 IsPrinted calls name (Ok text) old new (Err Write) = TakesBeginning calls Broken old new (output name text) × (new.failed ≡ true)
@@ -72,7 +74,8 @@ IsPrinted calls name (Err (BadEdit at)) old new (Err (BadEdit told)) = IsUntouch
 IsPrinted calls name (Err fault) old new (Err Memory) = IsUntouched old new
 IsPrinted calls name last old new result = ⊥
 
--- What came from the reader, and what the writer took, by how the run ended. `last` is what is made of the text that came.
+-- what was read from the reader, and what the writer took, by the result of the run; `last` is what
+-- the edits make of the text that was read
 abbrev pub IsRun : {R W : Type 0} → WriterCalls W → (name came : Text) → (last : Result Text RunFault) → Watch R → (old new : Watch W) → Result RunStatus RunFault → Type 0
 IsRun calls name came last reader old new (Err NotUtf8) = IsWhole reader came × (¬ IsUtf8 came) × IsUntouched old new
 IsRun calls name came last reader old new (Err Read) = IsBroken reader came × IsUntouched old new

@@ -1,4 +1,4 @@
-//! A buffer in front of a writer.
+//! A buffer before a writer.
 
 ghost use Rattle.std.specs.Prelude.{◌≡◌, ◌≤◌, ◌+◌, ◌⊎◌, ◌++◌, [], false, length, IfOk, OnOk};
 ghost use Rattle.starlark_lines.specs.Writing.{Writes, WritesAll};
@@ -9,10 +9,10 @@ use crate::watched::Watched;
 use std::alloc::{AllocError, Global};
 use std::marker::Model;
 
-/// How many bytes a buffer holds.
+/// Capacity of a buffer, in bytes.
 const BUFFER_LEN: usize = 65_536;
 
-/// What waits to be written. In a contract it is the list of those bytes.
+/// Bytes that are pending for a writer. In a contract it is the list of them.
 #[derive(Drop)]
 pub struct Buffer {
     waiting: Vec<u8>,
@@ -26,8 +26,10 @@ impl Model for Buffer {
     ghost view = { λ buffer. buffer.waiting.items };
 }
 
+/// Writes all bytes, in as many calls of the writer as it needs.
+///
+/// Fails with `Write` at the first call that fails or takes nothing. That call is the last one.
 #[tactic(auto, unfolding(crate::specs::Writing::Writes))]
-/// Writes all of the bytes, or up to the first failure.
 fn write_all<W: WriteDevice>(writer: &mut Watched<W>, bytes: &[u8]) -> Result<(), RunFault>
     requires { writer.old.failed ≡ false }
     ensures { Writes W.calls writer.old writer.new bytes.now [] result }
@@ -44,7 +46,7 @@ fn write_all<W: WriteDevice>(writer: &mut Watched<W>, bytes: &[u8]) -> Result<()
 }
 
 impl Buffer {
-    /// A buffer in which nothing waits.
+    /// An empty buffer of 64 KiB. `AllocError` where memory runs out.
     pub fn new(alloc: Global) -> Result<Buffer, AllocError>
         ensures { IfOk result (λ buffer. buffer ≡ []) }
     {
@@ -52,8 +54,8 @@ impl Buffer {
         Ok(Buffer { waiting })
     }
 
+    /// Writes the pending bytes, and empties the buffer.
     #[tactic(auto, unfolding(crate::specs::Writing::Writes))]
-    /// Writes what waits.
     fn send<W: WriteDevice>(&mut self, writer: &mut Watched<W>) -> Result<(), RunFault>
         requires { writer.old.failed ≡ false }
         ensures writes { Writes W.calls writer.old writer.new self.old [] result }
@@ -64,8 +66,8 @@ impl Buffer {
         Ok(())
     }
 
+    /// Makes room for `len` bytes, or empties the buffer where they are more than it holds.
     #[tactic(auto, unfolding(crate::specs::Writing::Writes))]
-    /// Makes room for so many bytes, or as much as there can be.
     fn make_room<W: WriteDevice>(
         &mut self,
         writer: &mut Watched<W>,
@@ -81,7 +83,7 @@ impl Buffer {
         Ok(())
     }
 
-    /// Adds a text to what waits. A text that is as long as the buffer is written as it is.
+    /// Appends bytes to the pending ones. A text as long as the buffer is written without a copy.
     pub fn put<W: WriteDevice>(
         &mut self,
         writer: &mut Watched<W>,
@@ -99,7 +101,7 @@ impl Buffer {
         Ok(())
     }
 
-    /// Writes what waits, and flushes the writer.
+    /// Writes the pending bytes, and flushes the writer.
     pub fn finish<W: WriteDevice>(&mut self, writer: &mut Watched<W>) -> Result<(), RunFault>
         requires { writer.old.failed ≡ false }
         ensures { WritesAll W.calls writer.old writer.new self.old result }

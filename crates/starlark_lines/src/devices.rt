@@ -1,4 +1,4 @@
-//! Readers and writers whose calls contracts can tell one by one.
+//! Readers and writers whose contracts state each call.
 
 ghost use Rattle.std.specs.Prelude.{◌≡◌, IfErr, IfOk};
 ghost use Rattle.std.specs.Io.{ReadsAtMost, WritesAtMost};
@@ -8,10 +8,10 @@ ghost use Rattle.starlark_lines.specs.Calls.{ReaderCalls, WriterCalls, count_of,
 use std::io;
 use std::io::{Read, Write};
 
-/// A reader that says what each call of it does. Each `std::io::Read` is one.
+/// A reader whose contract states what each call does. Each `std::io::Read` is one.
 ///
-/// A function over all such readers knows of `calls` nothing but that one call of `read_once` is one
-/// step of it. So a contract that names a step says that there was one call, and what it returned.
+/// A function over all such readers knows only that each step of `calls` is one call of
+/// `read_once`. So a contract that names a step says that there was one call, and what it returned.
 pub trait ReadDevice {
     ghost calls: { ReaderCalls Self };
 
@@ -31,10 +31,10 @@ impl<R: Read> ReadDevice for R {
     }
 }
 
-/// A writer that says what each call of it does. Each `std::io::Write` is one.
+/// A writer whose contract states what each call does. Each `std::io::Write` is one.
 ///
-/// A function over all such writers knows of `calls` nothing but that one call of `write_once` or
-/// `flush_once` is one step of it.
+/// A function over all such writers knows only that each step of `calls` is one call of
+/// `write_once` or `flush_once`.
 pub trait WriteDevice {
     ghost calls: { WriterCalls Self };
 

@@ -1,5 +1,6 @@
-//! What a run does beside the lexer: it reads a text from a reader, makes the lines of lexemes and of a fault, and writes
-//! them to a writer. Both are watched, so that a caller can tell which of them failed.
+//! Input and output of a run: reads a text, formats the lines of lexemes and faults, writes them.
+//!
+//! Reader and writer are wrapped in `Watched`, so that a caller can see which of them failed.
 #![tactic(auto)]
 
 pub mod buffer;

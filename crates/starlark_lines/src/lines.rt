@@ -1,4 +1,4 @@
-//! The lines that are printed: one for each lexeme, and one for a fault.
+//! Formats the lines of the output: one for each lexeme, and one for a fault.
 
 ghost use Rattle.std.specs.Prelude.{◌≡◌, ◌<◌, ◌++◌, OnOk, codes, string_bytes};
 ghost use Rattle.std.specs.Char.{digit_char};
@@ -14,7 +14,7 @@ use starlark_token::fstring_style::FStringQuote;
 use starlark_token::tokens::Token;
 use std::alloc::AllocError;
 
-/// The digit of a number below 16.
+/// The hexadecimal digit of a number less than 16.
 fn hex_digit(number: u8) -> char
     requires { number < 16 }
     ensures { result ≡ digit_char number }
@@ -25,7 +25,7 @@ fn hex_digit(number: u8) -> char
     digit
 }
 
-/// Puts each byte as two hexadecimal digits.
+/// Appends each byte as two hexadecimal digits.
 fn push_hex(line: &mut String, bytes: &[u8]) -> Result<(), AllocError>
     ensures { OnOk result (string_bytes line.new ≡ string_bytes line.old ++ hex bytes.now) }
 {
@@ -36,7 +36,7 @@ fn push_hex(line: &mut String, bytes: &[u8]) -> Result<(), AllocError>
     Ok(())
 }
 
-/// Puts a space and the bytes of a literal's value.
+/// Appends a space and the bytes of a literal's value in hexadecimal digits.
 fn push_literal(line: &mut String, bytes: &[u8]) -> Result<(), AllocError>
     ensures { OnOk result (string_bytes line.new ≡ string_bytes line.old ++ (codes " " ++ hex bytes.now)) }
 {
@@ -44,7 +44,7 @@ fn push_literal(line: &mut String, bytes: &[u8]) -> Result<(), AllocError>
     push_hex(line, bytes)
 }
 
-/// The name of the quotes of an f-string.
+/// The printed name of an f-string's quotes.
 fn quotes_of(quote: FStringQuote) -> &'static str
     ensures { result.now ≡ quotes_name (fstring_quote_view quote) }
 {
@@ -56,7 +56,7 @@ fn quotes_of(quote: FStringQuote) -> &'static str
     }
 }
 
-/// Puts a space and the value of a token, where it has one.
+/// Appends a space and the value of a token, if it has one.
 fn push_value(line: &mut String, token: &Token) -> Result<(), AllocError>
     ensures { OnOk result (string_bytes line.new ≡ string_bytes line.old ++ value_text (token_view token.now)) }
 {
@@ -73,8 +73,8 @@ fn push_value(line: &mut String, token: &Token) -> Result<(), AllocError>
     }
 }
 
+/// Replaces `line` by the line of a token between two places, with its LF.
 #[tactic(auto, unfolding(crate::specs::Output::lexeme_text))]
-/// Makes the line of a token between two places.
 pub fn lexeme_line(
     line: &mut String,
     begin: Place,
@@ -94,8 +94,8 @@ pub fn lexeme_line(
     line.push('\n')
 }
 
+/// Replaces `line` by the line of a fault between two places of the text `name`, with its LF.
 #[tactic(auto, unfolding(crate::specs::Output::fault_text))]
-/// Makes the line of a fault between two places of a text that has this name.
 pub fn fault_line(
     line: &mut String,
     name: &str,

@@ -1,4 +1,4 @@
-//! Places in a text, as printing moves along it.
+//! A position in a text that counts lines and columns while it moves on.
 
 ghost use Rattle.std.specs.Prelude.{◌≡◌, ◌+◌, ◌<◌, ◌≤◌, ◌^◌, ◌++◌, ◌==◌, ℕ, List, count_by, length};
 ghost use Rattle.std.specs.Str.{IsCharBoundary, IsUtf8};
@@ -9,21 +9,23 @@ use memchr::memchr_iter;
 use starlark_base::codemap::ResolvedPos;
 use starlark_text::lanes::count_characters;
 
-/// A place in a text: its byte, and its line and column, each from 0.
+/// A position in a text, by byte, line and column. Each counts from 0; columns count characters.
 #[derive(Clone, Copy, Debug, PartialEq, Eq)]
 pub struct Place {
+    /// The offset, in bytes.
     pub at: usize,
+    /// The line and the column.
     pub position: ResolvedPos,
 }
 
 impl Place {
-    /// The begin of a text.
+    /// The start of a text.
     pub const START: Place = Place {
         at: 0,
         position: ResolvedPos { line: 0, column: 0 },
     };
 
-    /// The place at a later byte. Only the bytes between the two are looked at.
+    /// The position at byte `to`, which must not be before this one. Reads only the bytes between.
     pub fn moved(self, text: &str, to: usize) -> Place
         requires here { IsPlace text.now self }
         requires onward { self.at ≤ to }
@@ -37,7 +39,7 @@ impl Place {
         }
     }
 
-    /// The place at any byte. Where that is earlier, the text is gone through from its begin.
+    /// The position at byte `to`. If that is before this one, the text is read from its start.
     pub fn moved_to(self, text: &str, to: usize) -> Place
         requires here { IsPlace text.now self }
         requires boundary { IsCharBoundary text.now to }
@@ -52,14 +54,14 @@ impl Place {
     }
 }
 
-/// How many line feeds a text has.
+/// Number of LF in a text.
 fn line_feeds(text: &str) -> usize
     ensures { result ≡ count_by (λ byte. byte == 10) text.now }
 {
     memchr_iter(b'\n', text.as_bytes()).count()
 }
 
-/// The line and column behind a text that stands at a line and column.
+/// The line and column after a text that begins at a line and column.
 fn position_behind(begin: ResolvedPos, passed: &str) -> ResolvedPos
     requires line { begin.line + length passed.now < 2 ^ 64 }
     requires column { begin.column + length passed.now < 2 ^ 64 }

@@ -1,4 +1,4 @@
-//! Puts the lines of lexemes and of a fault.
+//! Prints the lines of lexemes and of a fault through a buffer.
 
 ghost use Rattle.std.specs.Prelude.{◌≡◌, ◌≤◌, ◌++◌, [], false, Some, IfOk, IfErr, IsSome};
 ghost use Rattle.std.specs.Str.{IsCharBoundary};
@@ -26,15 +26,16 @@ use starlark_error::eval_exception::EvalException;
 use starlark_token::tokens::Token;
 use std::alloc::{AllocError, Global};
 
-/// The line that is made, and the lines that wait to be written.
+/// A printer of lexemes and faults: one line in the making, and a buffer of pending lines.
 #[derive(Drop)]
 pub struct Printer {
     line: String,
+    /// The lines that are pending for the writer.
     pub buffer: Buffer,
 }
 
 impl Printer {
-    /// A printer for which no line waits.
+    /// A printer without pending lines. `AllocError` where memory for its buffer runs out.
     pub fn new(alloc: Global) -> Result<Printer, AllocError>
         ensures { IfOk result (λ printer. printer.buffer ≡ []) }
     {
@@ -45,7 +46,9 @@ impl Printer {
         })
     }
 
-    /// Puts the line of a lexeme that stands behind a place, and says the place at its end.
+    /// Prints the line of a lexeme, and returns the place at its end.
+    ///
+    /// `place` must not be after the lexeme's begin.
     pub fn put_lexeme<W: WriteDevice>(
         &mut self,
         writer: &mut Watched<W>,
@@ -72,7 +75,9 @@ impl Printer {
         Ok(end)
     }
 
-    /// Puts the line of a lexeme, as `put_lexeme` does, and drops it.
+    /// Prints the line of a lexeme, drops the lexeme, and returns the place at its end.
+    ///
+    /// `place` must not be after the lexeme's begin.
     pub fn lexeme<W: WriteDevice>(
         &mut self,
         writer: &mut Watched<W>,
@@ -94,7 +99,7 @@ impl Printer {
         self.put_lexeme(writer, text, place, &lexeme)
     }
 
-    /// Puts the line of a fault of a text that has this name. The fault may begin before the place.
+    /// Prints the line of a fault of the text `name`. The fault may begin before `place`.
     fn fault<W: WriteDevice>(
         &mut self,
         writer: &mut Watched<W>,
@@ -118,7 +123,9 @@ impl Printer {
         self.buffer.put(writer, self.line.as_bytes())
     }
 
-    /// Puts the line of the fault of a text that has this name. The fault may begin before the place.
+    /// Prints the line of an exception, which is the fault of the text `name`.
+    ///
+    /// The fault may begin before `place`.
     pub fn exception<W: WriteDevice>(
         &mut self,
         writer: &mut Watched<W>,
@@ -137,7 +144,7 @@ impl Printer {
     }
 }
 
-/// The place of an exception that has one.
+/// The file span of an exception that has one.
 fn place_of(exception: &EvalException) -> &FileSpan
     requires { IsSome exception.now.span }
     ensures { exception.now.span ≡ Some result.now }
@@ -148,7 +155,7 @@ fn place_of(exception: &EvalException) -> &FileSpan
     place
 }
 
-/// A code map of no text. Faults may lie in it where only the bytes of their spans are asked for.
+/// A code map of an empty text, for faults of which only the span's bytes are used.
 pub fn empty_file(alloc: Global) -> Result<CodeMap, RunFault>
     ensures made { IfOk result (λ file. file ≡ record { id = 0; filename = []; source = [] }) }
     ensures refused { IfErr result (λ fault. fault ≡ Memory) }

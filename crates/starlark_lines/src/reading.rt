@@ -1,4 +1,4 @@
-//! Reads a text to the end of a reader.
+//! Reads the whole input of a reader.
 
 ghost use Rattle.std.specs.Prelude.{◌≡◌, ◌+◌, ◌<◌, ◌≤◌, ◌||◌, ℕ, List, length, take, drop, string_bytes, false, is_err, IfOk, OnOk};
 ghost use Rattle.std.specs.Io.KnownBytes.{ReadConsumes};
@@ -12,10 +12,10 @@ use crate::watched::Watched;
 use std::alloc::{AllocError, Global};
 use std::io;
 
-/// How many bytes a read has room for, at least.
+/// Least room of a read, in bytes.
 const CHUNK_LEN: usize = 65_536;
 
-/// Makes room for a read behind the first `filled` bytes.
+/// Makes room for a read after the first `filled` bytes, and keeps those.
 fn make_room(bytes: &mut Vec<u8>, filled: usize) -> Result<(), AllocError>
     requires { filled ≤ length bytes.old.items }
     ensures within { filled ≤ length bytes.new.items }
@@ -28,7 +28,7 @@ fn make_room(bytes: &mut Vec<u8>, filled: usize) -> Result<(), AllocError>
     Ok(())
 }
 
-/// Reads into the room behind the first `filled` bytes, and leaves those as they are.
+/// Reads once into the room after the first `filled` bytes, and keeps those.
 fn read_behind<R: ReadDevice>(
     reader: &mut Watched<R>,
     bytes: &mut Vec<u8>,
@@ -47,7 +47,7 @@ fn read_behind<R: ReadDevice>(
     reader.read(&mut room[filled..])
 }
 
-/// Reads all that comes, in chunks, into one buffer that grows.
+/// Reads the whole input, in chunks, into one buffer that grows.
 fn read_bytes<R: ReadDevice>(alloc: Global, reader: &mut Watched<R>) -> Result<Vec<u8>, RunFault>
     requires sound { reader.old.failed ≡ false }
     requires not_ended { reader.old.ended ≡ false }
@@ -70,7 +70,10 @@ fn read_bytes<R: ReadDevice>(alloc: Global, reader: &mut Watched<R>) -> Result<V
     Err(RunFault::TooLong)
 }
 
-/// Reads a text to the reader's end.
+/// Reads the whole input as a UTF-8 text.
+///
+/// Fails with `Read` where a read fails, `TooLong` after more than `GREATEST_LEN` bytes, `Memory`
+/// where memory runs out before the end, and `NotUtf8`.
 pub fn read_text<R: ReadDevice>(alloc: Global, reader: &mut Watched<R>) -> Result<String, RunFault>
     requires sound { reader.old.failed ≡ false }
     requires not_ended { reader.old.ended ≡ false }

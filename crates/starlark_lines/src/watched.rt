@@ -1,4 +1,4 @@
-//! A reader or a writer that remembers whether it failed or ended.
+//! A wrapper of a reader or writer that remembers whether it failed, and whether a reader ended.
 
 ghost use Rattle.std.specs.Prelude.{◌≡◌, ◌||◌, true, false, is_err, IfErr};
 ghost use Rattle.std.specs.Io.{ReadsAtMost, WritesAtMost};
@@ -10,8 +10,9 @@ use crate::devices::{ReadDevice, WriteDevice};
 use std::io;
 use std::marker::Model;
 
-/// A device, and two flags that rise and never fall: whether a call of it failed, and whether a
-/// reader came to its end.
+/// A reader or writer, with two flags: whether a call of it failed, and whether a reader ended.
+///
+/// Once a flag is set it stays set.
 #[derive(Drop)]
 pub struct Watched<D> {
     device: D,
@@ -28,7 +29,7 @@ impl<D> Model for Watched<D> {
 }
 
 impl<D> Watched<D> {
-    /// Watches a device, which has neither failed nor ended yet.
+    /// Wraps a reader or writer, with both flags unset.
     pub fn new(device: D) -> Watched<D>
         ensures device { result.device ≡ device }
         ensures failed { result.failed ≡ false }
@@ -41,21 +42,21 @@ impl<D> Watched<D> {
         }
     }
 
-    /// Whether a call of the device failed, or a write of a piece that isn't empty took nothing.
+    /// Whether a call failed, or a write of a piece that isn't empty took nothing.
     pub fn failed(&self) -> bool
         ensures { result ≡ self.now.failed }
     {
         self.failed
     }
 
-    /// Whether a read into room that isn't empty gave no byte.
+    /// Whether the input ended: a read into a buffer that isn't empty returned 0 bytes.
     pub fn ended(&self) -> bool
         ensures { result ≡ self.now.ended }
     {
         self.ended
     }
 
-    /// The device.
+    /// The reader or writer.
     pub fn device(&self) -> &D
         ensures { result.now ≡ self.now.device }
     {
@@ -64,8 +65,9 @@ impl<D> Watched<D> {
 }
 
 impl<D: ReadDevice> Watched<D> {
-    /// Reads from the device by one call of it, as `std::io::Read::read` does, and returns what it
-    /// returned. A call that failed isn't tried again.
+    /// Reads by one call of the reader, as `std::io::Read::read` does, and returns its result.
+    ///
+    /// A call that failed isn't tried again.
     pub fn read(&mut self, buf: &mut [u8]) -> io::Result<usize>
         ensures bound { ReadsAtMost result buf.new }
         ensures bytes { ReadConsumes (D.calls.remaining self.old.device) (D.calls.remaining self.new.device) result buf.new }
@@ -88,8 +90,9 @@ impl<D: ReadDevice> Watched<D> {
 }
 
 impl<D: WriteDevice> Watched<D> {
-    /// Writes to the device by one call of it, as `std::io::Write::write` does, and returns what it
-    /// returned. A call that failed isn't tried again.
+    /// Writes by one call of the writer, as `std::io::Write::write` does, and returns its result.
+    ///
+    /// A call that failed isn't tried again.
     pub fn write(&mut self, buf: &[u8]) -> io::Result<usize>
         ensures bound { WritesAtMost result buf.now }
         ensures bytes { WriteAppends (D.calls.contents self.old.device) (D.calls.contents self.new.device) result buf.now }
@@ -110,8 +113,9 @@ impl<D: WriteDevice> Watched<D> {
         result
     }
 
-    /// Flushes the device by one call of it, as `std::io::Write::flush` does, and returns what it
-    /// returned. A call that failed isn't tried again.
+    /// Flushes by one call of the writer, as `std::io::Write::flush` does, and returns its result.
+    ///
+    /// A call that failed isn't tried again.
     pub fn flush(&mut self) -> io::Result<()>
         ensures bytes { Keeps (D.calls.contents self.old.device) (D.calls.contents self.new.device) }
         ensures call { D.calls.flush self.old.device (is_ok_of result) self.new.device }

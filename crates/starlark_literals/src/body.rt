@@ -1,4 +1,4 @@
-//! Reads a body up to its first stop.
+//! Reads a body up to its first stop, and decodes it.
 
 ghost use Rattle.std.specs.Prelude.{◌≡◌, ◌+◌, ◌*◌, ◌++◌, [], encode_utf8, not, string_bytes, IfOk, OnOk};
 ghost use Rattle.std.specs.Str.{IsCharBoundary};
@@ -16,11 +16,14 @@ use std::alloc::{AllocError, Global};
 /// The value of a literal: characters, or bytes.
 #[derive(Drop)]
 pub enum LiteralValue {
+    /// The value of a string literal or of an f-string's text.
     Text(String),
+    /// The value of a bytes literal.
     Bytes(Vec<u8>),
 }
 
 impl LiteralValue {
+    /// An empty value. It doesn't allocate.
     fn new(alloc: Global, kind: LiteralKind) -> Self
         ensures bytes { bytes_of result ≡ [] }
         ensures kind { holds_text result ≡ not (grammar.is_of_bytes kind) }
@@ -31,7 +34,7 @@ impl LiteralValue {
         }
     }
 
-    /// Appends a run.
+    /// Appends a run. After an `AllocError` the value isn't known.
     fn append_run(&mut self, run: &str) -> Result<(), AllocError>
         ensures bytes { OnOk result (bytes_of self.new ≡ bytes_of self.old ++ run.now) }
         ensures kind { OnOk result (holds_text self.new ≡ holds_text self.old) }
@@ -42,7 +45,7 @@ impl LiteralValue {
         }
     }
 
-    /// Appends a run, and the character behind it.
+    /// Appends a run and then a character. After an `AllocError` the value isn't known.
     #[inline(always)]
     fn append_character(&mut self, run: &str, character: char) -> Result<(), AllocError>
         ensures bytes { OnOk result (bytes_of self.new ≡ (bytes_of self.old ++ run.now) ++ encode_utf8 character) }
@@ -58,7 +61,7 @@ impl LiteralValue {
         }
     }
 
-    /// Appends a run, and the item behind it.
+    /// Appends a run and then the value of an item. After an `AllocError` the value isn't known.
     fn append_item(&mut self, run: &str, value: Value<'_>) -> Result<(), AllocError>
         requires { Takes self.old value }
         ensures bytes { OnOk result (bytes_of self.new ≡ (bytes_of self.old ++ run.now) ++ value_view value.entry) }
@@ -71,9 +74,10 @@ impl LiteralValue {
     }
 }
 
-/// How many more bytes there is room for behind a run and an item, where there was none.
+/// Bytes to reserve beyond a run, where the run and an item don't fit.
 const SPARE_LEN: usize = 60;
 
+/// Reserves room in a text for a run of `len` bytes and an item.
 fn make_room_in_text(text: &mut String, len: usize) -> Result<(), AllocError>
     ensures { string_bytes text.new ≡ string_bytes text.old }
 {
@@ -83,6 +87,7 @@ fn make_room_in_text(text: &mut String, len: usize) -> Result<(), AllocError>
     Ok(())
 }
 
+/// Reserves room in bytes for a run of `len` bytes and an item.
 fn make_room_in_bytes(bytes: &mut Vec<u8>, len: usize) -> Result<(), AllocError>
     ensures { bytes.new.items ≡ bytes.old.items }
 {
@@ -92,6 +97,7 @@ fn make_room_in_bytes(bytes: &mut Vec<u8>, len: usize) -> Result<(), AllocError>
     Ok(())
 }
 
+/// Appends the value of an item to a text. The value must not be a lone byte.
 fn append_to_text(text: &mut String, value: Value<'_>) -> Result<(), AllocError>
     requires { IsCharacters value }
     ensures { OnOk result (string_bytes text.new ≡ string_bytes text.old ++ value_view value.entry) }
@@ -103,6 +109,7 @@ fn append_to_text(text: &mut String, value: Value<'_>) -> Result<(), AllocError>
     }
 }
 
+/// Appends the value of an item to bytes.
 fn append_to_bytes(bytes: &mut Vec<u8>, value: Value<'_>) -> Result<(), AllocError>
     ensures { OnOk result (bytes.new.items ≡ bytes.old.items ++ value_view value.entry) }
 {
@@ -116,6 +123,7 @@ fn append_to_bytes(bytes: &mut Vec<u8>, value: Value<'_>) -> Result<(), AllocErr
     }
 }
 
+/// Appends a run and then a character to a text.
 #[inline(always)]
 fn append_character_to_text(text: &mut String, run: &str, character: char) -> Result<(), AllocError>
     ensures { OnOk result (string_bytes text.new ≡ (string_bytes text.old ++ run.now) ++ encode_utf8 character) }
@@ -125,6 +133,7 @@ fn append_character_to_text(text: &mut String, run: &str, character: char) -> Re
     text.push(character)
 }
 
+/// Appends a run and then the value of an item to a text. The value must not be a lone byte.
 fn append_item_to_text(text: &mut String, run: &str, value: Value<'_>) -> Result<(), AllocError>
     requires { IsCharacters value }
     ensures { OnOk result (string_bytes text.new ≡ (string_bytes text.old ++ run.now) ++ value_view value.entry) }
@@ -134,6 +143,7 @@ fn append_item_to_text(text: &mut String, run: &str, value: Value<'_>) -> Result
     append_to_text(text, value)
 }
 
+/// Appends a run and then the value of an item to bytes.
 fn append_item_to_bytes(bytes: &mut Vec<u8>, run: &str, value: Value<'_>) -> Result<(), AllocError>
     ensures { OnOk result (bytes.new.items ≡ (bytes.old.items ++ run.now) ++ value_view value.entry) }
 {
@@ -142,15 +152,20 @@ fn append_item_to_bytes(bytes: &mut Vec<u8>, run: &str, value: Value<'_>) -> Res
     append_to_bytes(bytes, value)
 }
 
-/// A body: its length in bytes, what it denotes, and why it stops.
+/// A body of a literal, decoded.
 #[derive(Drop)]
 pub struct Body {
+    /// Length of the body in the text, in bytes.
     pub len: usize,
+    /// The decoded value.
     pub value: LiteralValue,
+    /// Why the body stops.
     pub stop: Stop,
 }
 
-/// The body at the front of a text.
+/// Reads and decodes the body at the start of a text, which begins just after the literal's opener.
+///
+/// `AllocError` where memory for the value runs out.
 pub fn read_body(
     reads: &mut Reads,
     alloc: Global,

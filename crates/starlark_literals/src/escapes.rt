@@ -1,4 +1,4 @@
-//! Escapes: a backslash and what it takes.
+//! Decodes escapes: a backslash and the characters that belong to it.
 
 ghost use Rattle.std.specs.Prelude.{◌≡◌, ◌≤◌, ◌<◌, ◌+◌, ◌-◌, ◌∷◌, [], false, true, drop, encode_utf8, get_or, length, nat_eq, take, IfSome};
 ghost use Rattle.std.specs.Char.{is_ascii_hexdigit, is_digit};
@@ -15,7 +15,7 @@ use super::items::{Found, Item, Literal, Stop, Value, behind_first, part};
 use starlark_bytes::reads::Reads;
 use starlark_grammar::class::LiteralKind;
 
-/// An escape that is a bad one as a whole, of so many bytes, the last of which has one.
+/// A bad escape of `len` bytes, read as a whole. Its last character has one byte.
 fn ended<'a>(len: usize) -> Found<'a>
     ensures value { found_view result ≡ grammar.broken len [] }
     ensures text { IsText result }
@@ -24,7 +24,8 @@ fn ended<'a>(len: usize) -> Found<'a>
     Found::Stops(Stop::BadEscape { len, last: 1 })
 }
 
-/// An escape that goes no further behind so many bytes: the character behind them is the last that is read.
+/// A bad escape that is broken off after `good` bytes: the character after them is the last one
+/// read.
 fn broken<'a>(reads: &mut Reads, good: usize, behind: &str) -> Found<'a>
     requires { good ≤ 10 }
     ensures value { found_view result ≡ grammar.broken good behind.now }
@@ -43,6 +44,7 @@ fn broken<'a>(reads: &mut Reads, good: usize, behind: &str) -> Found<'a>
     }
 }
 
+/// An item of `len` bytes with a value.
 fn item<'a>(len: usize, value: Value<'a>) -> Found<'a>
     ensures value { found_view result ≡ grammar.goes len (value_view value.entry) }
     ensures text { IsCharacters value.entry → IsText result }
@@ -51,7 +53,7 @@ fn item<'a>(len: usize, value: Value<'a>) -> Found<'a>
     Found::Goes(Item { len, value })
 }
 
-/// The byte that a number is, and where it is none a bad escape.
+/// The escape of `len` bytes for the byte of a number; a bad one if the number is over 255.
 fn byte_of<'a>(len: usize, number: u32) -> Found<'a>
     requires { len ≤ 10 }
     ensures value { found_view result ≡ grammar.numbered len true number }
@@ -63,7 +65,7 @@ fn byte_of<'a>(len: usize, number: u32) -> Found<'a>
     }
 }
 
-/// The character of a number, and where there is none a bad escape.
+/// The escape of `len` bytes for the character of a number; a bad one if there is none.
 fn character_of<'a>(len: usize, number: u32) -> Found<'a>
     requires { len ≤ 10 }
     ensures value { found_view result ≡ grammar.numbered len false number }
@@ -76,7 +78,7 @@ fn character_of<'a>(len: usize, number: u32) -> Found<'a>
     }
 }
 
-/// What a number denotes: a byte, or a character.
+/// The escape of `len` bytes for the byte or the character of a number.
 fn numbered<'a>(len: usize, is_byte: bool, number: u32) -> Found<'a>
     requires { len ≤ 10 }
     ensures value { found_view result ≡ grammar.numbered len is_byte number }
@@ -90,7 +92,7 @@ fn numbered<'a>(len: usize, is_byte: bool, number: u32) -> Found<'a>
     }
 }
 
-/// How many digits of a radix stand at the front of some bytes, and the number that they are.
+/// Number of digits of a radix at the start of at most 8 bytes, and their value.
 #[inline(always)]
 fn digits(bytes: &[u8], radix: u32) -> (usize, u32)
     requires low { 2 ≤ radix }
@@ -111,7 +113,7 @@ fn digits(bytes: &[u8], radix: u32) -> (usize, u32)
     (len, number)
 }
 
-/// The digits of a radix at the front of a text, up to some number of them: how many they are, and their number.
+/// Number of digits of a radix at the start of a text, at most `wanted`, and their value.
 #[inline(always)]
 fn first_digits(reads: &mut Reads, text: &[u8], radix: u32, wanted: usize) -> (usize, u32)
     requires low { 2 ≤ radix }
@@ -126,7 +128,7 @@ fn first_digits(reads: &mut Reads, text: &[u8], radix: u32, wanted: usize) -> (u
     found
 }
 
-/// The hexadecimal digits at the front of a text, up to some number of them: how many they are, and their number.
+/// Number of hexadecimal digits at the start of a text, at most `wanted`, and their value.
 #[inline(always)]
 fn hexadecimal_digits(reads: &mut Reads, text: &[u8], wanted: usize) -> (usize, u32)
     requires { wanted ≤ 8 }
@@ -137,13 +139,15 @@ fn hexadecimal_digits(reads: &mut Reads, text: &[u8], wanted: usize) -> (usize, 
     first_digits(reads, text, 16, wanted)
 }
 
+/// Whether a byte is an octal digit.
 fn is_octal_digit(byte: u8) -> bool
     ensures { result ≡ is_octal_digit byte }
 {
     matches!(byte, b'0'..=b'7')
 }
 
-/// An escape of so many hexadecimal digits, by the text behind its letter.
+/// The escape of exactly `wanted` hexadecimal digits. `text` begins after its letter `x`, `u` or
+/// `U`.
 fn hexadecimal<'a>(reads: &mut Reads, wanted: usize, is_byte: bool, text: &str) -> Found<'a>
     requires least { 1 ≤ wanted }
     requires most { wanted ≤ 8 }
@@ -158,7 +162,7 @@ fn hexadecimal<'a>(reads: &mut Reads, wanted: usize, is_byte: bool, text: &str) 
     numbered(2 + len, is_byte, number)
 }
 
-/// An escape of octal digits, by the text from them on.
+/// The escape of one to three octal digits. `text` begins with them.
 fn octal<'a>(reads: &mut Reads, is_byte: bool, text: &str) -> Found<'a>
     requires { is_octal_digit (get_or text.now 0 0) ≡ true }
     ensures value { found_view result ≡ grammar.octal is_byte text.now }
@@ -169,7 +173,7 @@ fn octal<'a>(reads: &mut Reads, is_byte: bool, text: &str) -> Found<'a>
     numbered(1 + len, is_byte, number)
 }
 
-/// A CR behind a backslash, which an LF has to follow.
+/// The escape of a CR LF, which is empty; a bad one if no LF follows. `behind` begins after the CR.
 fn escaped_feed<'a>(reads: &mut Reads, behind: &str) -> Found<'a>
     ensures value { found_view result ≡ grammar.escaped_feed behind.now }
     ensures text { IsText result }
@@ -181,8 +185,8 @@ fn escaped_feed<'a>(reads: &mut Reads, behind: &str) -> Found<'a>
     }
 }
 
+/// The character of an escape of two bytes, such as `\n`, by its second byte, if it is one.
 #[tactic(auto, unfolding(starlark_grammar::specs::Items::simple_escapes))]
-/// What one byte behind a backslash denotes, where that is another character.
 #[inline(always)]
 fn simple_value(byte: u8) -> Option<char>
     ensures value { result ≡ lookup (nat_eq byte) grammar.simple_escapes }
@@ -203,8 +207,9 @@ fn simple_value(byte: u8) -> Option<char>
     }
 }
 
-/// An escape of one character, by the text from its backslash on. Where it denotes nothing else, the backslash and
-/// the character stand for themselves.
+/// The escape of one character `first`. `text` begins with its backslash.
+///
+/// If the character has no meaning there, the value is the backslash and the character, unchanged.
 fn simple<'a>(reads: &mut Reads, first: u8, text: &'a str) -> Found<'a>
     requires { text.now ≡ 92 ∷ first ∷ drop 2 text.now }
     ensures value { found_view result ≡ grammar.simple (lookup (nat_eq first) grammar.simple_escapes) (characters.first_character (drop 1 text.now)) }
@@ -218,8 +223,9 @@ fn simple<'a>(reads: &mut Reads, first: u8, text: &'a str) -> Found<'a>
     part(len, &text[..len])
 }
 
-/// The character that an escape of two bytes denotes, where one stands at the front of the rest of a body, of which the
-/// first three bytes were read.
+/// The character of the escape of two bytes at the start of the rest of a body, if it is one.
+///
+/// `front` is the first three bytes of the rest, read already.
 #[inline(always)]
 pub fn simple_escape(literal: Literal, front: &[u8]) -> Option<char>
     ensures { IfSome result (λ value. (text : Text) → front.now ≡ take 3 text → grammar.found_at (literal_view literal) text ≡ grammar.goes 2 (encode_utf8 value)) }
@@ -233,13 +239,14 @@ pub fn simple_escape(literal: Literal, front: &[u8]) -> Option<char>
     simple_value(*second)
 }
 
+/// Whether a literal is a bytes literal.
 fn is_of_bytes(kind: LiteralKind) -> bool
     ensures { result ≡ grammar.is_of_bytes kind }
 {
     matches!(kind, LiteralKind::Bytes)
 }
 
-/// An escape, by the text from its backslash on.
+/// The escape at the start of a text, which begins with its backslash: an item, or a bad escape.
 pub fn escape<'a>(reads: &mut Reads, kind: LiteralKind, text: &'a str) -> Found<'a>
     requires { text.now ≡ 92 ∷ drop 1 text.now }
     ensures value { found_view result ≡ grammar.escape kind (drop 1 text.now) }

@@ -1,4 +1,4 @@
-//! What stands at a place of a literal's body: an item, or why the body stops.
+//! Items of a literal's body, and the reasons why a body stops.
 
 ghost use Rattle.std.specs.Prelude.{◌≡◌, ◌<◌, ◌≤◌, ◌+◌, ◌-◌, ◌==◌, ◌&&◌, ◌∷◌, not, drop, false, get_or, length, nat_eq, take, true};
 ghost use Rattle.std.specs.List.{starts_with};
@@ -13,47 +13,62 @@ use super::escapes::escape;
 use starlark_bytes::reads::Reads;
 use starlark_grammar::class::{LiteralKind, Opening, Quote};
 
-/// A literal, as far as its body is read by it.
+/// The kind and the opening of a literal, by which its body is read.
 #[derive(Clone, Copy)]
 pub struct Literal {
+    /// Whether it is a string, a bytes literal or an f-string.
     pub kind: LiteralKind,
+    /// Its quotes, and whether it is raw.
     pub opening: Opening,
 }
 
-/// What an item denotes: a part of the text, a character, or a byte.
+/// The decoded value of an item.
 #[derive(Clone, Copy)]
 pub enum Value<'a> {
+    /// A part of the text, unchanged. It is empty where the item has no value, such as a CR.
     Part(&'a str),
+    /// The character of an escape.
     Character(char),
+    /// The byte of an escape in a bytes literal.
     Byte(u8),
 }
 
-/// An item of a body: its length in bytes, and what it denotes.
+/// An item of a body, such as a character or an escape.
 #[derive(Clone, Copy)]
 pub struct Item<'a> {
+    /// Length of the item in the text, in bytes.
     pub len: usize,
+    /// The decoded value.
     pub value: Value<'a>,
 }
 
-/// Why a body stops. A bad escape was read for `len` bytes, of which its last character has `last`.
+/// Why a body stops.
 #[derive(Clone, Copy)]
 pub enum Stop {
+    /// The closing quotes are there.
     Closing,
+    /// An LF, in a literal that isn't triple-quoted.
     Line,
+    /// The text ends.
     Ended,
+    /// The `{` of an expression, in an f-string.
     OpeningBrace,
+    /// A single `}`, in an f-string.
     ClosingBrace,
+    /// A bad escape, of which `len` bytes were read. Its last character read has `last` bytes.
     BadEscape { len: usize, last: usize },
 }
 
-/// What stands at a place of a body.
+/// What is next in a body: an item, or its stop.
 #[derive(Clone, Copy)]
 pub enum Found<'a> {
+    /// The body goes on with an item.
     Goes(Item<'a>),
+    /// The body stops.
     Stops(Stop),
 }
 
-/// An item that stands for a part of the text.
+/// An item of `len` bytes whose value is a part of the text.
 pub fn part(len: usize, value: &str) -> Found<'_>
     ensures value { found_view result ≡ grammar.goes len value.now }
     ensures text { IsText result }
@@ -66,14 +81,14 @@ pub fn part(len: usize, value: &str) -> Found<'_>
     })
 }
 
-/// How many bytes close a literal.
+/// Number of quotes that close a literal: 1 or 3.
 pub fn closing_len(opening: Opening) -> usize
     ensures { result ≡ length (grammar.closing_quotes (opening_view opening)) }
 {
     if opening.is_triple { 3 } else { 1 }
 }
 
-/// Whether a byte is a quote.
+/// Whether a byte is the given quote.
 pub fn is_quote(quote: Quote, byte: u8) -> bool
     ensures { result ≡ (byte == grammar.quote_byte quote) }
 {
@@ -83,7 +98,7 @@ pub fn is_quote(quote: Quote, byte: u8) -> bool
     }
 }
 
-/// Whether the quotes that close a literal stand at the front of a text.
+/// Whether a text begins with the quotes that close a literal.
 #[inline(always)]
 pub fn closes(opening: Opening, text: &[u8]) -> bool
     ensures { result ≡ starts_with nat_eq text.now (grammar.closing_quotes (opening_view opening)) }
@@ -98,7 +113,7 @@ pub fn closes(opening: Opening, text: &[u8]) -> bool
     }
 }
 
-/// Whether a raw backslash is dropped before a byte.
+/// Whether a raw literal drops a backslash before the given byte.
 fn drops_backslash(kind: LiteralKind, quote: Quote, byte: u8) -> bool
     ensures { result ≡ grammar.drops_backslash kind quote byte }
 {
@@ -108,7 +123,7 @@ fn drops_backslash(kind: LiteralKind, quote: Quote, byte: u8) -> bool
     }
 }
 
-/// The text behind its first byte, which is ASCII.
+/// The text after its first byte, which must be ASCII.
 pub fn behind_first(text: &str) -> &str
     requires some { 0 < length text.now }
     requires ascii { get_or text.now 0 0 < 128 }
@@ -117,7 +132,7 @@ pub fn behind_first(text: &str) -> &str
     &text[1..]
 }
 
-/// The first character of a text; nothing where the text is empty.
+/// The first character of a text, as text; empty if the text is.
 pub fn first_character<'a>(reads: &mut Reads, text: &'a str) -> &'a str
     ensures value { result.now ≡ characters.first_character text.now }
     ensures reads { reads.new ≡ more_reads reads.old (length result.now) }
@@ -125,7 +140,7 @@ pub fn first_character<'a>(reads: &mut Reads, text: &'a str) -> &'a str
     &text[..reads.character_len(text)]
 }
 
-/// A backslash that stands for itself or is dropped, and the character that it takes, by the text behind it.
+/// The item of a backslash in a raw literal, with the character after it; `Ended` if there is none.
 fn raw_pair<'a>(reads: &mut Reads, literal: Literal, text: &'a str) -> Found<'a>
     requires { text.now ≡ 92 ∷ drop 1 text.now }
     ensures value { found_view result ≡ grammar.raw_pair literal.kind literal.opening.quote (drop 1 text.now) }
@@ -145,7 +160,7 @@ fn raw_pair<'a>(reads: &mut Reads, literal: Literal, text: &'a str) -> Found<'a>
     }
 }
 
-/// Two braces, which denote one, or a single one.
+/// The item of a doubled brace in an f-string, or the stop at a single one.
 fn brace<'a>(reads: &mut Reads, first: u8, text: &'a str) -> Found<'a>
     requires brace { grammar.is_brace OfFString first ≡ true }
     requires begins { text.now ≡ first ∷ drop 1 text.now }
@@ -164,7 +179,7 @@ fn brace<'a>(reads: &mut Reads, first: u8, text: &'a str) -> Found<'a>
     }
 }
 
-/// Whether a byte is a brace of which a rule of such a literal speaks.
+/// Whether a byte is a brace in an f-string.
 pub fn is_brace(kind: LiteralKind, byte: u8) -> bool
     ensures { result ≡ grammar.is_brace kind byte }
 {
@@ -174,14 +189,15 @@ pub fn is_brace(kind: LiteralKind, byte: u8) -> bool
     }
 }
 
-/// Whether a byte is a line feed that the literal may not have.
+/// Whether a byte is an LF in a literal that can't have one.
 pub fn ends_line(opening: Opening, byte: u8) -> bool
     ensures { result ≡ (byte == 10 && not opening.is_triple) }
 {
     byte == b'\n' && !opening.is_triple
 }
 
-/// What stands at the front of the rest of a body, of which the first three bytes were read.
+/// The item or stop at the start of the rest of a body. `front` is its first three bytes, read
+/// already.
 pub fn found_at<'a>(reads: &mut Reads, literal: Literal, front: &[u8], text: &'a str) -> Found<'a>
     requires { front.now ≡ take 3 text.now }
     ensures value { found_view result ≡ grammar.found_at (literal_view literal) text.now }

@@ -1,4 +1,4 @@
-//! Runs of sixteen bytes that are looked at together.
+//! Finds the end of a run with SIMD, 16 bytes at a time.
 
 ghost use Rattle.std.specs.Prelude.{◌≡◌, ℕ, ◌+◌, ◌≤◌, drop, length, not, take};
 ghost use Rattle.std.specs.List.{prefix_len};
@@ -13,8 +13,10 @@ use starlark_bytes::reads::Reads;
 use starlark_grammar::class::{LiteralKind, Quote};
 use std::simd::prelude::*;
 
-/// The bytes that end a run in a literal, beside a backslash and a CR. Where a rule speaks of no LF or of no braces,
-/// the quote stands in their place.
+/// The bytes that end a run of a literal, besides a backslash and a CR.
+///
+/// Where an LF or a brace doesn't end a run, the field has the quote in its place: six comparisons
+/// serve all literals.
 #[derive(Clone, Copy)]
 pub struct Ends {
     quote: u8,
@@ -23,6 +25,7 @@ pub struct Ends {
     closing_brace: u8,
 }
 
+/// The byte of a quote.
 fn quote_byte(quote: Quote) -> u8
     ensures { result ≡ quote_byte quote }
 {
@@ -33,7 +36,7 @@ fn quote_byte(quote: Quote) -> u8
 }
 
 impl Ends {
-    /// The bytes that end a run in such a literal.
+    /// The bytes that end a run of a literal.
     pub fn of(literal: Literal) -> Self
         ensures { (b : ℕ) → is_end result b ≡ is_special (literal_view literal) b }
     {
@@ -55,7 +58,7 @@ impl Ends {
     }
 }
 
-/// The length of the run at the front of the sixteen bytes from `at` on.
+/// Length of the run at the start of the 16 bytes from `at` on; 16 if it fills them.
 #[inline(always)]
 pub fn lanes_run_len(reads: &mut Reads, ends: Ends, bytes: &[u8], at: usize) -> usize
     requires { at + 16 ≤ length bytes.now }

@@ -1,4 +1,7 @@
-//! Reads the bodies of literals.
+//! Reads the bodies of string and bytes literals, and the texts of f-strings.
+//!
+//! A body is read item by item up to its stop. `escapes` decodes escapes; `runs` and `plain` are
+//! the fast path for text that needs no decoding.
 #![tactic(auto)]
 
 mod body;

@@ -1,4 +1,4 @@
-//! Bodies of literals in which each character denotes itself.
+//! Fast path for bodies of literals without escapes.
 
 ghost use Rattle.std.specs.Prelude.{◌≡◌, ◌≤◌, ◌==◌, ◌+◌, ◌*◌, get_or, length, take, IfErr, IfOk, IfSome};
 ghost use Rattle.starlark_grammar.specs.Items.{Stops, found_at, quote_byte};
@@ -12,7 +12,7 @@ use super::runs::first_run;
 use starlark_bytes::reads::Reads;
 use starlark_grammar::class::{LiteralKind, Opening, Quote};
 
-/// Whether a quote stands at a place of a text.
+/// Whether the byte at an offset of a text is the given quote.
 #[inline(always)]
 fn is_quote_at(reads: &mut Reads, quote: Quote, text: &[u8], at: usize) -> bool
     ensures value { result ≡ (get_or text.now at 0 == quote_byte quote) }
@@ -24,8 +24,10 @@ fn is_quote_at(reads: &mut Reads, quote: Quote, text: &[u8], at: usize) -> bool
     }
 }
 
-/// The length of the body of a literal of the given kind that one quote closes, where each of its characters denotes itself, by
-/// the text behind its opener. Where another literal stands there, how many bytes in front denote themselves.
+/// Length in bytes of the body of a literal without escapes that one quote closes.
+///
+/// `text` begins after the opener. The error is the length of the first run, for any other literal:
+/// one with escapes or three quotes, or one that isn't closed.
 pub fn plain_body_len(
     reads: &mut Reads,
     kind: LiteralKind,
@@ -54,8 +56,9 @@ pub fn plain_body_len(
     Ok(len)
 }
 
-/// Why a text of an f-string stops at a place, of which the first three bytes were read, where its closing quotes stand
-/// there or an expression begins. `None` where something else stands there.
+/// The stop of an f-string's text, if closing quotes or an expression are there.
+///
+/// `front` is the first three bytes there, read already.
 #[inline(always)]
 fn stop_by(opening: Opening, front: &[u8]) -> Option<Stop>
     ensures { IfSome result (λ stop. (text : Text) → front.now ≡ take 3 text → found_at (fstring_literal (opening_view opening)) text ≡ Stops (stop_view stop)) }
@@ -73,9 +76,10 @@ fn stop_by(opening: Opening, front: &[u8]) -> Option<Stop>
     }
 }
 
-/// The length of the text of an f-string at the front of a text, and why it stops, where each of its characters denotes
-/// itself and it goes up to the closing quotes or to an expression. Where another stands there, how many bytes in front denote
-/// themselves.
+/// Length in bytes and stop of an f-string's text that has no escapes.
+///
+/// The error is the length of the first run, for any other text: one with escapes, doubled braces,
+/// or a fault.
 #[inline(always)]
 pub fn plain_chunk_len(
     reads: &mut Reads,

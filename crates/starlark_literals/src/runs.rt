@@ -1,4 +1,4 @@
-//! Runs of a literal's body in which each character denotes itself.
+//! Runs of a literal's body: characters without escapes, which are copied unchanged.
 
 ghost use Rattle.std.specs.Prelude.{◌≡◌, ◌≤◌, ◌+◌, ◌*◌, ℕ, length, take, true, false};
 ghost use Rattle.std.specs.List.{prefix_len};
@@ -13,7 +13,7 @@ use super::lanes::{Ends, lanes_run_len};
 use starlark_bytes::lanes::LANES;
 use starlark_bytes::reads::Reads;
 
-// A point stands at each byte of which no rule of any literal speaks.
+// `.` marks each byte that is in a run of every literal.
 static ORDINARY: [u8; 256] = *b"\
     ..........\n..\r..................\
     ..\"....'........................\
@@ -24,7 +24,7 @@ static ORDINARY: [u8; 256] = *b"\
     ................................\
     ................................";
 
-/// Whether no rule of any literal speaks of a byte.
+/// Whether a byte is in a run of every literal.
 #[inline(always)]
 fn is_ordinary(byte: u8) -> bool
     ensures { result ≡ true → (literal : grammar.Literal) → is_special literal byte ≡ false }
@@ -32,7 +32,7 @@ fn is_ordinary(byte: u8) -> bool
     ORDINARY[byte as usize] == b'.'
 }
 
-/// Whether a rule of the literal speaks of a byte.
+/// Whether a byte ends a run of the literal: quote, backslash, CR, and perhaps LF or a brace.
 fn is_special(literal: Literal, byte: u8) -> bool
     ensures { result ≡ is_special (literal_view literal) byte }
 {
@@ -43,6 +43,7 @@ fn is_special(literal: Literal, byte: u8) -> bool
         || is_brace(literal.kind, byte)
 }
 
+/// Whether a byte is in a run of the literal. The table answers for most bytes.
 #[inline(always)]
 fn is_in_run(literal: Literal, byte: u8) -> bool
     ensures { result ≡ is_in_run (literal_view literal) byte }
@@ -50,7 +51,7 @@ fn is_in_run(literal: Literal, byte: u8) -> bool
     is_ordinary(byte) || !is_special(literal, byte)
 }
 
-/// The length of the run at the front of some bytes, looked at one by one.
+/// Length of the run at the start of some bytes, one byte at a time.
 #[inline(always)]
 fn short_run_len(reads: &mut Reads, literal: Literal, bytes: &[u8]) -> usize
     ensures value { result ≡ prefix_len (is_in_run (literal_view literal)) bytes.now }
@@ -65,7 +66,7 @@ fn short_run_len(reads: &mut Reads, literal: Literal, bytes: &[u8]) -> usize
     len
 }
 
-/// The length of the run at the front of some bytes, sixteen of which are looked at together.
+/// Length of the run at the start of some bytes, by SIMD with a scalar tail.
 #[inline(never)]
 fn long_run_len(reads: &mut Reads, literal: Literal, bytes: &[u8]) -> usize
     ensures value { result ≡ prefix_len (is_in_run (literal_view literal)) bytes.now }
@@ -84,7 +85,7 @@ fn long_run_len(reads: &mut Reads, literal: Literal, bytes: &[u8]) -> usize
     at + short_run_len(reads, literal, &bytes[at..])
 }
 
-/// The length of the run at the front of fewer than sixteen bytes, which are left at a text's end alone.
+/// Length of the run at the start of fewer than 16 bytes, which only the end of a text has.
 #[inline(never)]
 fn last_run_len(reads: &mut Reads, literal: Literal, bytes: &[u8]) -> usize
     ensures value { result ≡ prefix_len (is_in_run (literal_view literal)) bytes.now }
@@ -93,8 +94,8 @@ fn last_run_len(reads: &mut Reads, literal: Literal, bytes: &[u8]) -> usize
     short_run_len(reads, literal, bytes)
 }
 
-/// The length of the run at the front of some bytes. Sixteen are looked at together once as many were passed one by
-/// one.
+/// Length of the run at the start of some bytes. It reads 16 bytes one by one, and then 16 at a
+/// time.
 #[inline(always)]
 fn run_len(reads: &mut Reads, literal: Literal, bytes: &[u8]) -> usize
     ensures value { result ≡ prefix_len (is_in_run (literal_view literal)) bytes.now }
@@ -110,7 +111,7 @@ fn run_len(reads: &mut Reads, literal: Literal, bytes: &[u8]) -> usize
     LANES + long_run_len(reads, literal, &bytes[LANES..])
 }
 
-/// The run at the front of the rest of a body.
+/// The run at the start of the rest of a body. It may be empty.
 #[inline(always)]
 pub fn first_run<'a>(reads: &mut Reads, literal: Literal, text: &'a str) -> &'a str
     ensures value { result.now ≡ take (prefix_len (is_in_run (literal_view literal)) text.now) text.now }

@@ -1,2 +1,2 @@
--- What only contracts of inner functions, of the reader too, and proofs speak of.
+-- Definitions that only contracts of inner functions, of the reader too, and proofs cite.
 pub mod Nesting

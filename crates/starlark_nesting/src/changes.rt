@@ -1,4 +1,4 @@
-//! What a token does to brackets and f-strings.
+//! The effect of a token on brackets and f-strings.
 
 ghost use Rattle.std.specs.Prelude.{◌≡◌};
 ghost use Rattle.starlark_nesting.specs.Joints.Nesting.{change_by};
@@ -6,8 +6,7 @@ ghost use Rattle.starlark_token.specs.TokenViews.{token_view};
 
 use starlark_token::tokens::Token;
 
-/// What a token does: it opens or closes a bracket, begins or ends an expression of an f-string, ends an f-string, or
-/// does none of these.
+/// The effect of a token on brackets and f-strings, except for the start of an f-string.
 #[derive(Clone, Copy, PartialEq, Eq)]
 pub enum Change {
     OpensRound,
@@ -22,8 +21,8 @@ pub enum Change {
     Nothing,
 }
 
+/// The effect of a token on brackets and f-strings.
 #[tactic(auto, unfolding(starlark_token::specs::TokenViews::token_view, crate::specs::Joints::Nesting::change_by))]
-/// What a token does to brackets and f-strings.
 #[inline(always)]
 pub fn change_of(token: &Token) -> Change
     ensures { result ≡ change_by (token_view token.now) }

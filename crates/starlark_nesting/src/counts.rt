@@ -1,4 +1,4 @@
-//! Counts of brackets: of a whole text, and of one f-string.
+//! Bracket counts of a text, and of one f-string.
 
 ghost use Rattle.std.specs.Prelude.{◌≡◌, ◌+◌, ◌<◌, ◌^◌, ◌∷◌, [], List};
 ghost use Rattle.starlark_grammar.specs.Depths as depths;
@@ -11,15 +11,17 @@ use crate::changes::Change;
 use crate::nesting::LexerMode;
 use starlark_grammar::class::Opening;
 
-/// How many brackets were opened, and how many were closed. A count that is the greatest number there is stays so.
+/// How many brackets were opened and closed. Each count saturates.
 #[derive(Clone, Copy)]
 pub struct Brackets {
+    /// Number of opening brackets.
     pub opened: usize,
+    /// Number of closing brackets.
     pub closed: usize,
 }
 
 impl Brackets {
-    /// No brackets.
+    /// Counts of 0.
     pub fn new() -> Self
         ensures { result ≡ record { opened = 0; closed = 0 } }
     {
@@ -29,7 +31,7 @@ impl Brackets {
         }
     }
 
-    /// The counts with one opened bracket more.
+    /// The counts after one more opening bracket.
     fn add_opening(self) -> Self
         ensures { self.opened + 1 < 2 ^ 64 → result ≡ record { opened = 1 + self.opened; closed = self.closed } }
     {
@@ -39,7 +41,7 @@ impl Brackets {
         }
     }
 
-    /// The counts with one closed bracket more.
+    /// The counts after one more closing bracket.
     fn add_closing(self) -> Self
         ensures { self.closed + 1 < 2 ^ 64 → result ≡ record { opened = self.opened; closed = 1 + self.closed } }
     {
@@ -49,7 +51,7 @@ impl Brackets {
         }
     }
 
-    /// The counts behind one more token.
+    /// The counts after one more token.
     pub fn after(self, change: Change) -> Self
         ensures { self.opened + self.closed + 1 < 2 ^ 64 → result ≡ record { opened = opens change + self.opened; closed = closes change + self.closed } }
     {
@@ -61,8 +63,10 @@ impl Brackets {
     }
 }
 
-/// An open f-string: how it begins, the curly brackets of its open expression, if one is open, and how deep its end is
-/// in round and in square ones. No count is greater than those of the whole text.
+/// An open f-string, with the brackets of its open expression.
+///
+/// `expression` counts curly brackets, and is `None` in the text. `rounds` and `squares` are depths
+/// in the whole f-string. No count is greater than those of the whole text.
 #[derive(Clone, Copy)]
 pub struct OpenFString {
     opening: Opening,
@@ -72,7 +76,7 @@ pub struct OpenFString {
 }
 
 impl OpenFString {
-    /// An f-string behind its opening.
+    /// An f-string just after its opening.
     pub fn new(opening: Opening) -> Self
         ensures { fstring_view result ≡ fstring_of (opening_view opening, []) }
     {
@@ -84,7 +88,7 @@ impl OpenFString {
         }
     }
 
-    /// Where the end of its tokens is.
+    /// The lexer mode after its tokens so far.
     #[inline(always)]
     pub fn place(&self) -> LexerMode
         ensures { (found : grammar.Opening × List grammar.Token) → fstring_view self.now ≡ fstring_of found → mode_view result ≡ depths.inside found }
@@ -101,7 +105,7 @@ impl OpenFString {
         }
     }
 
-    /// Goes on behind one more of its tokens.
+    /// Advances past one more of its tokens.
     #[inline(always)]
     pub fn pass(&mut self, change: Change)
         ensures { (found : grammar.Opening × List grammar.Token) (node : grammar.Token) → change ≡ change_by (Whole node) → brackets_of found.1 + 1 < 2 ^ 64 →

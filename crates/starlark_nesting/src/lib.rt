@@ -1,4 +1,4 @@
-//! Keeps how deep a place of a text is in brackets and open f-strings.
+//! The nesting of brackets and f-strings, and the lexer mode that follows from it.
 #![tactic(auto)]
 
 mod changes;

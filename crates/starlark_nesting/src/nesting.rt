@@ -1,4 +1,4 @@
-//! How deep a place of a text is in brackets and open f-strings.
+//! The nesting of brackets and f-strings at an offset of a text.
 
 ghost use Rattle.std.specs.Prelude.{◌≡◌, ◌+◌, ◌<◌, ◌≤◌, ◌^◌, ◌∷◌, [], List, false, OnErr, OnOk};
 ghost use Rattle.starlark_grammar.specs.Depths.{is_balanced, mode_after};
@@ -13,17 +13,20 @@ use starlark_grammar::class::Opening;
 use starlark_token::tokens::Token;
 use std::alloc::{AllocError, Global};
 
-/// Where a place is: outside of f-strings, in the text of one, at the top of an expression of one, or deeper in
-/// that.
+/// The lexer mode: code, f-string text, or f-string expression.
 #[derive(Clone, Copy)]
 pub enum LexerMode {
+    /// Code outside of all f-strings.
     Outside,
+    /// The text of an f-string.
     InText(Opening),
+    /// An expression of an f-string, outside of the brackets in it: a `}` ends it.
     AtTop,
+    /// An expression of an f-string, inside of brackets in it.
     Deeper,
 }
 
-/// What is open at a place: the f-strings, the innermost last, and how many brackets were opened and closed before it.
+/// The open f-strings, the innermost last, and how many brackets were opened and closed so far.
 #[derive(Drop)]
 pub struct Nesting {
     fstrings: Vec<OpenFString>,
@@ -31,7 +34,7 @@ pub struct Nesting {
 }
 
 impl Nesting {
-    /// Where a text begins. Takes no memory.
+    /// The nesting at the start of a text. It doesn't allocate.
     pub fn new(alloc: Global) -> Self
         ensures begins { Represents [] result }
         ensures count { bracket_count result ≡ 0 }
@@ -42,7 +45,7 @@ impl Nesting {
         }
     }
 
-    /// Where the place is.
+    /// The lexer mode.
     #[inline(always)]
     pub fn place(&self) -> LexerMode
         ensures { (tokens : List grammar.Token) → Represents tokens self.now → mode_view result ≡ mode_after tokens }
@@ -53,14 +56,14 @@ impl Nesting {
         }
     }
 
-    /// Whether as many brackets were opened as were closed.
+    /// Whether as many brackets were opened as closed, whatever their shapes.
     pub fn is_balanced(&self) -> bool
         ensures { (tokens : List grammar.Token) → Represents tokens self.now → result ≡ is_balanced tokens }
     {
         self.brackets.opened == self.brackets.closed
     }
 
-    /// Goes on behind a token that begins no f-string.
+    /// Advances past a token that begins no f-string.
     #[inline(always)]
     pub fn pass(&mut self, token: &Token)
         requires room { bracket_count self.old + 1 < 2 ^ 64 }
@@ -81,7 +84,7 @@ impl Nesting {
         }
     }
 
-    /// Goes on behind the start of an f-string. A refused call changes nothing.
+    /// Advances past the start of an f-string. Nothing changes on `AllocError`.
     pub fn begin_fstring(&mut self, opening: Opening) -> Result<(), AllocError>
         ensures begins { OnOk result ((tokens : List grammar.Token) → Represents tokens self.old → Represents (grammar.FStringStart (opening_view opening) ∷ tokens) self.new) }
         ensures stays { OnErr result (IsUnchanged self.old self.new) }

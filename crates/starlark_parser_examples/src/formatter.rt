@@ -1,30 +1,33 @@
-//! A formatter: lexemes, comments and blank lines back to a text that lexes to the same tokens.
+//! A formatter: from lexemes, comments and blank lines to a text that lexes to the same tokens.
 
 use crate::lexemes::lexemes_of;
 use starlark_syntax::codemap::{CodeMap, Spanned};
 use starlark_syntax::lexer::{SourceError, Token};
 use std::alloc::{AllocError, Global};
 
-/// The spaces that a block, and what stands in brackets, is indented by.
+/// The indentation of a block, and of lines inside brackets.
 const STEP: &str = "    ";
 
-/// What is formatted so far, and where the next lexeme stands.
+/// The formatted text so far, and the state before the next lexeme.
 #[derive(Drop)]
 struct Formatter {
     formatted: String,
+    /// Whether the next lexeme begins a line.
     is_line_begin: bool,
+    /// Number of open blocks.
     blocks: usize,
+    /// Number of open brackets.
     brackets: usize,
-    /// How many f-strings are open. In them nothing is changed.
+    /// Number of open f-strings. Inside them gaps aren't changed.
     fstrings: usize,
 }
 
-/// How many line feeds a text has.
+/// Number of LF in a text.
 fn count_line_feeds(text: &str) -> usize {
     text.bytes().filter(|byte| *byte == b'\n').count()
 }
 
-/// How many blocks are open in the next line of code, where so many are open before the lines that stand ahead.
+/// Number of open blocks at the next line of code, if `blocks` are open before the lexemes `ahead`.
 fn blocks_ahead(blocks: usize, ahead: &[Spanned<Token>]) -> usize {
     let mut blocks = blocks;
     for lexeme in ahead {
@@ -38,7 +41,7 @@ fn blocks_ahead(blocks: usize, ahead: &[Spanned<Token>]) -> usize {
     blocks
 }
 
-/// Whether a token is a part of the layout, and no code.
+/// Whether a token is layout or a comment, not code.
 fn is_layout(token: &Token) -> bool {
     matches!(
         token,
@@ -47,7 +50,7 @@ fn is_layout(token: &Token) -> bool {
 }
 
 impl Formatter {
-    /// Adds the indentation of a line that a token begins.
+    /// Appends the indentation of a line that begins with a token.
     fn add_indentation(&mut self, token: &Token) -> Result<(), AllocError> {
         let is_closing = matches!(
             token,
@@ -60,7 +63,7 @@ impl Formatter {
         Ok(())
     }
 
-    /// Adds what stands before a token at the begin of a line.
+    /// Appends the indentation before a token at the start of a line, unless it is layout.
     fn begin_line(&mut self, token: &Token) -> Result<(), AllocError> {
         self.is_line_begin = matches!(token, Token::Newline | Token::Indent | Token::Dedent);
         if self.is_line_begin {
@@ -69,7 +72,9 @@ impl Formatter {
         self.add_indentation(token)
     }
 
-    /// Adds line ends that are no tokens, in brackets and behind comment lines, and what stands before a token behind them.
+    /// Appends line breaks that are no tokens, and the indentation before a token after them.
+    ///
+    /// Such line breaks are in brackets and after comment lines.
     fn break_line(&mut self, line_feeds: usize, token: &Token) -> Result<(), AllocError> {
         for _ in 0..line_feeds {
             self.formatted.push('\n')?;
@@ -77,7 +82,7 @@ impl Formatter {
         self.begin_line(token)
     }
 
-    /// Adds what stands between two tokens of a line.
+    /// Appends the spaces between two tokens of a line.
     fn add_spaces(&mut self, gap: &str, token: &Token) -> Result<(), AllocError> {
         match token {
             Token::Comment(_) => self.formatted.push_str("  "),
@@ -87,7 +92,7 @@ impl Formatter {
         }
     }
 
-    /// Adds what stands before a token, in place of a gap of the source.
+    /// Appends the gap before a token, in place of the gap of the source.
     fn add_gap(&mut self, gap: &str, token: &Token) -> Result<(), AllocError> {
         let line_feeds = count_line_feeds(gap);
         if self.fstrings > 0 {
@@ -105,7 +110,7 @@ impl Formatter {
         }
     }
 
-    /// Adds a token as it is written in the source.
+    /// Appends a token as the source has it.
     fn add_token(&mut self, token: &Token, written: &str) -> Result<(), AllocError> {
         match token {
             Token::Indent | Token::Dedent => return Ok(()),
@@ -128,7 +133,7 @@ impl Formatter {
     }
 }
 
-/// The lexemes of a source with other white space between them.
+/// The lexemes of a source with new gaps between them.
 fn with_new_gaps(
     alloc: Global,
     source: &str,
@@ -169,8 +174,9 @@ fn have_same_tokens(first: &[Spanned<Token>], second: &[Spanned<Token>]) -> bool
             .all(|(old, new)| old.node == new.node)
 }
 
-/// A source with each block indented by four spaces, one space where some stand between tokens, and none at the end of a
-/// line; `None` where that has other tokens than the source.
+/// Formats a source: each block gets four spaces, and a gap between tokens one.
+///
+/// Lines end without spaces. `None` where the result has other tokens than the source.
 pub fn formatted(alloc: Global, file: &CodeMap) -> Result<Option<String>, SourceError> {
     let lexemes = lexemes_of(alloc, file.source(), file)?;
     let formatted = with_new_gaps(alloc, file.source(), &lexemes)?;

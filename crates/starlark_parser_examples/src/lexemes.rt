@@ -1,11 +1,11 @@
-//! All lexemes of a text at once.
+//! All lexemes of a text as a list.
 
 use starlark_syntax::codemap::{CodeMap, Pos, Span, Spanned};
 use starlark_syntax::dialect::Dialect;
 use starlark_syntax::lexer::{Lexer, SourceError, Token};
 use std::alloc::Global;
 
-/// The lexemes of a text, or its fault, which lies in a file.
+/// The lexemes of a text, or its fault with a span of the code map.
 pub fn lexemes_of(
     alloc: Global,
     text: &str,

@@ -1,5 +1,6 @@
-//! Runs the parser and the formatter of docs/use over the sections of standard input, and prints what each makes of its
-//! section. A section begins with a line `%%% EXAMPLE`.
+//! Runs the parser and the formatter of docs/use over the sections of standard input.
+//!
+//! A section begins with a line `%%% EXAMPLE`. The program prints the output for each.
 #![tactic(auto)]
 
 mod formatter;
@@ -13,14 +14,14 @@ use std::alloc::{AllocError, Global};
 use std::fmt::Write;
 use std::io;
 
-/// A text as a file.
+/// A code map of a text.
 fn file_of(alloc: Global, text: &str) -> Result<CodeMap, SourceError> {
     let name = String::from_str(alloc, "BUILD")?;
     let source = String::from_str(alloc, text)?;
     Ok(CodeMap::new(alloc, CodeMapId::new(1), name, source)?)
 }
 
-/// The parser's answer: each expression with brackets round all that it does.
+/// The parser's output: a line for each expression, with brackets around each sum.
 fn parsed(alloc: Global, text: &str) -> Result<String, SourceError> {
     let file = file_of(alloc, text)?;
     let lexemes = lexemes::lexemes_of(alloc, text, &file)?;
@@ -37,7 +38,7 @@ fn expression_lines(alloc: Global, expressions: &[Expression<'_>]) -> Result<Str
     Ok(lines)
 }
 
-/// The formatter's answer.
+/// The formatter's output: the formatted text, or `not formatted`.
 fn formatted(alloc: Global, text: &str) -> Result<String, SourceError> {
     let file = file_of(alloc, text)?;
     match formatter::formatted(alloc, &file)? {
@@ -46,7 +47,7 @@ fn formatted(alloc: Global, text: &str) -> Result<String, SourceError> {
     }
 }
 
-/// What an example makes of its section.
+/// The output of an example for its section.
 fn answer(alloc: Global, example: &str, text: &str) -> Result<String, SourceError> {
     match example {
         "parser" => parsed(alloc, text),
@@ -55,7 +56,7 @@ fn answer(alloc: Global, example: &str, text: &str) -> Result<String, SourceErro
     }
 }
 
-/// What is printed of a section: its example, and the answer or a fault.
+/// The printed lines of a section: its example, and the output or an error.
 fn section_lines(alloc: Global, section: &str) -> Result<String, AllocError> {
     let Some((example, text)) = section.split_once('\n') else {
         return Ok(String::new(alloc));

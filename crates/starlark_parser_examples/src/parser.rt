@@ -8,22 +8,29 @@ use std::alloc::{AllocError, Global};
 use std::fmt;
 use std::fmt::Write;
 
-/// How deep expressions may nest, so that no text takes more stack than the program has.
+/// Greatest depth of nested expressions, so that no text overflows the stack.
 const DEPTH: u32 = 100;
 
-/// An expression. Its names and values lie in the lexemes that it was read from.
+/// An expression. It borrows names and values from the lexemes.
 #[derive(Drop)]
 pub enum Expression<'t> {
+    /// `x`.
     Name(&'t str),
+    /// `1`.
     Integer(&'t TokenInt),
+    /// `"text"`, with its escapes decoded.
     Text(&'t str),
+    /// `[a, b]`.
     List(Vec<Expression<'t>>),
+    /// `a + b + c`, of two terms or more.
     Sum(Vec<Expression<'t>>),
+    /// `f(a, b)`.
     Call(Box<Expression<'t>>, Vec<Expression<'t>>),
+    /// `value[index]`.
     Index(Box<Expression<'t>>, Box<Expression<'t>>),
 }
 
-/// Writes expressions between an opening and a closing bracket, with a mark between each two.
+/// Writes expressions between two brackets, with a separator between each two.
 #[cycle(printing)]
 fn write_group<W: fmt::Write>(
     f: &mut fmt::Formatter<W>,
@@ -41,7 +48,7 @@ fn write_group<W: fmt::Write>(
     f.write_char(brackets.1)
 }
 
-/// An expression prints as it is written, with a pair of brackets round each sum.
+/// Prints the expression as source, with brackets around each sum.
 impl fmt::Display for Expression<'_> {
     #[cycle(printing)]
     fn fmt<W: fmt::Write>(&self, f: &mut fmt::Formatter<W>) -> fmt::Result {
@@ -60,7 +67,7 @@ impl fmt::Display for Expression<'_> {
     }
 }
 
-/// The expression that a token is by itself, if it is one.
+/// The expression of a single token; `None` if it is none.
 fn expression_of(token: &Token) -> Option<Expression<'_>> {
     match token {
         Token::Identifier(name) => Some(Expression::Name(name.as_str())),
@@ -70,18 +77,18 @@ fn expression_of(token: &Token) -> Option<Expression<'_>> {
     }
 }
 
-/// What is said where something is missing.
+/// The message for something that is missing.
 fn missing_text<D: fmt::Display>(alloc: Global, wanted: &D) -> Result<String, AllocError> {
     format!(in alloc; "Parse error: {wanted} is missing")
 }
 
-/// A parser's error that says a text.
+/// A parser's error with a message.
 fn parser_error(alloc: Global, text: String) -> Result<Error, AllocError> {
     let kind = ErrorKind::Parser(ParserMessage::Text(text));
     Error::new_kind(alloc, kind).map_err(|_| AllocError)
 }
 
-/// A fault at a place of a file: something is missing there.
+/// The exception for something that is missing at a span of a file.
 fn missing_at<D: fmt::Display>(
     alloc: Global,
     file: &CodeMap,
@@ -92,7 +99,7 @@ fn missing_at<D: fmt::Display>(
     EvalException::new(error, span, file).map_err(|_| AllocError)
 }
 
-/// A parser: the lexemes that it hasn't taken yet.
+/// A parser: the lexemes that are left.
 #[derive(Drop)]
 struct Parser<'t> {
     alloc: Global,
@@ -101,7 +108,7 @@ struct Parser<'t> {
 }
 
 impl<'t> Parser<'t> {
-    /// Takes the next lexeme if it is this token.
+    /// Takes the next lexeme if it is the wanted token, and returns whether it is.
     fn takes(&mut self, wanted: &Token) -> bool {
         match self.rest {
             [first, rest @ ..] if first.node == *wanted => {
@@ -112,7 +119,7 @@ impl<'t> Parser<'t> {
         }
     }
 
-    /// The fault that something is missing before the next lexeme.
+    /// The error for something that is missing before the next lexeme.
     fn missing<D: fmt::Display>(&self, wanted: &D) -> SourceError {
         let span = match self.rest {
             [first, ..] => first.span,
@@ -124,7 +131,7 @@ impl<'t> Parser<'t> {
         }
     }
 
-    /// Takes the next lexeme, which has to be this token.
+    /// Takes the next lexeme, which must be the wanted token.
     fn needs(&mut self, wanted: &Token) -> Result<(), SourceError> {
         if self.takes(wanted) {
             Ok(())
@@ -133,7 +140,7 @@ impl<'t> Parser<'t> {
         }
     }
 
-    /// Takes the next lexeme, which has to be an expression by itself.
+    /// Takes the next lexeme, which must be an expression of a single token.
     fn single(&mut self) -> Result<Expression<'t>, SourceError> {
         if let [first, rest @ ..] = self.rest {
             if let Some(value) = expression_of(&first.node) {
@@ -144,7 +151,7 @@ impl<'t> Parser<'t> {
         Err(self.missing(&"an expression"))
     }
 
-    /// A sum of operands, or one alone.
+    /// Parses a sum of operands, or one operand.
     #[cycle(expression)]
     fn sum(&mut self, depth: u32) -> Result<Expression<'t>, SourceError> {
         let first = self.operand(depth)?;
@@ -155,7 +162,7 @@ impl<'t> Parser<'t> {
         }
     }
 
-    /// A sum, of which the first operand and the plus behind it are taken.
+    /// Parses the rest of a sum after its first operand and the plus.
     #[cycle(expression)]
     fn terms(&mut self, depth: u32, first: Expression<'t>) -> Result<Expression<'t>, SourceError> {
         let mut terms = vec![in self.alloc; first]?;
@@ -168,7 +175,7 @@ impl<'t> Parser<'t> {
         Err(self.missing(&"an expression"))
     }
 
-    /// A sum, behind which a token has to stand.
+    /// Parses a sum and the token that must follow it.
     #[cycle(expression)]
     fn sum_before(&mut self, depth: u32, end: &Token) -> Result<Expression<'t>, SourceError> {
         let sum = self.sum(depth)?;
@@ -176,7 +183,7 @@ impl<'t> Parser<'t> {
         Ok(sum)
     }
 
-    /// A call of a function, of which the opening bracket is taken.
+    /// Parses the rest of a call after its opening bracket.
     #[cycle(expression)]
     fn call(
         &mut self,
@@ -188,7 +195,7 @@ impl<'t> Parser<'t> {
         Ok(Expression::Call(function, arguments))
     }
 
-    /// A value at an index, of which the opening bracket is taken.
+    /// Parses the rest of an indexing after its opening bracket.
     #[cycle(expression)]
     fn index(&mut self, depth: u32, value: Expression<'t>) -> Result<Expression<'t>, SourceError> {
         let value = Box::new(self.alloc, value)?;
@@ -196,7 +203,7 @@ impl<'t> Parser<'t> {
         Ok(Expression::Index(value, Box::new(self.alloc, index)?))
     }
 
-    /// A value, and the calls and indices behind it, each of which nests it once more.
+    /// Parses a value and the calls and indexings after it, each of which nests it once more.
     #[cycle(expression)]
     fn operand(&mut self, depth: u32) -> Result<Expression<'t>, SourceError> {
         let mut value = self.value(depth)?;
@@ -212,7 +219,7 @@ impl<'t> Parser<'t> {
         Err(self.missing(&"an end of the nesting"))
     }
 
-    /// A name, an integer, a string, a list, or an expression in brackets.
+    /// Parses a name, an integer, a string, a list, or an expression in brackets.
     #[cycle(expression)]
     fn value(&mut self, depth: u32) -> Result<Expression<'t>, SourceError> {
         let Some(depth) = depth.checked_sub(1) else {
@@ -227,7 +234,7 @@ impl<'t> Parser<'t> {
         }
     }
 
-    /// Expressions with commas between them, up to a closing bracket.
+    /// Parses expressions with commas between them, up to a closing bracket.
     #[cycle(expression)]
     fn items(&mut self, depth: u32, closing: &Token) -> Result<Vec<Expression<'t>>, SourceError> {
         let mut items = Vec::new(self.alloc);
@@ -245,7 +252,7 @@ impl<'t> Parser<'t> {
     }
 }
 
-/// The expressions of a file, one a line.
+/// Parses the expressions of a file, one a line.
 pub fn expressions<'t>(
     alloc: Global,
     file: &'t CodeMap,

@@ -1,5 +1,6 @@
-//! The program's run: reads a text from a reader, and prints its lexemes or its first fault to a
-//! writer. Both are watched, so that a caller can tell which of them failed.
+//! The run of the program: reads a text, and prints its lexemes and its first fault.
+//!
+//! Reader and writer are wrapped in `Watched`, so that a caller can see which of them failed.
 #![tactic(auto)]
 
 mod printing;

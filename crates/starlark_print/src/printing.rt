@@ -1,4 +1,4 @@
-//! Prints the lexemes of a text, each as it is found.
+//! Prints the lexemes of a text, each as the lexer yields it.
 
 ghost use Rattle.std.specs.Prelude.{◌≡◌, ◌≤◌, ◌++◌, [], length, false, IfOk, IfErr};
 ghost use Rattle.starlark_grammar.specs.Reading.{outcome};
@@ -18,7 +18,9 @@ use starlark_lines::watched::Watched;
 use starlark_text::dialect::Dialect;
 use std::alloc::Global;
 
-/// Puts the lines of a text, of which the lexer has handed out nothing yet, and says whether the text has a fault.
+/// Prints the lines of a text, without the last write and flush, and returns its status.
+///
+/// The lexer must have yielded nothing yet.
 fn put_items<W: WriteDevice>(
     printer: &mut Printer,
     writer: &mut Watched<W>,
@@ -45,7 +47,7 @@ fn put_items<W: WriteDevice>(
     Ok(RunStatus::Clean)
 }
 
-/// A lexer of a text, whose faults lie in a code map of no text.
+/// A lexer of a text, with a code map of an empty text, so that no index of lines is made.
 fn lexer_of(alloc: Global, text: &str) -> Result<Lexer<'_>, RunFault>
     requires { length text.now ≤ GREATEST_LEN }
     ensures made { IfOk result (λ lexer. lexer ≡ record { text = text.now; code_map = record { id = 0; filename = []; source = [] }; handed_out = 0; has_ended = false }) }
@@ -58,7 +60,7 @@ fn lexer_of(alloc: Global, text: &str) -> Result<Lexer<'_>, RunFault>
     }
 }
 
-/// Prints the output for a text that has this name, and says whether it has a fault.
+/// Prints the whole output for the text `name`, flushes, and returns whether the text has a fault.
 pub fn print<W: WriteDevice>(
     alloc: Global,
     name: &str,

@@ -1,4 +1,4 @@
-//! Reads a text, and prints its lexemes.
+//! Reads a text, and prints its lexemes and its first fault.
 
 ghost use Rattle.std.specs.Prelude.{◌≡◌, ◌↔◌, ℕ, List, true, false, OnOk, Ok, IsErrOf};
 ghost use Rattle.std.specs.Io.KnownBytes.{IsAtEnd};
@@ -12,13 +12,12 @@ use starlark_lines::reading::read_text;
 use starlark_lines::watched::Watched;
 use std::alloc::Global;
 
-/// Reads a text to its end, and prints a line for each lexeme and one for the first fault, which
-/// names the text as `name`.
+/// Reads a text to its end, and prints a line for each lexeme, and one for the first fault.
 ///
-/// The writer isn't called before the whole input was read and found to be UTF-8. After
-/// `RunFault::Write`, or `RunFault::Memory` where the reader came to its end, a beginning of the
-/// output is written. The flush is the writer's last call. A call of a device that fails is its
-/// last one, so none is tried again.
+/// The line of a fault names the text as `name`. The writer isn't called before the whole input is
+/// read and is UTF-8. After `RunFault::Write` a beginning of the output is written, and after
+/// `RunFault::Memory` too if the reader ended. The flush is the writer's last call. A call that
+/// fails is not tried again, and is the last one of its reader or writer.
 pub fn run<R: ReadDevice, W: WriteDevice>(
     alloc: Global,
     name: &str,
@@ -29,11 +28,11 @@ pub fn run<R: ReadDevice, W: WriteDevice>(
     requires reader_not_ended { reader.old.ended ≡ false }
     requires writer_sound { writer.old.failed ≡ false }
 
-    // What was read and what was written, by which calls, by how the run ended.
+    // What was read and written, by which calls, for each result.
     ensures run { (came : List ℕ) × Came R.calls reader.old.device reader.new.device reader.new.ended reader.new.failed came
         × IsRun W.calls name.now came (Ok came) reader.new writer.old writer.new result }
 
-    // The faults of the devices are told, and no others are.
+    // `Read` and `Write` are returned exactly if a call of the reader or writer failed.
     ensures read { IsErrOf result RunFault.Read ↔ (reader.new.failed ≡ true) }
     ensures write { IsErrOf result RunFault.Write ↔ (writer.new.failed ≡ true) }
     ensures ended { OnOk result (reader.new.ended ≡ true) }

@@ -1,6 +1,7 @@
-//! The program's run: reads a text from a reader, and prints its lexemes or its first fault to a
-//! writer. Both are watched, so that a caller can tell which of them failed. A list of edits may
-//! change the text before.
+//! The run of the program: reads a text, and prints its lexemes and its first fault.
+//!
+//! `run_edits` edits the text before. Reader and writer are wrapped in `Watched`, so that a caller
+//! can see which of them failed.
 #![tactic(auto)]
 
 pub use starlark_edits::{Edit, run_edits};

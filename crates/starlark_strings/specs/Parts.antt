@@ -1,4 +1,4 @@
--- What is handed out, seen without where it lies in memory.
+-- Returned parts of a text by their bytes, without where they lie in memory.
 use Rattle.std.specs.Prelude.{ℕ, List}
 use Rattle.std.specs.Borrow.{Bor}
 use Rattle.starlark_strings.specs.declared.fast_string.StrIndices.{StrIndices}

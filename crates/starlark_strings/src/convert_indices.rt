@@ -1,10 +1,10 @@
-//! Indices as Starlark gives them: one that is negative counts from the end, and none reaches
-//! further than the row that it is for.
+//! Indices of Starlark sequences: a negative index counts from the end, and an index out of range
+//! is clamped.
 
 ghost use Rattle.std.specs.Prelude.{◌≡◌, pos, ◌≤ℤ◌, unsigned_abs};
 ghost use Rattle.starlark_strings.specs.Indices as spec;
 
-/// The place that an index means in a row of `count` things.
+/// Position from 0 that an index means in a sequence of `count` elements, clamped to `0..=count`.
 pub(crate) fn place_of(count: usize, index: i32) -> usize
     ensures { result ≡ spec.place count index }
 {
@@ -15,7 +15,7 @@ pub(crate) fn place_of(count: usize, index: i32) -> usize
     }
 }
 
-/// The place where a slice of a row of `count` things begins: the first where no start is given.
+/// Position from 0 at which a slice of `count` elements begins: 0 where no start is given.
 pub(crate) fn start_place(count: usize, start: Option<i32>) -> usize
     ensures { result ≡ spec.start_place count start }
 {
@@ -25,7 +25,7 @@ pub(crate) fn start_place(count: usize, start: Option<i32>) -> usize
     }
 }
 
-/// The place where a slice of a row of `count` things ends: behind the last where no end is given.
+/// Position from 0 at which a slice of `count` elements ends: `count` where no end is given.
 pub(crate) fn end_place(count: usize, end: Option<i32>) -> usize
     ensures { result ≡ spec.end_place count end }
 {
@@ -35,9 +35,11 @@ pub(crate) fn end_place(count: usize, end: Option<i32>) -> usize
     }
 }
 
-/// The places where a slice of a row of `len` things, which is at least 0, begins and ends. An absent start is
-/// the row's begin, an absent end its end. A negative index counts from the row's end, and one past either end
-/// is taken to be that end. The begin may lie behind the end.
+/// Positions from 0 at which a slice of a sequence of `len` elements begins and ends.
+///
+/// `len` must not be negative. An absent start is 0, an absent end is `len`. A negative index
+/// counts from the end; an index out of range is clamped. The first position may be greater than
+/// the second.
 pub fn convert_indices(len: i32, start: Option<i32>, end: Option<i32>) -> (usize, usize)
     requires { pos 0 ≤ℤ len }
     ensures start { result.0 ≡ spec.start_place (unsigned_abs len) start }
@@ -47,8 +49,10 @@ pub fn convert_indices(len: i32, start: Option<i32>, end: Option<i32>) -> (usize
     (start_place(count, start), end_place(count, end))
 }
 
-/// The place that an index means in a row of `len` things, which is at least 0. A negative index counts from
-/// the row's end, and one past either end is taken to be that end.
+/// Position from 0 that an index means in a sequence of `len` elements, at most `len`.
+///
+/// `len` must not be negative. A negative index counts from the end; an index out of range is
+/// clamped.
 pub fn convert_index(len: i32, start: i32) -> usize
     requires { pos 0 ≤ℤ len }
     ensures { result ≡ spec.place (unsigned_abs len) start }

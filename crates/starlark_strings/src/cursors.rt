@@ -1,4 +1,4 @@
-//! Cursors: a text and a place in it that moves along. Places count bytes.
+//! Cursors over a text, by bytes and by characters. Offsets count bytes.
 
 ghost use Rattle.std.specs.Prelude.{◌≡◌, ◌+◌, ◌-◌, IfSome, drop, slice_get};
 ghost use Rattle.std.specs.Char.{len_utf8};
@@ -7,7 +7,7 @@ ghost use Rattle.starlark_strings.specs.Cursors.{byte_at, char_at, past_byte, pa
 
 use std::marker::Model;
 
-/// A place in a text that moves along by bytes.
+/// A cursor that moves through a text byte by byte.
 #[derive(Drop)]
 pub struct CursorBytes<'a> {
     text: &'a str,
@@ -26,14 +26,14 @@ impl<'a> Model for CursorBytes<'a> {
 }
 
 impl<'a> CursorBytes<'a> {
-    /// The begin of a text.
+    /// A cursor at the start of a text.
     pub fn new(x: &'a str) -> CursorBytes<'a>
         ensures { result ≡ record { text = x.now; at = 0 } }
     {
         CursorBytes { text: x, at: 0 }
     }
 
-    /// The byte here, and a step over it; `None` at the text's end, where it stays.
+    /// Returns the byte at the cursor and moves past it; `None` at the end of the text.
     pub fn next(&mut self) -> Option<u8>
         ensures answer { result ≡ byte_at self.old }
         ensures after { self.new ≡ past_byte self.old }
@@ -43,7 +43,9 @@ impl<'a> CursorBytes<'a> {
         Some(byte)
     }
 
-    /// The same, with the byte's number as a character. Past ASCII that is not a character of the text.
+    /// Returns the byte at the cursor as a `char` and moves past it; `None` at the end of the text.
+    ///
+    /// A byte of 128 or more becomes the character of that number, which is not one of the text.
     pub fn next_char(&mut self) -> Option<char>
         ensures answer { result ≡ byte_at self.old }
         ensures after { self.new ≡ past_byte self.old }
@@ -52,7 +54,7 @@ impl<'a> CursorBytes<'a> {
         Some(char::from(byte))
     }
 
-    /// How many bytes were stepped over.
+    /// Offset of the cursor, in bytes from the start of the text.
     pub fn pos(&self) -> usize
         ensures { result ≡ self.now.at }
     {
@@ -60,7 +62,7 @@ impl<'a> CursorBytes<'a> {
     }
 }
 
-/// The character that begins at a place of a text; `None` at its end.
+/// The character that begins at byte `at` of a text; `None` at the end of the text.
 pub(crate) fn char_from(text: &str, at: usize) -> Option<char>
     requires { IsCharBoundary text.now at }
     ensures answer { result ≡ slice_get (chars (drop at text.now)) 0 }
@@ -70,7 +72,7 @@ pub(crate) fn char_from(text: &str, at: usize) -> Option<char>
     text[at..].chars().next()
 }
 
-/// The place where the character that ends at a place begins.
+/// Offset at which the character `c` begins that ends at byte `at`.
 fn place_before(text: &str, at: usize, c: char) -> usize
     requires boundary { IsCharBoundary text.now at }
     requires character { EndsAt text.now at c }
@@ -80,7 +82,7 @@ fn place_before(text: &str, at: usize, c: char) -> usize
     at - c.len_utf8()
 }
 
-/// A place between two characters of a text that moves by characters.
+/// A cursor that moves through a text character by character, forward and back.
 #[derive(Drop)]
 pub struct CursorChars<'a> {
     text: &'a str,
@@ -99,7 +101,7 @@ impl<'a> Model for CursorChars<'a> {
 }
 
 impl<'a> CursorChars<'a> {
-    /// The place behind so many bytes of a text, which has to be between two characters or at an end.
+    /// A cursor at byte `offset` of a text, which must be a character boundary.
     pub fn new_offset(x: &'a str, offset: usize) -> CursorChars<'a>
         requires { IsCharBoundary x.now offset }
         ensures { result ≡ record { text = x.now; at = offset } }
@@ -110,7 +112,7 @@ impl<'a> CursorChars<'a> {
         }
     }
 
-    /// The character here, and a step over it; `None` at the text's end, where it stays.
+    /// Returns the character at the cursor and moves past it; `None` at the end of the text.
     pub fn next(&mut self) -> Option<char>
         ensures answer { result ≡ char_at self.old }
         ensures after { self.new ≡ past_char self.old }
@@ -121,7 +123,7 @@ impl<'a> CursorChars<'a> {
         Some(character)
     }
 
-    /// A step back over the character before this place, which has to be the one given.
+    /// Moves back over the character `c`, which must be the one that ends at the cursor.
     pub fn unnext(&mut self, c: char)
         requires { IsCharBefore self.old c }
         ensures { self.new ≡ record self.old { at = self.old.at - len_utf8 c } }
@@ -129,14 +131,14 @@ impl<'a> CursorChars<'a> {
         self.at = place_before(self.text, self.at, c);
     }
 
-    /// How many bytes stand before this place.
+    /// Offset of the cursor, in bytes from the start of the text.
     pub fn pos(&self) -> usize
         ensures { result ≡ self.now.at }
     {
         self.at
     }
 
-    /// The character here; `None` at the text's end.
+    /// The character at the cursor, without moving; `None` at the end of the text.
     pub fn peek(&self) -> Option<char>
         ensures { result ≡ char_at self.now }
     {

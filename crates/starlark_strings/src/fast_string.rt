@@ -1,5 +1,6 @@
-//! Texts by their characters. An index counts characters and not bytes, and what is handed out is a
-//! part of the caller's text. Each call takes time in proportion to the text at most.
+//! Strings by characters: an index counts characters, not bytes.
+//!
+//! Returned strings borrow from the argument. Each call takes at most linear time.
 
 ghost use Rattle.std.specs.Prelude.{◌≡◌, ◌↔◌, ◌+◌, ◌-◌, ◌≤◌, ◌<◌, ◌^◌, ◌==◌, ℕ, List, IsTrue, IfSome, length, slice_get, count_by};
 ghost use Rattle.std.specs.Option.{option_map};
@@ -16,10 +17,13 @@ use memchr::{memchr_iter, memmem};
 use starlark_text::lanes::count_characters;
 use std::ops::{Add, Sub};
 
-/// The place of a character in a text: how many characters stand before it.
+/// An index into a text, in characters from 0.
+///
+/// `+` needs a sum below 2^64. `-` needs a right side that is no greater than the left one.
 #[derive(Clone, Copy, Debug, PartialEq, Eq, PartialOrd, Ord)]
 pub struct CharIndex(pub usize);
 
+/// Adds the numbers of characters. The sum must be below 2^64.
 impl Add for CharIndex {
     type Output = CharIndex;
 
@@ -32,6 +36,7 @@ impl Add for CharIndex {
     }
 }
 
+/// Subtracts the numbers of characters. The right side must not be greater than the left one.
 impl Sub for CharIndex {
     type Output = CharIndex;
 
@@ -44,16 +49,16 @@ impl Sub for CharIndex {
     }
 }
 
-/// The part of a text that a start and an end mean.
+/// A part of a text, with the index at which it begins.
 #[derive(Debug, PartialEq, Drop)]
 pub struct StrIndices<'a> {
-    /// The index of the part's first character in the text.
+    /// Index in the text of the part's first character.
     pub start: CharIndex,
-    /// The part.
+    /// The part itself.
     pub haystack: &'a str,
 }
 
-/// The character at an index, if the text has so many.
+/// The character at an index; `None` where the text has no more than `i` characters.
 pub fn at(x: &str, i: CharIndex) -> Option<char>
     ensures { result ≡ slice_get (chars x.now) i.0 }
 {
@@ -61,7 +66,7 @@ pub fn at(x: &str, i: CharIndex) -> Option<char>
     char_from(x, place)
 }
 
-/// How many characters a text has. It is as many as bytes exactly where all of them are ASCII.
+/// Number of characters of a text. It equals the number of bytes exactly where all are ASCII.
 pub fn len(x: &str) -> CharIndex
     ensures count { result.0 ≡ char_count x.now }
     ensures ascii { (result.0 ≡ length x.now) ↔ IsAscii x.now }
@@ -69,15 +74,16 @@ pub fn len(x: &str) -> CharIndex
     CharIndex(count_characters(x))
 }
 
-/// How often a byte stands in a text.
+/// Number of bytes of a text that equal `needle`.
 pub fn count_matches_byte(x: &str, needle: u8) -> usize
     ensures { result ≡ count_by (λ byte. byte == needle) x.now }
 {
     memchr_iter(needle, x.as_bytes()).count()
 }
 
-/// How often a needle stands in a text, from the left, without matches that overlap. An empty needle
-/// stands before each character and at the end.
+/// Number of matches of a needle in a text, from the left, without overlaps.
+///
+/// An empty needle matches before each character and at the end.
 pub fn count_matches(x: &str, needle: &str) -> usize
     ensures { result ≡ match_count x.now needle.now }
 {
@@ -88,8 +94,9 @@ pub fn count_matches(x: &str, needle: &str) -> usize
     }
 }
 
-/// The byte at which the character of an index begins, or the text's end behind its last character; `None` where the
-/// text has fewer characters than that.
+/// Byte offset at which character `i` begins; `None` where the text has fewer than `i` characters.
+///
+/// Where it has exactly `i` characters, the offset is the length of the text.
 fn character_place(x: &str, i: usize) -> Option<usize>
     ensures value { result ≡ spec.character_place x.now i }
     ensures boundary { IfSome result (IsCharBoundary x.now) }
@@ -97,8 +104,7 @@ fn character_place(x: &str, i: usize) -> Option<usize>
     begin_of(x.as_bytes(), i)
 }
 
-/// The text before the character of an index and the text from there on; `None` where the text has
-/// fewer characters than that.
+/// The first `i` characters of a text, and the rest; `None` where it has fewer than `i`.
 pub fn split_at(x: &str, i: CharIndex) -> Option<(&str, &str)>
     ensures { option_map cut_view result ≡ spec.cut x.now i.0 }
 {
@@ -106,7 +112,7 @@ pub fn split_at(x: &str, i: CharIndex) -> Option<(&str, &str)>
     Some(x.split_at(place))
 }
 
-/// Whether both indices are given, count from the same side, and stand in the wrong order.
+/// Whether both indices are given, count from the same side, and the start is the greater.
 fn are_reversed(start: Option<i32>, end: Option<i32>) -> bool
     ensures { result ≡ spec.are_reversed start end }
 {
@@ -116,8 +122,7 @@ fn are_reversed(start: Option<i32>, end: Option<i32>) -> bool
     }
 }
 
-/// Whether the start counts from the front and lies past the last of so many characters, while no
-/// end counts from the end.
+/// Whether the start counts from the front, is over `count`, and no end counts from the end.
 fn begins_past(count: usize, start: Option<i32>, end: Option<i32>) -> bool
     ensures { result ≡ spec.begins_past count start end }
 {
@@ -128,12 +133,14 @@ fn begins_past(count: usize, start: Option<i32>, end: Option<i32>) -> bool
     }
 }
 
-/// The part of a text that the start and the end of a string method mean. Places are counted in characters;
-/// a negative one counts from the text's end, and one past either end is taken to be that end.
+/// The part of a text that the start and end arguments of a string method mean.
 ///
-/// `None` where both count from the same side and the start is the greater; where the start counts from the
-/// front and lies past the text's end, and no end counts from the end; or where the part would end before it
-/// begins.
+/// Both count characters. A negative one counts from the end; one out of range is clamped. Returns
+/// `None` in three cases:
+///
+/// - both count from the same side, and the start is the greater;
+/// - the start counts from the front and is out of range, and no end counts from the end;
+/// - the part would end before it begins.
 pub fn convert_str_indices(s: &str, start: Option<i32>, end: Option<i32>) -> Option<StrIndices<'_>>
     ensures { option_map indices_view result ≡ spec.str_indices s.now start end }
 {
@@ -154,7 +161,7 @@ pub fn convert_str_indices(s: &str, start: Option<i32>, end: Option<i32>) -> Opt
     })
 }
 
-/// Whether a needle stands somewhere in a text. An empty needle does.
+/// Whether a text contains a needle. Every text contains the empty one.
 pub fn contains(haystack: &str, needle: &str) -> bool
     ensures { IsTrue result ↔ Contains haystack.now needle.now }
 {

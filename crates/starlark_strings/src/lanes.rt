@@ -1,4 +1,4 @@
-//! The place of a character, found by the bytes that begin one, so that many bytes are looked at together.
+//! Finds the byte offset of a character by its index, with SIMD: 32 bytes at a time.
 
 ghost use Rattle.std.specs.Prelude.{◌≡◌, ◌<◌, MatchOption, count_by};
 ghost use Rattle.starlark_strings.specs.Joints.Begins.{IsBegin};
@@ -6,8 +6,9 @@ ghost use Rattle.starlark_text.specs.Characters as spec;
 
 use starlark_text::lanes::{LANES, begins_character, lanes_begun};
 
-/// The place where a character begins before which so many others begin, or the bytes' end where just so many begin
-/// among them; `None` where fewer do. Bytes are looked at one by one.
+/// Offset in bytes at which character `index` begins, by one byte at a time: the scalar tail.
+///
+/// The end of the bytes where exactly `index` characters begin in them; `None` where fewer do.
 fn short_begin_of(bytes: &[u8], index: usize) -> Option<usize>
     ensures { MatchOption result (count_by spec.begins_character bytes.now < index) (IsBegin bytes.now index) }
 {
@@ -25,7 +26,9 @@ fn short_begin_of(bytes: &[u8], index: usize) -> Option<usize>
     if left == 0 { Some(at) } else { None }
 }
 
-/// The same. Many bytes are looked at together until the character is among them.
+/// Offset in bytes at which character `index` begins, by SIMD with a scalar tail.
+///
+/// The end of the bytes where exactly `index` characters begin in them; `None` where fewer do.
 pub(crate) fn begin_of(bytes: &[u8], index: usize) -> Option<usize>
     ensures { MatchOption result (count_by spec.begins_character bytes.now < index) (IsBegin bytes.now index) }
 {

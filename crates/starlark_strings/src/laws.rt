@@ -1,4 +1,4 @@
-//! Walks over a text one character at a time, and the law that the fast ones agree with them.
+//! Plain walks over a text, one character at a time, and the law that the SIMD walks agree.
 
 ghost use Rattle.std.specs.Prelude.{◌≡◌, ◌<◌, MatchOption, true, slice_get};
 ghost use Rattle.std.specs.Option.{option_map};
@@ -9,21 +9,21 @@ ghost use Rattle.starlark_text.specs.Characters.{char_count};
 
 use crate::fast_string::{CharIndex, at, len, split_at};
 
-/// How many characters a text has, counted one by one.
+/// Number of characters of a text, counted one by one.
 pub fn walked_len(text: &str) -> CharIndex
     ensures { result.0 ≡ char_count text.now }
 {
     CharIndex(text.chars().count())
 }
 
-/// The character at an index, if the text has so many, found by passing those before it one by one.
+/// The character at an index, found one by one; `None` where the text has no such character.
 pub fn walked_at(text: &str, index: CharIndex) -> Option<char>
     ensures { result ≡ slice_get (chars text.now) index.0 }
 {
     text.chars().nth(index.0)
 }
 
-/// The text from the character of an index on; `None` where the text has fewer characters than that.
+/// The text without its first `index` characters; `None` where it has fewer.
 fn from_char(text: &str, index: usize) -> Option<&str>
     ensures { MatchOption result (char_count text.now < index) (λ rest. spec.IsFrom text.now index rest.now) }
 {
@@ -35,8 +35,7 @@ fn from_char(text: &str, index: usize) -> Option<&str>
     Some(rest.as_str())
 }
 
-/// The text before the character of an index and the text from there on, found by passing the characters before it one
-/// by one; `None` where the text has fewer characters than that.
+/// The first `index` characters of a text, found one by one, and the rest; `None` if it has fewer.
 pub fn walked_split_at(text: &str, index: CharIndex) -> Option<(&str, &str)>
     ensures { option_map cut_view result ≡ spec.cut text.now index.0 }
 {
@@ -44,8 +43,9 @@ pub fn walked_split_at(text: &str, index: CharIndex) -> Option<(&str, &str)>
     Some(text.split_at(text.len() - rest.len()))
 }
 
-/// Whether the walk by many bytes at once and the walk by characters agree on a text from a place between two
-/// characters on. They always do.
+/// Whether the SIMD walks and the plain walks agree on the text from `start` on. They always do.
+///
+/// `start` counts bytes, and must be a character boundary.
 pub fn walks_agree(text: &str, start: usize, index: CharIndex) -> bool
     requires { IsCharBoundary text.now start }
     ensures { result ≡ true }

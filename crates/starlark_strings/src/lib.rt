@@ -1,5 +1,6 @@
-//! What string methods and slices of a Starlark evaluator stand on: indices, strings by their characters, and cursors.
-//! Nothing here takes memory.
+//! Indices, strings by characters, and cursors, for string methods and slices of an evaluator.
+//!
+//! Nothing here allocates.
 #![tactic(auto)]
 
 pub mod convert_indices;

@@ -1,4 +1,4 @@
--- Which error of a whole source a refusal of one call is, and what is printed of it.
+-- Errors of lexing a whole source: which error of one call each is, and its printed form.
 use Rattle.std.specs.Prelude.{ℕ, List, Option, Some, codes}
 use Rattle.starlark_base.specs.Diagnostics.{Diagnosed}
 use Rattle.starlark_base.specs.declared.codemap.refusals.SourceTooLong.{SourceTooLong}
@@ -9,14 +9,17 @@ use Rattle.starlark_syntax.specs.declared.lexer.source_error.SourceError.TheVari
 use Rattle.starlark_text.specs.declared.refusals.OrMemory.{OrMemory}
 use Rattle.starlark_text.specs.declared.refusals.OrMemory.TheVariants.{Error, Memory}
 
+-- what an error of `CodeMap::new` or `LexedText::lex` becomes
 abbrev pub error_of_length : OrMemory SourceTooLong → SourceError
 error_of_length (Error refusal) = source.TooLong
 error_of_length Memory = source.Memory
 
+-- what an error of `Lexer::next` becomes
 abbrev pub error_of_fault : OrMemory (Diagnosed ErrorKind) → SourceError
 error_of_fault (Error exception) = source.Fault exception
 error_of_fault Memory = source.Memory
 
+-- the printed form
 abbrev pub source_error_text : SourceError → Option (List ℕ)
 source_error_text source.TooLong = Some (codes "source is longer than 4294967295 bytes")
 source_error_text (source.Fault exception) = error_text exception

@@ -1,5 +1,6 @@
-//! Laws of texts, their lexemes and the places of these, for all texts. Each function here has a law as its contract and
-//! nothing to do; programs don't call them.
+//! Laws on texts, their lexemes, and lines and columns of these.
+//!
+//! Each law is the contract of a function with an empty body. Programs don't call them.
 
 ghost use Rattle.starlark_syntax.specs.Held.{FaultHeld, LexemesHeld};
 
@@ -10,8 +11,9 @@ pub use starlark_grammar::laws::{
 pub use starlark_laws::laws::{joins_at_clean_cuts, kept_cuts_keep, line_ends_keep_tokens};
 pub use starlark_scanner::laws::identifiers_stay;
 
-/// A code map of a text of characters holds each lexeme of the text, and its fault: the places that their spans resolve
-/// to are the counted ones.
+/// The code map of a UTF-8 text holds the spans of its lexemes and its fault.
+///
+/// They resolve to lines that count the LF before them, and columns that count characters.
 pub fn held_lexemes()
     ensures lexemes { LexemesHeld }
     ensures fault { FaultHeld }

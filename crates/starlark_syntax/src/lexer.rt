@@ -1,4 +1,4 @@
-//! Tokens, and the faults of a text that has none.
+//! The lexer, lexed texts, tokens, and errors of lexing.
 
 mod source_error;
 

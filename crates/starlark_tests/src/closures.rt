@@ -1,4 +1,4 @@
-//! Calls that take a function.
+//! Tests of calls that take a closure.
 
 use starlark_syntax::call_stack::CallStack;
 use starlark_syntax::error::{Error, error_from_lexeme};
@@ -6,7 +6,7 @@ use starlark_syntax::lexer::LexemeError;
 use std::alloc::{AllocError, Global};
 use std::test::Fail;
 
-/// Whether an error asks a function for its calls.
+/// Whether `set_call_stack` of an error calls its closure.
 fn is_asked(error: &mut Error) -> bool {
     let mut is_asked = false;
     error.set_call_stack(|| {
@@ -16,6 +16,7 @@ fn is_asked(error: &mut Error) -> bool {
     is_asked
 }
 
+/// A call stack of one call.
 fn one_call(alloc: Global) -> Result<CallStack, AllocError> {
     let frame = "call".to_string(alloc)?;
     Ok(CallStack::from_frames(vec![in alloc; frame]?))

@@ -1,4 +1,4 @@
-//! Runs over devices that fail, take nothing, or give and take one byte a call.
+//! Tests of runs over readers and writers that fail, take nothing, or move one byte a call.
 
 use starlark_run::{RunFault, RunStatus, Watched, run};
 use std::alloc::{AllocError, Global};
@@ -7,10 +7,12 @@ use std::io::{ErrorKind, Read, Write};
 use std::process::Abort;
 use std::test::Fail;
 
+/// More bytes or calls than any test needs.
 const MANY: usize = 1_000_000;
 
-/// A reader that gives so many bytes a call. Once its calls are used up it fails, and where it
-/// recovers, works again after one failure.
+/// A reader that gives at most `piece` bytes a call, and fails after `calls` calls.
+///
+/// If it `recovers`, it works again after one failure.
 #[derive(Drop)]
 struct Source<'b> {
     rest: &'b [u8],
@@ -34,9 +36,11 @@ impl Read for Source<'_> {
     }
 }
 
-/// A writer that takes so many bytes a call. Once its calls are used up it fails, or takes nothing
-/// where there is no kind of failure. So many of its flushes fail. Where it recovers, it works again
-/// after one failed write. It compares what comes with what is wanted.
+/// A writer that takes at most `piece` bytes a call, and fails after `calls` calls.
+///
+/// Without a kind of `failure` it takes nothing then. Its first `failing_flushes` flushes fail. If
+/// it `recovers`, it works again after one failed write. It compares what it takes with what is
+/// wanted.
 #[derive(Drop)]
 struct Sink<'b> {
     wanted: &'b [u8],
@@ -77,7 +81,7 @@ impl Write for Sink<'_> {
     }
 }
 
-/// A reader of a text, which gives so many bytes a call.
+/// A reader of a text, which gives at most `piece` bytes a call and never fails.
 fn source_of(rest: &[u8], piece: usize) -> Source<'_> {
     Source {
         rest,
@@ -88,7 +92,7 @@ fn source_of(rest: &[u8], piece: usize) -> Source<'_> {
     }
 }
 
-/// A writer that wants a text, and takes so many bytes a call.
+/// A writer that wants a text, takes at most `piece` bytes a call, and never fails.
 fn sink_of(wanted: &[u8], piece: usize) -> Sink<'_> {
     Sink {
         wanted,
@@ -101,7 +105,7 @@ fn sink_of(wanted: &[u8], piece: usize) -> Sink<'_> {
     }
 }
 
-/// How a run ended, as it prints, with what is said of its devices.
+/// The result of a run as a line, with its flags and how much of the wanted output is missing.
 fn shown(
     alloc: Global,
     outcome: Result<RunStatus, RunFault>,
@@ -114,7 +118,7 @@ fn shown(
     }
 }
 
-/// What the flags of a run's devices say, where no other bytes came than are wanted.
+/// The flags of a run's reader and writer, or `other bytes` if the output isn't the wanted one.
 fn flags(reader: &Watched<Source<'_>>, writer: &Watched<Sink<'_>>) -> &'static str {
     if writer.device().other_came {
         return "other bytes";
@@ -127,7 +131,7 @@ fn flags(reader: &Watched<Source<'_>>, writer: &Watched<Sink<'_>>) -> &'static s
     }
 }
 
-/// How much of what is wanted didn't come.
+/// How much of the wanted output is missing.
 fn missing(wanted: usize, left: usize) -> &'static str {
     if left == 0 {
         "nothing"
@@ -138,7 +142,7 @@ fn missing(wanted: usize, left: usize) -> &'static str {
     }
 }
 
-/// How a run over these devices ended, what their flags say, and how much of what is wanted didn't come.
+/// Runs over a reader and a writer, and returns the result, flags and missing output as a line.
 fn run_over(alloc: Global, source: Source<'_>, sink: Sink<'_>) -> Result<String, AllocError> {
     let wanted = sink.wanted.len();
     let mut reader = Watched::new(source);
@@ -148,7 +152,7 @@ fn run_over(alloc: Global, source: Source<'_>, sink: Sink<'_>) -> Result<String,
     shown(alloc, outcome, flags(&reader, &writer), missing)
 }
 
-/// Asserts how a run over these devices ends.
+/// Asserts the line of a run over a reader and a writer.
 fn check(
     rt: &impl Abort,
     alloc: Global,
@@ -191,7 +195,7 @@ fn readers_that_fail_or_give_no_text(rt: HostRuntime) -> Result<(), Fail> {
     Ok(())
 }
 
-/// What is written of a name of 150,000 bytes, which is more than a buffer holds.
+/// The output for a name of 150,000 bytes, which is more than a buffer holds.
 fn lines_of_name(alloc: Global, name: &[u8]) -> Result<Vec<u8>, AllocError> {
     let mut lines = Vec::new(alloc);
     lines.extend_from_slice(b"0-150000 1:1-150001 Identifier ")?;

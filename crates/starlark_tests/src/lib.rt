@@ -1,5 +1,6 @@
-//! Tests of the libraries, as their users call them, of what no contract says and no stored text or
-//! row shows: devices, and calls that take closures.
+//! Tests of what no contract says, and no stored text or row shows: devices, and closures.
+//!
+//! They call the libraries as users do.
 #![tactic(auto)]
 
 #[cfg(test)]

@@ -1,4 +1,4 @@
--- Texts by their characters. A text is its bytes in UTF-8, and `chars` of std is the list of its characters.
+-- Characters of texts. A text is its bytes in UTF-8; std's `chars` is the list of its characters.
 use Rattle.std.specs.Prelude.{◌≡◌, ℕ, Bool, ◌||◌, nat_lt, nat_le, List, length, count_by}
 use Rattle.std.specs.Str.{chars, IsUtf8}
 
@@ -6,10 +6,10 @@ use Rattle.std.specs.Str.{chars, IsUtf8}
 abbrev pub char_count : List ℕ → ℕ
 char_count text = length (chars text)
 
--- a byte of a text that begins a character; each other byte goes on with one
+-- a byte of a text that begins a character; each other byte continues one
 abbrev pub begins_character : ℕ → Bool
 begins_character byte = nat_lt byte 128 || nat_le 192 byte
 
--- a text has as many characters as bytes that begin one
+-- a text has as many characters as bytes that begin a character
 abbrev pub CharactersBeginOnce : Type 0
 CharactersBeginOnce = (text : List ℕ) → IsUtf8 text → count_by begins_character text ≡ char_count text

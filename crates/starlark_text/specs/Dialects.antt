@@ -1,9 +1,9 @@
--- The three dialects, each as what it adds to the one before.
+-- The three dialects. Each of the last two is what it adds to the one before.
 use Rattle.std.specs.Prelude.{true, false}
 use Rattle.starlark_text.specs.declared.dialect.Dialect.{Dialect}
 use Rattle.starlark_text.specs.declared.dialect.DialectTypes.TheVariants.{Disable, Enable}
 
--- functions and loads alone
+-- functions and loads, and nothing else
 abbrev pub standard : Dialect
 standard = record {
   enable_def = true;
@@ -18,10 +18,10 @@ standard = record {
   _non_exhaustive = tt;
 }
 
--- with keyword-only parameters, types, and statements outside of functions
+-- the standard dialect with keyword-only parameters, types, and statements outside of functions
 abbrev pub extended : Dialect
 extended = record standard { enable_keyword_only_arguments = true; enable_types = Enable; enable_top_level_stmt = true }
 
--- with positional-only parameters and f-strings too
+-- the extended dialect with positional-only parameters and f-strings
 abbrev pub all_options : Dialect
 all_options = record extended { enable_positional_only_arguments = true; enable_f_strings = true }

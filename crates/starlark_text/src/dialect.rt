@@ -1,46 +1,49 @@
-//! Which features of the language are there.
+//! Dialects of Starlark: which features of the language are allowed. The lexer checks none of them.
 
 ghost use Rattle.std.specs.Prelude.{◌≡◌};
 
-/// What becomes of type annotations.
+/// How a dialect treats type annotations.
 #[derive(Clone, Copy, Debug, PartialEq, Eq, Hash)]
 pub enum DialectTypes {
-    /// They are no part of the language.
+    /// Type annotations are not part of the language.
     Disable,
-    /// They are parsed, and mean nothing at run time.
+    /// Type annotations are parsed, and have no meaning at run time.
     ParseOnly,
-    /// They are checked at run time.
+    /// Type annotations are parsed, and checked at run time.
     Enable,
 }
 
-/// The features of a dialect.
+/// A dialect of Starlark: the features of the language that it allows.
+///
+/// A value to start from is one of the constants `Standard`, `Extended` and `AllOptionsInternal`.
+/// `Standard` is the default.
 #[derive(Clone, Debug, PartialEq, Eq, Hash, Drop)]
 pub struct Dialect {
-    /// `def` statements.
+    /// Whether `def` statements are allowed.
     pub enable_def: bool,
-    /// `lambda` expressions.
+    /// Whether `lambda` expressions are allowed.
     pub enable_lambda: bool,
-    /// `load` statements.
+    /// Whether `load` statements are allowed.
     pub enable_load: bool,
-    /// `*` among parameters, after which they go by their names alone.
+    /// Whether a parameter list may have `*`: parameters after it are passed by name only.
     pub enable_keyword_only_arguments: bool,
-    /// `/` among parameters, before which they go by their places alone.
+    /// Whether a parameter list may have `/`: parameters before it are passed by position only.
     pub enable_positional_only_arguments: bool,
-    /// Expressions where a type may stand.
+    /// Whether type annotations are allowed, and what they do.
     pub enable_types: DialectTypes,
-    /// Whether what a `load` brings in can be loaded from the file in turn.
+    /// Whether a name that a file gets by `load` can be loaded from that file in turn.
     pub enable_load_reexport: bool,
-    /// `for`, `if` and other statements outside of functions.
+    /// Whether `for`, `if` and other statements are allowed outside of functions.
     pub enable_top_level_stmt: bool,
-    /// F-strings.
+    /// Whether f-strings are allowed.
     pub enable_f_strings: bool,
-    /// More fields may come, so a literal should begin from one of the constants.
+    /// Says that later versions may have more fields: start from one of the constants.
     pub _non_exhaustive: (),
 }
 
 #[allow(non_upper_case_globals)]
 impl Dialect {
-    /// The language as its standard has it.
+    /// The language as its standard has it: `def`, `lambda`, `load`, and names loaded on.
     pub const Standard: Dialect = Dialect {
         enable_def: true,
         enable_lambda: true,
@@ -54,7 +57,7 @@ impl Dialect {
         _non_exhaustive: (),
     };
 
-    /// The standard with types, keyword-only parameters and statements outside of functions.
+    /// The standard dialect with types, keyword-only parameters, and top-level statements.
     pub const Extended: Dialect = Dialect {
         enable_def: true,
         enable_lambda: true,
@@ -68,7 +71,7 @@ impl Dialect {
         _non_exhaustive: (),
     };
 
-    /// Every feature there is.
+    /// Every feature: the extended dialect with positional-only parameters and f-strings.
     pub const AllOptionsInternal: Dialect = Dialect {
         enable_def: true,
         enable_lambda: true,

@@ -1,4 +1,4 @@
-//! Characters by the bytes that begin them, so that many bytes are looked at together.
+//! Counts characters by their first bytes, with SIMD: 32 bytes at a time.
 
 ghost use Rattle.std.specs.Prelude.{◌≡◌, ◌+◌, ◌≤◌, count_by, drop, length, take};
 ghost use Rattle.starlark_text.specs.Characters as spec;
@@ -6,10 +6,10 @@ ghost use Rattle.starlark_text.specs.Characters.{char_count};
 
 use std::simd::prelude::*;
 
-/// How many bytes are looked at together.
+/// Bytes in one SIMD step.
 pub const LANES: usize = 32;
 
-/// Whether a byte of a text begins a character.
+/// Whether a byte of a UTF-8 text is the first byte of a character.
 #[inline(always)]
 pub fn begins_character(byte: u8) -> bool
     ensures { result ≡ spec.begins_character byte }
@@ -17,7 +17,7 @@ pub fn begins_character(byte: u8) -> bool
     byte < 128 || 192 <= byte
 }
 
-/// How many characters begin among the bytes from `at` on that are looked at together.
+/// Number of characters that begin in the `LANES` bytes from `at` on.
 #[inline(always)]
 pub fn lanes_begun(bytes: &[u8], at: usize) -> usize
     requires { at + LANES ≤ length bytes.now }
@@ -28,15 +28,16 @@ pub fn lanes_begun(bytes: &[u8], at: usize) -> usize
     begins.to_bitmask().count_ones() as usize
 }
 
-/// How many characters begin among some bytes, looked at one by one.
+/// Number of characters that begin in some bytes, by one byte at a time: the scalar tail.
 fn short_count_begun(bytes: &[u8]) -> usize
     ensures { result ≡ count_by spec.begins_character bytes.now }
 {
     bytes.iter().filter(|byte| begins_character(**byte)).count()
 }
 
-/// How many characters begin among some bytes, which may be cut inside of a character. Many bytes are looked at
-/// together.
+/// Number of characters that begin in some bytes, by SIMD with a scalar tail.
+///
+/// The bytes may start or end inside a character.
 pub fn count_begun(bytes: &[u8]) -> usize
     ensures { result ≡ count_by spec.begins_character bytes.now }
 {
@@ -49,7 +50,7 @@ pub fn count_begun(bytes: &[u8]) -> usize
     count + short_count_begun(&bytes[at..])
 }
 
-/// How many characters a text has.
+/// Number of characters of a text.
 pub fn count_characters(text: &str) -> usize
     ensures { result ≡ char_count text.now }
 {

@@ -1,5 +1,6 @@
-//! Texts by their characters, the dialects of Starlark, and how a call refuses that may lack memory. Nothing here takes
-//! memory.
+//! Characters of texts, dialects of Starlark, and the error of calls that can run out of memory.
+//!
+//! Nothing here allocates.
 #![tactic(auto)]
 
 pub mod dialect;

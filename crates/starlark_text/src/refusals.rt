@@ -1,17 +1,19 @@
-//! How calls refuse that can also lack memory.
+//! The error of calls that can fail in a way of their own, and can run out of memory too.
 
 use std::alloc::AllocError;
 use std::fmt::Display;
 use thiserror::Error;
 
-/// A refusal, or want of memory.
+/// An error of type `E`, or out of memory.
+///
+/// Printed as the error, or as `out of memory`. `?` makes an `AllocError` the latter.
 #[derive(Debug, Drop, Error)]
 #[error_bound(E: Display)]
 pub enum OrMemory<E> {
-    /// The refusal.
+    /// The call refused its arguments, or failed in another way that `E` describes.
     #[error("{0}")]
     Error(E),
-    /// Memory was wanting.
+    /// An allocation failed.
     #[error("out of memory")]
     Memory,
 }

@@ -1,4 +1,4 @@
-//! What has to hold of every text: of its lexemes, of a lexer whose code map has another source, and of what is printed.
+//! Checks of every text: its lexemes, a lexer whose code map has another source, and the output.
 
 use crate::lines::{file_of, lines_of};
 use starlark_syntax::codemap::{CodeMap, OrMemory};
@@ -7,10 +7,10 @@ use starlark_syntax::eval_exception::EvalException;
 use starlark_syntax::lexer::{LexedText, Lexeme, Lexer, Token};
 use std::alloc::{AllocError, Global};
 
-/// The length in bytes of the longest text whose lines are all compared.
+/// Length in bytes of the longest text whose lines are all compared.
 const LONGEST_WITH_LINES: usize = 4096;
 
-/// A text with its lexemes, and its fault in a file.
+/// Lexes a text, with its fault in a code map.
 pub fn lexed_in<'a>(
     alloc: Global,
     text: &'a str,
@@ -19,7 +19,7 @@ pub fn lexed_in<'a>(
     LexedText::lex(alloc, text, &Dialect::Standard, file.dupe()?).map_err(|_| AllocError)
 }
 
-/// Whether a blank, a byte of a line end, or a backslash before a line end stands at the front.
+/// Whether a text begins with a byte of a gap: a blank, CR, LF, or a backslash before a line break.
 fn is_gap_byte(rest: &[u8]) -> bool {
     match rest {
         [b' ' | b'\t' | b'\r' | b'\n', ..] => true,
@@ -29,7 +29,7 @@ fn is_gap_byte(rest: &[u8]) -> bool {
     }
 }
 
-/// Whether only blanks, line ends and escaped line ends stand from one place of a text to another.
+/// Whether a text has only blanks and line breaks, escaped or not, from byte `from` to `to`.
 fn is_gap(text: &str, from: usize, to: usize) -> bool {
     let Some(gap) = text.get(from..to) else {
         return false;
@@ -42,7 +42,9 @@ fn is_gap(text: &str, from: usize, to: usize) -> bool {
     true
 }
 
-/// Whether the lexemes are in order, with only gaps between them, and behind them where the text has no fault.
+/// Whether the lexemes are in order, with only gaps between them.
+///
+/// If there is no fault, only a gap may be after the last one.
 fn is_in_order(lexed: &LexedText<'_>) -> bool {
     let mut at = 0;
     for (begin, _, end) in lexed.lexemes() {
@@ -54,7 +56,7 @@ fn is_in_order(lexed: &LexedText<'_>) -> bool {
     lexed.fault().is_some() || is_gap(lexed.text(), at, lexed.text().len())
 }
 
-/// Whether each `Dedent` closes an `Indent`, and where the text has no fault each `Indent` is closed.
+/// Whether each `Dedent` closes an `Indent`, and each `Indent` is closed if there is no fault.
 fn is_balanced(lexed: &LexedText<'_>) -> bool {
     let mut open: usize = 0;
     for (_, token, _) in lexed.lexemes() {
@@ -68,32 +70,33 @@ fn is_balanced(lexed: &LexedText<'_>) -> bool {
     open == 0 || lexed.fault().is_some()
 }
 
-/// Whether a token is one that no lexer hands out.
+/// Whether a token is one that no lexer yields.
 fn is_never_handed_out(token: &Token) -> bool {
     let kind = token.kind();
     kind == "Tabs" || kind == "Reserved" || kind.starts_with("Raw")
 }
 
-/// How many lexemes and faults there are.
+/// Number of lexemes and faults.
 fn item_count(lexed: &LexedText<'_>) -> usize {
     let faults = usize::from(lexed.fault().is_some());
     lexed.lexemes().len().saturating_add(faults)
 }
 
-/// Whether there are at most two lexemes and faults for each byte, and one.
+/// Whether a text of `n` bytes has at most `2 * n + 1` lexemes and faults.
 fn are_few(lexed: &LexedText<'_>) -> bool {
     item_count(lexed) <= lexed.text().len().saturating_mul(2).saturating_add(1)
 }
 
-/// Whether bytes were read as often as promised: at most sixteen times as often as there are bytes and one, and, where the
-/// text has no fault, at least once each.
+/// Whether the number of reads is in its bounds, for a text of `n` bytes.
+///
+/// They are at most `16 * (n + 1)`, and at least `n` if there is no fault.
 fn are_reads_bounded(lexed: &LexedText<'_>) -> bool {
     let bytes = lexed.text().len() as u64;
     let most = bytes.saturating_add(1).saturating_mul(16);
     lexed.reads() <= most && (lexed.fault().is_some() || bytes <= lexed.reads())
 }
 
-/// Whether a lexer handed out this lexeme.
+/// Whether an item of a lexer is the wanted lexeme.
 fn is_lexeme(next: &Option<Lexeme>, wanted: &(usize, Token, usize)) -> bool {
     match next {
         Some(Ok((begin, token, end))) => {
@@ -103,7 +106,8 @@ fn is_lexeme(next: &Option<Lexeme>, wanted: &(usize, Token, usize)) -> bool {
     }
 }
 
-/// A fault as it prints in a file without a text: with its place in bytes, unless that is the empty text's only place.
+/// A fault as it prints with a code map of an empty text: its span in bytes, or `1:1` if that is
+/// 0-0.
 fn in_bytes(alloc: Global, fault: &EvalException) -> Result<String, AllocError> {
     let kind = fault.error().kind();
     let Some(place) = fault.error().span() else {
@@ -117,7 +121,7 @@ fn in_bytes(alloc: Global, fault: &EvalException) -> Result<String, AllocError> 
     format!(in alloc; "{kind} at {place}")
 }
 
-/// Whether a lexer handed out this fault, in a file without a text.
+/// Whether an item of a lexer is the wanted fault, with a code map of an empty text.
 fn is_fault(
     alloc: Global,
     next: &Option<Lexeme>,
@@ -131,7 +135,9 @@ fn is_fault(
     }
 }
 
-/// Whether a lexer in a file without a text hands out the same lexemes, then the same fault, and nothing behind them.
+/// Whether a lexer with a code map of an empty text yields the same lexemes and fault.
+///
+/// After these it must yield `None`, twice.
 fn is_handed_out(alloc: Global, lexed: &LexedText<'_>) -> Result<bool, AllocError> {
     let file = file_of(alloc, "")?;
     let Ok(mut lexer) = Lexer::new(alloc, lexed.text(), &Dialect::Standard, file) else {
@@ -150,7 +156,7 @@ fn is_handed_out(alloc: Global, lexed: &LexedText<'_>) -> Result<bool, AllocErro
     Ok(lexer.next().is_none() && lexer.next().is_none())
 }
 
-/// What is wrong with the lexemes of a text by themselves, if something is.
+/// What is wrong with the lexemes of a text, if anything is.
 fn wrong_with_lexemes(lexed: &LexedText<'_>) -> Option<&'static str> {
     if !is_in_order(lexed) {
         return Some("text between lexemes, or lexemes out of order");
@@ -174,8 +180,10 @@ fn wrong_with_lexemes(lexed: &LexedText<'_>) -> Option<&'static str> {
     None
 }
 
-/// Whether the lines of a lexed text were printed. Of a long text only their number is compared, since making the lines
-/// takes longer than lexing it.
+/// Whether the lines of a lexed text were printed.
+///
+/// For a long text only their number is compared, since formatting the lines takes longer than
+/// lexing.
 fn is_printed(
     alloc: Global,
     lexed: &LexedText<'_>,
@@ -189,7 +197,7 @@ fn is_printed(
     Ok(lines_of(alloc, lexed, file)?.as_bytes() == printed)
 }
 
-/// What is wrong with a lexed text, or with what was printed for it; nothing where all is well.
+/// What is wrong with a lexed text, or with the output for it, if anything is.
 pub fn wrong_with_lexed(
     alloc: Global,
     lexed: &LexedText<'_>,
@@ -205,7 +213,7 @@ pub fn wrong_with_lexed(
     Ok(wrong_with_lexemes(lexed))
 }
 
-/// What is wrong with the lexemes of a text, or with what was printed for it; nothing where all is well.
+/// Lexes a text, and returns what is wrong with it, or with the output for it, if anything is.
 pub fn first_wrong(
     alloc: Global,
     text: &str,

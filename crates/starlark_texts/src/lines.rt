@@ -1,5 +1,6 @@
-//! The lines of a text, made of its lexemes and its fault by what a code map says of their places. `run` makes them another
-//! way: it moves a place along.
+//! The output for a text, by the lines and columns of a code map.
+//!
+//! `run` gets them in another way: it counts them while it moves on. So the two check each other.
 
 use starlark_syntax::codemap::{CodeMap, CodeMapId, FileSpan, Pos, Span};
 use starlark_syntax::eval_exception::EvalException;
@@ -7,14 +8,14 @@ use starlark_syntax::lexer::{LexedText, Token};
 use std::alloc::{AllocError, Global};
 use std::fmt::Write;
 
-/// The code map of a source, whose file's name is `<stdin>`. The stored texts are all short enough.
+/// The code map of a source, with the file name `<stdin>`. All stored texts are short enough.
 pub fn file_of(alloc: Global, source: &str) -> Result<CodeMap, AllocError> {
     let name = String::from_str(alloc, "<stdin>")?;
     let source = String::from_str(alloc, source)?;
     CodeMap::new(alloc, CodeMapId::new(1), name, source).map_err(|_| AllocError)
 }
 
-/// Adds a space and two hexadecimal digits a byte.
+/// Appends a space and two hexadecimal digits for each byte.
 fn add_hex(lines: &mut String, bytes: &[u8]) -> Result<(), AllocError> {
     lines.push(' ')?;
     for &byte in bytes {
@@ -23,7 +24,7 @@ fn add_hex(lines: &mut String, bytes: &[u8]) -> Result<(), AllocError> {
     Ok(())
 }
 
-/// Adds a space and the value of a token that has one.
+/// Appends a space and the value of a token, if it has one.
 fn add_value(lines: &mut String, token: &Token) -> Result<(), AllocError> {
     match token {
         Token::Comment(text) | Token::Identifier(text) | Token::Float(text) => {
@@ -37,7 +38,7 @@ fn add_value(lines: &mut String, token: &Token) -> Result<(), AllocError> {
     }
 }
 
-/// Adds the line and the column of both ends of a span; nothing where its file doesn't hold it.
+/// Appends the lines and columns of a span; nothing where its code map doesn't hold it.
 fn add_place(lines: &mut String, file: &CodeMap, span: Span) -> Result<(), AllocError> {
     if !file.holds(span) {
         return Ok(());
@@ -45,7 +46,7 @@ fn add_place(lines: &mut String, file: &CodeMap, span: Span) -> Result<(), Alloc
     write!(lines, "{}", file.resolve_span(span))
 }
 
-/// The span between two places; `None` where they are out of order, or 32 bits don't count them.
+/// The span between two offsets; `None` if they are out of order or don't fit in 32 bits.
 fn span_of(begin: usize, end: usize) -> Option<Span> {
     if begin > end || end > u32::MAX as usize {
         return None;
@@ -53,7 +54,7 @@ fn span_of(begin: usize, end: usize) -> Option<Span> {
     Some(Span::new(Pos::new(begin as u32), Pos::new(end as u32)))
 }
 
-/// Adds the line of a token between two places.
+/// Appends the line of a token between two offsets.
 fn add_line(
     lines: &mut String,
     file: &CodeMap,
@@ -70,7 +71,7 @@ fn add_line(
     lines.push('\n')
 }
 
-/// Adds the line of a fault at a place.
+/// Appends the line of a fault.
 fn add_fault(
     lines: &mut String,
     fault: &EvalException,
@@ -82,7 +83,7 @@ fn add_fault(
     write!(lines, " {}\n", fault.error().kind())
 }
 
-/// All lines of a lexed text, whose places lie in a file.
+/// The output for a lexed text, by its code map.
 pub fn lines_of(
     alloc: Global,
     lexed: &LexedText<'_>,

@@ -1,9 +1,11 @@
 //! Runs the lexer over stored texts, so that its whole output is compared with a stored one.
 //!
-//! What standard input has is said in `stored`. For a text, edited or not, the program prints a line
-//! `text NUMBER: STATUS`, where records are numbered from 1, and then what `starlark_lex` prints for it. For the fronts
-//! of a text, and for a text that is repeated, it prints a line `text NUMBER: COUNTS`. Behind these stands a line for
-//! each text that a check found something wrong with. It ends with an error where standard input is no such list.
+//! Module `stored` has the format of standard input. Records are numbered from 1. For a text,
+//! edited or not, the program prints a line `text NUMBER: STATUS`, and then what `starlark_lex`
+//! prints for it. For the fronts of a text, and for a repeated text, it prints a line
+//! `text NUMBER: COUNTS`. Where a check finds something wrong it prints one more line, which for
+//! fronts is of the first. Edited texts aren't checked. It ends with an error where standard input
+//! is no such list.
 #![tactic(auto)]
 
 mod checks;
@@ -20,10 +22,10 @@ use std::alloc::{AllocError, Global};
 use std::io;
 use std::io::{BufWriter, ErrorKind, Read, Write};
 
-/// How many bytes are printed for an edited text at most, so that the writer, which has room for them, takes no memory.
+/// Greatest output for an edited text, in bytes, so that the writer never allocates.
 const MOST_PRINTED: usize = 65_536;
 
-/// Prints how a run over a text ended.
+/// Prints the status of a run over a text.
 fn print_ending<W: Write>(
     out: &mut W,
     number: u64,
@@ -36,7 +38,7 @@ fn print_ending<W: Write>(
     }
 }
 
-/// Prints how a run over a text ended, and what it printed.
+/// Prints the status of a run over a text, and its output.
 fn print_outcome<W: Write>(
     out: &mut W,
     number: u64,
@@ -47,7 +49,7 @@ fn print_outcome<W: Write>(
     out.write_all(printed)
 }
 
-/// What a check finds wrong with what was printed for a text; nothing is checked of bytes that are no text.
+/// What a check finds wrong with a text and its output. Bytes that aren't UTF-8 aren't checked.
 fn wrong_with(
     alloc: Global,
     text: &[u8],
@@ -59,7 +61,7 @@ fn wrong_with(
     }
 }
 
-/// Runs the lexer over a text, and prints how that ended and what the lexer printed.
+/// Runs the lexer over a text, and prints the status, the output, and what is wrong with it.
 fn print_run<W: Write>(alloc: Global, out: &mut W, number: u64, text: &[u8]) -> io::Result<()> {
     let mut reader = Watched::new(text);
     let mut writer = Watched::new(Vec::new(alloc));
@@ -72,7 +74,7 @@ fn print_run<W: Write>(alloc: Global, out: &mut W, number: u64, text: &[u8]) -> 
     }
 }
 
-/// Runs the lexer over a text behind its edits, and prints how that ended and what the lexer printed.
+/// Runs the lexer over a text after its edits, and prints the status and the output.
 fn print_edited<W: Write>(
     alloc: Global,
     out: &mut W,
@@ -86,7 +88,7 @@ fn print_edited<W: Write>(
     print_outcome(out, number, &outcome, writer.device().as_slice())
 }
 
-/// Prints what is wrong with the first text of many that a check refuses, if there is one.
+/// Prints what is wrong with the first text of many in which a check finds something wrong, if any.
 fn print_wrong<W: Write>(out: &mut W, tally: &Tally) -> io::Result<()> {
     match tally.wrong() {
         Some((len, wrong)) => write!(out, "wrong, {len} bytes: {wrong}\n"),
@@ -94,19 +96,19 @@ fn print_wrong<W: Write>(out: &mut W, tally: &Tally) -> io::Result<()> {
     }
 }
 
-/// Prints what the fronts of a text come to.
+/// Prints the counts of all fronts of a text.
 fn print_fronts<W: Write>(out: &mut W, number: u64, fronts: &Tally) -> io::Result<()> {
     write!(out, "text {number}: {fronts}, sum {}\n", fronts.sum())?;
     print_wrong(out, fronts)
 }
 
-/// Prints what a repeated text comes to.
+/// Prints the counts of a repeated text.
 fn print_repeated<W: Write>(out: &mut W, number: u64, repeated: &Tally) -> io::Result<()> {
     write!(out, "text {number}: {repeated}\n")?;
     print_wrong(out, repeated)
 }
 
-/// The error of standard input that is no list of records.
+/// The error for standard input that is no list of records.
 fn no_records() -> io::Error {
     io::Error::from(ErrorKind::InvalidData)
 }
@@ -116,7 +118,7 @@ fn edit_text(text: &[u8]) -> io::Result<&str> {
     str::from_utf8(text).map_err(|_| no_records())
 }
 
-/// Does with a text what is to be done, and prints what comes of it. An edit is kept for the next text that is edited.
+/// Does the task of a record, and prints its result. An edit is kept for the next edited text.
 fn print_record<'b, W: Write>(
     alloc: Global,
     out: &mut W,

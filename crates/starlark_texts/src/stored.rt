@@ -1,37 +1,39 @@
-//! The stored texts: a list of records one behind another.
+//! The format of stored texts: a list of records.
 //!
-//! A record is the length of its text in bytes as decimal digits, perhaps a space and what is to be done, a line feed,
-//! the text, and a line feed. What is to be done is `fronts`, or `times` and a number, or `edit` and two places, or
+//! A record is a line, the text, and an LF. The line has the length of the text in bytes, and
+//! perhaps a space and a task: `fronts`, or `times` and a number, or `edit` and two offsets, or
 //! `edited`, with spaces between them.
 
-/// What is done with a text.
+/// The task of a record.
 #[derive(Clone, Copy)]
 pub enum Task {
-    /// It is lexed, and all lines are printed.
+    /// Lex the text, and print the output.
     Lines,
-    /// Each front of it is lexed and checked, up to the text itself, and what they come to is counted.
+    /// Lex and check each front of the text, the text itself too, and print counts of them.
     Fronts,
-    /// The text so many times, as one text, is lexed and checked, and what that comes to is counted.
+    /// Repeat the text the given number of times, lex and check that, and print counts of it.
     Repeated(u32),
-    /// It is an edit of the next text that is edited: it takes the place of the bytes from one place to another.
+    /// The text is an edit of the next edited text: it replaces the bytes from `from` to `to`.
     Edit { from: usize, to: usize },
-    /// It is lexed behind the edits that stand before it, one after another, and all lines are printed.
+    /// Lex the text after the edits before it, one after another, and print the output.
     Edited,
 }
 
-/// A text, and what is done with it.
+/// A text, and the task for it.
 #[derive(Clone, Copy)]
 pub struct Record<'b> {
+    /// What is done with the text.
     pub task: Task,
+    /// The text, which needn't be UTF-8.
     pub text: &'b [u8],
 }
 
-/// The number that a word is, if there is a word and it is one.
+/// The number of a word; `None` if there is no word, or it is no number.
 fn number(word: Option<&str>) -> Option<usize> {
     word?.parse().ok()
 }
 
-/// What is done with a text, by the words behind its length: a name, and up to two numbers.
+/// The task of a name and up to two numbers; `None` if it is no task.
 fn task_of(name: Option<&str>, first: Option<usize>, second: Option<usize>) -> Option<Task> {
     match name {
         None => Some(Task::Lines),
@@ -46,7 +48,7 @@ fn task_of(name: Option<&str>, first: Option<usize>, second: Option<usize>) -> O
     }
 }
 
-/// The length of a text and what is done with it, as a record's first line says them.
+/// The length of a text and its task, by a record's first line; `None` if it is none.
 fn header(line: &str) -> Option<(usize, Task)> {
     let mut words = line.split(' ');
     let len = number(words.next())?;
@@ -56,7 +58,7 @@ fn header(line: &str) -> Option<(usize, Task)> {
     Some((len, task))
 }
 
-/// The first record, and what stands behind it; `None` where no record begins.
+/// The first record, and the rest after it; `None` if no record begins there.
 pub fn first_record(stored: &[u8]) -> Option<(Record<'_>, &[u8])> {
     let line_end = stored.iter().position(|&byte| byte == b'\n')?;
     let line = str::from_utf8(&stored[..line_end]).ok()?;

@@ -1,4 +1,4 @@
-//! Counts over many texts, each of which is lexed in all ways and checked.
+//! Counts of many texts, each of which is lexed and checked.
 
 use crate::checks::{lexed_in, wrong_with_lexed};
 use crate::lines::file_of;
@@ -7,8 +7,10 @@ use starlark_syntax::lexer::LexedText;
 use std::alloc::{AllocError, Global};
 use std::fmt;
 
-/// How many texts there were, and how many lexemes and faults they have together; a sum over all bytes that were printed
-/// for them; and what is wrong with the first of them that a check refuses, with that text's length.
+/// Number of texts, of their lexemes and of their faults, and a checksum of their output.
+///
+/// `wrong` is what is wrong with the first text in which a check finds something wrong, and that
+/// text's length in bytes. Printed as the three numbers.
 #[derive(Clone, Copy)]
 pub struct Tally {
     texts: u64,
@@ -18,7 +20,7 @@ pub struct Tally {
     wrong: Option<(usize, &'static str)>,
 }
 
-/// A number that differs, but by rare chance, where one byte that was printed is another or is missing.
+/// The checksum of an output, which goes on from `sum`.
 fn sum_on(sum: u64, printed: &[u8]) -> u64 {
     let mut sum = sum;
     for &byte in printed {
@@ -28,6 +30,7 @@ fn sum_on(sum: u64, printed: &[u8]) -> u64 {
 }
 
 impl Tally {
+    /// No texts.
     const NONE: Tally = Tally {
         texts: 0,
         lexemes: 0,
@@ -36,17 +39,17 @@ impl Tally {
         wrong: None,
     };
 
-    /// The sum over all bytes that were printed.
+    /// The checksum of all output.
     pub fn sum(&self) -> u64 {
         self.sum
     }
 
-    /// What is wrong with the first text that a check refused, behind that text's length.
+    /// What a check found wrong first, after the length in bytes of the text.
     pub fn wrong(&self) -> Option<(usize, &'static str)> {
         self.wrong
     }
 
-    /// Counts a lexed text, and what was printed for it.
+    /// Adds a lexed text and the output for it.
     fn add(&mut self, lexed: &LexedText<'_>, printed: &[u8]) {
         self.texts = self.texts.wrapping_add(1);
         self.lexemes = self.lexemes.wrapping_add(lexed.lexemes().len() as u64);
@@ -54,7 +57,7 @@ impl Tally {
         self.sum = sum_on(self.sum, printed);
     }
 
-    /// Runs the lexer over a text, checks what it prints and hands out, and counts it.
+    /// Runs the lexer over a text, checks its output and its lexemes, and adds it.
     fn add_text(&mut self, alloc: Global, text: &str) -> Result<(), AllocError> {
         let mut reader = Watched::new(text.as_bytes());
         let mut writer = Watched::new(Vec::new(alloc));
@@ -70,6 +73,7 @@ impl Tally {
     }
 }
 
+/// Prints the numbers of texts, lexemes and faults, as in `3 texts, 12 lexemes, 1 faults`.
 impl fmt::Display for Tally {
     fn fmt<W: fmt::Write>(&self, f: &mut fmt::Formatter<W>) -> fmt::Result {
         write!(f, "{} texts, {} lexemes, ", self.texts, self.lexemes)?;
@@ -77,7 +81,9 @@ impl fmt::Display for Tally {
     }
 }
 
-/// What all fronts of a text come to that end between characters. Bytes that are no text have none.
+/// Counts of all fronts of a text that end at character boundaries, of the whole text too.
+///
+/// Bytes that aren't UTF-8 count as an empty text.
 pub fn of_fronts(alloc: Global, text: &[u8]) -> Result<Tally, AllocError> {
     let mut tally = Tally::NONE;
     let text = str::from_utf8(text).unwrap_or("");
@@ -90,7 +96,7 @@ pub fn of_fronts(alloc: Global, text: &[u8]) -> Result<Tally, AllocError> {
     Ok(tally)
 }
 
-/// What a text comes to that is repeated so many times.
+/// Counts of a text that is repeated `times` times. Bytes that aren't UTF-8 count as an empty text.
 pub fn of_repeated(alloc: Global, text: &[u8], times: u32) -> Result<Tally, AllocError> {
     let mut tally = Tally::NONE;
     let text = str::from_utf8(text).unwrap_or("");

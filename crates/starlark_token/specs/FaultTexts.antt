@@ -1,10 +1,10 @@
--- What is said of each fault.
+-- The messages of errors.
 use Rattle.std.specs.Prelude.{ℕ, List, ◌++◌, codes, string_bytes}
 use Rattle.std.specs.Fmt.{decimal}
 use Rattle.starlark_token.specs.declared.lexeme_error.LexemeError.{LexemeError}
 use Rattle.starlark_token.specs.declared.lexeme_error.LexemeError.TheVariants.{Indentation, InvalidInput, InvalidTab, UnfinishedStringLiteral, InvalidEscapeSequence, EmptyEscapeSequence, ReservedKeyword, StartsZero, IntParse, CommentSpanComputedIncorrectly, CannotParse, UnfinishedFStringExpression}
 
--- the twelve texts
+-- the message of each error
 unfoldable pub fault_text : LexemeError → List ℕ
 fault_text Indentation = codes "Parse error: incorrect indentation"
 fault_text (InvalidInput text) = codes "Parse error: invalid input `" ++ string_bytes text ++ codes "`"

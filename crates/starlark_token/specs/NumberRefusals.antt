@@ -1,4 +1,4 @@
--- Why no number is read from a text.
+-- The errors of parsing an integer.
 use Rattle.std.specs.Prelude.{◌≡◌, ℕ, None, string_bytes, IsSomeAnd, ◌⊎◌}
 use Rattle.starlark_text.specs.declared.refusals.OrMemory.{OrMemory}
 use Rattle.starlark_text.specs.declared.refusals.OrMemory.TheVariants.{Error, Memory}
@@ -8,12 +8,13 @@ use Rattle.starlark_token.specs.TokenInts.{IsBig}
 use Rattle.starlark_token.specs.declared.lexeme_error.LexemeError.{LexemeError}
 use Rattle.starlark_token.specs.declared.lexeme_error.LexemeError.TheVariants.{CannotParse}
 
--- the fault names this text and this base
+-- the error names the text and the base
 abbrev pub CannotParseText : ℕ → Text → LexemeError → Type 0
 CannotParseText base text (CannotParse named in_base) = (string_bytes named ≡ text) × (in_base ≡ base)
 CannotParseText base text fault = ⊥
 
--- The text is no number and the fault says so, or memory was wanting, and not for a number of 32 bits.
+-- the text is no integer and the error says so, or memory ran out, but not for an integer that fits
+-- in 32 bits
 abbrev pub RefusesNumber : ℕ → Text → OrMemory LexemeError → Type 0
 RefusesNumber base text (Error fault) = (integer_in base text ≡ None) × CannotParseText base text fault
 RefusesNumber base text Memory = (integer_in base text ≡ None) ⊎ IsSomeAnd (integer_in base text) IsBig

@@ -1,4 +1,4 @@
--- The names of tokens, and what is printed of them.
+-- Names and printed forms of tokens.
 use Rattle.std.specs.Prelude.{◌≡◌, [], ◌++◌, if◌then◌else◌, length, slice_index, Option, Some, codes}
 use Rattle.std.specs.Char.{is_ascii_alphabetic}
 use Rattle.std.specs.Fmt.{decimal, debug_str, ◌++?◌}
@@ -15,7 +15,7 @@ use Rattle.starlark_grammar.specs.Tokens as grammar
 use Rattle.starlark_token.specs.TokenInts.{integer_text}
 use Rattle.starlark_token.specs.TokenViews.{TokenView, Whole, Tabs, Reserved, Opener, Decimal, Hexadecimal, Binary, Octal}
 
--- The names of the keywords and the symbols.
+-- the names of keywords and symbols
 unfoldable pub terminal_kind : Terminal → Text
 terminal_kind terminal.And = codes "And"
 terminal_kind terminal.Break = codes "Break"
@@ -76,7 +76,7 @@ terminal_kind terminal.ClosingSquare = codes "ClosingSquare"
 terminal_kind terminal.ClosingCurly = codes "ClosingCurly"
 terminal_kind terminal.ClosingRound = codes "ClosingRound"
 
--- The names of the tokens.
+-- the names of the tokens of the grammar
 unfoldable pub whole_kind : grammar.Token → Text
 whole_kind (grammar.Comment text) = codes "Comment"
 whole_kind grammar.Indent = codes "Indent"
@@ -95,7 +95,7 @@ whole_kind grammar.FStringBang = codes "FStringBang"
 whole_kind grammar.FStringEnd = codes "FStringEnd"
 whole_kind (grammar.Word terminal) = terminal_kind terminal
 
--- The names of all that a token of the code may be.
+-- the names of all tokens of the code
 unfoldable pub kind_of : TokenView → Text
 kind_of (Whole token) = whole_kind token
 kind_of Tabs = codes "Tabs"
@@ -115,21 +115,22 @@ kind_of Octal = codes "RawOctInt"
 abbrev pub sort_of : Text → Text
 sort_of word = if is_ascii_alphabetic (slice_index word 0) then codes "keyword" else codes "symbol"
 
--- in single quotes, behind what it is
+-- what it is, and then the name in single quotes
 abbrev pub named : Text → Text → Text
 named what name = what ++ (codes " '" ++ (name ++ codes "'"))
 
--- what is printed of an opener
+-- the letter of an opener
 abbrev pub letter_of : Kind → Text
 letter_of OfText = []
 letter_of OfBytes = codes "b"
 letter_of OfFString = codes "f"
 
+-- the quote of an opener
 abbrev pub quote_text : Quote → Text
 quote_text SingleQuote = codes "'"
 quote_text DoubleQuote = codes "\""
 
--- What is printed of a token that has no value; nothing of one that has.
+-- the printed form of a token that has no value; empty for one that has
 unfoldable pub fixed_text : TokenView → Text
 fixed_text (Whole grammar.Indent) = codes "new indentation block"
 fixed_text (Whole grammar.Dedent) = codes "end of indentation block"
@@ -149,7 +150,7 @@ fixed_text Hexadecimal = codes "hexadecimal integer literal"
 fixed_text Binary = codes "binary integer literal"
 fixed_text Octal = codes "octal integer literal"
 
--- What is printed of a token. Of a text that isn't all ASCII, the form for debugging is left open.
+-- the printed form of a token; left open for a string or an f-string text that isn't all ASCII
 unfoldable pub token_text : TokenView → Option Text
 token_text (Whole (grammar.Comment text)) = Some (named (codes "comment") text)
 token_text (Whole (grammar.Identifier name)) = Some (named (codes "identifier") name)

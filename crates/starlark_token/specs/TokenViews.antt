@@ -1,4 +1,4 @@
--- What the tokens of the code are to the grammar.
+-- Tokens of the code, as the grammar sees them.
 use Rattle.std.specs.Prelude.{true, false, string_bytes, ⊤}
 use Rattle.starlark_grammar.specs.declared.class.Terminal.TheVariants as terminal
 use Rattle.starlark_grammar.specs.declared.class.Quote.{Quote}
@@ -12,7 +12,7 @@ use Rattle.starlark_token.specs.declared.fstring_style.FStringQuote.TheVariants.
 use Rattle.starlark_token.specs.declared.tokens.Token.{Token}
 use Rattle.starlark_token.specs.declared.tokens.Token.TheVariants as token
 
--- A token of the grammar, or a word that none is made of yet.
+-- a token of the grammar, or a word of the scanner that no token is made of yet
 pub data TokenView : Type 0 where
   Whole : (token : grammar.Token) → TokenView
   Tabs : TokenView
@@ -23,14 +23,15 @@ pub data TokenView : Type 0 where
   Binary : TokenView
   Octal : TokenView
 
--- How an f-string begins. A token doesn't tell whether the f-string is raw, so it is seen as one that isn't.
+-- the opening of an f-string; a token doesn't say whether it is raw, so it is seen as one that
+-- isn't
 abbrev pub fstring_quote_view : FStringQuote → grammar.Opening
 fstring_quote_view Single = record { is_raw = false; quote = SingleQuote; is_triple = false }
 fstring_quote_view Double = record { is_raw = false; quote = DoubleQuote; is_triple = false }
 fstring_quote_view TripleSingle = record { is_raw = false; quote = SingleQuote; is_triple = true }
 fstring_quote_view TripleDouble = record { is_raw = false; quote = DoubleQuote; is_triple = true }
 
--- What each token is.
+-- what each token of the code is to the grammar
 unfoldable pub token_view : Token → TokenView
 token_view (token.Comment text) = Whole (grammar.Comment (string_bytes text))
 token_view token.Tabs = Tabs
@@ -118,7 +119,7 @@ token_view token.ClosingSquare = Whole (grammar.Word terminal.ClosingSquare)
 token_view token.ClosingCurly = Whole (grammar.Word terminal.ClosingCurly)
 token_view token.ClosingRound = Whole (grammar.Word terminal.ClosingRound)
 
--- A token whose value takes memory of its own: a text, bytes, or an integer that 32 bits don't hold.
+-- a token whose value is allocated: a text, bytes, or an integer that doesn't fit in 32 bits
 abbrev pub OwnsMemory : TokenView → Type 0
 OwnsMemory (Whole (grammar.Comment text)) = ⊤
 OwnsMemory (Whole (grammar.Identifier name)) = ⊤

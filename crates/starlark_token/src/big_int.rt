@@ -1,4 +1,4 @@
-//! Whole numbers that 32 bits don't hold, as they are written down.
+//! Integers that don't fit in 32 bits, as digits in their base.
 
 ghost use Rattle.std.specs.Prelude.{◌≡◌, IfOk};
 
@@ -6,7 +6,7 @@ use std::alloc::{AllocError, Global};
 use std::fmt;
 use std::marker::Model;
 
-/// The sign, the digits and the base of a number.
+/// The boxed fields of a `BigInt`.
 #[derive(Debug, Drop)]
 struct Parts {
     negative: bool,
@@ -14,10 +14,10 @@ struct Parts {
     radix: u32,
 }
 
-/// A whole number that 32 bits don't hold: its sign, its digits and the base that they are written in.
+/// An integer out of the range of `i32`: its sign, its digits, and their base.
 ///
-/// Two are equal where sign, digits and base are, so a number written in two bases has two values. Its parts lie in a
-/// box, since such numbers are rare and each token has room for one.
+/// Two are equal if sign, digits and base are, so one number in two bases is two values.
+// Boxed, since each `Token` has room for one and few are so large.
 #[derive(Debug, Drop)]
 pub struct BigInt {
     parts: Box<Parts>,
@@ -38,7 +38,7 @@ impl BigInt {
     ghost use Rattle.std.specs.Prelude.{string_bytes};
     ghost use Rattle.starlark_token.specs.BigIntegers.{IsCanonical};
 
-    /// The number with this sign and these digits.
+    /// A number of a sign, digits and a base. `AllocError` drops the digits.
     pub(crate) fn from_parts(
         alloc: Global,
         negative: bool,
@@ -65,7 +65,7 @@ impl BigInt {
         self.parts.negative
     }
 
-    /// The digits, letters in lower case, the first no zero.
+    /// The digits: without leading zeros, and with letters in lower case.
     pub fn digits(&self) -> &str
         ensures value { result.now ≡ self.now.digits }
         ensures kept { IsCanonical self.now }
@@ -73,7 +73,7 @@ impl BigInt {
         self.parts.digits.as_str()
     }
 
-    /// The base that the digits are written in, from 2 to 36.
+    /// The base of the digits, from 2 to 36.
     pub fn radix(&self) -> u32
         ensures value { result ≡ self.now.radix }
         ensures kept { IsCanonical self.now }
@@ -81,7 +81,7 @@ impl BigInt {
         self.parts.radix
     }
 
-    /// An equal number, its digits in memory of its own.
+    /// An equal number with a copy of the digits. `AllocError` where memory runs out.
     pub fn clone(&self, alloc: Global) -> Result<BigInt, AllocError>
         ensures { IfOk result (λ copy. copy ≡ self.now) }
     {
@@ -116,6 +116,9 @@ impl Eq for BigInt {
     ghost laws = { Prim.search (comparing, rules) };
 }
 
+/// Prints a `-` if it is negative, the digits, and then the base unless it is 10.
+///
+/// An example is `ffffffffff (base 16)`.
 #[tactic(auto, unfolding(crate::specs::BigIntegers::big_text))]
 impl fmt::Display for BigInt {
     ghost use Rattle.std.specs.Prelude.{Some};

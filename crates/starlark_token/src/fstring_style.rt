@@ -1,19 +1,21 @@
-//! How an f-string is quoted, and how it converts a value.
+//! The quotes of f-strings, and their conversions.
 
-/// The quotes round an f-string.
+/// The quotes around an f-string.
 #[derive(Clone, Copy, Debug, PartialEq, Eq)]
 pub enum FStringQuote {
-    /// `f'...'`
+    /// `f'...'`.
     Single,
-    /// `f"..."`
+    /// `f"..."`.
     Double,
-    /// `f'''...'''`
+    /// `f'''...'''`.
     TripleSingle,
-    /// `f"""..."""`
+    /// `f"""..."""`.
     TripleDouble,
 }
 
-/// How an f-string turns the value of an expression into text.
+/// The conversion of an f-string's expression: how its value becomes text.
+///
+/// It is for parsers: no token has it. The default is no conversion.
 #[derive(Clone, Copy, Debug, Default, PartialEq, Eq)]
 pub enum FStringConv {
     /// `{expression}`, with no conversion.

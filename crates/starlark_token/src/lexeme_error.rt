@@ -1,40 +1,43 @@
-//! What can be wrong with a text.
+//! The errors of lexing a text.
 
 ghost use Rattle.std.specs.Prelude.{Some};
 ghost use Rattle.starlark_token.specs.FaultTexts.{fault_text};
 
 use std::fmt;
 
-/// A fault of a text. Where a fault has a text of its own, it is a part of what was read.
+/// An error of lexing a text. The string of a variant is a part of the text, unless it says more.
+///
+/// The variants `IntParse`, `CommentSpanComputedIncorrectly` and `CannotParse` never come from a
+/// lexer.
 #[derive(Debug, Drop)]
 pub enum LexemeError {
-    /// A line is indented as no open block is.
+    /// A line closes a block, and its indentation is that of no open block.
     Indentation,
-    /// No token begins with this text.
+    /// The text begins no token.
     InvalidInput(String),
-    /// A tab stands where only spaces may.
+    /// A tab between two tokens, or in the indentation of a line of code.
     InvalidTab,
-    /// A string literal has no end.
+    /// A string literal is not closed.
     UnfinishedStringLiteral,
-    /// An escape denotes nothing. The text is what stands after its backslash, up to the last
-    /// character that was read.
+    /// An escape that has no meaning: the text after its backslash, up to the last character read.
     InvalidEscapeSequence(String),
-    /// The text ends right after the backslash of an escape.
+    /// The text ends just after the backslash of an escape.
     EmptyEscapeSequence,
-    /// A word that no program may use.
+    /// A reserved word, which no program may use.
     ReservedKeyword(String),
-    /// A decimal integer of more than one digit that begins with 0.
+    /// A decimal integer of more than one digit that begins with 0, as written.
     StartsZero(String),
-    /// A text that was to be an integer. The lexer never answers it.
+    /// A text that should be an integer. No call returns it.
     IntParse(String),
-    /// A comment without its `#`. The lexer never answers it.
+    /// A comment without its `#`. No call returns it.
     CommentSpanComputedIncorrectly,
-    /// A text that is no integer in a base.
+    /// A text that is no integer in the base: what `TokenInt::from_str_radix` fails with.
     CannotParse(String, u32),
-    /// The expression in an f-string has no end.
+    /// An expression in an f-string is not closed by `}`.
     UnfinishedFStringExpression,
 }
 
+/// Prints the message, as in ``Parse error: integer cannot have leading 0, got `01` ``.
 #[tactic(auto, unfolding(crate::specs::FaultTexts::fault_text))]
 impl fmt::Display for LexemeError {
     ghost output = { λ fault. Some (fault_text fault) };

@@ -1,4 +1,4 @@
-//! Tokens, the integers of tokens, and the lexer's faults.
+//! Tokens, values of integer tokens, and errors of lexing.
 #![tactic(auto)]
 
 pub mod big_int;

@@ -1,4 +1,4 @@
-//! Reads the text of a whole number in a base.
+//! Parses integers in a base.
 
 ghost use Rattle.std.specs.Prelude.{◌≡◌, ◌≤◌, nat_eq, slice_index, string_bytes, OnErr, IfOk, IsSomeAnd};
 ghost use Rattle.std.specs.Char.{is_digit};
@@ -13,13 +13,14 @@ use crate::big_int::BigInt;
 use crate::token_int::TokenInt;
 use std::alloc::{AllocError, Global};
 
+/// Whether a byte is `+` or `-`.
 fn is_sign(byte: u8) -> bool
     ensures { result ≡ is_sign byte }
 {
     byte == b'+' || byte == b'-'
 }
 
-/// Whether a sign stands at the front.
+/// Whether a text begins with a sign.
 fn begins_with_sign(text: &[u8]) -> bool
     ensures { result ≡ is_sign (slice_index text.now 0) }
 {
@@ -29,7 +30,7 @@ fn begins_with_sign(text: &[u8]) -> bool
     }
 }
 
-/// The text behind its sign, if it has one.
+/// The text without its sign, if it has one.
 fn unsigned(text: &str) -> &str
     ensures { result.now ≡ unsigned text.now }
 {
@@ -40,7 +41,7 @@ fn unsigned(text: &str) -> &str
     }
 }
 
-/// Whether each byte is a digit of the base.
+/// Whether all bytes are digits of the base.
 fn all_digits(digits: &[u8], base: u32) -> bool
     requires least { 2 ≤ base }
     requires most { base ≤ 36 }
@@ -49,7 +50,7 @@ fn all_digits(digits: &[u8], base: u32) -> bool
     digits.iter().all(|digit| char::from(*digit).is_digit(base))
 }
 
-/// Whether the text has digits of the base, one or more, and nothing else.
+/// Whether the bytes are one or more digits of the base, and nothing else.
 fn is_numeral(digits: &[u8], base: u32) -> bool
     requires least { 2 ≤ base }
     requires most { base ≤ 36 }
@@ -58,14 +59,14 @@ fn is_numeral(digits: &[u8], base: u32) -> bool
     !digits.is_empty() && all_digits(digits, base)
 }
 
-/// How many zeros there are at the front.
+/// Number of leading zeros.
 fn zeros_len(digits: &[u8]) -> usize
     ensures { result ≡ prefix_len (nat_eq 48) digits.now }
 {
     digits.iter().take_while(|digit| **digit == b'0').count()
 }
 
-/// The digits without the zeros at their front, letters in lower case.
+/// The digits without leading zeros, and with letters in lower case.
 fn plain_digits(alloc: Global, digits: &str) -> Result<String, AllocError>
     ensures { IfOk result (λ plain. string_bytes plain ≡ grammar.plain_digits digits.now) }
 {
@@ -75,16 +76,16 @@ fn plain_digits(alloc: Global, digits: &str) -> Result<String, AllocError>
     Ok(plain)
 }
 
-/// Whether a minus stands at the front.
+/// Whether a text begins with `-`.
 fn is_negative(text: &[u8]) -> bool
     ensures { result ≡ grammar.is_negative text.now }
 {
     matches!(text, [b'-', ..])
 }
 
-/// The number that a text writes in a base, if it writes one.
+/// Parses an integer in a base from 2 to 36; `None` where the text is no integer.
 ///
-/// Only a number that 32 bits don't hold takes memory.
+/// It allocates only for a number out of the range of `i32`. `AllocError` where memory runs out.
 pub fn number_in(alloc: Global, text: &str, base: u32) -> Result<Option<TokenInt>, AllocError>
     requires least { 2 ≤ base }
     requires most { base ≤ 36 }

@@ -1,4 +1,4 @@
-//! The value of an integer literal.
+//! Values of integer literals.
 
 ghost use Rattle.std.specs.Prelude.{◌≡◌, ◌≤◌, IfOk, IfErr, OnErr, Some};
 ghost use Rattle.starlark_token.specs.NumberRefusals.{RefusesNumber};
@@ -17,15 +17,16 @@ use std::fmt;
 pub enum TokenInt {
     /// A value from -2147483648 to 2147483647.
     I32(i32),
-    /// Any other value.
+    /// A value out of the range of `i32`.
     BigInt(BigInt),
 }
 
 impl TokenInt {
-    /// Reads the number that a text writes in a base of 2 to 36: at most one sign, and then digits of the base, one or
-    /// more, letters in either case.
+    /// Parses an integer in a base from 2 to 36.
     ///
-    /// `CannotParse` comes exactly where the text is no such number. A value of 32 bits takes no memory.
+    /// The text must be at most one sign and then one or more digits, with letters in either case.
+    /// Fails with `CannotParse` where it isn't, and with `Memory` where memory runs out. An `I32`
+    /// doesn't allocate.
     pub fn from_str_radix(
         alloc: Global,
         s: &str,
@@ -45,7 +46,8 @@ impl TokenInt {
         }
     }
 
-    /// An equal value; a `BigInt` gets memory of its own, and an `I32` takes none.
+    /// An equal value. `AllocError` where memory for a `BigInt` runs out; an `I32` doesn't
+    /// allocate.
     pub fn clone(&self, alloc: Global) -> Result<TokenInt, AllocError>
         ensures value { IfOk result (λ copy. copy ≡ self.now) }
         ensures memory { OnErr result (IsBig (integer_view self.now)) }
@@ -57,6 +59,7 @@ impl TokenInt {
     }
 }
 
+/// Prints an `I32` in decimal, and a `BigInt` by its digits and its base.
 impl fmt::Display for TokenInt {
     ghost use Rattle.std.specs.Prelude.{Some};
     ghost use Rattle.starlark_token.specs.TokenInts.{integer_text, integer_view};

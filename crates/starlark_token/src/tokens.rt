@@ -1,4 +1,4 @@
-//! The tokens that a lexer tells apart.
+//! The tokens of a lexer.
 
 ghost use Rattle.std.specs.Prelude.{◌≡◌, IfOk, OnErr};
 ghost use Rattle.starlark_token.specs.TokenTexts.{kind_of, fixed_text};
@@ -9,131 +9,189 @@ use crate::token_int::TokenInt;
 use std::alloc::{AllocError, Global};
 use std::fmt;
 
-/// A token: what a lexeme is, with its value where it has one.
+/// A token, with its value where it has one.
 ///
-/// `Tabs`, `Reserved` and the tokens whose names begin with `Raw` are words that a text is first cut into; a lexer
-/// hands out none of them.
+/// A lexer never yields `Tabs`, `Reserved`, and the variants whose names begin with `Raw`: they are
+/// tokens of the scanner below it.
 #[derive(Debug, Drop, PartialEq)]
 pub enum Token {
-    /// A comment: the text between `#` and the end of its line.
+    /// A comment: the text after `#` up to the end of its line.
     Comment(String),
-    /// One tab or more.
+    /// A run of tabs. No lexer yields it.
     Tabs,
-    /// A block begins.
+    /// A block begins: the line is indented further than the line of code before it.
     Indent,
-    /// A block ends.
+    /// A block ends. Each block that a line closes has one.
     Dedent,
-    /// A line ends.
+    /// A logical line ends, or a blank line does. The end of the text has one more.
     Newline,
-    /// The opening of a text literal in single quotes.
+    /// The opening of a string literal in single quotes. No lexer yields it.
     RawSingleQuote,
-    /// The opening of a text literal in double quotes.
+    /// The opening of a string literal in double quotes. No lexer yields it.
     RawDoubleQuote,
-    /// The opening of an f-string in single quotes.
+    /// The opening of an f-string in single quotes. No lexer yields it.
     RawFStringSingleQuote,
-    /// The opening of an f-string in double quotes.
+    /// The opening of an f-string in double quotes. No lexer yields it.
     RawFStringDoubleQuote,
-    /// The opening of a bytes literal in single quotes.
+    /// The opening of a bytes literal in single quotes. No lexer yields it.
     RawByteSingleQuote,
-    /// The opening of a bytes literal in double quotes.
+    /// The opening of a bytes literal in double quotes. No lexer yields it.
     RawByteDoubleQuote,
-    /// A bytes literal: the bytes that it denotes.
+    /// A bytes literal: its value, with escapes decoded.
     Bytes(Vec<u8>),
-    /// A word that the language keeps for itself.
+    /// A reserved word. No lexer yields it: it fails with `ReservedKeyword`.
     Reserved,
-    /// A name.
+    /// An identifier: its name.
     Identifier(String),
-    /// An integer in decimal, its value not read.
+    /// A decimal integer without its value. No lexer yields it.
     RawDecInt,
-    /// An integer in hexadecimal, its value not read.
+    /// A hexadecimal integer without its value. No lexer yields it.
     RawHexInt,
-    /// An integer in binary, its value not read.
+    /// A binary integer without its value. No lexer yields it.
     RawBinInt,
-    /// An integer in octal, its value not read.
+    /// An octal integer without its value. No lexer yields it.
     RawOctInt,
-    /// An integer.
+    /// An integer literal: its value. It has no sign.
     Int(TokenInt),
-    /// A number with a point or an exponent: the literal as it was written.
+    /// A float literal, which has a point or an exponent: its text as written.
     Float(String),
-    /// A text literal: the text that it denotes.
+    /// A string literal: its value, with escapes decoded.
     String(String),
-    /// The opening of an f-string.
+    /// The opening of an f-string: its quotes. Whether it is raw isn't stored.
     FStringStart(FStringQuote),
-    /// A piece of an f-string's text: what it denotes.
+    /// Text of an f-string between expressions, with escapes decoded. It is never empty.
     FStringText(String),
-    /// The brace before an expression in an f-string.
+    /// The `{` before an expression in an f-string.
     FStringExprStart,
-    /// The brace behind an expression in an f-string.
+    /// The `}` after an expression in an f-string.
     FStringExprEnd,
-    /// The mark before a conversion in an f-string.
+    /// The `!` before a conversion in an f-string.
     FStringBang,
-    /// The closing of an f-string.
+    /// The closing quotes of an f-string.
     FStringEnd,
 
+    /// The keyword `and`.
     And,
+    /// The keyword `break`.
     Break,
+    /// The keyword `continue`.
     Continue,
+    /// The keyword `def`.
     Def,
+    /// The keyword `elif`.
     Elif,
+    /// The keyword `else`.
     Else,
+    /// The keyword `for`.
     For,
+    /// The keyword `if`.
     If,
+    /// The keyword `in`.
     In,
+    /// The keyword `lambda`.
     Lambda,
+    /// The keyword `load`.
     Load,
+    /// The keyword `not`.
     Not,
+    /// The keyword `or`.
     Or,
+    /// The keyword `pass`.
     Pass,
+    /// The keyword `return`.
     Return,
 
+    /// The symbol `,`.
     Comma,
+    /// The symbol `;`.
     Semicolon,
+    /// The symbol `:`.
     Colon,
+    /// The symbol `+=`.
     PlusEqual,
+    /// The symbol `-=`.
     MinusEqual,
+    /// The symbol `*=`.
     StarEqual,
+    /// The symbol `/=`.
     SlashEqual,
+    /// The symbol `//=`.
     SlashSlashEqual,
+    /// The symbol `%=`.
     PercentEqual,
+    /// The symbol `==`.
     EqualEqual,
+    /// The symbol `!=`.
     BangEqual,
+    /// The symbol `<=`.
     LessEqual,
+    /// The symbol `>=`.
     GreaterEqual,
+    /// The symbol `**`.
     StarStar,
+    /// The symbol `->`.
     MinusGreater,
+    /// The symbol `=`.
     Equal,
+    /// The symbol `<`.
     LessThan,
+    /// The symbol `>`.
     GreaterThan,
+    /// The symbol `-`.
     Minus,
+    /// The symbol `+`.
     Plus,
+    /// The symbol `*`.
     Star,
+    /// The symbol `%`.
     Percent,
+    /// The symbol `/`.
     Slash,
+    /// The symbol `//`.
     SlashSlash,
+    /// The symbol `.`.
     Dot,
+    /// The symbol `&`.
     Ampersand,
+    /// The symbol `|`.
     Pipe,
+    /// The symbol `^`.
     Caret,
+    /// The symbol `<<`.
     LessLess,
+    /// The symbol `>>`.
     GreaterGreater,
+    /// The symbol `~`.
     Tilde,
+    /// The symbol `&=`.
     AmpersandEqual,
+    /// The symbol `|=`.
     PipeEqual,
+    /// The symbol `^=`.
     CaretEqual,
+    /// The symbol `<<=`.
     LessLessEqual,
+    /// The symbol `>>=`.
     GreaterGreaterEqual,
+    /// The symbol `...`.
     Ellipsis,
+    /// The symbol `[`.
     OpeningSquare,
+    /// The symbol `{`.
     OpeningCurly,
+    /// The symbol `(`.
     OpeningRound,
+    /// The symbol `]`.
     ClosingSquare,
+    /// The symbol `}`.
     ClosingCurly,
+    /// The symbol `)`.
     ClosingRound,
 }
 
 impl Token {
+    /// The name of the variant, such as `Identifier` or `OpeningRound`.
     #[tactic(auto, unfolding(crate::specs::TokenViews::token_view, crate::specs::TokenTexts::kind_of, crate::specs::TokenTexts::whole_kind, crate::specs::TokenTexts::terminal_kind))]
-    /// The variant's name.
     pub fn kind(&self) -> &'static str
         ensures { result.now ≡ kind_of (token_view self.now) }
     {
@@ -226,8 +284,8 @@ impl Token {
         }
     }
 
+    /// The printed text of a token that has no value; empty for one that has.
     #[tactic(auto, unfolding(crate::specs::TokenViews::token_view, crate::specs::TokenTexts::fixed_text, starlark_grammar::specs::PrintedWords::word_of))]
-    /// What is printed of a token that has no value; nothing for one that has.
     fn fixed_text(&self) -> &'static str
         ensures { result.now ≡ fixed_text (token_view self.now) }
     {
@@ -320,8 +378,10 @@ impl Token {
         }
     }
 
+    /// An equal token with a copy of the value. `AllocError` where memory for the value runs out.
+    ///
+    /// It allocates only for a string, bytes, or a `BigInt`.
     #[tactic(auto, unfolding(crate::specs::TokenViews::token_view))]
-    /// An equal token, its value in memory of its own. A token without such a value takes none.
     pub fn clone(&self, alloc: Global) -> Result<Token, AllocError>
         ensures value { IfOk result (λ copy. token_view copy ≡ token_view self.now) }
         ensures memory { OnErr result (OwnsMemory (token_view self.now)) }
@@ -422,6 +482,9 @@ impl Token {
     }
 }
 
+/// Prints a description with the value, as in `identifier 'x'`, `symbol '+='`, `new line`.
+///
+/// Strings are printed as `{:?}` prints them, and bytes by their number alone.
 #[tactic(auto, unfolding(crate::specs::TokenViews::token_view, crate::specs::TokenTexts::token_text))]
 impl fmt::Display for Token {
     ghost use Rattle.starlark_token.specs.TokenTexts.{token_text};

@@ -1,4 +1,4 @@
-//! Characters of a text, counted in steps, so that those before any byte are known from a look at a few.
+//! Numbers of characters before each step of a text, so that a column costs a few bytes to count.
 
 ghost use Rattle.std.specs.Prelude.{◌≡◌, ◌<◌, ◌≤◌, ◌^◌, [], IfOk, length, slice_range};
 ghost use Rattle.std.specs.Str.{IsAscii, IsCharBoundary};
@@ -8,10 +8,10 @@ ghost use Rattle.starlark_text.specs.Characters.{char_count};
 use starlark_text::lanes::{count_begun, count_characters};
 use std::alloc::{AllocError, Global};
 
-/// How many bytes a step has.
+/// Bytes in a step.
 pub(crate) const STEP: usize = 256;
 
-/// How many characters begin before each step of some bytes, up to their end.
+/// Number of characters that begin before each step of some bytes, up to their end.
 fn counts_of_steps(alloc: Global, bytes: &[u8]) -> Result<Vec<u32>, AllocError>
     requires { length bytes.now < 2 ^ 32 }
     ensures { IfOk result (λ counts. AreCounts STEP bytes.now counts.items) }
@@ -26,8 +26,9 @@ fn counts_of_steps(alloc: Global, bytes: &[u8]) -> Result<Vec<u32>, AllocError>
     Ok(counts)
 }
 
-/// How many characters begin before each step of a text, up to its end; nothing for a text that is all ASCII, for
-/// which no memory is asked.
+/// Number of characters that begin before each step of a text, up to its end.
+///
+/// Empty, and without an allocation, where the text is all ASCII.
 pub(crate) fn counts_of(alloc: Global, text: &str) -> Result<Vec<u32>, AllocError>
     requires { length text.now < 2 ^ 32 }
     ensures counted { IfOk result (λ counts. AreCounts STEP text.now counts.items) }
@@ -40,7 +41,7 @@ pub(crate) fn counts_of(alloc: Global, text: &str) -> Result<Vec<u32>, AllocErro
     }
 }
 
-/// How many characters begin before a byte of a text. At most a step of it is looked at.
+/// Number of characters that begin before byte `at` of a text. Reads less than a step of the text.
 fn characters_before(text: &str, counts: &[u32], at: usize) -> usize
     requires counted { AreCounts STEP text.now counts.now }
     requires within { at ≤ length text.now }
@@ -53,7 +54,7 @@ fn characters_before(text: &str, counts: &[u32], at: usize) -> usize
     counts[step] as usize + count_begun(&text.as_bytes()[step * STEP..at])
 }
 
-/// How many characters stand between two places of a text. At most two steps of it are looked at.
+/// Number of characters between bytes `begin` and `end` of a text. Reads at most two steps of it.
 pub(crate) fn characters_between(text: &str, counts: &[u32], begin: usize, end: usize) -> usize
     requires counted { AreCounts STEP text.now counts.now }
     requires order { begin ≤ end }

@@ -1,4 +1,4 @@
-//! Source texts with their lines.
+//! Code maps: source texts with an index of their lines.
 
 ghost use Rattle.std.specs.Prelude.{◌≡◌, ◌+◌, ◌<◌, ◌≤◌, ◌^◌, ◌↔◌, IsTrue, IfOk, OnOk, length, take, string_bytes, slice_index, SomeIff, IfSome};
 ghost use Rattle.std.specs.List.{suffix_len};
@@ -19,7 +19,7 @@ use std::hash::{Hash, Hasher};
 use std::marker::Model;
 use std::rc::Rc;
 
-/// The number of a code map. In a contract it is that number.
+/// The number that identifies a code map. In a contract it is that number.
 #[derive(Clone, Copy, Debug, PartialEq, Eq, Hash)]
 pub struct CodeMapId(u64);
 
@@ -34,17 +34,17 @@ impl Model for CodeMapId {
 }
 
 impl CodeMapId {
-    /// The number 0, for texts of no file.
+    /// The number 0, for texts without a file.
     pub const EMPTY: CodeMapId = CodeMapId(0);
 
-    /// The code map number of this value.
+    /// An identifier of the given number.
     pub fn new(id: u64) -> Self
         ensures { result ≡ id }
     {
         CodeMapId(id)
     }
 
-    /// The number's value.
+    /// The identifier as a number.
     pub fn get(self) -> u64
         ensures { result ≡ self }
     {
@@ -52,7 +52,7 @@ impl CodeMapId {
     }
 }
 
-/// A source text, its number and name, where its lines begin, and its characters counted in steps.
+/// The shared part of a code map: number, name, text, line starts, and characters before each step.
 #[derive(Drop)]
 struct CodeMapData {
     id: CodeMapId,
@@ -65,10 +65,14 @@ struct CodeMapData {
     ghost counted: { AreCounts STEP (string_bytes source) counts.items },
 }
 
-/// A source text with its file's name and a number that tells it from others. In a contract it is these
-/// three. Copies share the text.
+/// A source text with its file's name and a number that identifies it.
 ///
-/// Besides its texts it takes eight bytes a line or less, and one byte for 64 of a source that isn't all ASCII.
+/// Two code maps are equal if their numbers and names are: texts are not compared. So give each
+/// text a number of its own. `dupe` makes another one that shares the text. `Debug` prints the name
+/// alone, as in `CodeMap("BUILD")`.
+///
+/// Besides its texts it stores at most eight bytes a line, and one byte for each 64 of a source
+/// that isn't all ASCII. In a contract it is its number, name and source.
 #[derive(Drop)]
 pub struct CodeMap {
     data: Rc<CodeMapData>,
@@ -83,7 +87,7 @@ impl Model for CodeMap {
     ghost view = { λ map. record { id = map.data.value.id; filename = string_bytes map.data.value.filename; source = string_bytes map.data.value.source } };
 }
 
-/// Where the lines of a source begin.
+/// The byte position at which each line of a source begins.
 fn starts_of_lines(alloc: Global, source: &str) -> Result<Vec<Pos>, AllocError>
     requires { length source.now < 2 ^ 32 }
     ensures { IfOk result (λ starts. starts.items ≡ line_starts source.now) }
@@ -98,7 +102,7 @@ fn starts_of_lines(alloc: Global, source: &str) -> Result<Vec<Pos>, AllocError>
     Ok(starts)
 }
 
-/// How many line feeds and carriage returns a text ends with.
+/// Number of LF and CR bytes at the end of a text.
 fn count_line_ends(text: &[u8]) -> usize
     ensures { result ≡ suffix_len is_line_end text.now }
 {
@@ -108,7 +112,7 @@ fn count_line_ends(text: &[u8]) -> usize
         .count()
 }
 
-/// A text without the line feeds and carriage returns that it ends with.
+/// A text without the LF and CR bytes at its end.
 fn trim_line_ends(text: &str) -> &str
     ensures { result.now ≡ without_line_ends text.now }
 {
@@ -117,8 +121,10 @@ fn trim_line_ends(text: &str) -> &str
 }
 
 impl CodeMap {
-    /// A code map of a source text. A source of more than 4294967295 bytes is refused, before want of
-    /// memory is. Either refusal drops what was given.
+    /// A code map of a source text, of the given number and file name.
+    ///
+    /// Fails where the source has more than 4294967295 bytes, and else where memory runs out.
+    /// Either error drops the name and the source.
     pub fn new(
         alloc: Global,
         id: CodeMapId,
@@ -147,7 +153,7 @@ impl CodeMap {
         Ok(CodeMap { data })
     }
 
-    /// The same code map, which shares the text. Refused where sharing it once more wants memory.
+    /// A copy of the code map that shares its text. `AllocError` where memory runs out.
     pub fn dupe(&self) -> Result<CodeMap, AllocError>
         ensures { IfOk result (λ copy. copy ≡ self.now) }
     {
@@ -156,14 +162,14 @@ impl CodeMap {
         })
     }
 
-    /// The number.
+    /// The number that identifies the code map.
     pub fn id(&self) -> CodeMapId
         ensures { result ≡ self.now.id }
     {
         self.data.id
     }
 
-    /// The file's name.
+    /// The name of the file.
     pub fn filename(&self) -> &str
         ensures { result.now ≡ self.now.filename }
     {
@@ -178,7 +184,7 @@ impl CodeMap {
         self.data.source.as_str()
     }
 
-    /// Where the lines begin.
+    /// The byte position at which each line begins.
     fn starts(&self) -> &[Pos]
         ensures starts { result.now ≡ line_starts self.now.source }
         ensures utf8 { IsUtf8 self.now.source }
@@ -186,14 +192,14 @@ impl CodeMap {
         self.data.starts.as_slice()
     }
 
-    /// The characters, counted in steps.
+    /// Number of characters before each step of the source; empty where it is all ASCII.
     fn counts(&self) -> &[u32]
         ensures { AreCounts STEP self.now.source result.now }
     {
         self.data.counts.as_slice()
     }
 
-    /// Where a line begins.
+    /// The byte position at which a line, from 0, begins.
     fn line_start(&self, line: usize) -> Pos
         requires { line < line_count self.now.source }
         ensures start { result ≡ line_begin self.now.source line }
@@ -210,7 +216,9 @@ impl CodeMap {
         Span::new(Pos::new(0), Pos::new(self.source().len() as u32))
     }
 
-    /// A span with this code map, which shares the text. Refused where sharing it once more wants memory.
+    /// A span with a copy of the code map that shares its text. `AllocError` where memory runs out.
+    ///
+    /// The span may be out of range.
     pub fn file_span(&self, span: Span) -> Result<FileSpan, AllocError>
         ensures file { IfOk result (λ it. it.file ≡ self.now) }
         ensures span { IfOk result (λ it. it.span ≡ span) }
@@ -221,14 +229,16 @@ impl CodeMap {
         })
     }
 
-    /// Whether a position is in the source or at its end.
+    /// Whether a position lies in the source or at its end. It may be inside a character.
     pub fn has_pos(&self, pos: Pos) -> bool
         ensures { IsTrue result ↔ (pos ≤ length self.now.source) }
     {
         pos.get() as usize <= self.source().len()
     }
 
-    /// Whether a span is in the source, with both ends between two characters.
+    /// Whether a span lies in the source, with both ends at character boundaries.
+    ///
+    /// This is the test for the condition `Holds` of other calls.
     pub fn holds(&self, span: Span) -> bool
         ensures held { IsTrue result ↔ Holds self.now.source span }
         ensures test { result ≡ holds self.now.source span }
@@ -238,14 +248,14 @@ impl CodeMap {
             && source.is_char_boundary(span.end().get() as usize)
     }
 
-    /// How many lines the source has: one more than line feeds.
+    /// Number of lines of the source: one more than it has LF.
     pub fn line_count(&self) -> usize
         ensures { result ≡ line_count self.now.source }
     {
         self.starts().len()
     }
 
-    /// The byte at a position, which has to be one of the source's and not its end.
+    /// The byte at a position, which must be before the end of the source.
     pub fn byte_at(&self, pos: Pos) -> u8
         requires { pos < length self.now.source }
         ensures { result ≡ slice_index self.now.source pos }
@@ -253,7 +263,9 @@ impl CodeMap {
         self.source().as_bytes()[pos.get() as usize]
     }
 
-    /// The line of a position, from 0. The position has to be in the source or at its end, as `has_pos` tests.
+    /// The line of a position, from 0.
+    ///
+    /// The position must lie in the source or at its end: `has_pos` is the test.
     pub fn find_line(&self, pos: Pos) -> usize
         requires { pos ≤ length self.now.source }
         ensures line { result ≡ (place_at self.now.source pos).line }
@@ -263,7 +275,7 @@ impl CodeMap {
         self.starts().partition_point(|start| start.get() <= at) - 1
     }
 
-    /// The line and the column of a position.
+    /// Line and column of a position, which must be a character boundary.
     fn resolve_pos(&self, pos: Pos) -> ResolvedPos
         requires { IsCharBoundary self.now.source pos }
         ensures { result ≡ place_at self.now.source pos }
@@ -277,7 +289,7 @@ impl CodeMap {
         }
     }
 
-    /// The text of a span, which the source has to hold, as `holds` tests.
+    /// Text of a span, which must lie in the source: `holds` is the test.
     pub fn source_span(&self, span: Span) -> &str
         requires { Holds self.now.source span }
         ensures { result.now ≡ text_of self.now.source span }
@@ -285,8 +297,9 @@ impl CodeMap {
         &self.source()[span.begin().get() as usize..span.end().get() as usize]
     }
 
-    /// The lines and columns of a span, which the source has to hold, as `holds` tests. Of a line of any length fewer
-    /// than 512 bytes are looked at for each end.
+    /// Lines and columns of a span, which must lie in the source: `holds` is the test.
+    ///
+    /// Each end costs a binary search over the lines, and reads fewer than 512 bytes of its line.
     pub fn resolve_span(&self, span: Span) -> ResolvedSpan
         requires { Holds self.now.source span }
         ensures { result ≡ resolved self.now.source span }
@@ -297,7 +310,7 @@ impl CodeMap {
         }
     }
 
-    /// The span of a line, from 0, with its line feed. The line has to be one of the `line_count` lines.
+    /// Span of a line, from 0, with its LF. The line must be less than `line_count`.
     pub fn line_span(&self, line: usize) -> Span
         requires { line < line_count self.now.source }
         ensures span { result ≡ line_span self.now.source line }
@@ -313,7 +326,7 @@ impl CodeMap {
         Span::new(begin, end)
     }
 
-    /// The span of a line, from 0, with its line feed; `None` where there is no such line.
+    /// Span of a line, from 0, with its LF; `None` where the source has no such line.
     pub fn line_span_opt(&self, line: usize) -> Option<Span>
         ensures span { SomeIff result (line < line_count self.now.source) (line_span self.now.source line) }
         ensures held { IfSome result (Holds self.now.source) }
@@ -342,8 +355,10 @@ impl CodeMap {
         }
     }
 
-    /// The span of a line, from 0, without its line feed and then without one carriage return at its end. The
-    /// line has to be one of the `line_count` lines.
+    /// Span of a line, from 0, without its LF or CR LF.
+    ///
+    /// The last line, which has no LF, loses a CR at its end too. The line must be less than
+    /// `line_count`.
     pub fn line_span_trim_newline(&self, line: usize) -> Span
         requires { line < line_count self.now.source }
         ensures span { result ≡ trimmed_line_span self.now.source line }
@@ -353,8 +368,8 @@ impl CodeMap {
         self.without_last(span, b'\r')
     }
 
-    /// The text of a line, from 0, without the line feeds and carriage returns at its end. The line has to be
-    /// one of the `line_count` lines.
+    /// Text of a line, from 0, without all LF and CR at its end. The line must be less than
+    /// `line_count`.
     pub fn source_line(&self, line: usize) -> &str
         requires { line < line_count self.now.source }
         ensures { result.now ≡ line_text self.now.source line }
@@ -362,8 +377,9 @@ impl CodeMap {
         trim_line_ends(self.source_span(self.line_span(line)))
     }
 
-    /// The text of the line of a position, without the line feeds and carriage returns at its end. The position
-    /// has to be in the source or at its end, as `has_pos` tests.
+    /// Text of the line of a position, without all LF and CR at its end.
+    ///
+    /// The position must lie in the source or at its end: `has_pos` is the test.
     pub fn source_line_at_pos(&self, pos: Pos) -> &str
         requires { pos ≤ length self.now.source }
         ensures { result.now ≡ line_text self.now.source (place_at self.now.source pos).line }
@@ -372,6 +388,7 @@ impl CodeMap {
     }
 }
 
+/// Prints the file's name, as in `CodeMap("BUILD")`.
 impl fmt::Debug for CodeMap {
     ghost use Rattle.std.specs.Prelude.{codes};
     ghost use Rattle.std.specs.Fmt.{debug_str, debug_variant};
@@ -383,6 +400,7 @@ impl fmt::Debug for CodeMap {
     }
 }
 
+/// Compares numbers and names, not texts.
 impl PartialEq for CodeMap {
     ghost use Rattle.std.specs.Prelude.{◌==◌};
     ghost use Rattle.std.specs.Ordering.{on, eq_of_both};
@@ -406,6 +424,7 @@ impl Eq for CodeMap {
     ghost laws = { Prim.search (comparing, rules) };
 }
 
+/// Hashes the number alone.
 impl Hash for CodeMap {
     ghost use Rattle.std.proofs.Common.{rules};
     ghost use Rattle.std.specs.Cmp.Rules.{comparing, hashing};

@@ -1,4 +1,4 @@
-//! Code maps by their numbers.
+//! A collection of code maps by their numbers.
 
 ghost use Rattle.std.specs.Prelude.{◌≡◌, ◌≢◌, [], ◌<◌, ◌≤◌, ◌+◌, ℕ, Some, None, IfOk, IsOk, OnOk, OnErr, IfErr, filter, not, length, is_some, nat_eq, if◌then◌else◌, ◌==◌};
 ghost use Rattle.std.specs.FinMap as map;
@@ -12,7 +12,9 @@ use std::alloc::{AllocError, Global};
 use std::collections::HashMap;
 use std::marker::Model;
 
-/// Code maps by their numbers. In a contract it is the finite map from numbers to source files.
+/// A collection of code maps, at most one of each number.
+///
+/// In a contract it is the finite map from numbers to source files.
 #[derive(Drop)]
 pub struct CodeMaps {
     alloc: Global,
@@ -33,7 +35,7 @@ impl Model for CodeMaps {
     ghost view = { λ a. map.from_entries a.codemaps.entries };
 }
 
-/// The code maps whose numbers a map doesn't have, shared.
+/// The code maps of `others` whose numbers `codemaps` doesn't have. They share their texts.
 fn shared_new(
     alloc: Global,
     codemaps: &HashMap<CodeMapId, CodeMap>,
@@ -51,7 +53,7 @@ fn shared_new(
     Ok(new)
 }
 
-/// Puts a code map at its number, unless one is there.
+/// Inserts a code map at its number, unless that number has one.
 fn put_new(
     codemaps: &mut HashMap<CodeMapId, CodeMap>,
     id: CodeMapId,
@@ -68,7 +70,7 @@ fn put_new(
     Ok(())
 }
 
-/// Puts code maps at their numbers, but for those where one is.
+/// Inserts code maps at those of their numbers that have none. It doesn't allocate.
 fn put_all_new(
     codemaps: &mut HashMap<CodeMapId, CodeMap>,
     new: Vec<(CodeMapId, CodeMap)>,
@@ -84,7 +86,7 @@ fn put_all_new(
 }
 
 impl CodeMaps {
-    /// No code maps.
+    /// An empty collection, whose later calls allocate from `alloc`. This call doesn't allocate.
     pub fn new(alloc: Global) -> Self
         ensures { result ≡ map.empty }
     {
@@ -94,15 +96,16 @@ impl CodeMaps {
         }
     }
 
-    /// The code map of a number.
+    /// The code map of a number, if there is one.
     pub fn get(&self, id: CodeMapId) -> Option<&CodeMap>
         ensures { option_copied result ≡ map.get self.now id }
     {
         self.codemaps.get(&id)
     }
 
-    /// Adds a code map, which shares its text, unless there is one of its number. A refused call changes
-    /// nothing.
+    /// Adds a code map, which shares its text, unless its number has one.
+    ///
+    /// Nothing changes on `AllocError`.
     pub fn add(&mut self, codemap: &CodeMap) -> Result<(), AllocError>
         ensures ok { OnOk result (self.new ≡ joined self.old (only codemap.now)) }
         ensures err { OnErr result (self.new ≡ self.old) }
@@ -116,8 +119,9 @@ impl CodeMaps {
         Ok(())
     }
 
-    /// Adds code maps, which share their texts, but for those whose numbers are there. A refused call
-    /// changes nothing.
+    /// Adds the code maps whose numbers have none yet. They share their texts.
+    ///
+    /// Nothing changes on `AllocError`.
     pub fn add_all(&mut self, codemaps: &CodeMaps) -> Result<(), AllocError>
         ensures ok { OnOk result (self.new ≡ joined self.old codemaps.now) }
         ensures err { OnErr result (self.new ≡ self.old) }

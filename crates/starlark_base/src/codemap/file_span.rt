@@ -1,4 +1,4 @@
-//! Spans with the code maps that they lie in.
+//! Spans with their code maps.
 
 ghost use Rattle.std.specs.Prelude.{◌≡◌, ◌≤◌, ◌^◌, ◌↔◌, IfOk, length, string_bytes};
 ghost use Rattle.starlark_base.specs.Lines.{text_of};
@@ -13,18 +13,23 @@ use std::alloc::{AllocError, Global};
 use std::cmp::Ordering;
 use std::fmt;
 
-/// A span, and the code map that it is a span of.
+/// A span, and its code map.
+///
+/// Two are equal if their spans are, and the numbers and names of their code maps. They are ordered
+/// by name, begin, end, and then number.
 #[derive(Debug, Drop, PartialEq, Eq, Hash)]
 pub struct FileSpan {
-    /// The code map.
+    /// The code map of the span.
     pub file: CodeMap,
-    /// The span, in bytes of the code map's source. Nothing says that the source holds it.
+    /// The span, in bytes of the code map's source. It may be out of range: `holds` tests that.
     pub span: Span,
 }
 
 impl FileSpan {
-    /// The span of the whole of a new code map. A source of more than 4294967295 bytes is refused, before
-    /// want of memory is. Either refusal drops what was given.
+    /// The span of the whole source of a new code map, of the given number and file name.
+    ///
+    /// Fails where the source has more than 4294967295 bytes, and else where memory runs out.
+    /// Either error drops the name and the source.
     pub fn new(
         alloc: Global,
         id: CodeMapId,
@@ -40,21 +45,21 @@ impl FileSpan {
         Ok(FileSpan { file, span })
     }
 
-    /// The same span, which shares the text. Refused where sharing the code map once more wants memory.
+    /// A copy of the span, whose code map shares the text. `AllocError` where memory runs out.
     pub fn dupe(&self) -> Result<FileSpan, AllocError>
         ensures { IfOk result (λ copy. copy ≡ self.now) }
     {
         self.file.file_span(self.span)
     }
 
-    /// The file's name.
+    /// The name of the code map's file.
     pub fn filename(&self) -> &str
         ensures { result.now ≡ self.now.file.filename }
     {
         self.file.filename()
     }
 
-    /// The text of the span, which its code map has to hold.
+    /// Text of the span, which must lie in the source: `holds` of the code map is the test.
     pub fn source_span(&self) -> &str
         requires { Holds self.now.file.source self.now.span }
         ensures { result.now ≡ text_of self.now.file.source self.now.span }
@@ -73,7 +78,8 @@ impl FileSpan {
         }
     }
 
-    /// The lines and columns of the span, which its code map has to hold.
+    /// Lines and columns of the span, which must lie in the source: `holds` of the code map is the
+    /// test.
     pub fn resolve_span(&self) -> ResolvedSpan
         requires { Holds self.now.file.source self.now.span }
         ensures { result ≡ resolved self.now.file.source self.now.span }
@@ -81,8 +87,10 @@ impl FileSpan {
         self.file.resolve_span(self.span)
     }
 
-    /// The file's name, and the lines and columns of the span, which its code map has to hold. Refused where
-    /// memory for the name is wanting.
+    /// The file's name, and lines and columns of the span.
+    ///
+    /// The span must lie in the source: `holds` of the code map is the test. `AllocError` where
+    /// memory for the name runs out.
     pub fn resolve(&self, alloc: Global) -> Result<ResolvedFileSpan, AllocError>
         requires { Holds self.now.file.source self.now.span }
         ensures file { IfOk result (λ it. string_bytes it.file ≡ self.now.file.filename) }
@@ -95,6 +103,9 @@ impl FileSpan {
     }
 }
 
+/// Prints the file's name, and the span's lines and columns from 1, as in `BUILD:1:3-5`.
+///
+/// Where the code map doesn't hold the span, it prints bytes, as in `BUILD:@2-4`.
 impl fmt::Display for FileSpan {
     ghost use Rattle.std.specs.Prelude.{Some};
     ghost use Rattle.starlark_base.specs.Sources.{file_span_text};
@@ -106,6 +117,7 @@ impl fmt::Display for FileSpan {
     }
 }
 
+/// Orders by the file's name, then the span's begin and end, then the code map's number.
 impl Ord for FileSpan {
     ghost use Rattle.std.specs.Ordering.{on, then_cmp, nat_cmp};
     ghost use Rattle.std.specs.Cmp.Lexicographic.{slice_cmp};

@@ -1,4 +1,4 @@
-//! Spans with references to the code maps that they lie in.
+//! Spans with references to their code maps.
 
 ghost use Rattle.std.specs.Prelude.{◌≡◌, IfOk};
 ghost use Rattle.starlark_base.specs.Lines.{text_of};
@@ -9,25 +9,25 @@ use crate::codemap::{CodeMap, FileSpan, ResolvedSpan, Span};
 use std::alloc::AllocError;
 use std::fmt;
 
-/// A span, and a reference to the code map that it is a span of.
+/// A span, and a reference to its code map.
 #[derive(Clone, Copy, Debug, PartialEq, Eq)]
 pub struct FileSpanRef<'a> {
-    /// The code map.
+    /// The code map of the span.
     pub file: &'a CodeMap,
-    /// The span, in bytes of the code map's source. Nothing says that the source holds it.
+    /// The span, in bytes of the code map's source. It may be out of range: `holds` tests that.
     pub span: Span,
 }
 
 impl<'a> FileSpanRef<'a> {
-    /// The file's name.
+    /// The name of the code map's file.
     pub fn filename(&self) -> &str
         ensures { result.now ≡ self.now.file.now.filename }
     {
         self.file.filename()
     }
 
-    /// The span with a code map of its own, which shares the text. Refused where sharing it once more wants
-    /// memory.
+    /// The span with a code map of its own, which shares the text. `AllocError` where memory runs
+    /// out.
     pub fn to_file_span(self) -> Result<FileSpan, AllocError>
         ensures file { IfOk result (λ it. it.file ≡ self.entry.file.now) }
         ensures span { IfOk result (λ it. it.span ≡ self.entry.span) }
@@ -35,7 +35,8 @@ impl<'a> FileSpanRef<'a> {
         self.file.file_span(self.span)
     }
 
-    /// The lines and columns of the span, which its code map has to hold.
+    /// Lines and columns of the span, which must lie in the source: `holds` of the code map is the
+    /// test.
     pub fn resolve_span(&self) -> ResolvedSpan
         requires { Holds self.now.file.now.source self.now.span }
         ensures { result ≡ resolved self.now.file.now.source self.now.span }
@@ -43,7 +44,7 @@ impl<'a> FileSpanRef<'a> {
         self.file.resolve_span(self.span)
     }
 
-    /// The text of the span, which its code map has to hold.
+    /// Text of the span, which must lie in the source: `holds` of the code map is the test.
     pub fn source_span(self) -> &'a str
         requires { Holds self.file.now.source self.span }
         ensures { result.now ≡ text_of self.entry.file.now.source self.entry.span }
@@ -52,6 +53,9 @@ impl<'a> FileSpanRef<'a> {
     }
 }
 
+/// Prints the file's name, and the span's lines and columns from 1, as in `BUILD:1:3-5`.
+///
+/// Where the code map doesn't hold the span, it prints bytes, as in `BUILD:@2-4`.
 #[tactic(auto, unfolding(crate::specs::Sources::file_span_text))]
 impl fmt::Display for FileSpanRef<'_> {
     ghost use Rattle.std.specs.Prelude.{Some};

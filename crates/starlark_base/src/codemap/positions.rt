@@ -1,13 +1,13 @@
-//! Positions in a source text.
+//! Positions in source texts, in bytes.
 
 ghost use Rattle.std.specs.Prelude.{◌≡◌, ◌+◌, ◌-◌, ◌<◌, ◌≤◌, ◌^◌};
 
 use std::marker::Model;
 use std::ops::{Add, AddAssign, Sub};
 
-/// A position in a source text: how many bytes stand before it. In a contract it is that number.
+/// A position in a source text, in bytes from 0. In a contract it is that number.
 ///
-/// A sum has to stay below 2^32; what is taken off may be no more than the position.
+/// `+` and `+=` need a sum below 2^32. `-` needs a count that is no greater than the position.
 #[derive(Clone, Copy, Debug, Default, PartialEq, Eq, PartialOrd, Ord, Hash)]
 pub struct Pos(u32);
 
@@ -22,14 +22,14 @@ impl Model for Pos {
 }
 
 impl Pos {
-    /// The position behind so many bytes.
+    /// The position after `x` bytes.
     pub fn new(x: u32) -> Self
         ensures { result ≡ x }
     {
         Pos(x)
     }
 
-    /// How many bytes stand before the position.
+    /// The position as a number of bytes.
     pub fn get(self) -> u32
         ensures { result ≡ self }
     {
@@ -37,6 +37,7 @@ impl Pos {
     }
 }
 
+/// Moves a position on by a number of bytes. The sum must be below 2^32.
 impl Add<u32> for Pos {
     type Output = Pos;
 
@@ -49,6 +50,7 @@ impl Add<u32> for Pos {
     }
 }
 
+/// Moves a position back by a number of bytes, which must not be greater than the position.
 impl Sub<u32> for Pos {
     type Output = Pos;
 
@@ -61,6 +63,7 @@ impl Sub<u32> for Pos {
     }
 }
 
+/// Moves a position on by a number of bytes. The sum must be below 2^32.
 impl AddAssign<u32> for Pos {
     ghost can_add_assign = { λ pos count. pos + count < 2 ^ 32 };
 

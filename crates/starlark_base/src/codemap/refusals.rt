@@ -1,8 +1,10 @@
-//! Why no code map was made.
+//! The error of making a code map.
 
 use thiserror::Error;
 
-/// A source has more bytes than a position can count.
+/// A source text is longer than 4294967295 bytes, the greatest position.
+///
+/// Printed as `source is longer than 4294967295 bytes`.
 #[derive(Debug, Drop, Error)]
 #[error("source is longer than 4294967295 bytes")]
 pub struct SourceTooLong;

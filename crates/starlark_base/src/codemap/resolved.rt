@@ -1,19 +1,20 @@
-//! Lines and columns, and how they are printed.
+//! Lines and columns, and their printed forms.
 
 ghost use Rattle.std.specs.Prelude.{◌≡◌, ◌<◌, ◌≤◌, ◌⊎◌, ◌↔◌, IsTrue, IfOk, string_bytes};
 
 use std::alloc::{AllocError, Global};
 use std::fmt;
 
-/// A line and a column, both from 0 and printed from 1. Columns are characters.
+/// A line and a column of a source text, both from 0. Columns count characters.
 #[derive(Clone, Copy, Debug, Default, PartialEq, Eq, PartialOrd, Ord, Hash)]
 pub struct ResolvedPos {
     /// The line, from 0.
     pub line: usize,
-    /// How many characters of the line stand before the place.
+    /// The column, from 0: how many characters of the line are before the position.
     pub column: usize,
 }
 
+/// Prints `line:column`, both from 1.
 impl fmt::Display for ResolvedPos {
     ghost use Rattle.std.specs.Prelude.{Some};
     ghost use Rattle.starlark_base.specs.Places.{place_text};
@@ -27,17 +28,17 @@ impl fmt::Display for ResolvedPos {
     }
 }
 
-/// The lines and columns of a span.
+/// The lines and columns of a span's begin and end.
 #[derive(Clone, Copy, Debug, Default, PartialEq, Eq, PartialOrd, Ord, Hash)]
 pub struct ResolvedSpan {
-    /// Where the span begins.
+    /// The position at which the span begins.
     pub begin: ResolvedPos,
-    /// Where it ends: the place behind its last character.
+    /// The position at which the span ends: just after its last character.
     pub end: ResolvedPos,
 }
 
 impl ResolvedSpan {
-    /// Whether a place lies in the span. Its begin and its end do.
+    /// Whether a position lies in the span. Its begin and its end do.
     pub fn contains(&self, pos: ResolvedPos) -> bool
         ensures { IsTrue result
             ↔ (((self.now.begin.line < pos.line) ⊎ ((self.now.begin.line ≡ pos.line) × (self.now.begin.column ≤ pos.column)))
@@ -51,6 +52,8 @@ impl ResolvedSpan {
     }
 }
 
+/// Prints lines and columns from 1: `1:3-2:4`, `1:3-5` within a line, `1:3` where the span is
+/// empty.
 #[tactic(auto, unfolding(crate::specs::Places::span_text))]
 impl fmt::Display for ResolvedSpan {
     ghost use Rattle.std.specs.Prelude.{Some};
@@ -70,7 +73,7 @@ impl fmt::Display for ResolvedSpan {
     }
 }
 
-/// A file's name and a line, from 0 and printed from 1.
+/// A file's name, and a line from 0.
 #[derive(Debug, Drop, PartialEq, Eq, Hash)]
 pub struct ResolvedFileLine {
     /// The file's name.
@@ -80,7 +83,7 @@ pub struct ResolvedFileLine {
 }
 
 impl ResolvedFileLine {
-    /// The same name and line. Refused where memory for the name is wanting.
+    /// Copies the name and the line. `AllocError` where memory for the name runs out.
     pub fn clone(&self, alloc: Global) -> Result<Self, AllocError>
         ensures file { IfOk result (λ copy. string_bytes copy.file ≡ string_bytes self.now.file) }
         ensures line { IfOk result (λ copy. copy.line ≡ self.now.line) }
@@ -92,6 +95,7 @@ impl ResolvedFileLine {
     }
 }
 
+/// Prints `name:line`, the line from 1.
 impl fmt::Display for ResolvedFileLine {
     ghost use Rattle.std.specs.Prelude.{Some, ◌+◌, ◌++◌, codes, string_bytes};
     ghost use Rattle.std.specs.Fmt.{decimal};
@@ -109,12 +113,12 @@ impl fmt::Display for ResolvedFileLine {
 pub struct ResolvedFileSpan {
     /// The file's name.
     pub file: String,
-    /// The lines and columns.
+    /// The lines and columns of the span.
     pub span: ResolvedSpan,
 }
 
 impl ResolvedFileSpan {
-    /// The same name and span. Refused where memory for the name is wanting.
+    /// Copies the name and the span. `AllocError` where memory for the name runs out.
     pub fn clone(&self, alloc: Global) -> Result<Self, AllocError>
         ensures file { IfOk result (λ copy. string_bytes copy.file ≡ string_bytes self.now.file) }
         ensures span { IfOk result (λ copy. copy.span ≡ self.now.span) }
@@ -125,7 +129,9 @@ impl ResolvedFileSpan {
         })
     }
 
-    /// The file's name and the line of the span's begin. Refused where memory for the name is wanting.
+    /// The file's name, and the line at which the span begins.
+    ///
+    /// `AllocError` where memory for the name runs out.
     pub fn begin_file_line(&self, alloc: Global) -> Result<ResolvedFileLine, AllocError>
         ensures file { IfOk result (λ line. string_bytes line.file ≡ string_bytes self.now.file) }
         ensures line { IfOk result (λ line. line.line ≡ self.now.span.begin.line) }
@@ -137,6 +143,7 @@ impl ResolvedFileSpan {
     }
 }
 
+/// Prints `name:` and the lines and columns, from 1, as in `BUILD:1:3-5`.
 impl fmt::Display for ResolvedFileSpan {
     ghost use Rattle.std.specs.Prelude.{Some, ◌++◌, codes, string_bytes};
     ghost use Rattle.starlark_base.specs.Places.{span_text};

@@ -1,22 +1,22 @@
-//! Values with the spans that they come from.
+//! Values with their spans.
 
 ghost use Rattle.std.specs.Prelude.{◌≡◌};
 
 use crate::codemap::Span;
 use std::ops::{Deref, DerefMut};
 
-/// A value, as a node of a syntax tree, and where it stands in its source text.
+/// A value, such as a node of a syntax tree, and its span in a source text.
 #[derive(Copy, Debug, Drop, PartialEq, Eq, Hash)]
 #[derive_where(Clone; T: Copy)]
 pub struct Spanned<T> {
     /// The value.
     pub node: T,
-    /// Where it stands, in bytes of its source.
+    /// The span of the value, in bytes of its source.
     pub span: Span,
 }
 
 impl<T> Spanned<T> {
-    /// What a function makes of the node, with the same span.
+    /// Applies a function to the node, and keeps the span.
     pub fn map<U, F: FnOnce(T) -> U + Drop>(self, f: F) -> Spanned<U>
         requires { F.pre f self.node }
         ensures node { F.post f self.node result.node }
@@ -29,7 +29,7 @@ impl<T> Spanned<T> {
         }
     }
 
-    /// The node behind a reference, with the same span.
+    /// A reference to the node, with its span.
     pub fn as_ref(&self) -> Spanned<&T>
         ensures node { result.node.now ≡ self.now.node }
         ensures span { result.span ≡ self.now.span }

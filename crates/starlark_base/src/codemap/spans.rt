@@ -1,4 +1,4 @@
-//! Spans of a source text.
+//! Spans of source texts, in bytes.
 
 ghost use Rattle.std.specs.Prelude.{◌≡◌, ◌≤◌, ◌↔◌, IsTrue, List};
 ghost use Rattle.std.specs.Iterator.{Drains, IsFinite};
@@ -7,7 +7,10 @@ ghost use Rattle.starlark_base.specs.Spans.{ByteSpan, merged, merged_all, Meets}
 use crate::codemap::Pos;
 use std::marker::Model;
 
-/// What lies between two positions of a source text. In a contract it is the pair of their bytes.
+/// A span of a source text: from one byte position up to another.
+///
+/// It doesn't end before it begins, and may be empty. The default is 0..0. In a contract it is the
+/// pair of its positions.
 #[derive(Clone, Copy, Debug, Default, PartialEq, Eq, PartialOrd, Ord, Hash)]
 pub struct Span {
     begin: Pos,
@@ -28,7 +31,7 @@ impl Model for Span {
 }
 
 impl Span {
-    /// The span from one position to another at or behind it.
+    /// A span from one position to another, which must not be less.
     pub fn new(begin: Pos, end: Pos) -> Self
         requires { begin ≤ end }
         ensures { result ≡ record { begin = begin; end = end } }
@@ -43,14 +46,14 @@ impl Span {
         self.begin
     }
 
-    /// The position behind the last byte.
+    /// The position after the last byte.
     pub fn end(self) -> Pos
         ensures { result ≡ self.end }
     {
         self.end
     }
 
-    /// The least span that holds both.
+    /// The least span that holds both spans.
     pub fn merge(self, other: Span) -> Span
         ensures { result ≡ merged self other }
     {
@@ -60,7 +63,7 @@ impl Span {
         }
     }
 
-    /// The least span that holds all that an iterator gives, which ends; 0..0 where it gives none.
+    /// The least span that holds all spans of an iterator, which must end; 0..0 if it has none.
     pub fn merge_all<I: Iterator<Item = Span> + Drop>(mut spans: I) -> Span
         requires can { I.can_next spans }
         requires ends { IsFinite (I.remaining spans) }
@@ -75,7 +78,7 @@ impl Span {
         merged
     }
 
-    /// The empty span at the end of this one.
+    /// The empty span at the end of the span.
     pub fn end_span(self) -> Span
         ensures { result ≡ record { begin = self.end; end = self.end } }
     {
@@ -92,7 +95,7 @@ impl Span {
         self.begin <= pos && pos <= self.end
     }
 
-    /// Whether two spans have a position in common.
+    /// Whether two spans have a position in common. Spans that only touch do.
     pub fn intersects(self, span: Span) -> bool
         ensures { IsTrue result ↔ Meets self span }
     {

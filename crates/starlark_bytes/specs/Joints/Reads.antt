@@ -1,10 +1,10 @@
--- How often bytes of a text are read.
+-- Counts of reads.
 use Rattle.std.specs.Prelude.{ℕ, ◌+◌, ◌≤◌, min}
 
--- the count behind so many more reads; it stops at the greatest number of 64 bits
+-- the count after `more` reads; it saturates at 2^64 - 1
 abbrev pub more_reads : ℕ → ℕ → ℕ
 more_reads count more = min (count + more) 18446744073709551615
 
--- between two counts lie at least and at most so many reads
+-- between two counts there are at least `least` and at most `most` reads
 abbrev pub AreReads : ℕ → ℕ → ℕ → ℕ → Type 0
 AreReads least most before after = (more_reads before least ≤ after) × (after ≤ before + most)

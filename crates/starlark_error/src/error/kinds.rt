@@ -1,4 +1,4 @@
-//! What is said of a text that is refused.
+//! Kinds of errors, with their messages.
 
 ghost use Rattle.std.specs.Prelude.{Some};
 ghost use Rattle.starlark_error.specs.Errors.{message_text, kind_text};
@@ -6,26 +6,27 @@ ghost use Rattle.starlark_error.specs.Errors.{message_text, kind_text};
 use starlark_token::lexeme_error::LexemeError;
 use std::fmt;
 
-/// What a parser says.
+/// The message of a lexer or parser.
 #[derive(Debug, Drop)]
 pub enum ParserMessage {
-    /// A fault of the lexer.
+    /// An error of the lexer.
     Lexeme(LexemeError),
-    /// Words of its own.
+    /// Another message.
     Text(String),
 }
 
-/// What kind of error it is, and what it says.
+/// A kind of error, with its message.
 #[derive(Debug, Drop)]
 pub enum ErrorKind {
-    /// The text is no program.
+    /// An error of the lexer or a parser.
     Parser(ParserMessage),
-    /// Something else is wrong.
+    /// Another error.
     Other(String),
-    /// A promise of this code was broken.
+    /// An internal error: a bug of the code that reports it.
     Internal(String),
 }
 
+/// Prints the message.
 #[tactic(auto, unfolding(crate::specs::Errors::message_text))]
 impl fmt::Display for ParserMessage {
     ghost output = { λ message. Some (message_text message) };
@@ -38,6 +39,7 @@ impl fmt::Display for ParserMessage {
     }
 }
 
+/// Prints the message alone, whichever kind it is.
 #[tactic(auto, unfolding(crate::specs::Errors::kind_text))]
 impl fmt::Display for ErrorKind {
     ghost output = { λ kind. Some (kind_text kind) };

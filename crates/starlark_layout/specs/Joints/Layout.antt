@@ -1,4 +1,4 @@
--- What the code's margins say as the grammar sees them, and what became of them.
+-- Margins of the code, as the grammar sees them, and what taking them does.
 use Rattle.std.specs.Prelude.{◌≡◌, ◌≤◌, true, false, ℕ, ◌+◌, ◌-◌, ◌==◌, ◌&&◌, ◌||◌, Bool, not, get_or, List, [], ◌++◌, if◌then◌else◌, Option, Some, None, map, length, nat_eq, nat_lt, count_by, option_to_list, take, drop}
 use Rattle.std.specs.List.{list_all, list_any}
 use Rattle.std.specs.Str.{byte}
@@ -15,43 +15,47 @@ use Rattle.starlark_layout.specs.declared.pending.Behind.{Behind}
 use Rattle.starlark_layout.specs.declared.pending.Pending.{Pending}
 use Rattle.starlark_token.specs.declared.lexeme_error.LexemeError.{LexemeError}
 
--- blanks as the code has measured them
+-- the code has measured the blanks right
 pub record IsBlanks (blanks : Text) (found : Blanks) : Type 0 where
   pub len : found.len ≡ length blanks
   pub width : found.width ≡ count_by (nat_eq (byte " ")) blanks
   pub has_tab : found.has_tab ≡ list_any (nat_eq (byte "\t")) blanks
 
--- a margin as the code has measured it
+-- the code has measured the margin right
 pub record IsMargin (margin : margins.Margin) (found : Margin) : Type 0 where
   pub at : found.at ≡ margin.at
   pub blanks : IsBlanks margin.blanks found.blanks
   pub is_content : found.is_content ≡ is_content margin.behind
 
--- the greatest open width, and 0 where none is open
+-- the greatest open width; 0 if none is open
 abbrev pub greatest_of : List ℕ → ℕ
 greatest_of levels = get_or levels (length levels - 1) 0
 
--- The first so many of some open widths are left by a content line of a width: those behind them are greater, and the
--- last of them isn't.
+-- a content line of a width leaves the first `count` open widths: the others are greater, and the
+-- last of the first ones isn't
 pub record IsLeftBy (levels : List ℕ) (width count : ℕ) : Type 0 where
   pub inside : count ≤ length levels
   pub closed : list_all (nat_lt width) (drop count levels) ≡ true
   pub last : greatest_of (take count levels) ≤ width
 
--- whether a margin leaves the open widths as they are: no content follows, or its width is the greatest one
+-- whether a margin leaves the open widths as they are: no content follows, or its width is the
+-- greatest open one
 abbrev pub keeps_widths : Margin → List ℕ → Bool
 keeps_widths margin levels = not margin.is_content || (not margin.blanks.has_tab && margin.blanks.width == greatest_of levels)
 
--- what a margin without fault gives behind its comments, its lexemes, its width, and the piece that it is
+-- the lexemes of a margin without fault after its comments: an `Indent` or `Dedent`s
 abbrev pub margin_indentation : List ℕ → margins.Margin → List grammar.Lexeme
 margin_indentation levels margin = if is_content margin.behind then indentation levels margin else []
 
+-- all lexemes of a margin without fault
 abbrev pub margin_lexemes : List ℕ → margins.Margin → List grammar.Lexeme
 margin_lexemes levels margin = margin.comments ++ margin_indentation levels margin
 
+-- the width of a margin, if content follows
 abbrev pub margin_width : margins.Margin → Option ℕ
 margin_width margin = if is_content margin.behind then Some (width_of margin) else None
 
+-- the piece of a newline of `len` bytes and a margin without fault
 abbrev pub margin_piece : ℕ → List grammar.Lexeme → List ℕ → margins.Margin → pieces.Piece
 margin_piece len line_end levels margin = record {
   len = len + margin_len margin;
@@ -60,34 +64,35 @@ margin_piece len line_end levels margin = record {
   sort = pieces.Layout;
 }
 
--- the fault of a margin that has one, behind a line end of so many bytes: a tab, or else a width that doesn't fit
+-- the fault of a margin that has one, after a newline of `len` bytes: a tab, or else a width of no
+-- open indent
 abbrev pub margin_fault : ℕ → margins.Margin → pieces.Step
 margin_fault len margin = if margins.has_tab margin then pieces.fault 0 grammar.InvalidTab 0 else pieces.fault 0 grammar.Indentation (len + margin_len margin)
 
--- A fault stands at a place, and ends so many bytes from there.
+-- the step is the fault found, which begins at 0 and ends at the offset found
 abbrev pub IsFaultFound : pieces.Step → LexemeError × ℕ → Type 0
 IsFaultFound stands found = (node : grammar.Fault) × (fault_view found.0 ≡ Some node) × (stands ≡ pieces.fault 0 node found.1)
 
--- A margin stands behind whatever is before it, what it gives behind its comments is to be handed out, and its width was
--- taken to the open ones.
+-- the margin has no fault, its lexemes after the comments are pending, and its width went to the
+-- open ones
 pub record IsLaidOut (begin : ℕ) (margin : margins.Margin) (widths old new : List ℕ) (behind : Behind) : Type 0 where
   pub stands : (len : ℕ) (before : List grammar.Lexeme) → pieces.margin_step len before old margin ≡ pieces.Stands (margin_piece len before old margin)
   pub behind_them : behind_lexemes behind ≡ map (grammar.moved begin) (margin_indentation old margin)
   pub open_now : new ≡ open_widths (widths ++ option_to_list (margin_width margin))
 
--- A margin has a fault behind whatever is before it, and nothing changed.
+-- the margin has a fault, and nothing changed
 pub record IsLeftOut (margin : margins.Margin) (old new : List ℕ) (behind behind_now : Behind) : Type 0 where
   pub stands : (len : ℕ) (before : List grammar.Lexeme) → pieces.margin_step len before old margin ≡ margin_fault len margin
   pub levels : new ≡ old
   pub same : behind_now ≡ behind
 
--- what became of a margin that begins at a place
+-- what taking a margin that begins at byte `begin` did, by whether it has no fault
 abbrev pub IsLaid : Bool → ℕ → margins.Margin → List ℕ → (old new : List ℕ) → Behind → Behind → Type 0
 IsLaid true begin margin widths old new behind behind_now = IsLaidOut begin margin widths old new behind_now
 IsLaid false begin margin widths old new behind behind_now = IsLeftOut margin old new behind behind_now
 
--- A piece stands at a place, its lexemes are some given ones and then those still to be handed out, and its width was
--- taken to the open ones.
+-- the step is a piece of `len` bytes, its lexemes are the given ones and then the pending ones, and
+-- its width went to the open ones
 pub record IsTaken (text : Text) (at : ℕ) (step : pieces.Step) (given : List grammar.Lexeme) (widths levels : List ℕ) (pending : Pending) (len : ℕ) : Type 0 where
   pub piece : pieces.Piece
   pub stands : step ≡ pieces.Stands piece
@@ -96,7 +101,7 @@ pub record IsTaken (text : Text) (at : ℕ) (step : pieces.Step) (given : List g
   pub lexemes : map (grammar.moved at) piece.lexemes ≡ given ++ pending_lexemes text pending
   pub open_now : levels ≡ open_widths (widths ++ option_to_list piece.width)
 
--- A fault stands at a place, these lexemes are still to be handed out before it, and the open widths are what they were.
+-- the step is a fault, the lexemes before it are pending, and the open widths are unchanged
 pub record IsRefused (text : Text) (step : pieces.Step) (handed_out : List grammar.Lexeme) (widths levels : List ℕ) (pending : Pending) (fault : LexemeError) (end : ℕ) : Type 0 where
   pub node : grammar.Fault
   pub is : fault_view fault ≡ Some node

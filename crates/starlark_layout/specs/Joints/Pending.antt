@@ -1,4 +1,4 @@
--- What was read of a text and is still to be handed out, as the grammar sees it.
+-- Pending lexemes, as the grammar sees them.
 use Rattle.std.specs.Prelude.{◌≡◌, ◌≤◌, ℕ, ◌+◌, ◌-◌, List, [], ◌∷◌, ◌++◌, Option, Some, None, true, map, length, take, drop, replicate}
 use Rattle.std.specs.List.{AllByRecursion}
 use Rattle.starlark_grammar.specs.Words.{Text}
@@ -12,39 +12,42 @@ use Rattle.starlark_layout.specs.declared.pending.Behind.TheVariants as behind
 use Rattle.starlark_layout.specs.declared.pending.Pending.{Pending}
 use Rattle.starlark_token.specs.declared.tokens.Token.{Token}
 
--- the lines of a text from one place to another
+-- the lines of a text from byte `from` to `to`
 abbrev pub lines_between : Text → ℕ → ℕ → List Text
 lines_between text from to = lines (take (to - from) (drop from text))
 
--- how many bytes of comment-only lines are still to be read for their comments
+-- how many bytes of comment-only lines have pending comments
 abbrev pub owed : Pending → ℕ
 owed pending = pending.to - pending.from
 
--- the lexemes of what stands behind the comments
+-- the lexemes that are pending after the comments
 abbrev pub behind_lexemes : Behind → List grammar.Lexeme
 behind_lexemes (behind.Dedents at count) = replicate count (record { begin = at; node = grammar.Dedent; end = at })
 behind_lexemes (behind.Indent begin end) = record { begin = begin; node = grammar.Indent; end = end } ∷ []
 behind_lexemes (behind.TextEnd begin stop end) = record { begin = begin; node = text_end_node stop; end = end } ∷ []
 
--- The lexemes that are still to be handed out: the comments of lines, and what stands behind them.
+-- all pending lexemes: comments of lines, and the lexemes after them
 unfoldable pub pending_lexemes : Text → Pending → List grammar.Lexeme
 pending_lexemes text pending = comments_from pending.from (lines_between text pending.from pending.to) ++ behind_lexemes pending.behind
 
--- All lines from one place of a text to another are comment-only, and their comments lie between characters.
+-- all lines from byte `from` to `to` are comment-only, and their comments begin and end at
+-- character boundaries
 pub record IsComments (text : Text) (from to : ℕ) : Type 0 where
   pub order : from ≤ to
   pub inside : to ≤ length text
   pub comments : AllByRecursion (λ (line : Text). is_comment_only line ≡ true) (lines_between text from to)
   pub edges : AllByRecursion (AtBoundaries text) (comments_from from (lines_between text from to))
 
+-- the pending comments are those of comment-only lines of the text
 abbrev pub IsPending : Text → Pending → Type 0
 IsPending text pending = IsComments text pending.from pending.to
 
--- nothing is to be handed out
+-- no lexeme is pending
 abbrev pub IsIdle : Text → Pending → Type 0
 IsIdle text pending = IsPending text pending × (pending_lexemes text pending ≡ [])
 
--- The first line from one place to another, of so many bytes, has this comment, and all behind it are comment-only.
+-- the first line from byte `from` to `to` has `len` bytes and the comment found, and all after it
+-- are comment-only
 pub record IsFirstComment (text : Text) (from to : ℕ) (found : ℕ × Token × ℕ) (len : ℕ) : Type 0 where
   pub line : Text
   pub first : lines_between text from to ≡ line ∷ lines_between text (from + len) to
@@ -52,11 +55,12 @@ pub record IsFirstComment (text : Text) (from to : ℕ) (found : ℕ × Token ×
   pub comment : lexeme_view found ≡ shown_lexeme (comment_of from line)
   pub behind : IsComments text (from + len) to
 
--- The first lexeme was handed out, or there was none and nothing changed.
+-- the first lexeme after the comments was taken, or there was none and nothing changed
 abbrev pub IsFirstBehind : Behind → Behind → Option (ℕ × Token × ℕ) → Type 0
 IsFirstBehind old new None = (behind_lexemes old ≡ []) × (new ≡ old)
 IsFirstBehind old new (Some found) = map shown_lexeme (behind_lexemes old) ≡ lexeme_view found ∷ map shown_lexeme (behind_lexemes new)
 
+-- the first pending lexeme was taken, or there was none and nothing changed
 abbrev pub IsFirst : Text → Pending → Pending → Option (ℕ × Token × ℕ) → Type 0
 IsFirst text old new None = (pending_lexemes text old ≡ []) × (new ≡ old)
 IsFirst text old new (Some found) = IsPending text new × (map shown_lexeme (pending_lexemes text old) ≡ lexeme_view found ∷ map shown_lexeme (pending_lexemes text new))

@@ -5,9 +5,10 @@ use Rattle.starlark_grammar.specs.Reading.{outcome}
 use Rattle.starlark_token.specs.TextItems.{LexerItem, Refused}
 use Rattle.starlark_lines.specs.Output.{lines_of}
 
--- the item that a text's fault is, where there is one
+-- the item of a text's fault, if it has one
 abbrev pub fault_items : Text → List LexerItem
 fault_items text = map Refused (option_to_list (outcome text).fault)
 
+-- the line of a text's fault; empty if it has none
 abbrev pub fault_lines : (name text : Text) → Text
 fault_lines name text = lines_of name text (fault_items text)

@@ -1,4 +1,4 @@
-//! Why a source isn't read to its end.
+//! The error of lexing a whole source.
 
 use starlark_base::codemap::{OrMemory, SourceTooLong};
 use starlark_error::eval_exception::EvalException;
@@ -6,15 +6,17 @@ use std::alloc::{AllocError, AllocFailed};
 use std::error::Error;
 use std::fmt;
 
-/// Why a source isn't read to its end, whichever call says so: the refusals of code maps, lexers and lexed texts, and the
-/// fault of the source. `?` makes it of each of them, and of want of memory.
+/// The error of lexing a whole source, whichever call fails.
+///
+/// `?` makes it from the errors of `CodeMap::new`, `Lexer::new`, `Lexer::next` and
+/// `LexedText::lex`, and from `AllocError` and `AllocFailed`.
 #[derive(Debug, Drop)]
 pub enum SourceError {
-    /// The source has more bytes than a position can count.
+    /// The source is longer than 4294967295 bytes.
     TooLong,
-    /// The source has a fault.
+    /// The source has a fault, which ends its lexemes.
     Fault(EvalException),
-    /// Memory was wanting.
+    /// An allocation failed.
     Memory,
 }
 
@@ -79,6 +81,9 @@ impl<T: Drop> From<AllocFailed<T>> for SourceError {
     }
 }
 
+/// Prints the fault with its file span, or what else failed.
+///
+/// That is `source is longer than 4294967295 bytes` or `out of memory`.
 impl fmt::Display for SourceError {
     ghost use Rattle.starlark_syntax.specs.SourceErrors.{source_error_text};
 
