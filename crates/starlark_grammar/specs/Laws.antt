@@ -1,5 +1,5 @@
 -- What the laws of the grammar say.
-use Rattle.std.specs.Prelude.{◌≡◌, ◌≤◌, ℕ, ◌+◌, ◌*◌, Bool, true, false, ◌⊎◌, List, ◌++◌, length, take, count_by, Some, None, option_to_list, IfSome}
+use Rattle.std.specs.Prelude.{◌≡◌, ◌≤◌, ◌↔◌, ℕ, ◌+◌, ◌*◌, Bool, true, false, ◌⊎◌, List, ◌++◌, length, take, count_by, Some, None, option_to_list, IfSome}
 use Rattle.std.specs.List.{AllByRecursion}
 use Rattle.std.specs.Str.{IsUtf8, IsCharBoundary}
 use Rattle.starlark_grammar.specs.Words.{Text, Class, Table, class_in, language}
@@ -17,6 +17,14 @@ FrontIsLongest = (text : Text) (class : Class) (len : ℕ) → language_front te
 -- … and there is no other.
 abbrev pub LongestFrontIsOne : Type 0
 LongestFrontIsOne = (text : Text) (class : Class) (len : ℕ) → IsLongestFront (class_in language) text class len → language_front text ≡ Some (class, len)
+
+-- no front of a text, but for the empty one, is in any class of the language
+abbrev pub NoFrontIsWord : Text → Type 0
+NoFrontIsWord text = (len : ℕ) → 1 ≤ len → len ≤ length text → class_in language (take len text) ≡ None
+
+-- There is no longest front exactly where no front is in any class.
+abbrev pub NoneWhereNoWord : Type 0
+NoneWhereNoWord = (text : Text) → (language_front text ≡ None) ↔ NoFrontIsWord text
 
 -- one list begins another
 abbrev pub Begins : List Piece → List Piece → Type 0

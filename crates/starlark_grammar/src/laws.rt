@@ -2,13 +2,15 @@
 //! programs don't call them.
 
 ghost use Rattle.starlark_grammar.specs.IntegerValues.{IntegersKeepTheirValue};
-ghost use Rattle.starlark_grammar.specs.Laws.{FrontIsLongest, LongestFrontIsOne, ReadingsAgree, ReadingsFit, OutcomeIs, OutcomeIsOne, DedentsFollow, BlocksClose, ItemsAreFew, LexemesInOrder, FaultlessInOrder, LexemesAtBoundaries, FaultsInside, FaultAtBoundaries, TablesAgree};
+ghost use Rattle.starlark_grammar.specs.Laws.{FrontIsLongest, LongestFrontIsOne, NoneWhereNoWord, ReadingsAgree, ReadingsFit, OutcomeIs, OutcomeIsOne, DedentsFollow, BlocksClose, ItemsAreFew, LexemesInOrder, FaultlessInOrder, LexemesAtBoundaries, FaultsInside, FaultAtBoundaries, TablesAgree};
 ghost use Rattle.starlark_grammar.specs.PrintedWords.{PrintedWordsReadBack};
 
-/// The longest front of a text that is a word is the longest, and there is only one.
+/// The longest front of a text that is a word is the longest, and there is only one. There is none exactly where no
+/// front is a word.
 pub fn one_longest_front()
     ensures is_longest { FrontIsLongest }
     ensures only { LongestFrontIsOne }
+    ensures none { NoneWhereNoWord }
 {}
 
 /// Of two readings of fronts of one text one begins the other, and both lie inside of the text.

@@ -1,5 +1,5 @@
 -- What the laws of joined and cut texts and of their line ends say.
-use Rattle.std.specs.Prelude.{◌≡◌, ◌<◌, ◌↔◌, ℕ, true, false, List, ◌++◌, length, take, None, option_map, nat_eq, map}
+use Rattle.std.specs.Prelude.{◌≡◌, ◌<◌, ◌↔◌, ◌⊎◌, ℕ, true, false, List, ◌++◌, length, take, None, option_map, nat_eq, map}
 use Rattle.std.specs.List.{list_any}
 use Rattle.std.specs.Str.{byte, IsUtf8}
 use Rattle.starlark_grammar.specs.Words.{Text, Table, language}
@@ -18,6 +18,19 @@ HasFirstMargin table text = (piece : Piece) × (next_step table nothing text ≡
 -- along, where that isn't its first margin's.
 abbrev pub CutsJoin : Type 0
 CutsJoin = (first second : Text) → is_clean_cut first ≡ true → HasFirstMargin language second
+    → outcome (first ++ second) ≡ record { lexemes = joined (length first) (outcome first).lexemes (outcome second).lexemes; fault = option_map (moved (length first)) (outcome second).fault }
+
+-- the first margin of a text is a fault
+abbrev pub FirstMarginFails : Table → Text → Type 0
+FirstMarginFails table text = (fault : Spanned Fault) × (next_step table nothing text ≡ Fails fault)
+
+-- a text has no fault, or one that isn't its first margin's
+abbrev pub FailsLater : Text → Type 0
+FailsLater text = ((outcome text).fault ≡ None) ⊎ (FirstMarginFails language text → ⊥)
+
+-- So do a clean cut and a text that has no fault, or one that isn't its first margin's.
+abbrev pub LaterFaultsJoin : Type 0
+LaterFaultsJoin = (first second : Text) → is_clean_cut first ≡ true → FailsLater second
     → outcome (first ++ second) ≡ record { lexemes = joined (length first) (outcome first).lexemes (outcome second).lexemes; fault = option_map (moved (length first)) (outcome second).fault }
 
 -- Where a text is a clean cut, what was joined has a fault exactly where the text behind has one, …
