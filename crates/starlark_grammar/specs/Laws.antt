@@ -2,10 +2,13 @@
 use Rattle.std.specs.Prelude.{◌≡◌, ◌≤◌, ◌↔◌, ℕ, ◌+◌, ◌*◌, Bool, true, false, ◌⊎◌, List, ◌++◌, length, take, count_by, Some, None, option_to_list, IfSome}
 use Rattle.std.specs.List.{AllByRecursion}
 use Rattle.std.specs.Str.{IsUtf8, IsCharBoundary}
-use Rattle.starlark_grammar.specs.Words.{Text, Class, Table, class_in, language}
+use Rattle.starlark_grammar.specs.Words.{Text, Kind, OfFString, Class, Table, class_in, language}
 use Rattle.starlark_grammar.specs.Front.{IsLongestFront, language_front}
-use Rattle.starlark_grammar.specs.Tokens.{Token, Indent, Dedent, Spanned, Lexeme, Outcome}
-use Rattle.starlark_grammar.specs.Pieces.{Piece}
+use Rattle.starlark_grammar.specs.Tokens.{Token, Indent, Dedent, Opening, Spanned, Lexeme, Outcome}
+use Rattle.starlark_grammar.specs.Items.{Literal, Item, Stop, Closing, Body, body_at, closing_quotes}
+use Rattle.starlark_grammar.specs.Literals.{items_len, items_value, IsGoodBody, IsBadBody, IsBody}
+use Rattle.starlark_grammar.specs.Depths.{Mode}
+use Rattle.starlark_grammar.specs.Pieces.{Piece, token, literal_token, literal_by, literal, chunk_by, chunk}
 use Rattle.starlark_grammar.specs.Reading.{History, IsReading, pieces_len, outcome_in, outcome, IsOutcome}
 use Rattle.starlark_grammar.specs.EarlierLanguage.{earlier_language, holds_rf_opener}
 use Rattle.starlark_grammar.specs.Gaps.{InOrder}
@@ -25,6 +28,34 @@ NoFrontIsWord text = (len : ℕ) → 1 ≤ len → len ≤ length text → class
 -- There is no longest front exactly where no front is in any class.
 abbrev pub NoneWhereNoWord : Type 0
 NoneWhereNoWord = (text : Text) → (language_front text ≡ None) ↔ NoFrontIsWord text
+
+-- What is computed as the body at a place is a list of items and what they stop at, …
+abbrev pub BodyIs : Type 0
+BodyIs = (literal : Literal) (text : Text) → IsBody literal text (body_at literal text)
+
+-- … and there is no other.
+abbrev pub BodyIsOne : Type 0
+BodyIsOne = (literal : Literal) (text : Text) (body : Body) → IsBody literal text body → body ≡ body_at literal text
+
+-- It is a bad literal's exactly where no quotes close it.
+abbrev pub BodyIsBad : Type 0
+BodyIsBad = (literal : Literal) (text : Text) (items : List Item) (stop : Stop)
+    → IsBadBody literal text items stop ↔ ((body_at literal text ≡ record { items = items; stop = stop }) × (stop ≡ Closing → ⊥))
+
+-- A good literal is one token: its value is what its items denote, and it ends with the closing quotes.
+abbrev pub GoodLiteralIsToken : Type 0
+GoodLiteralIsToken = (place : Mode) (kind : Kind) (opening : Opening) (len : ℕ) (behind : Text) (items : List Item) → IsGoodBody (record { kind = kind; opening = opening }) behind items
+    → literal place kind opening len behind ≡ token (len + items_len items + length (closing_quotes opening)) (literal_token kind (items_value items))
+
+-- A bad literal is the fault of what its items stop at.
+abbrev pub BadLiteralIsFault : Type 0
+BadLiteralIsFault = (place : Mode) (kind : Kind) (opening : Opening) (len : ℕ) (behind : Text) (items : List Item) (stop : Stop)
+    → IsBadBody (record { kind = kind; opening = opening }) behind items stop
+    → literal place kind opening len behind ≡ literal_by place kind opening len behind (record { items = items; stop = stop }) stop
+
+-- A chunk of an f-string's text is what its items and what they stop at come to.
+abbrev pub ChunkIsBody : Type 0
+ChunkIsBody = (opening : Opening) (text : Text) (body : Body) → IsBody (record { kind = OfFString; opening = opening }) text body → chunk opening text ≡ chunk_by opening text body body.stop
 
 -- one list begins another
 abbrev pub Begins : List Piece → List Piece → Type 0
