@@ -29,7 +29,7 @@ NoFrontIsWord text = (len : ℕ) → 1 ≤ len → len ≤ length text → class
 abbrev pub NoneWhereNoWord : Type 0
 NoneWhereNoWord = (text : Text) → (language_front text ≡ None) ↔ NoFrontIsWord text
 
--- What is computed as the body at a place is a list of items and what they stop at, …
+-- What is computed as a body is a list of items with what ends it, …
 abbrev pub BodyIs : Type 0
 BodyIs = (literal : Literal) (text : Text) → IsBody literal text (body_at literal text)
 
@@ -37,23 +37,23 @@ BodyIs = (literal : Literal) (text : Text) → IsBody literal text (body_at lite
 abbrev pub BodyIsOne : Type 0
 BodyIsOne = (literal : Literal) (text : Text) (body : Body) → IsBody literal text body → body ≡ body_at literal text
 
--- It is a bad literal's exactly where no quotes close it.
+-- It is the body of a bad literal exactly where no quotes close it.
 abbrev pub BodyIsBad : Type 0
 BodyIsBad = (literal : Literal) (text : Text) (items : List Item) (stop : Stop)
     → IsBadBody literal text items stop ↔ ((body_at literal text ≡ record { items = items; stop = stop }) × (stop ≡ Closing → ⊥))
 
--- A good literal is one token: its value is what its items denote, and it ends with the closing quotes.
+-- A good literal is one token. Its value is what its items denote, and the closing quotes are its last bytes.
 abbrev pub GoodLiteralIsToken : Type 0
-GoodLiteralIsToken = (place : Mode) (kind : Kind) (opening : Opening) (len : ℕ) (behind : Text) (items : List Item) → IsGoodBody (record { kind = kind; opening = opening }) behind items
-    → literal place kind opening len behind ≡ token (len + items_len items + length (closing_quotes opening)) (literal_token kind (items_value items))
+GoodLiteralIsToken = (place : Mode) (kind : Kind) (opening : Opening) (len : ℕ) (text : Text) (items : List Item) → IsGoodBody (record { kind = kind; opening = opening }) text items
+    → literal place kind opening len text ≡ token (len + items_len items + length (closing_quotes opening)) (literal_token kind (items_value items))
 
--- A bad literal is the fault of what its items stop at.
+-- A bad literal is a fault, by what ends its items.
 abbrev pub BadLiteralIsFault : Type 0
-BadLiteralIsFault = (place : Mode) (kind : Kind) (opening : Opening) (len : ℕ) (behind : Text) (items : List Item) (stop : Stop)
-    → IsBadBody (record { kind = kind; opening = opening }) behind items stop
-    → literal place kind opening len behind ≡ literal_by place kind opening len behind (record { items = items; stop = stop }) stop
+BadLiteralIsFault = (place : Mode) (kind : Kind) (opening : Opening) (len : ℕ) (text : Text) (items : List Item) (stop : Stop)
+    → IsBadBody (record { kind = kind; opening = opening }) text items stop
+    → literal place kind opening len text ≡ literal_by place kind opening len text (record { items = items; stop = stop }) stop
 
--- A chunk of an f-string's text is what its items and what they stop at come to.
+-- A chunk of an f-string's text is a piece or a fault, by its items and what ends them.
 abbrev pub ChunkIsBody : Type 0
 ChunkIsBody = (opening : Opening) (text : Text) (body : Body) → IsBody (record { kind = OfFString; opening = opening }) text body → chunk opening text ≡ chunk_by opening text body body.stop
 

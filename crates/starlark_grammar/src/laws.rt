@@ -14,8 +14,8 @@ pub fn one_longest_front()
 {}
 
 /// The body of a literal, or a chunk of an f-string's text, is a list of items that holds nothing forbidden, with what
-/// it stops at, and there is only one. Where no quotes close it, it is the longest such list, and no good literal stands
-/// there. What a literal or a chunk comes to follows from that list.
+/// ends it, and there is only one. If no quotes close it, it is the longest such list, and there is no good literal. A
+/// literal's token or fault, and a chunk's lexemes, follow from that list.
 pub fn one_body()
     ensures is_body { BodyIs }
     ensures only { BodyIsOne }

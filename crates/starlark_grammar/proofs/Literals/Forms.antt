@@ -1,4 +1,4 @@
--- What stands at a place of a body, whatever closes the literal: the forms of items, and stops.
+-- The forms of items, and what ends items that no quotes close, agree with what is found at a place of a body.
 use Rattle.std.proofs.Common.{◌≡◌, ℕ, ◌+◌, ◌≤◌, ◌⊎◌, inl, inr, Bool, true, false, not, [], ◌∷◌, length, take, drop, refl, ap, ◌∙◌, sym, subst, Some, None, Option, arith, nat_eq}
 use Rattle.std.specs.Prelude.{⊤, ◌==◌, ◌&&◌, ◌||◌, if◌then◌else◌, nat_lt, encode_utf8}
 use Rattle.std.specs.Char.{is_ascii_hexdigit}
@@ -14,7 +14,7 @@ use Rattle.starlark_grammar.specs.Characters.{first_character}
 use Rattle.starlark_grammar.specs.Literals.{Form, Character, Return, Escape, RawPair, Braces, is_plain_byte, is_itself, HasForm, ItemAt, IsSingle, StopsAt}
 use Rattle.starlark_grammar.proofs.Choices.{either, by_test}
 
--- what `found_at` says where neither closing quotes nor a line that ends the literal stand
+-- `found_at` without its tests for closing quotes and for the end of a line
 abbrev pub item_found : Literal → Text → Found
 item_found literal [] = Stops Ended
 item_found literal (b ∷ bs) =
@@ -26,7 +26,7 @@ item_found literal (b ∷ bs) =
 
 -- Escapes
 
--- an escape has its backslash and more; where there is none, it is a bad one
+-- an escape is longer than its backslash, and its only stop is a bad one
 abbrev pub EscapeIs : Found → Type 0
 EscapeIs (Goes item) = 2 ≤ item.len
 EscapeIs (Stops (BadEscape read last)) = ⊤
@@ -175,7 +175,7 @@ item_found_from literal text item is = go is.0 text is.1
     go RawPair (b ∷ bs) has = rw (has.0, has.1) has.2
     go Braces (b ∷ bs) has = let parts = by_brace literal.kind b has.0 in rw (parts.0, parts.1, has.0) (doubled b bs has.1 ∙ ap Goes (sym has.2))
 
--- at most one item stands at a place
+-- at most one item is at a place
 pub one_item : (literal : Literal) (text : Text) (one other : Item) → ItemAt literal text one → ItemAt literal text other → one ≡ other
 one_item literal text one other is also = let same : Goes one ≡ Goes other = sym (item_found_from literal text one is) ∙ item_found_from literal text other also in cc
 
@@ -211,7 +211,7 @@ bad_escape literal (b ∷ bs) read last cooked starts e =
     let same : byte "\\" ≡ b = eqb-true (byte "\\") b (and_parts (nat_eq (byte "\\") b) _ starts).0 in
     rw (← same, cooked) e
 
--- where nothing closes a body, no item stands either, but for an LF
+-- what ends items that no quotes close is no item, but for an LF
 pub stops_found : (literal : Literal) (text : Text) (stop : Stop) → StopsAt literal text stop → (stop ≡ Line) ⊎ (item_found literal text ≡ Stops stop)
 unfolding raw_pair
 stops_found literal text Closing is = absurd is
@@ -244,7 +244,7 @@ feed_found literal bs = go literal.kind
     go OfBytes = refl
     go OfFString = refl
 
--- an item of one byte that stands for itself is that byte
+-- where an item is a byte that denotes itself, the text begins with that byte
 pub itself_front : (literal : Literal) (text : Text) (item : Item) (b : ℕ) → ItemAt literal text item → is_itself b item ≡ true → (bs : Text) × (text ≡ b ∷ bs)
 unfolding raw_pair
 itself_front literal text item b is same = go is.0 text is.1

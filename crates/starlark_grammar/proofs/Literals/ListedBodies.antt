@@ -1,4 +1,4 @@
--- The body that is computed is the only list of items that holds nothing forbidden, with what it stops at.
+-- The computed body is the only list of items that holds nothing forbidden, with what ends it.
 use Rattle.std.proofs.Common.{◌≡◌, ℕ, zero, suc, ◌+◌, ◌-◌, ◌≤◌, ◌⊎◌, inl, inr, Bool, true, false, not, cond, List, [], ◌∷◌, ◌++◌, length, drop, refl, ap, ◌∙◌, sym, subst, arith, nat_eq, length-append}
 use Rattle.std.specs.Prelude.{⊤, ◌==◌, ◌&&◌, nat_le, codes}
 use Rattle.std.specs.List.{prefix_len, starts_with, list_any}
@@ -23,7 +23,7 @@ never e f = cc
 abbrev pub count : Opening → ℕ
 count opening = length (closing_quotes opening)
 
--- so many quotes at the front
+-- whether n quotes are at the front
 abbrev pub begins : ℕ → ℕ → Text → Bool
 begins zero q text = true
 begins (suc n) q [] = false
@@ -63,7 +63,7 @@ items_append literal text [] more stand behind = behind
 items_append literal text (item ∷ items) more stand behind =
     (stand.0, items_append literal (drop item.len text) items more stand.1 (subst (λ (t : Text). ItemsAt literal t more) (items_behind item items text) behind))
 
--- an item of one byte that stands for itself, and the text behind it
+-- a text whose first item is one byte that denotes itself
 itself_text : (literal : Literal) (text : Text) (item : Item) (b : ℕ) → ItemAt literal text item → is_itself b item ≡ true → text ≡ b ∷ drop item.len text
 itself_text literal text item b stand same =
     let front = itself_front literal text item b stand same in
@@ -80,7 +80,7 @@ quotes_text literal q (suc n) text (item ∷ items) stand few = go (is_itself q 
     go true e more few = ap (begins (suc n) q) (itself_text literal text item q stand.0 e) ∙ rw (eq-eqb q q refl) (more (omega (arith, few)))
     go false e more few = absurd (omega (arith, few))
 
--- … and the other way round, as far as the items go, or where no such quote stands behind them.
+-- … and the other way round, as far as the items reach, or if no quote comes after them.
 text_quotes : (literal : Literal) (quote : Quote) (n : ℕ) (text : Text) (items : List Item) → ItemsAt literal text items
     → (n ≤ length items) ⊎ (begins 1 (quote_byte quote) (drop (items_len items) text) ≡ false) → begins n (quote_byte quote) text ≡ true → n ≤ prefix_len (is_itself (quote_byte quote)) items
 text_quotes literal quote zero text items stand far h = omega arith
@@ -122,7 +122,7 @@ text_quotes literal quote (suc n) (b ∷ bs) (item ∷ items) stand far h = by (
     by more (inl few) = onward more (inl (omega (arith, few)))
     by more (inr none) = onward more (inr (subst (λ (t : Text). begins 1 (quote_byte quote) t ≡ false) (items_behind item items (b ∷ bs) ∙ ap (drop (items_len items)) rest) none))
 
--- Places that a body passes: neither closing quotes nor an LF that ends the literal stand there.
+-- Places that a body passes: neither closing quotes nor an LF that ends the literal are there.
 
 abbrev pub ends_line : Opening → Text → Bool
 ends_line opening [] = false
@@ -135,7 +135,7 @@ abbrev pub AllPass : Literal → Text → List Item → Type 0
 AllPass literal text [] = ⊤
 AllPass literal text (item ∷ items) = Passes literal text × AllPass literal (drop item.len text) items
 
--- what is found at a place that is passed
+-- what is found at a passed place
 found_passed : (literal : Literal) (text : Text) → Passes literal text → found_at literal text ≡ item_found literal text
 unfolding found_at
 found_passed literal [] passes = refl
@@ -169,9 +169,9 @@ place_is literal (b ∷ bs) = go (begins (count literal.opening) (quote_byte lit
         line true f = inl (e, f, rw (closing_begins literal.opening (b ∷ bs), e, f) refl)
         line false f = inr ((e, f), rw (closing_begins literal.opening (b ∷ bs), e, f) refl)
 
--- From places that are passed to what a list holds
+-- From passed places to what a list holds
 
--- No quotes close a list whose items are at passed places, where none close what is behind it.
+-- A list holds no closing quotes if its first items are at passed places, and the other items hold none.
 quotes_passed : (literal : Literal) (text : Text) (items more : List Item) → ItemsAt literal text (items ++ more) → AllPass literal text items → holds_closing literal.opening more ≡ false → holds_closing literal.opening (items ++ more) ≡ false
 quotes_passed literal text [] more stand pass none = none
 quotes_passed literal text (item ∷ items) more stand pass none =
@@ -235,9 +235,9 @@ quotes_stand literal text h = go literal.opening.is_triple h
     go true h = two text h
     go false h = tt
 
--- From what a list holds to places that are passed
+-- From what a list holds to passed places
 
--- what stands behind items: not the quote, or so many of the closing quotes are among them that one alone is missing
+-- after the items comes no quote, or the closing quotes but the last are among them
 abbrev pub Enough : Literal → Text → List Item → List Item → Type 0
 Enough literal text items more = (count literal.opening ≤ 1 + length more) ⊎ (begins 1 (quote_byte literal.opening.quote) (drop (items_len (items ++ more)) text) ≡ false)
 
@@ -312,7 +312,7 @@ line_ends literal text is =
     let first = feed_first text is.1 in
     ap (ends_line literal.opening) first.1 ∙ rw (is.0) refl
 
--- where items stop and nothing closes them, no quote stands, …
+-- what ends items that no quotes close begins with no quote, …
 stop_no_quote : (literal : Literal) (text : Text) (stop : Stop) → StopsAt literal text stop → begins 1 (quote_byte literal.opening.quote) text ≡ false
 stop_no_quote literal [] stop is = refl
 stop_no_quote literal (b ∷ bs) stop is = rw (other (nat_eq (quote_byte literal.opening.quote) b) refl) refl
@@ -331,7 +331,7 @@ stop_no_quote literal (b ∷ bs) stop is = rw (other (nat_eq (quote_byte literal
     other false e = refl
     other true e = absurd (not_quote (eqb-true (quote_byte quote) b e) (stops_found literal (b ∷ bs) stop is))
 
--- … and that stop is found.
+-- … and is the stop that is found.
 stop_found : (literal : Literal) (text : Text) (stop : Stop) → StopsAt literal text stop → found_at literal text ≡ Stops stop
 stop_found literal text stop is = go (stops_found literal text stop is) (place_is literal text)
   where
@@ -344,7 +344,7 @@ stop_found literal text stop is = go (stops_found literal text stop is) (place_i
     go (inl line) (inr (inr place)) = absurd (never (line_ends literal text (subst (StopsAt literal text) line is)) place.0.1)
     go (inr f) (inr (inr place)) = place.1 ∙ f
 
--- A stop that is found is closing quotes, or what items stop at where nothing closes them.
+-- A stop that is found is closing quotes, or what ends items that no quotes close.
 found_stop : (literal : Literal) (text : Text) (stop : Stop) → found_at literal text ≡ Stops stop
     → ((stop ≡ Closing) × (begins (count literal.opening) (quote_byte literal.opening.quote) text ≡ true)) ⊎ StopsAt literal text stop
 found_stop literal text stop e = go (place_is literal text)
@@ -361,7 +361,7 @@ found_stop literal text stop e = go (place_is literal text)
         inr (subst (StopsAt literal text) line (first.0, ap (λ (t : Text). starts_with nat_eq t (codes "\n")) first.1.1))
     go (inr (inr place)) = inr (subst (FoundIs literal text) (same place.1) (item_found_is literal text))
 
--- An item that is found stands at a place that is passed.
+-- An item that is found is at a passed place.
 found_item : (literal : Literal) (text : Text) (item : Item) → found_at literal text ≡ Goes item → ItemAt literal text item × Passes literal text
 found_item literal text item e = go (place_is literal text)
   where
@@ -372,7 +372,7 @@ found_item literal text item e = go (place_is literal text)
 
 -- Bodies
 
--- a body by what is found at its begin and what is found behind that
+-- a body that begins later in a text
 body_passed : (literal : Literal) (n : ℕ) (text : Text) → body_from literal n text ≡ body_at literal (drop n text)
 unfolding body_from body_at
 body_passed literal zero text = refl
@@ -393,7 +393,7 @@ unfolding body_from body_at found_at
 body_stop literal [] stop e = let same : Ended ≡ stop = cc in ap (λ (s : Stop). record { items = []; stop = s }) same
 body_stop literal (b ∷ bs) stop e = ap (λ (found : Found). body_onward found (λ n. body_from literal n bs)) e
 
--- items at places that are passed, and then a stop, are the body
+-- items at passed places, and then a stop, are the body
 body_listed : (literal : Literal) (text : Text) (items : List Item) (stop : Stop) → ItemsAt literal text items → AllPass literal text items → found_at literal (drop (items_len items) text) ≡ Stops stop
     → body_at literal text ≡ record { items = items; stop = stop }
 body_listed literal text [] stop stand pass e = body_stop literal text stop e
@@ -402,9 +402,9 @@ body_listed literal text (item ∷ items) stop stand pass e =
     let more = body_listed literal (drop item.len text) items stop stand.1 pass.1 (ap (found_at literal) (sym (items_behind item items text)) ∙ e) in
     body_item literal text item found ∙ ap (λ (body : Body). record { items = item ∷ body.items; stop = body.stop }) more
 
--- The body of a text is such a list: its items are at places that are passed, and then its stop is found.
+-- The items of a body are at passed places, and after them its stop is found.
 pub record IsScanned (literal : Literal) (text : Text) (body : Body) : Type 0 where
-  pub stand : ItemsAt literal text body.items
+  pub listed : ItemsAt literal text body.items
   pub pass : AllPass literal text body.items
   pub found : found_at literal (drop (items_len body.items) text) ≡ Stops body.stop
 
@@ -412,17 +412,17 @@ scanned_item : (literal : Literal) (text : Text) (item : Item) (rest : Body) →
     → IsScanned literal text (record { items = item ∷ rest.items; stop = rest.stop })
 scanned_item literal text item rest e more =
     let here = found_item literal text item e in
-    record { stand = (here.0, more.stand); pass = (here.1, more.pass); found = ap (found_at literal) (items_behind item rest.items text) ∙ more.found }
+    record { listed = (here.0, more.listed); pass = (here.1, more.pass); found = ap (found_at literal) (items_behind item rest.items text) ∙ more.found }
 
 scanned_from : (literal : Literal) (n : ℕ) (text : Text) → IsScanned literal (drop n text) (body_from literal n text)
 unfolding body_from found_at
-scanned_from literal zero [] = record { stand = tt; pass = tt; found = refl }
-scanned_from literal (suc n) [] = record { stand = tt; pass = tt; found = refl }
+scanned_from literal zero [] = record { listed = tt; pass = tt; found = refl }
+scanned_from literal (suc n) [] = record { listed = tt; pass = tt; found = refl }
 scanned_from literal (suc n) (b ∷ bs) = scanned_from literal n bs
 scanned_from literal zero (b ∷ bs) = go (found_at literal (b ∷ bs)) refl (found_fits literal (b ∷ bs)) (λ n. scanned_from literal n bs)
   where
     go : (found : Found) → found_at literal (b ∷ bs) ≡ found → FoundFits literal.opening (b ∷ bs) found → ((n : ℕ) → IsScanned literal (drop n bs) (body_from literal n bs)) → IsScanned literal (b ∷ bs) (body_onward found (λ n. body_from literal n bs))
-    go (Stops stop) e fits more = record { stand = tt; pass = tt; found = e }
+    go (Stops stop) e fits more = record { listed = tt; pass = tt; found = e }
     go (Goes item) e fits more = scanned_item literal (b ∷ bs) item (body_from literal (item.len - 1) bs) e
         (subst (λ (t : Text). IsScanned literal t (body_from literal (item.len - 1) bs)) (sym (drop-behind item.len b bs fits.0)) (more (item.len - 1)))
 
@@ -447,7 +447,7 @@ quotes_no_feed opening items = go opening.is_triple
 
 good_of : (literal : Literal) (text : Text) (items : List Item) → ItemsAt literal text items → AllPass literal text items → begins (count literal.opening) (quote_byte literal.opening.quote) (drop (items_len items) text) ≡ true → IsGoodBody literal text items
 good_of literal text items stand pass closed = record {
-  stand = stand;
+  listed = stand;
   closed = closing_begins literal.opening (drop (items_len items) text) ∙ closed;
   allowed = or_from _ _
       (quotes_passed literal text items (quotes_before_last literal.opening) (items_append literal text items (quotes_before_last literal.opening) stand (quotes_stand literal (drop (items_len items) text) closed)) pass (quotes_few literal.opening))
@@ -456,7 +456,7 @@ good_of literal text items stand pass closed = record {
 
 unclosed_of : (literal : Literal) (text : Text) (items : List Item) (stop : Stop) → ItemsAt literal text items → AllPass literal text items → StopsAt literal (drop (items_len items) text) stop → IsUnclosedBody literal text items stop
 unclosed_of literal text items stop stand pass stops = record {
-  stand = stand;
+  listed = stand;
   stops = stops;
   allowed = or_from _ _
       (subst (λ (all : List Item). holds_closing literal.opening all ≡ false) (append_nil items) (quotes_passed literal text items [] (subst (ItemsAt literal text) (sym (append_nil items)) stand) pass refl))
@@ -487,8 +487,8 @@ body_is literal text = go (body_at literal text) (scanned literal text)
     go body is = by (found_stop literal (drop (items_len body.items) text) body.stop is.found)
       where
         by : ((body.stop ≡ Closing) × (begins (count literal.opening) (quote_byte literal.opening.quote) (drop (items_len body.items) text) ≡ true)) ⊎ StopsAt literal (drop (items_len body.items) text) body.stop → IsBody literal text body
-        by (inl closed) = subst (IsBodyBy literal text body.items) (sym closed.0) (good_of literal text body.items is.stand is.pass closed.1)
-        by (inr stops) = body_unclosed literal text body.items body.stop (unclosed_of literal text body.items body.stop is.stand is.pass stops)
+        by (inl closed) = subst (IsBodyBy literal text body.items) (sym closed.0) (good_of literal text body.items is.listed is.pass closed.1)
+        by (inr stops) = body_unclosed literal text body.items body.stop (unclosed_of literal text body.items body.stop is.listed is.pass stops)
 
 no_feed : (opening : Opening) (items : List Item) → (not opening.is_triple && list_any (is_itself (byte "\n")) items) ≡ false → opening.is_triple ≡ false → list_any (is_itself (byte "\n")) items ≡ false
 no_feed opening items none one = go opening.is_triple one none
@@ -516,18 +516,18 @@ good_one : (literal : Literal) (text : Text) (items : List Item) → IsGoodBody 
 good_one literal text items is =
     let closed = sym (closing_begins literal.opening (drop (items_len items) text)) ∙ is.closed in
     let parts = or_parts (holds_closing literal.opening (items ++ quotes_before_last literal.opening)) _ is.allowed in
-    let whole = items_append literal text items (quotes_before_last literal.opening) is.stand (quotes_stand literal (drop (items_len items) text) closed) in
+    let whole = items_append literal text items (quotes_before_last literal.opening) is.listed (quotes_stand literal (drop (items_len items) text) closed) in
     let pass = passed literal text items (quotes_before_last literal.opening) whole (inl (quotes_many literal.opening)) parts.0 (no_feed literal.opening items (sym (quotes_no_feed literal.opening items) ∙ parts.1)) in
-    body_listed literal text items Closing is.stand pass (closing_found literal (drop (items_len items) text) closed)
+    body_listed literal text items Closing is.listed pass (closing_found literal (drop (items_len items) text) closed)
 
 unclosed_one : (literal : Literal) (text : Text) (items : List Item) (stop : Stop) → IsUnclosedBody literal text items stop → body_at literal text ≡ record { items = items; stop = stop }
 unclosed_one literal text items stop is =
     let parts = or_parts (holds_closing literal.opening items) _ is.allowed in
     let same = append_nil items in
-    let pass = passed literal text items [] (subst (ItemsAt literal text) (sym same) is.stand)
+    let pass = passed literal text items [] (subst (ItemsAt literal text) (sym same) is.listed)
     (inr (subst (λ (all : List Item). begins 1 (quote_byte literal.opening.quote) (drop (items_len all) text) ≡ false) (sym same) (stop_no_quote literal (drop (items_len items) text) stop is.stops)))
     (subst (λ (all : List Item). holds_closing literal.opening all ≡ false) (sym same) parts.0) (no_feed literal.opening items parts.1) in
-    body_listed literal text items stop is.stand pass (stop_found literal (drop (items_len items) text) stop is.stops)
+    body_listed literal text items stop is.listed pass (stop_found literal (drop (items_len items) text) stop is.stops)
 
 pub body_is_one : BodyIsOne
 body_is_one literal text body is = go body.items body.stop is
@@ -540,7 +540,7 @@ body_is_one literal text body is = go body.items body.stop is
     go items ClosingBrace is = sym (unclosed_one literal text items ClosingBrace is)
     go items (BadEscape read last) is = sym (unclosed_one literal text items (BadEscape read last) is)
 
--- no list of items goes further than one that stops where nothing closes it, if it holds no LF that isn't allowed
+-- no list of items is longer than one that no quotes close, if it holds no forbidden LF
 longest : (literal : Literal) (stop : Stop) (text : Text) (items more : List Item) → ItemsAt literal text items → StopsAt literal (drop (items_len items) text) stop
     → ItemsAt literal text more → (literal.opening.is_triple ≡ false → list_any (is_itself (byte "\n")) more ≡ false) → length more ≤ length items
 longest literal stop text items [] stand stops also none = omega arith
@@ -571,7 +571,7 @@ body_is_bad literal text items stop = (λ bad. (unclosed_one literal text items 
         let is : IsUnclosedBody literal text items stop = unclosed_body literal text items stop open_still (subst (IsBody literal text) e (body_is literal text)) in
         record {
           unclosed = is;
-          longest = λ more also allowed. longest literal stop text items more is.stand is.stops also (no_feed literal.opening more (or_parts (holds_closing literal.opening more) _ allowed).1);
+          longest = λ more also allowed. longest literal stop text items more is.listed is.stops also (no_feed literal.opening more (or_parts (holds_closing literal.opening more) _ allowed).1);
           no_good = λ good is_good. open_still (ap (λ (body : Body). body.stop) (sym e ∙ good_one literal text good is_good));
         }
 
