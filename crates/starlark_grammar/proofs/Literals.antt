@@ -1,3 +1,5 @@
 -- Bodies of literals.
 pub mod Bodies
+pub mod Forms
+pub mod ListedBodies
 pub mod Silent

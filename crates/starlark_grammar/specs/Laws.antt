@@ -1,11 +1,14 @@
 -- What the laws of the grammar say.
-use Rattle.std.specs.Prelude.{◌≡◌, ◌≤◌, ℕ, ◌+◌, ◌*◌, Bool, true, false, ◌⊎◌, List, ◌++◌, length, take, count_by, Some, None, option_to_list, IfSome}
+use Rattle.std.specs.Prelude.{◌≡◌, ◌≤◌, ◌↔◌, ℕ, ◌+◌, ◌*◌, Bool, true, false, ◌⊎◌, List, ◌++◌, length, take, count_by, Some, None, option_to_list, IfSome}
 use Rattle.std.specs.List.{AllByRecursion}
 use Rattle.std.specs.Str.{IsUtf8, IsCharBoundary}
-use Rattle.starlark_grammar.specs.Words.{Text, Class, Table, class_in, language}
+use Rattle.starlark_grammar.specs.Words.{Text, Kind, OfFString, Class, Table, class_in, language}
 use Rattle.starlark_grammar.specs.Front.{IsLongestFront, language_front}
-use Rattle.starlark_grammar.specs.Tokens.{Token, Indent, Dedent, Spanned, Lexeme, Outcome}
-use Rattle.starlark_grammar.specs.Pieces.{Piece}
+use Rattle.starlark_grammar.specs.Tokens.{Token, Indent, Dedent, Opening, Spanned, Lexeme, Outcome}
+use Rattle.starlark_grammar.specs.Items.{Literal, Item, Stop, Closing, Body, body_at, closing_quotes}
+use Rattle.starlark_grammar.specs.Literals.{items_len, items_value, IsGoodBody, IsBadBody, IsBody}
+use Rattle.starlark_grammar.specs.Depths.{Mode}
+use Rattle.starlark_grammar.specs.Pieces.{Piece, token, literal_token, literal_by, literal, chunk_by, chunk}
 use Rattle.starlark_grammar.specs.Reading.{History, IsReading, pieces_len, outcome_in, outcome, IsOutcome}
 use Rattle.starlark_grammar.specs.EarlierLanguage.{earlier_language, holds_rf_opener}
 use Rattle.starlark_grammar.specs.Gaps.{InOrder}
@@ -17,6 +20,42 @@ FrontIsLongest = (text : Text) (class : Class) (len : ℕ) → language_front te
 -- … and there is no other.
 abbrev pub LongestFrontIsOne : Type 0
 LongestFrontIsOne = (text : Text) (class : Class) (len : ℕ) → IsLongestFront (class_in language) text class len → language_front text ≡ Some (class, len)
+
+-- no front of a text, but for the empty one, is in any class of the language
+abbrev pub NoFrontIsWord : Text → Type 0
+NoFrontIsWord text = (len : ℕ) → 1 ≤ len → len ≤ length text → class_in language (take len text) ≡ None
+
+-- There is no longest front exactly where no front is in any class.
+abbrev pub NoneWhereNoWord : Type 0
+NoneWhereNoWord = (text : Text) → (language_front text ≡ None) ↔ NoFrontIsWord text
+
+-- What is computed as a body is a list of items with what ends it, …
+abbrev pub BodyIs : Type 0
+BodyIs = (literal : Literal) (text : Text) → IsBody literal text (body_at literal text)
+
+-- … and there is no other.
+abbrev pub BodyIsOne : Type 0
+BodyIsOne = (literal : Literal) (text : Text) (body : Body) → IsBody literal text body → body ≡ body_at literal text
+
+-- It is the body of a bad literal exactly where no quotes close it.
+abbrev pub BodyIsBad : Type 0
+BodyIsBad = (literal : Literal) (text : Text) (items : List Item) (stop : Stop)
+    → IsBadBody literal text items stop ↔ ((body_at literal text ≡ record { items = items; stop = stop }) × (stop ≡ Closing → ⊥))
+
+-- A good literal is one token. Its value is what its items denote, and the closing quotes are its last bytes.
+abbrev pub GoodLiteralIsToken : Type 0
+GoodLiteralIsToken = (place : Mode) (kind : Kind) (opening : Opening) (len : ℕ) (text : Text) (items : List Item) → IsGoodBody (record { kind = kind; opening = opening }) text items
+    → literal place kind opening len text ≡ token (len + items_len items + length (closing_quotes opening)) (literal_token kind (items_value items))
+
+-- A bad literal is a fault, by what ends its items.
+abbrev pub BadLiteralIsFault : Type 0
+BadLiteralIsFault = (place : Mode) (kind : Kind) (opening : Opening) (len : ℕ) (text : Text) (items : List Item) (stop : Stop)
+    → IsBadBody (record { kind = kind; opening = opening }) text items stop
+    → literal place kind opening len text ≡ literal_by place kind opening len text (record { items = items; stop = stop }) stop
+
+-- A chunk of an f-string's text is a piece or a fault, by its items and what ends them.
+abbrev pub ChunkIsBody : Type 0
+ChunkIsBody = (opening : Opening) (text : Text) (body : Body) → IsBody (record { kind = OfFString; opening = opening }) text body → chunk opening text ≡ chunk_by opening text body body.stop
 
 -- one list begins another
 abbrev pub Begins : List Piece → List Piece → Type 0

@@ -7,6 +7,7 @@ pub mod IntegerValues
 pub mod PrintedWords
 pub mod Tokens
 pub mod Items
+pub mod Literals
 pub mod Depths
 pub mod Margins
 pub mod Pieces

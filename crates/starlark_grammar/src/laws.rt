@@ -2,13 +2,27 @@
 //! programs don't call them.
 
 ghost use Rattle.starlark_grammar.specs.IntegerValues.{IntegersKeepTheirValue};
-ghost use Rattle.starlark_grammar.specs.Laws.{FrontIsLongest, LongestFrontIsOne, ReadingsAgree, ReadingsFit, OutcomeIs, OutcomeIsOne, DedentsFollow, BlocksClose, ItemsAreFew, LexemesInOrder, FaultlessInOrder, LexemesAtBoundaries, FaultsInside, FaultAtBoundaries, TablesAgree};
+ghost use Rattle.starlark_grammar.specs.Laws.{FrontIsLongest, LongestFrontIsOne, NoneWhereNoWord, BodyIs, BodyIsOne, BodyIsBad, GoodLiteralIsToken, BadLiteralIsFault, ChunkIsBody, ReadingsAgree, ReadingsFit, OutcomeIs, OutcomeIsOne, DedentsFollow, BlocksClose, ItemsAreFew, LexemesInOrder, FaultlessInOrder, LexemesAtBoundaries, FaultsInside, FaultAtBoundaries, TablesAgree};
 ghost use Rattle.starlark_grammar.specs.PrintedWords.{PrintedWordsReadBack};
 
-/// The longest front of a text that is a word is the longest, and there is only one.
+/// The longest front of a text that is a word is the longest, and there is only one. There is none exactly where no
+/// front is a word.
 pub fn one_longest_front()
     ensures is_longest { FrontIsLongest }
     ensures only { LongestFrontIsOne }
+    ensures none { NoneWhereNoWord }
+{}
+
+/// The body of a literal, or a chunk of an f-string's text, is a list of items that holds nothing forbidden, with what
+/// ends it, and there is only one. If no quotes close it, it is the longest such list, and there is no good literal. A
+/// literal's token or fault, and a chunk's lexemes, follow from that list.
+pub fn one_body()
+    ensures is_body { BodyIs }
+    ensures only { BodyIsOne }
+    ensures bad { BodyIsBad }
+    ensures token { GoodLiteralIsToken }
+    ensures fault { BadLiteralIsFault }
+    ensures chunk { ChunkIsBody }
 {}
 
 /// Of two readings of fronts of one text one begins the other, and both lie inside of the text.

@@ -2,6 +2,7 @@
 mod Fronts
 mod Words
 mod Literals
+mod Bodies
 mod Layout
 mod FStrings
 mod Mixed

@@ -1,5 +1,5 @@
 -- What the laws of joined and cut texts and of their line ends say.
-use Rattle.std.specs.Prelude.{◌≡◌, ◌<◌, ◌↔◌, ℕ, true, false, List, ◌++◌, length, take, None, option_map, nat_eq, map}
+use Rattle.std.specs.Prelude.{◌≡◌, ◌<◌, ◌↔◌, ◌⊎◌, ℕ, true, false, List, ◌++◌, length, take, None, option_map, nat_eq, map}
 use Rattle.std.specs.List.{list_any}
 use Rattle.std.specs.Str.{byte, IsUtf8}
 use Rattle.starlark_grammar.specs.Words.{Text, Table, language}
@@ -14,11 +14,25 @@ use Rattle.starlark_laws.specs.Cuts.{is_clean_cut, is_kept_cut, without_closing,
 abbrev pub HasFirstMargin : Table → Text → Type 0
 HasFirstMargin table text = (piece : Piece) × (next_step table nothing text ≡ Stands piece)
 
--- Where a text is a clean cut, it and a text behind it come to the joined list, and to the second text's fault, moved
--- along, where that isn't its first margin's.
+-- The outcome of two texts joined is the joined list, and the second text's fault, moved along.
+abbrev pub Join : Text → Text → Type 0
+Join first second = outcome (first ++ second) ≡ record { lexemes = joined (length first) (outcome first).lexemes (outcome second).lexemes; fault = option_map (moved (length first)) (outcome second).fault }
+
+-- So it is for a clean cut and a text whose first margin has no fault, …
 abbrev pub CutsJoin : Type 0
-CutsJoin = (first second : Text) → is_clean_cut first ≡ true → HasFirstMargin language second
-    → outcome (first ++ second) ≡ record { lexemes = joined (length first) (outcome first).lexemes (outcome second).lexemes; fault = option_map (moved (length first)) (outcome second).fault }
+CutsJoin = (first second : Text) → is_clean_cut first ≡ true → HasFirstMargin language second → Join first second
+
+-- the first margin of a text is a fault
+abbrev pub FirstMarginFails : Table → Text → Type 0
+FirstMarginFails table text = (fault : Spanned Fault) × (next_step table nothing text ≡ Fails fault)
+
+-- a text has no fault, or one that isn't its first margin's
+abbrev pub FailsLater : Text → Type 0
+FailsLater text = ((outcome text).fault ≡ None) ⊎ (FirstMarginFails language text → ⊥)
+
+-- … and for a clean cut and a text that has no fault, or one that isn't its first margin's.
+abbrev pub LaterFaultsJoin : Type 0
+LaterFaultsJoin = (first second : Text) → is_clean_cut first ≡ true → FailsLater second → Join first second
 
 -- Where a text is a clean cut, what was joined has a fault exactly where the text behind has one, …
 abbrev pub FaultsJoin : Type 0

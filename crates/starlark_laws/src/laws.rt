@@ -1,13 +1,14 @@
 //! Laws of texts that are joined, cut, or written with other line ends. Each function here has a law as its contract and
 //! nothing to do; programs don't call them.
 
-ghost use Rattle.starlark_laws.specs.TextLaws.{CutsJoin, FaultsJoin, CutsOfJoined, TabsBehindCuts, KeptCutsKeep, CrlfKeepsTokens};
+ghost use Rattle.starlark_laws.specs.TextLaws.{CutsJoin, LaterFaultsJoin, FaultsJoin, CutsOfJoined, TabsBehindCuts, KeptCutsKeep, CrlfKeepsTokens};
 
 /// At a clean cut the lexemes of two texts joined are the joined list. A fault of the second text stays the same fault,
-/// that much later, unless it is its first margin's: then it stands in the place of the last `Newline`. The joined text
+/// that much later, unless it is its first margin's: then it takes the place of the last `Newline`. The joined text
 /// has a fault exactly where the second text has one, and is a clean cut exactly where that is one and isn't empty.
 pub fn joins_at_clean_cuts()
     ensures lists { CutsJoin }
+    ensures later { LaterFaultsJoin }
     ensures faults { FaultsJoin }
     ensures cuts { CutsOfJoined }
     ensures tabs { TabsBehindCuts }

@@ -1,5 +1,5 @@
 -- The longest front, by the classes of the words that begin with a byte.
-use Rattle.std.proofs.Common.{◌≡◌, ℕ, zero, suc, ◌+◌, ◌<◌, ◌≤◌, Bool, true, false, cond, [], ◌∷◌, length, take, refl, ap, sym, subst, ◌∙◌, Option, Some, None, ◌⊎◌, inl, inr, arith, one-add, add-one}
+use Rattle.std.proofs.Common.{◌≡◌, ℕ, zero, suc, ◌+◌, ◌<◌, ◌≤◌, Bool, true, false, cond, [], ◌∷◌, length, take, refl, ap, sym, subst, ◌∙◌, Option, Some, None, ◌⊎◌, ◌↔◌, inl, inr, arith, one-add, add-one}
 use Rattle.std.specs.List.{list_all, prefix_len}
 use Rattle.std.specs.Option.{option_map}
 use Rattle.starlark_grammar.specs.Words.{Text}
@@ -120,3 +120,16 @@ longest_front_found {C} class_of text class n is = go (longest_front class_of te
     go : (found : Option (C × ℕ)) → longest_front class_of text ≡ found → found ≡ Some (class, n)
     go None e = absurd (not_none n class (front_absent class_of text e n is.some is.inside) is.known)
     go (Some front) e = compare front.0 front.1 e (order front.1 n)
+
+-- There is no longest front exactly where no front has a class.
+pub front_none_exactly : {C : Type 0} (class_of : Text → Option C) (text : Text) → (longest_front class_of text ≡ None) ↔ ((n : ℕ) → 1 ≤ n → n ≤ length text → class_of (take n text) ≡ None)
+front_none_exactly {C} class_of text = (front_absent class_of text, λ h. go (longest_front class_of text) refl h)
+  where
+    not_none : (m : ℕ) (c : C) → class_of (take m text) ≡ None → class_of (take m text) ≡ Some c → ⊥
+    not_none m c e f = cc
+
+    go : (found : Option (C × ℕ)) → longest_front class_of text ≡ found → ((n : ℕ) → 1 ≤ n → n ≤ length text → class_of (take n text) ≡ None) → found ≡ None
+    go None e h = refl
+    go (Some front) e h =
+        let sound = front_sound class_of text front.0 front.1 e in
+        absurd (not_none front.1 front.0 (h front.1 sound.0 sound.1) sound.2)

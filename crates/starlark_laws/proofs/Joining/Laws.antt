@@ -12,7 +12,7 @@ use Rattle.starlark_grammar.specs.Margins.{margin_of}
 use Rattle.starlark_grammar.specs.Pieces.{Piece, Step, Fails, Situation}
 use Rattle.starlark_grammar.specs.Reading.{History, nothing, after_all, situation, IsLongestReading, pieces_len, read, outcome}
 use Rattle.starlark_laws.specs.Cuts.{is_layout, is_outside, is_settled, is_faultless, is_clean_cut, is_clean_cut_in, is_kept_cut, without_closing}
-use Rattle.starlark_laws.specs.TextLaws.{FaultsJoin, CutsOfJoined, TabsBehindCuts, KeptCutsKeep, HasFirstMargin}
+use Rattle.starlark_laws.specs.TextLaws.{LaterFaultsJoin, FailsLater, FaultsJoin, CutsOfJoined, TabsBehindCuts, KeptCutsKeep, HasFirstMargin}
 use Rattle.starlark_grammar.proofs.Reading.Readings.{one_longest, longest_onward, read_is}
 use Rattle.starlark_laws.proofs.Joining.Settled.{Settled, behind, situation_behind, map_none}
 use Rattle.starlark_laws.proofs.Joining.CleanCuts.{cut, begun, longest, past, cuts_join}
@@ -30,6 +30,14 @@ tab_first text has = tab_longest text [] tt (first_step text ∙ margin_tab 0 []
 has_fault : (text : Text) (front : List Piece) → IsLongestReading language nothing text front (Fails tab) → (outcome text).fault ≡ None → ⊥
 has_fault text front longest e =
     let some : Some (moved (pieces_len front) tab) ≡ None = sym (ap (λ (o : Outcome). o.fault) (outcome_by text front (Fails tab) longest)) ∙ e in cc
+
+pub later_faults_join : LaterFaultsJoin
+later_faults_join first second h later = cuts_join first second h (stands later (first_margin_is second))
+  where
+    stands : FailsLater second → HasFirstMargin language second ⊎ HasTab (margin_of second) → HasFirstMargin language second
+    stands later (inl margin) = margin
+    stands (inl none) (inr has) = absurd (has_fault second [] (tab_first second has) none)
+    stands (inr not_first) (inr has) = absurd (not_first (tab, first_step second ∙ margin_tab 0 [] [] (margin_of second) has))
 
 pub faults_join : FaultsJoin
 faults_join first second h = go (first_margin_is second)

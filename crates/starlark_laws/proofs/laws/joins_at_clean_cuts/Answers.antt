@@ -1,9 +1,12 @@
 use Rattle.starlark_laws.proofs.Joining.CleanCuts.{cuts_join}
-use Rattle.starlark_laws.proofs.Joining.Laws.{tabs_behind_cuts, faults_join, cuts_of_joined}
+use Rattle.starlark_laws.proofs.Joining.Laws.{tabs_behind_cuts, later_faults_join, faults_join, cuts_of_joined}
 use Rattle.starlark_laws.proofs.laws.joins_at_clean_cuts.Goals as goal
 
 pub returns-clause-lists : goal.returns-clause-lists
 returns-clause-lists c = cuts_join
+
+pub returns-clause-later : goal.returns-clause-later
+returns-clause-later c = later_faults_join
 
 pub returns-clause-faults : goal.returns-clause-faults
 returns-clause-faults c = faults_join
