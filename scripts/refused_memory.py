@@ -2,7 +2,7 @@
 """Refuses each request for memory of the built programs in turn, and looks at what they answer.
 
 One run has one request refused: the first, then the second, and so on, until a run has no such request. It takes rows
-of `starlark_rows` and `starlark_lexer_rows`, one row a run, texts behind edits for `starlark_texts`, and texts for
+of `starlark_rows`, one row a run, texts behind edits for `starlark_texts`, and texts for
 `starlark_lex`. For each run one of these has to hold:
 
 - the answer is that of a run with no request refused;
@@ -38,9 +38,6 @@ TOP = Path(__file__).resolve().parent.parent
 WANT_OF_MEMORY = b"out of memory"
 MOST_REQUESTS = 100_000
 NO_COMPILER = 2
-
-# The programs over rows of calls.
-ROW_PROGRAMS = ["starlark_rows", "starlark_lexer_rows"]
 
 # The groups of rows whose calls take memory themselves. Of the others a few rows are tried, which take it only to be
 # read and answered.
@@ -186,9 +183,9 @@ def built_allocator(folder):
     return allocator
 
 
-def tried_rows(name, most):
-    """The rows of a program to try with their stored answers: whole groups, and a few rows of each call of the others."""
-    folder = TOP / "crates" / name
+def tried_rows(most):
+    """The rows to try with their stored answers: whole groups, and a few rows of each call of the others."""
+    folder = TOP / "crates/starlark_rows"
     rows = (folder / "stdin").read_bytes().splitlines()
     answers = (folder / "stdout").read_bytes().splitlines()
     seen = Counter()
@@ -288,16 +285,11 @@ def main():
     arguments.add_argument("--rows", type=int, default=1, metavar="N")
     most = arguments.parse_args().rows
     compiler()
-    row_programs = {name: built(name) for name in ROW_PROGRAMS}
-    texts, lex = built("starlark_texts"), built("starlark_lex")
+    rows, texts, lex = built("starlark_rows"), built("starlark_texts"), built("starlark_lex")
     with tempfile.TemporaryDirectory() as folder, ThreadPoolExecutor(os.cpu_count()) as pool:
         allocator = built_allocator(folder)
-        started = [
-            pool.submit(tried_row, allocator, program, row, answer)
-            for name, program in row_programs.items()
-            for row, answer in tried_rows(name, most)
-        ]
-        started += [pool.submit(tried_join, allocator, row_programs["starlark_lexer_rows"])]
+        started = [pool.submit(tried_row, allocator, rows, row, answer) for row, answer in tried_rows(most)]
+        started += [pool.submit(tried_join, allocator, rows)]
         started += [pool.submit(tried_edited, allocator, texts, stored) for stored in EDITED]
         started += [pool.submit(tried_text, allocator, lex, text) for text in TEXTS]
         tried = [it.result() for it in started]

@@ -1,5 +1,10 @@
 pub use Rattle.starlark_text.specs.Characters
 pub use Rattle.starlark_text.specs.Dialects
+pub use Rattle.starlark_text.specs.Strings
+pub use Rattle.starlark_text.specs.Parts
+pub use Rattle.starlark_text.specs.Indices
+pub use Rattle.starlark_text.specs.Cursors
+pub use Rattle.starlark_text.specs.Formats
 pub mod Spans
 pub mod Places
 pub mod Lines

@@ -23,4 +23,4 @@ pub use refusals::SourceTooLong;
 pub use resolved::{ResolvedFileLine, ResolvedFileSpan, ResolvedPos, ResolvedSpan};
 pub use spanned_nodes::Spanned;
 pub use spans::Span;
-pub use starlark_text::refusals::OrMemory;
+pub use starlark_text::or_memory::OrMemory;

@@ -8,4 +8,4 @@ pub mod codemap;
 pub mod diagnostic;
 pub mod laws;
 
-pub use starlark_text::dialect;
+pub use starlark_text::{convert_indices, cursors, dialect, dot_format_parser, fast_string};

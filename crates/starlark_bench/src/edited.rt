@@ -4,9 +4,9 @@ ghost use Rattle.std.specs.Prelude.{◌≡◌, take, true};
 ghost use Rattle.std.specs.Str.{IsCharBoundary};
 
 use crate::tally::BenchFault;
-use starlark_base::codemap::CodeMap;
+use starlark_syntax::codemap::CodeMap;
+use starlark_syntax::dialect::Dialect;
 use starlark_syntax::lexer::LexedText;
-use starlark_text::dialect::Dialect;
 use std::alloc::{AllocError, Global};
 use std::time::Instant;
 

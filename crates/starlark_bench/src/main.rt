@@ -26,7 +26,7 @@ mod tally;
 use crate::edited::{edited_in_the_middle, middle, print_relexed};
 use crate::places::tally_of_places;
 use crate::tally::{BenchFault, tally_of};
-use starlark_base::codemap::{CodeMap, CodeMapId};
+use starlark_syntax::codemap::{CodeMap, CodeMapId};
 use std::process::ExitCode;
 use std::rt::Env;
 use std::time::Instant;

@@ -1,6 +1,6 @@
 //! Resolves spans that are spread over a source.
 
-use starlark_base::codemap::{CodeMap, Pos, ResolvedPos, ResolvedSpan, Span};
+use starlark_syntax::codemap::{CodeMap, Pos, ResolvedPos, ResolvedSpan, Span};
 use std::fmt;
 
 /// Bytes from one span's begin to the next one's, modulo the source's length.

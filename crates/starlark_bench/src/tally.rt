@@ -1,8 +1,8 @@
 //! Counts the items of a lexer.
 
-use starlark_base::codemap::{CodeMap, OrMemory, SourceTooLong};
+use starlark_syntax::codemap::{CodeMap, OrMemory, SourceTooLong};
+use starlark_syntax::dialect::Dialect;
 use starlark_syntax::lexer::{Lexeme, Lexer};
-use starlark_text::dialect::Dialect;
 use std::alloc::{AllocError, Global};
 use std::{fmt, io};
 use thiserror::Error;

@@ -1,16 +1,20 @@
-//! Runs examples of docs/use over the sections of standard input, and prints their output.
+//! Runs the examples of docs/use over the sections of standard input, and prints their output.
 //!
-//! The parser and the formatter are in `starlark_parser_examples`. A section begins with a line
-//! `%%% EXAMPLE`. In that of the build tool each file begins with a line `--- NAME`. In that of the
-//! editor a line `---` is between the text before an edit and the text after it.
+//! A section begins with a line `%%% EXAMPLE`. In that of the build tool each file begins with a
+//! line `--- NAME`. In that of the editor a line `---` is between the text before an edit and the
+//! text after it.
 #![tactic(auto)]
 
 mod editor;
 mod evaluator;
+mod formatter;
+mod lexeme_list;
 mod linter;
 mod loads;
+mod parser;
 
 use crate::linter::Finding;
+use crate::parser::Expression;
 use starlark_syntax::codemap::{CodeMap, CodeMapId};
 use starlark_syntax::eval_exception::EvalException;
 use starlark_syntax::lexer::{LexedText, SourceError};
@@ -146,6 +150,32 @@ fn evaluated(alloc: Global, templates: &str) -> Result<String, SourceError> {
     Ok(lines)
 }
 
+/// The parser's output: a line for each expression, with brackets around each sum.
+fn parsed(alloc: Global, text: &str) -> Result<String, SourceError> {
+    let file = file_of(alloc, "BUILD", text)?;
+    let lexemes = lexeme_list::lexemes_of(alloc, text, &file)?;
+    let expressions = parser::expressions(alloc, &file, &lexemes)?;
+    Ok(expression_lines(alloc, &expressions)?)
+}
+
+/// A line for each expression.
+fn expression_lines(alloc: Global, expressions: &[Expression<'_>]) -> Result<String, AllocError> {
+    let mut lines = String::new(alloc);
+    for expression in expressions {
+        write!(lines, "{expression}\n")?;
+    }
+    Ok(lines)
+}
+
+/// The formatter's output: the formatted text, or `not formatted`.
+fn formatted(alloc: Global, text: &str) -> Result<String, SourceError> {
+    let file = file_of(alloc, "BUILD", text)?;
+    match formatter::formatted(alloc, &file)? {
+        Some(formatted) => Ok(formatted),
+        None => Ok(String::from_str(alloc, "not formatted\n")?),
+    }
+}
+
 /// The output of an example for its section.
 fn answer(alloc: Global, example: &str, text: &str) -> Result<String, SourceError> {
     match example {
@@ -153,6 +183,8 @@ fn answer(alloc: Global, example: &str, text: &str) -> Result<String, SourceErro
         "loads" => loaded(alloc, text),
         "editor" => edited(alloc, text),
         "evaluator" => evaluated(alloc, text),
+        "parser" => parsed(alloc, text),
+        "formatter" => formatted(alloc, text),
         _ => Ok(String::from_str(alloc, "no such example\n")?),
     }
 }

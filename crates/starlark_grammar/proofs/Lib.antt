@@ -6,3 +6,6 @@ pub mod Indentation
 pub mod Reading
 pub mod Order
 pub mod Rows
+pub mod Lines
+pub mod Joining
+pub mod LineEnds

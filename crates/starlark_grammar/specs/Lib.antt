@@ -16,3 +16,6 @@ pub mod Gaps
 pub mod EarlierLanguage
 pub mod Laws
 pub mod Joints
+pub mod Cuts
+pub mod LineEnds
+pub mod TextLaws

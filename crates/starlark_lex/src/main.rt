@@ -9,7 +9,7 @@
 ghost use Rattle.std.specs.Prelude.{◌≡◌};
 ghost use Rattle.starlark_lex.specs.ExitStatus.{exit_status as exit_status_of};
 
-use starlark_print::{RunFault, RunStatus, Watched, run};
+use starlark_run::{RunFault, RunStatus, Watched, run};
 use std::env;
 use std::process::ExitCode;
 use std::rt::Env;

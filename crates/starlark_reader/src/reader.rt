@@ -16,7 +16,7 @@ ghost use Rattle.starlark_reader.specs.Joints.MarginCuts.{IsCutBefore};
 ghost use Rattle.starlark_reader.specs.Joints.Reads.{HasBegun, HasLooked, HasLookedHere, HasRead, HasReadAt, HasReadNext, IsMarginRead, IsPassed, IsPassedBy, IsTaken};
 ghost use Rattle.starlark_reader.specs.Joints.Reader.{CountsLineEnds, has_read_none, IsAhead, IsAheadBehind, IsAtCode, IsBangHere, IsInCode, IsInFlatMargin, IsReached, IsStateAfter, IsNext, IsOver, IsPlainTextHere, IsRead, IsReady, IsSomething, IsWordHere, before_view, left_here, left_to_read, newline_if, newline_of, silent_sort, step_here};
 ghost use Rattle.starlark_reader.specs.Joints.Pieces.{IsBehind};
-ghost use Rattle.starlark_laws.specs.Cuts.{is_layout, is_settled};
+ghost use Rattle.starlark_grammar.specs.Cuts.{is_layout, is_settled};
 ghost use Rattle.starlark_grammar.specs.Reading.{History, outcome};
 ghost use Rattle.starlark_token.specs.TokenViews.{TokenView, token_view};
 ghost use Rattle.starlark_grammar.specs.Tokens.{FStringStart, Fault, Spanned};
@@ -356,7 +356,7 @@ impl Reader {
     }
 
     /// Whether the place is behind a margin, with no bracket, f-string or width open.
-    #[tactic(auto, unfolding(starlark_laws::specs::Cuts::is_settled))]
+    #[tactic(auto, unfolding(starlark_grammar::specs::Cuts::is_settled))]
     pub fn is_settled(&self) -> bool
         ensures { (text : Text) (history : History) → IsStateAfter text history self.now → result ≡ is_settled history }
     {

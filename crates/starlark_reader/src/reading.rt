@@ -6,7 +6,7 @@ ghost use Rattle.starlark_grammar.specs.Front.{language_front};
 ghost use Rattle.starlark_bytes.specs.Joints.Reads.{AreReads, more_reads};
 ghost use Rattle.starlark_reader.specs.Joints.Reads.{ArePieceReads, AreReadsBehind, AreStepReads};
 ghost use Rattle.starlark_reader.specs.Joints.Steps.{IsStep};
-ghost use Rattle.starlark_laws.specs.Cuts.{is_outside};
+ghost use Rattle.starlark_grammar.specs.Cuts.{is_outside};
 ghost use Rattle.starlark_nesting.specs.Joints.Nesting.{mode_view};
 ghost use Rattle.starlark_grammar.specs.Pieces as grammar;
 ghost use Rattle.starlark_reader.specs.Joints.Pieces.{IsBehind, IsPiece};

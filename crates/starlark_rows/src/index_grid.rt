@@ -1,7 +1,7 @@
 //! Parts of a text between two indices, each of which may be negative or missing.
 
-use starlark_calls::rows::{Answer, Row};
-use starlark_strings::fast_string::convert_str_indices;
+use crate::rows::{Answer, Row};
+use starlark_syntax::fast_string::convert_str_indices;
 use std::alloc::{AllocError, Global};
 use std::fmt::Write;
 

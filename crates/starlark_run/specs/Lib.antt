@@ -1,8 +1,8 @@
-pub use Rattle.starlark_edits.specs.Edits
-pub use Rattle.starlark_lines.specs.Watch
-pub use Rattle.starlark_lines.specs.Places
-pub use Rattle.starlark_lines.specs.Output
-pub use Rattle.starlark_lines.specs.Writing
-pub use Rattle.starlark_lines.specs.Runs
-pub use Rattle.starlark_lines.specs.declared.ends.RunFault
-pub use Rattle.starlark_lines.specs.declared.ends.RunStatus
+pub mod Calls
+pub mod Watch
+pub mod Places
+pub mod Output
+pub mod Writing
+pub mod Runs
+pub mod Joints
+pub mod Edits

@@ -1,8 +1,25 @@
-//! The run of the program: reads a text, and prints its lexemes and its first fault.
-//!
-//! `run_edits` edits the text before. Reader and writer are wrapped in `Watched`, so that a caller
-//! can see which of them failed.
+//! The program's run: reads a text from a reader, and prints its lexemes or its first fault to a
+//! writer. Both are watched, so that a caller can tell which of them failed. A list of edits may
+//! change the text before.
 #![tactic(auto)]
 
-pub use starlark_edits::{Edit, run_edits};
-pub use starlark_print::{GREATEST_LEN, RunFault, RunStatus, Watched, run, watched};
+mod buffer;
+pub mod devices;
+mod edited_runs;
+mod edits;
+pub mod ends;
+mod input;
+mod lexed_printing;
+mod lexeme_lines;
+mod place;
+mod plain_runs;
+mod printer;
+mod printing;
+mod versions;
+pub mod watched;
+
+pub use edited_runs::run_edits;
+pub use edits::Edit;
+pub use ends::{GREATEST_LEN, RunFault, RunStatus};
+pub use plain_runs::run;
+pub use watched::Watched;

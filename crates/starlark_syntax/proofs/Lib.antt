@@ -1,1 +1,5 @@
+mod ErrorRows
+pub mod LexerItems
+pub mod LexerReads
+pub mod LexedTexts
 pub mod Held

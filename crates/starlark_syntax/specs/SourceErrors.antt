@@ -2,12 +2,12 @@
 use Rattle.std.specs.Prelude.{ℕ, List, Option, Some, codes}
 use Rattle.starlark_base.specs.Diagnostics.{Diagnosed}
 use Rattle.starlark_base.specs.declared.codemap.refusals.SourceTooLong.{SourceTooLong}
-use Rattle.starlark_error.specs.declared.error.kinds.ErrorKind.{ErrorKind}
-use Rattle.starlark_error.specs.Errors.{error_text}
+use Rattle.starlark_syntax.specs.declared.error.kinds.ErrorKind.{ErrorKind}
+use Rattle.starlark_syntax.specs.Errors.{error_text}
 use Rattle.starlark_syntax.specs.declared.lexer.source_error.SourceError.{SourceError}
 use Rattle.starlark_syntax.specs.declared.lexer.source_error.SourceError.TheVariants as source
-use Rattle.starlark_text.specs.declared.refusals.OrMemory.{OrMemory}
-use Rattle.starlark_text.specs.declared.refusals.OrMemory.TheVariants.{Error, Memory}
+use Rattle.starlark_text.specs.declared.or_memory.OrMemory.{OrMemory}
+use Rattle.starlark_text.specs.declared.or_memory.OrMemory.TheVariants.{Error, Memory}
 
 -- what an error of `CodeMap::new` or `LexedText::lex` becomes
 abbrev pub error_of_length : OrMemory SourceTooLong → SourceError

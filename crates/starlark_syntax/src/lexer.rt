@@ -2,9 +2,9 @@
 
 mod source_error;
 
+pub use crate::lexed_text::LexedText;
+pub use crate::lexemes::{Lexeme, Lexer};
 pub use source_error::SourceError;
-pub use starlark_lexed_text::LexedText;
-pub use starlark_lexer::{Lexeme, Lexer};
 pub use starlark_scanner::one_identifier::lex_exactly_one_identifier;
 pub use starlark_token::big_int::BigInt;
 pub use starlark_token::fstring_style::{FStringConv, FStringQuote};

@@ -6,4 +6,4 @@
 #[cfg(test)]
 mod closures;
 #[cfg(test)]
-mod devices;
+mod device_tests;

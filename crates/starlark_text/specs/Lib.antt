@@ -1,2 +1,11 @@
 pub mod Characters
 pub mod Dialects
+pub mod Cursors
+pub mod Indices
+pub mod Joints
+pub mod Parts
+pub mod Strings
+pub mod FormatLaws
+pub mod Formats
+pub mod Parsing
+pub mod Scanning

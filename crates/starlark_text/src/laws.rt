@@ -1,19 +1,12 @@
-//! Laws on dialects and characters. Each is the contract of a function with an empty body.
+//! Laws of characters, strings, format strings and dialects, for all texts. Each law is the
+//! contract of a function; most of these do nothing.
 
-ghost use Rattle.std.specs.Prelude.{◌≡◌};
-ghost use Rattle.starlark_text.specs.Characters as spec;
-ghost use Rattle.starlark_text.specs.Dialects.{standard, extended, all_options};
+mod character_laws;
+mod format_laws;
+mod string_laws;
 
-use crate::dialect::Dialect;
-
-/// The three dialects have the settings of their definitions.
-pub fn dialects()
-    ensures standard { Dialect.Standard ≡ standard }
-    ensures extended { Dialect.Extended ≡ extended }
-    ensures all_options { Dialect.AllOptionsInternal ≡ all_options }
-{}
-
-/// A text has as many characters as bytes that begin a character.
-pub fn characters_begin_once()
-    ensures { spec.CharactersBeginOnce }
-{}
+pub use character_laws::{characters_begin_once, dialects};
+pub use format_laws::{
+    answers_are_the_outcome, one_outcome, one_piece_or_fault, tokens_parse_back,
+};
+pub use string_laws::{walked_at, walked_len, walked_split_at, walks_agree};

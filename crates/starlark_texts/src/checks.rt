@@ -1,6 +1,6 @@
 //! Checks of every text: its lexemes, a lexer whose code map has another source, and the output.
 
-use crate::lines::{file_of, lines_of};
+use crate::printed_lines::{file_of, lines_of};
 use starlark_syntax::codemap::{CodeMap, OrMemory};
 use starlark_syntax::dialect::Dialect;
 use starlark_syntax::eval_exception::EvalException;

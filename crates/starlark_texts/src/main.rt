@@ -9,15 +9,14 @@
 #![tactic(auto)]
 
 mod checks;
-mod lines;
+mod printed_lines;
 mod stored;
-mod tally;
+mod text_tally;
 
 use crate::checks::first_wrong;
 use crate::stored::{Record, Task, first_record};
-use crate::tally::{Tally, of_fronts, of_repeated};
-use starlark_edits::{Edit, run_edits};
-use starlark_print::{RunFault, RunStatus, Watched, run};
+use crate::text_tally::{Tally, of_fronts, of_repeated};
+use starlark_run::{Edit, RunFault, RunStatus, Watched, run, run_edits};
 use std::alloc::{AllocError, Global};
 use std::io;
 use std::io::{BufWriter, ErrorKind, Read, Write};

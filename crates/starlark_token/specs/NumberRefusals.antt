@@ -1,7 +1,7 @@
 -- The errors of parsing an integer.
 use Rattle.std.specs.Prelude.{◌≡◌, ℕ, None, string_bytes, IsSomeAnd, ◌⊎◌}
-use Rattle.starlark_text.specs.declared.refusals.OrMemory.{OrMemory}
-use Rattle.starlark_text.specs.declared.refusals.OrMemory.TheVariants.{Error, Memory}
+use Rattle.starlark_text.specs.declared.or_memory.OrMemory.{OrMemory}
+use Rattle.starlark_text.specs.declared.or_memory.OrMemory.TheVariants.{Error, Memory}
 use Rattle.starlark_grammar.specs.Words.{Text}
 use Rattle.starlark_grammar.specs.Numbers.{integer_in}
 use Rattle.starlark_token.specs.TokenInts.{IsBig}

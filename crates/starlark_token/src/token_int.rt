@@ -8,7 +8,7 @@ ghost use Rattle.starlark_token.specs.TokenInts.{IsBig, integer_view};
 use crate::big_int::BigInt;
 use crate::lexeme_error::LexemeError;
 use crate::number_text::number_in;
-use starlark_text::refusals::OrMemory;
+use starlark_text::or_memory::OrMemory;
 use std::alloc::{AllocError, Global};
 use std::fmt;
 

@@ -5,7 +5,7 @@ ghost use Rattle.std.specs.Str.{IsAscii, IsCharBoundary};
 ghost use Rattle.starlark_base.specs.Joints.CharacterCounts.{AreCounts, begun_before};
 ghost use Rattle.starlark_text.specs.Characters.{char_count};
 
-use starlark_text::lanes::{count_begun, count_characters};
+use starlark_text::character_starts::{count_begun, count_characters};
 use std::alloc::{AllocError, Global};
 
 /// Bytes in a step.

@@ -16,21 +16,21 @@ use Rattle.starlark_grammar.specs.Depths.{Mode, is_balanced, mode_after}
 use Rattle.starlark_grammar.specs.Margins.{comment_lines, fits, has_tab, is_comment_only, is_content, lines, margin_of, open_widths, width_of}
 use Rattle.starlark_grammar.specs.Pieces.{Ends, Fails, Piece, Stands, counts, first_margin, line_end, margin_step}
 use Rattle.starlark_grammar.specs.Reading.{History, IsReading, after, after_all, lexemes_along, next_step, nothing, outcome, pieces_len, read, situation}
-use Rattle.starlark_laws.specs.Cuts.{is_clean_cut, is_layout, is_outside, without_closing}
+use Rattle.starlark_grammar.specs.Cuts.{is_clean_cut, is_layout, is_outside, without_closing}
 use Rattle.starlark_grammar.proofs.Lists.{drop-sum}
 use Rattle.starlark_grammar.proofs.Words.Fronts.{front_sound}
 use Rattle.starlark_grammar.proofs.Order.Lexemes.{Split, first_line}
 use Rattle.starlark_grammar.proofs.Reading.Readings.{one_longest, piece_fits, read_is, started, stops_here}
 use Rattle.starlark_grammar.proofs.Reading.Steps.{Each, is_nothing}
 use Rattle.starlark_grammar.proofs.Choices.{either}
-use Rattle.starlark_laws.proofs.Joining.CleanCuts.{cut, past_both, pieces_both}
-use Rattle.starlark_laws.proofs.Joining.Joined.{CountedEnd, counted_end, margin_step_len, outside}
-use Rattle.starlark_laws.proofs.Joining.KeptPlaces.{HasPassed, IsInMargin, cut_few, cut_in}
-use Rattle.starlark_laws.proofs.Joining.LaidCuts.{Behind, First, IsFlat, IsLaid, MarginAt, ends_some, laid_clean, laid_lexemes, line_count}
-use Rattle.starlark_laws.proofs.Joining.Laws.{ends_behind}
-use Rattle.starlark_laws.proofs.Joining.LineCuts.{kept_by, kept_parts, line_behind, line_clean, line_end_ends, line_lexeme, reading_reach, reads_more}
-use Rattle.starlark_laws.proofs.Joining.Settled.{outside_none}
-use Rattle.starlark_laws.proofs.Joining.FollowedMargins.{lines_sum}
+use Rattle.starlark_grammar.proofs.Joining.CleanCuts.{cut, past_both, pieces_both}
+use Rattle.starlark_grammar.proofs.Joining.Joined.{CountedEnd, counted_end, margin_step_len, outside}
+use Rattle.starlark_grammar.proofs.Joining.KeptPlaces.{HasPassed, IsInMargin, cut_few, cut_in}
+use Rattle.starlark_grammar.proofs.Joining.LaidCuts.{Behind, First, IsFlat, IsLaid, MarginAt, ends_some, laid_clean, laid_lexemes, line_count}
+use Rattle.starlark_grammar.proofs.Joining.Laws.{ends_behind}
+use Rattle.starlark_grammar.proofs.Joining.LineCuts.{kept_by, kept_parts, line_behind, line_clean, line_end_ends, line_lexeme, reading_reach, reads_more}
+use Rattle.starlark_grammar.proofs.Joining.Settled.{outside_none}
+use Rattle.starlark_grammar.proofs.Joining.FollowedMargins.{lines_sum}
 use Rattle.starlark_reader.specs.Joints.MarginCuts.{IsBehindLines, IsCutBefore, IsMarginAhead, lexemes_before}
 use Rattle.starlark_layout.specs.Joints.MarginLines.{IsOfMargin, IsPassedLine}
 use Rattle.starlark_layout.specs.Joints.Pending.{IsPending, lines_between, pending_lexemes}

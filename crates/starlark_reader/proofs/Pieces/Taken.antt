@@ -12,7 +12,7 @@ use Rattle.starlark_grammar.specs.Tokens.{Lexeme, Outcome, Spanned, moved}
 use Rattle.starlark_grammar.specs.Tokens as grammar
 use Rattle.starlark_grammar.specs.Margins.{Margin, comment_lines, comments_from, fits, has_tab, indentation, is_content, is_widest, margin_len, margin_of, open_widths, width_of}
 use Rattle.starlark_grammar.specs.Pieces.{Ends, Fails, Layout, Piece, Stands, first_margin, line_end, margin_step}
-use Rattle.starlark_laws.specs.Cuts.{is_layout}
+use Rattle.starlark_grammar.specs.Cuts.{is_layout}
 use Rattle.starlark_grammar.specs.Reading.{History, IsReading, after, after_all, closing, next_step, pieces_len, nothing, outcome, tokens_onto}
 use Rattle.starlark_token.specs.Lexemes.{fault_view, lexeme_view, shown_lexeme}
 use Rattle.starlark_layout.specs.Joints.Layout.{IsRefused, IsTaken}
@@ -38,13 +38,13 @@ use Rattle.starlark_grammar.proofs.Lists.{drop-sum}
 use Rattle.starlark_reader.proofs.Pieces.Here.{IsHere, behind_some, kept_here}
 use Rattle.starlark_reader.proofs.Pieces.Onward.{GoesOn, first_fails, first_stands, history_ends, history_first, history_onward, margin_first, onward_ends, onward_fails, onward_stands}
 use Rattle.starlark_grammar.proofs.Reading.Readings.{one_least, piece_fits, started}
-use Rattle.starlark_laws.proofs.Joining.Tabs.{margin_tab, tab, tab_of}
+use Rattle.starlark_grammar.proofs.Joining.Tabs.{margin_tab, tab, tab_of}
 use Rattle.starlark_nesting.proofs.OpenBrackets.FStrings.{keeps, one_kept}
 use Rattle.starlark_grammar.proofs.Reading.Steps.{Each, is_nothing}
 use Rattle.starlark_grammar.proofs.Choices.{either}
 use Rattle.starlark_reader.proofs.Pieces.MarginCuts.{cut_of_piece, first_ahead_cut, first_cut, line_ahead_cut, line_cut, none_at_end, none_at_fault, read_first, read_more}
-use Rattle.starlark_laws.proofs.Joining.KeptPlaces.{IsInMargin}
-use Rattle.starlark_laws.proofs.Joining.LaidCuts.{Behind, First, MarginAt, line_laid}
+use Rattle.starlark_grammar.proofs.Joining.KeptPlaces.{IsInMargin}
+use Rattle.starlark_grammar.proofs.Joining.LaidCuts.{Behind, First, MarginAt, line_laid}
 use Rattle.starlark_layout.proofs.Indentation.Waiting.{Hands, hands_first, hands_later}
 
 -- What is kept is kept behind the text's first margin.

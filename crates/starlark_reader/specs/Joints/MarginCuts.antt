@@ -3,7 +3,7 @@ use Rattle.std.specs.Prelude.{◌≡◌, ◌≤◌, ◌<◌, true, ℕ, ◌+◌,
 use Rattle.starlark_grammar.specs.Words.{Text, language}
 use Rattle.starlark_grammar.specs.Margins.{lines}
 use Rattle.starlark_grammar.specs.Reading.{outcome, pieces_len, read}
-use Rattle.starlark_laws.specs.Cuts.{is_clean_cut, is_kept_cut, without_closing}
+use Rattle.starlark_grammar.specs.Cuts.{is_clean_cut, is_kept_cut, without_closing}
 use Rattle.starlark_layout.specs.Joints.Pending.{lines_between}
 use Rattle.starlark_layout.specs.declared.pending.Pending.{Pending}
 

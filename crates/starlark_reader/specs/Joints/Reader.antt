@@ -4,7 +4,7 @@ use Rattle.std.specs.Str.{IsCharBoundary}
 use Rattle.starlark_grammar.specs.Words.{Text, language}
 use Rattle.starlark_grammar.specs.Tokens as grammar
 use Rattle.starlark_grammar.specs.Margins.{has_tab, is_content, margin_of, open_widths}
-use Rattle.starlark_laws.specs.Cuts.{is_layout}
+use Rattle.starlark_grammar.specs.Cuts.{is_layout}
 use Rattle.starlark_grammar.specs.Depths.{is_balanced, mode_after}
 use Rattle.starlark_grammar.specs.Front.{language_front}
 use Rattle.starlark_grammar.specs.Pieces as pieces

@@ -8,7 +8,7 @@ ghost use Rattle.starlark_nesting.specs.Joints.Nesting.{is_fstring_start};
 ghost use Rattle.starlark_reader.specs.Joints.Reads.{AreWordReads, IsFault};
 ghost use Rattle.starlark_bytes.specs.Joints.Reads.{AreReads, more_reads};
 ghost use Rattle.starlark_token.specs.Lexemes.{fault_view};
-ghost use Rattle.starlark_laws.specs.Cuts.{is_outside};
+ghost use Rattle.starlark_grammar.specs.Cuts.{is_outside};
 ghost use Rattle.starlark_literals.specs.Joints.Literals.{bytes_of, holds_text};
 ghost use Rattle.starlark_grammar.specs.Joints.Openings.{opening_view};
 ghost use Rattle.starlark_grammar.specs.Pieces as grammar;

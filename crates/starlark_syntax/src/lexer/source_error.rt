@@ -1,7 +1,7 @@
 //! The error of lexing a whole source.
 
+use crate::eval_exception::EvalException;
 use starlark_base::codemap::{OrMemory, SourceTooLong};
-use starlark_error::eval_exception::EvalException;
 use std::alloc::{AllocError, AllocFailed};
 use std::error::Error;
 use std::fmt;

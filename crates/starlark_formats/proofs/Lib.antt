@@ -1,4 +1,0 @@
-mod Rows
-pub mod Pieces
-pub mod Readings
-pub mod Tokens

@@ -1,4 +1,0 @@
-pub mod FormatLaws
-pub mod Formats
-pub mod Parsing
-pub mod Scanning

@@ -1,0 +1,266 @@
+-- Pieces at the front of a text whose last byte is an LF stay where the text goes on, all but line ends that count.
+use Rattle.std.proofs.Common.{◌≡◌, ℕ, zero, suc, ◌+◌, ◌≤◌, ◌<◌, Bool, true, false, not, List, [], ◌∷◌, ◌++◌, length, take, drop, refl, ap, ◌∙◌, sym, subst, Option, Some, None, arith, ◌⊎◌, inl, inr}
+use Rattle.std.specs.Prelude.{◌&&◌, ◌==◌, if◌then◌else◌, nat_eq}
+use Rattle.std.specs.List.{starts_with}
+use Rattle.std.proofs.lemmas.Bool.{and_parts, eqb-true}
+use Rattle.std.proofs.lemmas.List.{length-take-le, take-append-le, drop-append-le}
+use Rattle.starlark_grammar.specs.declared.class.Class.TheVariants as word
+use Rattle.starlark_grammar.specs.Words.{Text, class_in, language, is_in_line}
+use Rattle.starlark_grammar.specs.declared.class.Quote.{Quote}
+use Rattle.starlark_grammar.specs.declared.class.LiteralKind.{LiteralKind as Kind}
+use Rattle.starlark_grammar.specs.declared.class.Class.{Class}
+use Rattle.starlark_grammar.specs.declared.class.Quote.TheVariants.{Single as SingleQuote, Double as DoubleQuote}
+use Rattle.starlark_grammar.specs.declared.class.LiteralKind.TheVariants.{Text as OfText, Bytes as OfBytes, FString as OfFString}
+use Rattle.starlark_grammar.specs.Front.{longest_front}
+use Rattle.starlark_grammar.specs.Tokens.{Opening, FStringBang, Lexeme, Spanned, Fault}
+use Rattle.starlark_grammar.specs.Items.{Stop, Closing, Line, Ended, OpeningBrace, ClosingBrace, BadEscape, Body, body_at, quote_byte}
+use Rattle.starlark_grammar.specs.Depths.{Mode, Outside, InText, AtTop, Deeper}
+use Rattle.starlark_grammar.specs.Margins.{Margin, margin_of, is_content, has_tab, width_of, fits}
+use Rattle.starlark_grammar.specs.Pieces.{Before, Nothing, Layout, Gap, Other, Piece, Step, Stands, Fails, Situation, piece, token, margin_step, line_end, opening_of, more_quotes, escape_fault, literal_by, literal, opener, chunk_by, chunk, counts, word_step, front_step, takes_bang, is_bang, in_code, by_place, by_before, step_at}
+use Rattle.starlark_grammar.specs.Reading.{History, situation, next_step}
+use Rattle.starlark_grammar.specs.Cuts.{is_layout}
+use Rattle.starlark_grammar.proofs.Words.Fronts.{front_sound}
+use Rattle.starlark_grammar.proofs.Reading.Steps.{is_nothing}
+use Rattle.starlark_grammar.proofs.Lines.{in_line, line_fits, language_lines}
+use Rattle.starlark_grammar.proofs.Joining.Followed.{ends_line, ends_line_drop, longest_followed}
+use Rattle.starlark_grammar.proofs.Joining.FollowedBodies.{is_closed, body_followed, starts_followed, starts_inside}
+
+-- Texts of f-strings
+
+-- a chunk that stands has a closed body, and nothing else of the text matters
+chunk_by_followed : (opening : Opening) (text other : Text) (body : Body) (stop : Stop) (piece : Piece) → chunk_by opening text body stop ≡ Stands piece → (is_closed stop ≡ true) × (chunk_by opening other body stop ≡ Stands piece)
+chunk_by_followed opening text other body OpeningBrace piece e = (refl, e)
+chunk_by_followed opening text other body Closing piece e = (refl, e)
+chunk_by_followed opening text other body ClosingBrace piece e = cc
+chunk_by_followed opening text other body (BadEscape read last) piece e = cc
+chunk_by_followed opening text other body Line piece e = cc
+chunk_by_followed opening text other body Ended piece e = cc
+
+pub chunk_followed : (opening : Opening) (text more : Text) (piece : Piece) → ends_line text ≡ true → chunk opening text ≡ Stands piece → chunk opening (text ++ more) ≡ Stands piece
+unfolding chunk
+chunk_followed opening text more piece h e =
+    let body : Body = body_at (record { kind = OfFString; opening = opening }) text in
+    let stands = chunk_by_followed opening text (text ++ more) (body_at (record { kind = OfFString; opening = opening }) text) _ piece e in
+    ap (λ (body : Body). chunk_by opening (text ++ more) body body.stop) (body_followed (record { kind = OfFString; opening = opening }) text more h stands.0) ∙ stands.1
+
+-- Literals
+
+escape_fails : (begin : ℕ) (text : Text) (piece : Piece) → escape_fault begin text ≡ Stands piece → ⊥
+escape_fails begin [] piece e = cc
+escape_fails begin (b ∷ bs) piece e = cc
+
+literal_by_followed : (place : Mode) (kind : Kind) (opening : Opening) (len : ℕ) (behind other : Text) (body : Body) (stop : Stop) (piece : Piece) → literal_by place kind opening len behind body stop ≡ Stands piece → (is_closed stop ≡ true) × (literal_by place kind opening len other body stop ≡ Stands piece)
+literal_by_followed place kind opening len behind other body Closing piece e = (refl, e)
+literal_by_followed place kind opening len behind other body OpeningBrace piece e = cc
+literal_by_followed place kind opening len behind other body ClosingBrace piece e = cc
+literal_by_followed place kind opening len behind other body (BadEscape read last) piece e = absurd (escape_fails _ _ piece e)
+literal_by_followed place kind opening len behind other body Line piece e = cc
+literal_by_followed place kind opening len behind other body Ended piece e = cc
+
+pub literal_followed : (place : Mode) (kind : Kind) (opening : Opening) (len : ℕ) (behind more : Text) (piece : Piece) → ends_line behind ≡ true → literal place kind opening len behind ≡ Stands piece → literal place kind opening len (behind ++ more) ≡ Stands piece
+literal_followed place kind opening len behind more piece h e =
+    let stands = literal_by_followed place kind opening len behind (behind ++ more) (body_at (record { kind = kind; opening = opening }) behind) _ piece e in
+    ap (λ (body : Body). literal_by place kind opening len (behind ++ more) body body.stop) (body_followed (record { kind = kind; opening = opening }) behind more h stands.0) ∙ stands.1
+
+literal_behind : (place : Mode) (kind : Kind) (opening : Opening) (len quotes : ℕ) (behind more : Text) (piece : Piece) → ends_line behind ≡ true → quotes < length behind → literal place kind opening len (drop quotes behind) ≡ Stands piece → literal place kind opening len (drop quotes (behind ++ more)) ≡ Stands piece
+literal_behind place kind opening len quotes behind more piece h inside e =
+    subst (λ (t : Text). literal place kind opening len t ≡ Stands piece) (sym (drop-append-le quotes behind more (omega arith))) (literal_followed place kind opening len (drop quotes behind) more piece (ends_line_drop quotes behind inside h) e)
+
+opener_followed : (place : Mode) (kind : Kind) (opening : Opening) (len : ℕ) (behind more : Text) (piece : Piece) → ends_line behind ≡ true → more_quotes opening < length behind → opener place kind opening len behind ≡ Stands piece → opener place kind opening len (behind ++ more) ≡ Stands piece
+opener_followed place OfFString opening len behind more piece h inside e = e
+opener_followed place OfText opening len behind more piece h inside e = literal_behind place OfText opening (len + more_quotes opening) (more_quotes opening) behind more piece h inside e
+opener_followed place OfBytes opening len behind more piece h inside e = literal_behind place OfBytes opening (len + more_quotes opening) (more_quotes opening) behind more piece h inside e
+
+pub quotes_in_line : (quote : Quote) → in_line (quote_byte quote ∷ quote_byte quote ∷ []) ≡ true
+quotes_in_line SingleQuote = refl
+quotes_in_line DoubleQuote = refl
+
+some_inside : (text : Text) → ends_line text ≡ true → 0 < length text
+some_inside [] h = cc
+some_inside (b ∷ bs) h = omega arith
+
+pub opening_inside : (is_raw : Bool) (quote : Quote) (behind : Text) → ends_line behind ≡ true → more_quotes (opening_of is_raw quote behind) < length behind
+opening_inside is_raw quote behind h = go (starts_with nat_eq behind (quote_byte quote ∷ quote_byte quote ∷ [])) (starts_inside behind (quote_byte quote ∷ quote_byte quote ∷ []) h (quotes_in_line quote))
+  where
+    go : (starts : Bool) → (starts ≡ true → 2 < length behind) → (if starts then 2 else 0) < length behind
+    go true inside = inside refl
+    go false inside = some_inside behind h
+
+pub opening_followed : (is_raw : Bool) (quote : Quote) (behind more : Text) → ends_line behind ≡ true → opening_of is_raw quote (behind ++ more) ≡ opening_of is_raw quote behind
+opening_followed is_raw quote behind more h =
+    ap (λ (triple : Bool). let opening : Opening = record { is_raw = is_raw; quote = quote; is_triple = triple } in opening) (starts_followed behind (quote_byte quote ∷ quote_byte quote ∷ []) more h (quotes_in_line quote))
+
+-- Words
+
+-- a word in a line ends before a text that ends with an LF
+pub word_inside : (n : ℕ) (text : Text) → ends_line text ≡ true → in_line (take n text) ≡ true → n < length text
+word_inside n [] h k = cc
+word_inside zero (b ∷ bs) h k = omega arith
+word_inside (suc n) (b ∷ []) h k = absurd (feed_out b h (and_parts (is_in_line b) (in_line (take n [])) k).0)
+  where
+    feed_out : (b : ℕ) → (b == 10) ≡ true → is_in_line b ≡ true → ⊥
+    feed_out b h k =
+        let line = (and_parts (not (b == 13)) (not (b == 10)) k).1 in
+        let same : not true ≡ true = subst (λ (t : Bool). not t ≡ true) h line in cc
+word_inside (suc n) (b ∷ c ∷ bs) h k =
+    let more = word_inside n (c ∷ bs) h (and_parts (is_in_line b) (in_line (take n (c ∷ bs))) k).1 in omega arith
+
+-- A line end that counts stands in a text, and in the one that goes on: a margin follows it in both.
+pub record CountedLineEnd (s : Situation) (text more : Text) (one other : Step) : Type 0 where
+  pub len : ℕ
+  pub some : 1 ≤ len
+  pub inside : len ≤ length text
+  pub counted : counts s.place s.is_balanced ≡ true
+  pub known : class_in language (take len text) ≡ Some word.LineEnd
+  pub here : one ≡ line_end len s.levels (drop len text)
+  pub followed : other ≡ line_end len s.levels (drop len text ++ more)
+
+-- What a word that isn't a counted line end comes to stays.
+abbrev WordFollowed : Situation → Class → Text → Text → Text → Piece → Type 0
+WordFollowed s class front behind more piece =
+    (word_step s class front (behind ++ more) ≡ Stands piece)
+    ⊎ ((class ≡ word.LineEnd) × (counts s.place s.is_balanced ≡ true) × (word_step s class front behind ≡ line_end (length front) s.levels behind)
+    × (word_step s class front (behind ++ more) ≡ line_end (length front) s.levels (behind ++ more)))
+
+word_followed : (s : Situation) (class : Class) (front behind more : Text) (piece : Piece) → (in_line front ≡ true → ends_line behind ≡ true) → line_fits class front ≡ true → word_step s class front behind ≡ Stands piece → WordFollowed s class front behind more piece
+word_followed s word.Skipped front behind more piece ends fits e = inl e
+word_followed s word.Comment front behind more piece ends fits e = inl e
+word_followed s word.Tabs front behind more piece ends fits e = inl e
+word_followed s word.LineEnd front behind more piece ends fits e = go (counts s.place s.is_balanced) refl e
+  where
+    step : Bool → Text → Step
+    step counted behind = if counted then line_end (length front) s.levels behind else Stands (record { len = length front; lexemes = []; width = None; sort = Other })
+
+    go : (counted : Bool) → counts s.place s.is_balanced ≡ counted → step counted behind ≡ Stands piece
+        → (step counted (behind ++ more) ≡ Stands piece)
+        ⊎ ((word.LineEnd ≡ word.LineEnd) × (counts s.place s.is_balanced ≡ true) × (step counted behind ≡ line_end (length front) s.levels behind) × (step counted (behind ++ more) ≡ line_end (length front) s.levels (behind ++ more)))
+    go true f e = inr (refl, f, refl, refl)
+    go false f e = inl e
+word_followed s (word.Opener kind is_raw quote) front behind more piece ends fits e =
+    let h = ends fits in
+    inl (ap (λ (opening : Opening). opener s.place kind opening (length front) (behind ++ more)) (opening_followed is_raw quote behind more h)
+    ∙ opener_followed s.place kind (opening_of is_raw quote behind) (length front) behind more piece h (opening_inside is_raw quote behind h) e)
+word_followed s word.Reserved front behind more piece ends fits e = inl e
+word_followed s word.Identifier front behind more piece ends fits e = inl e
+word_followed s word.Decimal front behind more piece ends fits e = inl e
+word_followed s word.Hexadecimal front behind more piece ends fits e = inl e
+word_followed s word.Octal front behind more piece ends fits e = inl e
+word_followed s word.Binary front behind more piece ends fits e = inl e
+word_followed s word.Float front behind more piece ends fits e = inl e
+word_followed s (word.Fixed terminal) front behind more piece ends fits e = inl e
+
+-- what a longest word at the front comes to
+front_followed : (s : Situation) (text more : Text) (found : Option (Class × ℕ)) (piece : Piece) → ends_line text ≡ true → longest_front (class_in language) text ≡ found → front_step s text found ≡ Stands piece
+    → (front_step s (text ++ more) found ≡ Stands piece) ⊎ CountedLineEnd s text more (front_step s text found) (front_step s (text ++ more) found)
+front_followed s text more None piece h found e = cc
+front_followed s text more (Some front) piece h found e = go (word_followed s front.0 (take front.1 text) (drop front.1 text) more piece ends (language_lines (take front.1 text) front.0 sound.2) e)
+  where
+    sound : (1 ≤ front.1) × (front.1 ≤ length text) × (class_in language (take front.1 text) ≡ Some front.0)
+    sound = front_sound (class_in language) text front.0 front.1 found
+
+    ends : in_line (take front.1 text) ≡ true → ends_line (drop front.1 text) ≡ true
+    ends line = ends_line_drop front.1 text (word_inside front.1 text h line) h
+
+    again : front_step s (text ++ more) (Some front) ≡ word_step s front.0 (take front.1 text) (drop front.1 text ++ more)
+    again =
+        ap (λ (t : Text). word_step s front.0 t (drop front.1 (text ++ more))) (take-append-le front.1 text more sound.1)
+        ∙ ap (λ (t : Text). word_step s front.0 (take front.1 text) t) (drop-append-le front.1 text more sound.1)
+
+    len : length (take front.1 text) ≡ front.1
+    len = length-take-le front.1 text sound.1
+
+    go : WordFollowed s front.0 (take front.1 text) (drop front.1 text) more piece → (front_step s (text ++ more) (Some front) ≡ Stands piece) ⊎ CountedLineEnd s text more (front_step s text (Some front)) (front_step s (text ++ more) (Some front))
+    go (inl stays) = inl (again ∙ stays)
+    go (inr counted) = inr (record {
+      len = front.1;
+      some = sound.0;
+      inside = sound.1;
+      counted = counted.1;
+      known = sound.2 ∙ ap Some counted.0;
+      here = counted.2 ∙ ap (λ n. line_end n s.levels (drop front.1 text)) len;
+      followed = again ∙ counted.3 ∙ ap (λ n. line_end n s.levels (drop front.1 text ++ more)) len;
+    })
+
+pub bang_followed : (b : ℕ) (bs more : Text) → ends_line (b ∷ bs) ≡ true → is_bang (b ∷ (bs ++ more)) ≡ is_bang (b ∷ bs)
+bang_followed b [] more h = subst (λ n. is_bang (n ∷ more) ≡ is_bang (n ∷ [])) (sym (eqb-true b 10 h)) (go more)
+  where
+    go : (more : Text) → is_bang (10 ∷ more) ≡ is_bang (10 ∷ [])
+    go [] = refl
+    go (c ∷ more) = refl
+bang_followed b (c ∷ bs) more h = refl
+
+-- A piece of code stays, or it is a line end that counts.
+pub code_followed : (s : Situation) (text more : Text) (piece : Piece) → ends_line text ≡ true → in_code language s text ≡ Stands piece
+    → (in_code language s (text ++ more) ≡ Stands piece) ⊎ CountedLineEnd s text more (in_code language s text) (in_code language s (text ++ more))
+code_followed s [] more piece h e = cc
+code_followed s (b ∷ bs) more piece h e = go (takes_bang s.place s.before && is_bang (b ∷ bs)) same (longest_front (class_in language) (b ∷ bs)) refl found e
+  where
+    same : (takes_bang s.place s.before && is_bang (b ∷ (bs ++ more))) ≡ (takes_bang s.place s.before && is_bang (b ∷ bs))
+    same = ap (λ bang. takes_bang s.place s.before && bang) (bang_followed b bs more h)
+
+    found : longest_front (class_in language) (b ∷ (bs ++ more)) ≡ longest_front (class_in language) (b ∷ bs)
+    found = longest_followed (b ∷ bs) more h
+
+    step : Bool → Text → Option (Class × ℕ) → Step
+    step bang text front = if bang then token 1 FStringBang else front_step s text front
+
+    once : (bang : Bool) (front : Option (Class × ℕ)) → longest_front (class_in language) (b ∷ bs) ≡ front → step bang (b ∷ bs) front ≡ Stands piece
+        → (step bang (b ∷ (bs ++ more)) front ≡ Stands piece) ⊎ CountedLineEnd s (b ∷ bs) more (step bang (b ∷ bs) front) (step bang (b ∷ (bs ++ more)) front)
+    once true front known e = inl e
+    once false front known e = front_followed s (b ∷ bs) more front piece h known e
+
+    go : (bang : Bool) → (takes_bang s.place s.before && is_bang (b ∷ (bs ++ more))) ≡ bang → (front : Option (Class × ℕ)) → longest_front (class_in language) (b ∷ bs) ≡ front → longest_front (class_in language) (b ∷ (bs ++ more)) ≡ front
+        → step bang (b ∷ bs) front ≡ Stands piece
+        → (step (takes_bang s.place s.before && is_bang (b ∷ (bs ++ more))) (b ∷ (bs ++ more)) (longest_front (class_in language) (b ∷ (bs ++ more))) ≡ Stands piece)
+        ⊎ CountedLineEnd s (b ∷ bs) more (step bang (b ∷ bs) front) (step (takes_bang s.place s.before && is_bang (b ∷ (bs ++ more))) (b ∷ (bs ++ more)) (longest_front (class_in language) (b ∷ (bs ++ more))))
+    go bang again front known found e = rw (again, found) (once bang front known e)
+
+-- So does what stands at a place that isn't the text's begin.
+pub step_followed : (s : Situation) (text more : Text) (piece : Piece) → is_nothing s.before ≡ false → ends_line text ≡ true → step_at language s text ≡ Stands piece
+    → (step_at language s (text ++ more) ≡ Stands piece) ⊎ CountedLineEnd s text more (step_at language s text) (step_at language s (text ++ more))
+unfolding step_at
+step_followed s text more piece some h e = before s.before some e
+  where
+    at : (place : Mode) → by_place language s place text ≡ Stands piece
+        → (by_place language s place (text ++ more) ≡ Stands piece) ⊎ CountedLineEnd s text more (by_place language s place text) (by_place language s place (text ++ more))
+    at Outside e = code_followed s text more piece h e
+    at (InText opening) e = inl (chunk_followed opening text more piece h e)
+    at AtTop e = code_followed s text more piece h e
+    at Deeper e = code_followed s text more piece h e
+
+    before : (before : Before) → is_nothing before ≡ false → by_before language s before text ≡ Stands piece
+        → (by_before language s before (text ++ more) ≡ Stands piece) ⊎ CountedLineEnd s text more (by_before language s before text) (by_before language s before (text ++ more))
+    before Nothing some e = cc
+    before Layout some e = at s.place e
+    before Gap some e = at s.place e
+    before Other some e = at s.place e
+
+-- A margin that stands leaves layout behind, …
+pub margin_layout : (len : ℕ) (before : List Lexeme) (levels : List ℕ) (margin : Margin) (piece : Piece) → margin_step len before levels margin ≡ Stands piece → piece.sort ≡ Layout
+unfolding margin_step
+margin_layout len before levels margin piece e = go (not (is_content margin.behind)) (has_tab margin) (fits (width_of margin) levels) _ _ _ _ refl refl e
+  where
+    stands : (one other : Piece) → Stands one ≡ Stands other → one.sort ≡ Layout → other.sort ≡ Layout
+    stands one other e h = let same : one ≡ other = cc in subst (λ (p : Piece). p.sort ≡ Layout) same h
+
+    go : (blank tab fit : Bool) (first last : Piece) (wrong other : Spanned Fault) → first.sort ≡ Layout → last.sort ≡ Layout → (if blank then Stands first else (if tab then Fails wrong else (if fit then Stands last else Fails other))) ≡ Stands piece → piece.sort ≡ Layout
+    go true tab fit first last wrong other f g e = stands first piece e f
+    go false true fit first last wrong other f g e = cc
+    go false false true first last wrong other f g e = stands last piece e g
+    go false false false first last wrong other f g e = cc
+
+-- … so that a piece of another sort stays.
+pub other_followed : (s : Situation) (text more : Text) (piece : Piece) → is_nothing s.before ≡ false → ends_line text ≡ true → is_layout piece.sort ≡ false → step_at language s text ≡ Stands piece → step_at language s (text ++ more) ≡ Stands piece
+other_followed s text more piece some h sort e = go (step_followed s text more piece some h e)
+  where
+    go : (step_at language s (text ++ more) ≡ Stands piece) ⊎ CountedLineEnd s text more (step_at language s text) (step_at language s (text ++ more)) → step_at language s (text ++ more) ≡ Stands piece
+    go (inl stays) = stays
+    go (inr counted) =
+        let layout : piece.sort ≡ Layout = margin_layout counted.len _ s.levels (margin_of (drop counted.len text)) piece (sym counted.here ∙ e) in
+        let wrong : true ≡ false = sym (ap is_layout layout) ∙ sort in cc
+
+-- The same of what stands behind a history that isn't empty.
+pub next_followed : (history : History) (text more : Text) (piece : Piece) → is_nothing history.before ≡ false → ends_line text ≡ true → next_step language history text ≡ Stands piece
+    → (next_step language history (text ++ more) ≡ Stands piece) ⊎ CountedLineEnd (situation history) text more (next_step language history text) (next_step language history (text ++ more))
+unfolding next_step situation
+next_followed history text more piece some h e = step_followed (situation history) text more piece some h e

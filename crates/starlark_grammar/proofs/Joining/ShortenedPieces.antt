@@ -1,0 +1,184 @@
+-- A piece that stands in a text stands in it too where the text ends sooner, with an LF behind the piece.
+use Rattle.std.proofs.Common.{◌≡◌, ℕ, ◌+◌, ◌≤◌, ◌<◌, Bool, true, false, List, [], ◌∷◌, ◌++◌, length, take, drop, refl, ap, ◌∙◌, sym, subst, Option, Some, None, arith}
+use Rattle.std.specs.Prelude.{◌&&◌, if◌then◌else◌}
+use Rattle.std.proofs.lemmas.List.{length-take-le, length-drop, take-append-le, drop-append-le}
+use Rattle.starlark_grammar.specs.declared.class.Class.TheVariants as word
+use Rattle.starlark_grammar.specs.Words.{Text, class_in, language}
+use Rattle.starlark_grammar.specs.declared.class.LiteralKind.{LiteralKind as Kind}
+use Rattle.starlark_grammar.specs.declared.class.Class.{Class}
+use Rattle.starlark_grammar.specs.declared.class.LiteralKind.TheVariants.{Text as OfText, Bytes as OfBytes, FString as OfFString}
+use Rattle.starlark_grammar.specs.Front.{longest_front}
+use Rattle.starlark_grammar.specs.Tokens.{Opening, FStringBang, Lexeme, Newline}
+use Rattle.starlark_grammar.specs.Items.{Stop, Closing, Line, Ended, OpeningBrace, ClosingBrace, BadEscape, Body, body_at, body_len, closing_quotes}
+use Rattle.starlark_grammar.specs.Depths.{Mode, Outside, InText, AtTop, Deeper}
+use Rattle.starlark_grammar.specs.Margins.{margin_of, margin_len}
+use Rattle.starlark_grammar.specs.Pieces.{Before, Nothing, Layout, Gap, Other, Piece, Step, Stands, Situation, token, margin_step, line_end, opening_of, more_quotes, escape_fault, literal_by, literal, opener, chunk_by, chunk, counts, word_step, front_step, takes_bang, is_bang, in_code, by_place, by_before, step_at}
+use Rattle.starlark_grammar.specs.Reading.{History, situation, next_step}
+use Rattle.starlark_grammar.proofs.Words.Fronts.{front_sound}
+use Rattle.starlark_grammar.proofs.Lines.{in_line, line_fits, language_lines}
+use Rattle.starlark_grammar.proofs.Joining.Followed.{ends_line, ends_line_drop, longest_followed}
+use Rattle.starlark_grammar.proofs.Joining.FollowedBodies.{is_closed}
+use Rattle.starlark_grammar.proofs.Joining.FollowedMargins.{Followed, Whole, Within, followed, has_whole_lines, whole_behind}
+use Rattle.starlark_grammar.proofs.Joining.FollowedPieces.{bang_followed, opening_followed, opening_inside, word_inside}
+use Rattle.starlark_grammar.proofs.Joining.Joined.{margin_step_len, step_within, whole_from_ends}
+use Rattle.starlark_grammar.proofs.Joining.ShortenedBodies.{body_shortened}
+
+-- Texts of f-strings
+
+chunk_by_shortened : (opening : Opening) (text other : Text) (body : Body) (stop : Stop) (piece : Piece) → chunk_by opening text body stop ≡ Stands piece → (is_closed stop ≡ true) × (body_len body ≤ piece.len) × (chunk_by opening other body stop ≡ Stands piece)
+chunk_by_shortened opening text other body OpeningBrace piece e = let len : body_len body + 1 ≡ piece.len = ap len_of e in (refl, omega (arith, len), e)
+  where
+    len_of : Step → ℕ
+    len_of (Stands piece) = piece.len
+    len_of step = 0
+chunk_by_shortened opening text other body Closing piece e = let len : body_len body + length (closing_quotes opening) ≡ piece.len = ap len_of e in (refl, omega (arith, len), e)
+  where
+    len_of : Step → ℕ
+    len_of (Stands piece) = piece.len
+    len_of step = 0
+chunk_by_shortened opening text other body ClosingBrace piece e = cc
+chunk_by_shortened opening text other body (BadEscape read last) piece e = cc
+chunk_by_shortened opening text other body Line piece e = cc
+chunk_by_shortened opening text other body Ended piece e = cc
+
+chunk_shortened : (opening : Opening) (text more : Text) (piece : Piece) → ends_line text ≡ true → chunk opening (text ++ more) ≡ Stands piece → piece.len < length text → chunk opening text ≡ Stands piece
+unfolding chunk
+chunk_shortened opening text more piece h e inside =
+    let stands = chunk_by_shortened opening (text ++ more) text (body_at (record { kind = OfFString; opening = opening }) (text ++ more)) _ piece e in
+    ap (λ (body : Body). chunk_by opening text body body.stop) (body_shortened (record { kind = OfFString; opening = opening }) text more h stands.0 (omega (arith, stands.1, inside))) ∙ stands.2
+
+-- Literals
+
+escape_fails : (begin : ℕ) (text : Text) (piece : Piece) → escape_fault begin text ≡ Stands piece → ⊥
+escape_fails begin [] piece e = cc
+escape_fails begin (b ∷ bs) piece e = cc
+
+literal_by_shortened : (place : Mode) (kind : Kind) (opening : Opening) (len : ℕ) (behind other : Text) (body : Body) (stop : Stop) (piece : Piece) → literal_by place kind opening len behind body stop ≡ Stands piece
+    → (is_closed stop ≡ true) × (len + body_len body ≤ piece.len) × (literal_by place kind opening len other body stop ≡ Stands piece)
+literal_by_shortened place kind opening len behind other body Closing piece e = let total : len + body_len body + length (closing_quotes opening) ≡ piece.len = ap len_of e in (refl, omega (arith, total), e)
+  where
+    len_of : Step → ℕ
+    len_of (Stands piece) = piece.len
+    len_of step = 0
+literal_by_shortened place kind opening len behind other body OpeningBrace piece e = cc
+literal_by_shortened place kind opening len behind other body ClosingBrace piece e = cc
+literal_by_shortened place kind opening len behind other body (BadEscape read last) piece e = absurd (escape_fails _ _ piece e)
+literal_by_shortened place kind opening len behind other body Line piece e = cc
+literal_by_shortened place kind opening len behind other body Ended piece e = cc
+
+literal_shortened : (place : Mode) (kind : Kind) (opening : Opening) (len : ℕ) (behind more : Text) (piece : Piece) → ends_line behind ≡ true → literal place kind opening len (behind ++ more) ≡ Stands piece → piece.len < len + length behind → literal place kind opening len behind ≡ Stands piece
+literal_shortened place kind opening len behind more piece h e inside =
+    let stands = literal_by_shortened place kind opening len (behind ++ more) behind (body_at (record { kind = kind; opening = opening }) (behind ++ more)) _ piece e in
+    ap (λ (body : Body). literal_by place kind opening len behind body body.stop) (body_shortened (record { kind = kind; opening = opening }) behind more h stands.0 (omega (arith, stands.1, inside))) ∙ stands.2
+
+literal_behind : (place : Mode) (kind : Kind) (opening : Opening) (len quotes : ℕ) (behind more : Text) (piece : Piece) → ends_line behind ≡ true → quotes < length behind → literal place kind opening (len + quotes) (drop quotes (behind ++ more)) ≡ Stands piece
+    → piece.len < len + length behind → literal place kind opening (len + quotes) (drop quotes behind) ≡ Stands piece
+literal_behind place kind opening len quotes behind more piece h some e inside =
+    literal_shortened place kind opening (len + quotes) (drop quotes behind) more piece (ends_line_drop quotes behind some h)
+    (subst (λ (t : Text). literal place kind opening (len + quotes) t ≡ Stands piece) (drop-append-le quotes behind more (omega (arith, some))) e) (omega (arith, inside, some, length-drop quotes behind))
+
+opener_shortened : (place : Mode) (kind : Kind) (opening : Opening) (len : ℕ) (behind more : Text) (piece : Piece) → ends_line behind ≡ true → more_quotes opening < length behind → opener place kind opening len (behind ++ more) ≡ Stands piece → piece.len < len + length behind → opener place kind opening len behind ≡ Stands piece
+opener_shortened place OfFString opening len behind more piece h some e inside = e
+opener_shortened place OfText opening len behind more piece h some e inside = literal_behind place OfText opening len (more_quotes opening) behind more piece h some e inside
+opener_shortened place OfBytes opening len behind more piece h some e inside = literal_behind place OfBytes opening len (more_quotes opening) behind more piece h some e inside
+
+-- Margins
+
+margin_shortened : (len : ℕ) (lexemes : List Lexeme) (levels : List ℕ) (text more : Text) (piece : Piece) → has_whole_lines text ≡ true → margin_step len lexemes levels (margin_of (text ++ more)) ≡ Stands piece → piece.len < len + length text
+    → margin_step len lexemes levels (margin_of text) ≡ Stands piece
+margin_shortened len lexemes levels text more piece whole stands less = go (followed text more whole)
+  where
+    total : piece.len ≡ len + margin_len (margin_of (text ++ more))
+    total = margin_step_len len lexemes levels (margin_of (text ++ more)) piece stands
+
+    go : Followed text more → margin_step len lexemes levels (margin_of text) ≡ Stands piece
+    go (Whole e f) = absurd (omega (arith, less, total, ap margin_len f))
+    go (Within some inside f) = sym (step_within len lexemes levels text more some f) ∙ stands
+
+-- Words
+
+word_shortened : (s : Situation) (class : Class) (front behind more : Text) (piece : Piece) → (in_line front ≡ true → ends_line behind ≡ true) → has_whole_lines behind ≡ true → line_fits class front ≡ true → word_step s class front (behind ++ more) ≡ Stands piece → piece.len < length front + length behind
+    → word_step s class front behind ≡ Stands piece
+word_shortened s word.Skipped front behind more piece ends whole fits e inside = e
+word_shortened s word.Comment front behind more piece ends whole fits e inside = e
+word_shortened s word.Tabs front behind more piece ends whole fits e inside = e
+word_shortened s word.LineEnd front behind more piece ends whole fits e inside = go (counts s.place s.is_balanced) e
+  where
+    step : Bool → Text → Step
+    step counted behind = if counted then line_end (length front) s.levels behind else Stands (record { len = length front; lexemes = []; width = None; sort = Other })
+
+    go : (counted : Bool) → step counted (behind ++ more) ≡ Stands piece → step counted behind ≡ Stands piece
+    go true e = margin_shortened (length front) (record { begin = 0; node = Newline; end = length front } ∷ []) s.levels behind more piece whole e inside
+    go false e = e
+word_shortened s (word.Opener kind is_raw quote) front behind more piece ends whole fits e inside =
+    let h = ends fits in
+    opener_shortened s.place kind (opening_of is_raw quote behind) (length front) behind more piece h (opening_inside is_raw quote behind h)
+    (sym (ap (λ (opening : Opening). opener s.place kind opening (length front) (behind ++ more)) (opening_followed is_raw quote behind more h)) ∙ e) inside
+word_shortened s word.Reserved front behind more piece ends whole fits e inside = e
+word_shortened s word.Identifier front behind more piece ends whole fits e inside = e
+word_shortened s word.Decimal front behind more piece ends whole fits e inside = e
+word_shortened s word.Hexadecimal front behind more piece ends whole fits e inside = e
+word_shortened s word.Octal front behind more piece ends whole fits e inside = e
+word_shortened s word.Binary front behind more piece ends whole fits e inside = e
+word_shortened s word.Float front behind more piece ends whole fits e inside = e
+word_shortened s (word.Fixed terminal) front behind more piece ends whole fits e inside = e
+
+front_shortened : (s : Situation) (text more : Text) (found : Option (Class × ℕ)) (piece : Piece) → ends_line text ≡ true → longest_front (class_in language) text ≡ found → front_step s (text ++ more) found ≡ Stands piece → piece.len < length text → front_step s text found ≡ Stands piece
+front_shortened s text more None piece h found e inside = cc
+front_shortened s text more (Some front) piece h found e inside =
+    word_shortened s front.0 (take front.1 text) (drop front.1 text) more piece ends (whole_behind front.1 text (whole_from_ends text h)) (language_lines (take front.1 text) front.0 sound.2) (sym again ∙ e)
+    (omega (arith, inside, length-take-le front.1 text sound.1, length-drop front.1 text, sound.1))
+  where
+    sound : (1 ≤ front.1) × (front.1 ≤ length text) × (class_in language (take front.1 text) ≡ Some front.0)
+    sound = front_sound (class_in language) text front.0 front.1 found
+
+    ends : in_line (take front.1 text) ≡ true → ends_line (drop front.1 text) ≡ true
+    ends line = ends_line_drop front.1 text (word_inside front.1 text h line) h
+
+    again : front_step s (text ++ more) (Some front) ≡ word_step s front.0 (take front.1 text) (drop front.1 text ++ more)
+    again =
+        ap (λ (t : Text). word_step s front.0 t (drop front.1 (text ++ more))) (take-append-le front.1 text more sound.1)
+        ∙ ap (λ (t : Text). word_step s front.0 (take front.1 text) t) (drop-append-le front.1 text more sound.1)
+
+code_shortened : (s : Situation) (text more : Text) (piece : Piece) → ends_line text ≡ true → in_code language s (text ++ more) ≡ Stands piece → piece.len < length text → in_code language s text ≡ Stands piece
+code_shortened s [] more piece h e inside = absurd (omega (arith, inside))
+code_shortened s (b ∷ bs) more piece h e inside = go (takes_bang s.place s.before && is_bang (b ∷ bs)) same (longest_front (class_in language) (b ∷ bs)) refl found e
+  where
+    same : (takes_bang s.place s.before && is_bang (b ∷ (bs ++ more))) ≡ (takes_bang s.place s.before && is_bang (b ∷ bs))
+    same = ap (λ bang. takes_bang s.place s.before && bang) (bang_followed b bs more h)
+
+    found : longest_front (class_in language) (b ∷ (bs ++ more)) ≡ longest_front (class_in language) (b ∷ bs)
+    found = longest_followed (b ∷ bs) more h
+
+    step : Bool → Text → Option (Class × ℕ) → Step
+    step bang text front = if bang then token 1 FStringBang else front_step s text front
+
+    once : (bang : Bool) (front : Option (Class × ℕ)) → longest_front (class_in language) (b ∷ bs) ≡ front → step bang (b ∷ (bs ++ more)) front ≡ Stands piece → step bang (b ∷ bs) front ≡ Stands piece
+    once true front known e = e
+    once false front known e = front_shortened s (b ∷ bs) more front piece h known e inside
+
+    go : (bang : Bool) → (takes_bang s.place s.before && is_bang (b ∷ (bs ++ more))) ≡ bang → (front : Option (Class × ℕ)) → longest_front (class_in language) (b ∷ bs) ≡ front → longest_front (class_in language) (b ∷ (bs ++ more)) ≡ front
+        → step (takes_bang s.place s.before && is_bang (b ∷ (bs ++ more))) (b ∷ (bs ++ more)) (longest_front (class_in language) (b ∷ (bs ++ more))) ≡ Stands piece
+        → step bang (b ∷ bs) front ≡ Stands piece
+    go bang again front known found e = once bang front known (rw (again, found) at e)
+
+-- So does what stands at a place.
+step_shortened : (s : Situation) (text more : Text) (piece : Piece) → ends_line text ≡ true → step_at language s (text ++ more) ≡ Stands piece → piece.len < length text → step_at language s text ≡ Stands piece
+unfolding step_at
+step_shortened s text more piece h e inside = before s.before e
+  where
+    at : (place : Mode) → by_place language s place (text ++ more) ≡ Stands piece → by_place language s place text ≡ Stands piece
+    at Outside e = code_shortened s text more piece h e inside
+    at (InText opening) e = chunk_shortened opening text more piece h e inside
+    at AtTop e = code_shortened s text more piece h e inside
+    at Deeper e = code_shortened s text more piece h e inside
+
+    before : (before : Before) → by_before language s before (text ++ more) ≡ Stands piece → by_before language s before text ≡ Stands piece
+    before Nothing e = margin_shortened 0 [] [] text more piece (whole_from_ends text h) e (omega (arith, inside))
+    before Layout e = at s.place e
+    before Gap e = at s.place e
+    before Other e = at s.place e
+
+pub next_shortened : (history : History) (text more : Text) (piece : Piece) → ends_line text ≡ true → next_step language history (text ++ more) ≡ Stands piece → piece.len < length text → next_step language history text ≡ Stands piece
+unfolding next_step situation
+next_shortened history text more piece h e inside = step_shortened (situation history) text more piece h e inside

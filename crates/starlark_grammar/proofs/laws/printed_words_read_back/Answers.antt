@@ -1,5 +1,0 @@
-use Rattle.starlark_grammar.proofs.Words.Printed.{words_read_back}
-use Rattle.starlark_grammar.proofs.laws.printed_words_read_back.Goals as goal
-
-pub returns : goal.returns
-returns c = words_read_back

@@ -1,4 +1,0 @@
-pub mod Lines
-pub mod Joining
-pub mod LineEnds
-pub mod Rows

@@ -1,5 +1,0 @@
-use Rattle.starlark_laws.proofs.Joining.Laws.{kept_cuts_keep}
-use Rattle.starlark_laws.proofs.laws.kept_cuts_keep.Goals as goal
-
-pub returns : goal.returns
-returns c = kept_cuts_keep

@@ -1,2 +1,0 @@
-pub mod LexedTexts
-pub mod Joints

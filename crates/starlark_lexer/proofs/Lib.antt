@@ -1,2 +1,0 @@
-pub mod LexerItems
-pub mod LexerReads

@@ -1,6 +1,0 @@
-//! The lexer, which yields the lexemes of a text one by one.
-#![tactic(auto)]
-
-mod lexemes;
-
-pub use lexemes::{Lexeme, Lexer};

@@ -1,6 +1,0 @@
-mod Rows
-pub mod Items
-pub mod Places
-pub mod Endings
-pub mod Calls
-pub mod Writing

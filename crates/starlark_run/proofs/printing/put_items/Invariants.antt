@@ -1,0 +1,22 @@
+use Rattle.std.proofs.Common.{◌≡◌, ◌-◌, ◌≤◌, ◌++◌, ℕ, false, length, drop, Ok}
+use Rattle.starlark_grammar.specs.Gaps.{InOrder}
+use Rattle.starlark_token.specs.TextItems.{items}
+use Rattle.starlark_grammar.specs.Reading.{outcome}
+use Rattle.starlark_run.specs.Output.{lines_of, output}
+use Rattle.starlark_run.specs.Places.{IsPlace}
+use Rattle.starlark_run.specs.Writing.{Writes}
+use Rattle.starlark_run.proofs.printing.put_items.Given as goal
+
+-- the output is what was written, what waits, and the lines of the items that are left; no lexeme that is left begins before the place
+abbrev pub invariant-loop-item : goal.invariant-loop-item
+invariant-loop-item g l = record {
+  place : IsPlace l.text l.place;
+  order : (to : ℕ) × InOrder l.text l.place.at (drop l.lexer.handed_out (outcome l.text).lexemes) to;
+  few : l.lexer.handed_out ≤ length (outcome l.text).lexemes;
+  going : l.lexer.has_ended ≡ false;
+  text : l.lexer.text ≡ l.text;
+  written : Writes {T = Unit {0}} g.W.WriteDevice.calls l.fn.writer l.writer (l.fn.printer.buffer ++ output l.name l.text) (l.printer.buffer ++ lines_of l.name l.text (drop l.lexer.handed_out (items l.text))) (Ok tt);
+}
+
+abbrev pub decreases-loop-item : goal.decreases-loop-item
+decreases-loop-item g l = length (items l.text) - l.lexer.handed_out

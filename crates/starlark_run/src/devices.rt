@@ -1,0 +1,65 @@
+//! Readers and writers whose contracts state each call.
+
+ghost use Rattle.std.specs.Prelude.{◌≡◌, IfErr, IfOk};
+ghost use Rattle.std.specs.Io.{ReadsAtMost, WritesAtMost};
+ghost use Rattle.std.specs.Io.KnownBytes.{Keeps, ReadConsumes, WriteAppends};
+ghost use Rattle.starlark_run.specs.Calls.{ReaderCalls, WriterCalls, count_of, is_ok_of, std_reader, std_writer};
+
+use std::io;
+use std::io::{Read, Write};
+
+/// A reader whose contract states what each call does. Each `std::io::Read` is one.
+///
+/// A function over all such readers knows only that each step of `calls` is one call of
+/// `read_once`. So a contract that names a step says that there was one call, and what it returned.
+pub trait ReadDevice {
+    ghost calls: { ReaderCalls Self };
+
+    /// Reads once, as `std::io::Read::read` does.
+    fn read_once(&mut self, buf: &mut [u8]) -> io::Result<usize>
+        ensures bound { ReadsAtMost result buf.new }
+        ensures bytes { ReadConsumes (calls.remaining self.old) (calls.remaining self.new) result buf.new }
+        ensures call { calls.read self.old buf.new (count_of result) self.new }
+        ensures failure { IfErr result (λ error. calls.failure self.old error self.new) };
+}
+
+impl<R: Read> ReadDevice for R {
+    ghost calls = { std_reader R.remaining };
+
+    fn read_once(&mut self, buf: &mut [u8]) -> io::Result<usize> {
+        self.read(buf)
+    }
+}
+
+/// A writer whose contract states what each call does. Each `std::io::Write` is one.
+///
+/// A function over all such writers knows only that each step of `calls` is one call of
+/// `write_once` or `flush_once`.
+pub trait WriteDevice {
+    ghost calls: { WriterCalls Self };
+
+    /// Writes once, as `std::io::Write::write` does.
+    fn write_once(&mut self, piece: &[u8]) -> io::Result<usize>
+        ensures bound { WritesAtMost result piece.now }
+        ensures bytes { WriteAppends (calls.contents self.old) (calls.contents self.new) result piece.now }
+        ensures call { calls.write self.old piece.now (count_of result) self.new }
+        ensures failure { IfErr result (λ error. calls.failure self.old error self.new) };
+
+    /// Flushes once, as `std::io::Write::flush` does.
+    fn flush_once(&mut self) -> io::Result<()>
+        ensures bytes { Keeps (calls.contents self.old) (calls.contents self.new) }
+        ensures call { calls.flush self.old (is_ok_of result) self.new }
+        ensures failure { IfErr result (λ error. calls.failure self.old error self.new) };
+}
+
+impl<W: Write> WriteDevice for W {
+    ghost calls = { std_writer W.contents };
+
+    fn write_once(&mut self, piece: &[u8]) -> io::Result<usize> {
+        self.write(piece)
+    }
+
+    fn flush_once(&mut self) -> io::Result<()> {
+        self.flush()
+    }
+}

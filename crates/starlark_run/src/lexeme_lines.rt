@@ -1,0 +1,115 @@
+//! Formats the lines of the output: one for each lexeme, and one for a fault.
+
+ghost use Rattle.std.specs.Prelude.{◌≡◌, ◌<◌, ◌++◌, OnOk, codes, string_bytes};
+ghost use Rattle.std.specs.Char.{digit_char};
+ghost use Rattle.starlark_base.specs.Places.{span_text};
+ghost use Rattle.starlark_syntax.specs.Errors.{kind_text};
+ghost use Rattle.starlark_run.specs.Output.{fault_text, hex, lexeme_text, quotes_name, value_text};
+ghost use Rattle.starlark_token.specs.TokenViews.{fstring_quote_view, token_view};
+
+use crate::place::Place;
+use starlark_base::codemap::ResolvedSpan;
+use starlark_syntax::error::ErrorKind;
+use starlark_token::fstring_style::FStringQuote;
+use starlark_token::tokens::Token;
+use std::alloc::AllocError;
+
+/// The hexadecimal digit of a number less than 16.
+fn hex_digit(number: u8) -> char
+    requires { number < 16 }
+    ensures { result ≡ digit_char number }
+{
+    let Some(digit) = char::from_digit(number as u32, 16) else {
+        unreachable!()
+    };
+    digit
+}
+
+/// Appends each byte as two hexadecimal digits.
+fn push_hex(line: &mut String, bytes: &[u8]) -> Result<(), AllocError>
+    ensures { OnOk result (string_bytes line.new ≡ string_bytes line.old ++ hex bytes.now) }
+{
+    for &byte in bytes {
+        line.push(hex_digit(byte / 16))?;
+        line.push(hex_digit(byte % 16))?;
+    }
+    Ok(())
+}
+
+/// Appends a space and the bytes of a literal's value in hexadecimal digits.
+fn push_literal(line: &mut String, bytes: &[u8]) -> Result<(), AllocError>
+    ensures { OnOk result (string_bytes line.new ≡ string_bytes line.old ++ (codes " " ++ hex bytes.now)) }
+{
+    line.push(' ')?;
+    push_hex(line, bytes)
+}
+
+/// The printed name of an f-string's quotes.
+fn quotes_of(quote: FStringQuote) -> &'static str
+    ensures { result.now ≡ quotes_name (fstring_quote_view quote) }
+{
+    match quote {
+        FStringQuote::Single => "Single",
+        FStringQuote::Double => "Double",
+        FStringQuote::TripleSingle => "TripleSingle",
+        FStringQuote::TripleDouble => "TripleDouble",
+    }
+}
+
+/// Appends a space and the value of a token, if it has one.
+fn push_value(line: &mut String, token: &Token) -> Result<(), AllocError>
+    ensures { OnOk result (string_bytes line.new ≡ string_bytes line.old ++ value_text (token_view token.now)) }
+{
+    match token {
+        Token::Comment(text) => write!(line, " {text}"),
+        Token::Identifier(name) => write!(line, " {name}"),
+        Token::Float(text) => write!(line, " {text}"),
+        Token::Int(number) => write!(line, " {number}"),
+        Token::FStringStart(quote) => write!(line, " {}", quotes_of(*quote)),
+        Token::String(text) => push_literal(line, text.as_bytes()),
+        Token::FStringText(text) => push_literal(line, text.as_bytes()),
+        Token::Bytes(bytes) => push_literal(line, bytes.as_slice()),
+        _ => Ok(()),
+    }
+}
+
+/// Replaces `line` by the line of a token between two places, with its LF.
+#[tactic(auto, unfolding(crate::specs::Output::lexeme_text))]
+pub fn lexeme_line(
+    line: &mut String,
+    begin: Place,
+    token: &Token,
+    end: Place,
+) -> Result<(), AllocError>
+    ensures { OnOk result (string_bytes line.new ≡ lexeme_text begin.at end.at (span_text begin.position end.position) (token_view token.now)) }
+{
+    let place = ResolvedSpan {
+        begin: begin.position,
+        end: end.position,
+    };
+    let kind = token.kind();
+    line.clear();
+    write!(line, "{}-{} {place} {kind}", begin.at, end.at)?;
+    push_value(line, token)?;
+    line.push('\n')
+}
+
+/// Replaces `line` by the line of a fault between two places of the text `name`, with its LF.
+#[tactic(auto, unfolding(crate::specs::Output::fault_text))]
+pub fn fault_line(
+    line: &mut String,
+    name: &str,
+    begin: Place,
+    end: Place,
+    kind: &ErrorKind,
+) -> Result<(), AllocError>
+    ensures { OnOk result (string_bytes line.new ≡ fault_text begin.at end.at name.now (span_text begin.position end.position) (kind_text kind.now)) }
+{
+    let place = ResolvedSpan {
+        begin: begin.position,
+        end: end.position,
+    };
+    line.clear();
+    write!(line, "fault {}-{} {name}:", begin.at, end.at)?;
+    writeln!(line, "{place} {kind}")
+}

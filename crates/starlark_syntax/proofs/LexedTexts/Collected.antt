@@ -1,0 +1,203 @@
+-- The lexemes of a text that were handed out so far, in a list.
+use Rattle.std.proofs.Common.{◌≡◌, Bool, true, false, ℕ, ◌+◌, ◌-◌, ◌<◌, ◌≤◌, List, [], ◌∷◌, ◌++◌, map, take, length, refl, ap, sym, subst, ◌∙◌, arith, append-nil, append_assoc, length-append, None, Some}
+use Rattle.std.specs.Prelude.{IfSome, Option, nat_le, nat_lt}
+use Rattle.std.specs.List.{AllByRecursion}
+use Rattle.std.proofs.lemmas.Bool.{leb-false, leb-true, ltb-false, ltb-true}
+use Rattle.std.proofs.lemmas.List.{length-map, map-append}
+use Rattle.starlark_grammar.specs.Words.{Text}
+use Rattle.starlark_grammar.specs.Tokens.{Fault, Spanned}
+use Rattle.starlark_grammar.specs.Reading.{outcome}
+use Rattle.starlark_token.specs.Lexemes.{lexeme_view, shown_lexeme}
+use Rattle.starlark_grammar.specs.Cuts.{is_clean_cut, is_kept_cut, without_closing}
+use Rattle.starlark_grammar.proofs.Joining.KeptPlaces.{cut_some}
+use Rattle.starlark_grammar.proofs.Joining.Laws.{kept_cuts_keep}
+use Rattle.starlark_grammar.proofs.Joining.LineCuts.{kept_parts}
+use Rattle.starlark_syntax.specs.Joints.LexedTexts.{AreCuts, IsCutOf, IsPart, IsPlacedFault, IsRising, cuts_at, end_cuts, holds_cut}
+use Rattle.starlark_reader.specs.Joints.MarginCuts.{IsCutBefore, lexemes_before}
+use Rattle.starlark_syntax.specs.declared.cuts.Cut.{Cut}
+use Rattle.starlark_syntax.specs.declared.parts.Part.{Part}
+use Rattle.starlark_syntax.proofs.LexedTexts.CleanCuts.{faulty_cut}
+use Rattle.starlark_syntax.proofs.LexedTexts.KeptCuts.{in_order, some_lexemes, take_all, whole_kept}
+use Rattle.starlark_syntax.proofs.LexedTexts.HeldCuts.{held_left, held_one, held_right, kept_inside}
+use Rattle.starlark_syntax.proofs.LexedTexts.Relexed.{all_both}
+use Rattle.starlark_syntax.proofs.LexedTexts.Joined.{begun}
+use Rattle.starlark_reader.proofs.Pieces.Onward.{margin_first}
+use Rattle.starlark_reader.proofs.Pieces.Taken.{no_tab}
+use Rattle.starlark_reader.specs.Joints.Reader.{begins_with_tab, IsAhead, IsAheadBehind}
+use Rattle.starlark_token.specs.TokenViews.{TokenView}
+use Rattle.starlark_reader.specs.declared.reader.Reader.{Reader}
+use Rattle.starlark_token.specs.declared.tokens.Token.{Token}
+
+-- What was handed out and what is ahead of a reader are all lexemes of a text, and its fault is behind them.
+pub record IsCollected (text : Text) (reader : Reader) (found : List (ℕ × Token × ℕ)) : Type 0 where
+  pub rest : List (Spanned TokenView)
+  pub all : map shown_lexeme (outcome text).lexemes ≡ map lexeme_view found ++ rest
+  pub ahead : IsAhead text reader reader.stage rest (outcome text).fault
+
+-- with one lexeme more
+pub one_more : (text : Text) (old new : Reader) (found : List (ℕ × Token × ℕ)) (lexeme : ℕ × Token × ℕ) → (old_is : IsCollected text old found) → IsAheadBehind text (Some lexeme) new old_is.rest (outcome text).fault
+    → IsCollected text new (found ++ lexeme ∷ []) × (length found < length (outcome text).lexemes)
+one_more text old new found lexeme is next =
+    let all : map shown_lexeme (outcome text).lexemes ≡ map lexeme_view found ++ lexeme_view lexeme ∷ next.0 = is.all ∙ ap (λ vs. map lexeme_view found ++ vs) next.1 in
+    let parts : map lexeme_view (found ++ lexeme ∷ []) ++ next.0 ≡ map lexeme_view found ++ lexeme_view lexeme ∷ next.0 =
+    ap (λ vs. vs ++ next.0) (map-append lexeme_view found (lexeme ∷ [])) ∙ append_assoc (map lexeme_view found) (lexeme_view lexeme ∷ []) next.0 in
+    let count : length (map shown_lexeme (outcome text).lexemes) ≡ length (map lexeme_view found) + length (lexeme_view lexeme ∷ next.0) = ap length all ∙ length-append (map lexeme_view found) (lexeme_view lexeme ∷ next.0) in (
+      record { rest = next.0; all = all ∙ sym parts; ahead = next.2 },
+      omega (arith, count, length-map (outcome text).lexemes shown_lexeme, length-map found lexeme_view),
+    )
+
+-- so fewer are ahead
+pub less_left : {A : Type 0} (all : ℕ) (old new : List A) (x : A) → new ≡ old ++ x ∷ [] → length old < all → all - length new < all - length old
+less_left all old new x is some = omega (arith, ap length is, length-append old (x ∷ []), some)
+
+-- none yet
+pub collected_none : (text : Text) (reader : Reader) (found : List (ℕ × Token × ℕ)) → found ≡ [] → IsAhead text reader reader.stage (map shown_lexeme (outcome text).lexemes) (outcome text).fault → IsCollected text reader found
+collected_none text reader found none ahead = record { rest = map shown_lexeme (outcome text).lexemes; all = ap (λ ls. map lexeme_view ls ++ map shown_lexeme (outcome text).lexemes) (sym none); ahead = ahead }
+
+-- all of them, where none is ahead
+none_ahead : (text : Text) (reader : Reader) (found : List (ℕ × Token × ℕ)) (is : IsCollected text reader found) → is.rest ≡ [] → map lexeme_view found ≡ map shown_lexeme (outcome text).lexemes
+none_ahead text reader found is none = sym (is.all ∙ ap (λ vs. map lexeme_view found ++ vs) none ∙ append-nil (map lexeme_view found))
+
+found_all : (text : Text) (reader : Reader) (found : List (ℕ × Token × ℕ)) (is : IsCollected text reader found) → is.rest ≡ [] → length found ≡ length (outcome text).lexemes
+found_all text reader found is none = sym (length-map found lexeme_view) ∙ ap length (none_ahead text reader found is none) ∙ length-map (outcome text).lexemes shown_lexeme
+
+-- The cuts that were found so far: all before a text's end and before so many lexemes or fewer.
+pub record AreCutsSoFar (text : Text) (count : ℕ) (cuts : List Cut) : Type 0 where
+  pub each : AllByRecursion (IsCutOf text) cuts
+  pub order : IsRising cuts
+  pub inside : AllByRecursion (λ (cut : Cut). cut.at < length text) cuts
+  pub few : AllByRecursion (λ (cut : Cut). cut.lexemes ≤ count) cuts
+  pub all : (at : ℕ) → is_kept_cut text at ≡ true → at < length text → lexemes_before text at ≤ count → holds_cut at cuts ≡ true
+
+pub no_cuts_yet : (text : Text) (cuts : List Cut) → cuts ≡ [] → AreCutsSoFar text 0 cuts
+no_cuts_yet text cuts none = subst (AreCutsSoFar text 0) (sym none) (record { each = tt; order = tt; inside = tt; few = tt; all = λ at kept inside few. absurd (omega (arith, few, cut_some text at (kept_inside text at kept) (kept_parts text at kept).1)) })
+
+all_weaker : {A : Type 0} (P Q : A → Type 0) (xs : List A) → ((x : A) → P x → Q x) → AllByRecursion P xs → AllByRecursion Q xs
+all_weaker P Q [] more all = tt
+all_weaker P Q (x ∷ xs) more all = (more x all.0, all_weaker P Q xs more all.1)
+
+-- one more behind them
+rising_last : (cuts : List Cut) (last : Cut) → IsRising cuts → AllByRecursion (λ (cut : Cut). cut.at < last.at) cuts → IsRising (cuts ++ last ∷ [])
+rising_last [] last rising before = (tt, tt)
+rising_last (cut ∷ cuts) last rising before = (all_both (λ (behind : Cut). cut.at < behind.at) cuts (last ∷ []) rising.0 (before.0, tt), rising_last cuts last rising.1 before.1)
+
+before_last : (text : Text) (cuts : List Cut) (count : ℕ) (last : Cut) → AllByRecursion (IsCutOf text) cuts → AllByRecursion (λ (cut : Cut). cut.lexemes ≤ count) cuts → IsCutOf text last → count < last.lexemes → AllByRecursion (λ (cut : Cut). cut.at < last.at) cuts
+before_last text [] count last each few is more = tt
+before_last text (cut ∷ cuts) count last each few is more = (less (nat_lt cut.at last.at) refl, before_last text cuts count last each.1 few.1 is more)
+  where
+    less : (b : Bool) → nat_lt cut.at last.at ≡ b → cut.at < last.at
+    less true e = ltb-true cut.at last.at e
+    less false e =
+        let beyond : last.at ≤ cut.at = ltb-false cut.at last.at e in
+        let order : cut.at ≤ last.at = in_order text cut last each.0 is (omega (arith, few.0, more)) in
+        let same : cut.at ≡ last.at = omega (arith, beyond, order) in
+        absurd (omega (arith, few.0, more, each.0.lexemes, is.lexemes, ap (lexemes_before text) same))
+
+pub some_weaker : {A : Type 0} (x : Option A) (P Q : A → Type 0) → ((a : A) → P a → Q a) → IfSome x P → IfSome x Q
+some_weaker None P Q more h = tt
+some_weaker (Some a) P Q more h = more a h
+
+-- behind one lexeme more, where there may be a cut
+pub cuts_more : (text : Text) (count : ℕ) (rest : List (Spanned TokenView)) (cuts : List Cut) (place : Option ℕ) → AreCutsSoFar text count cuts → (count + 1) + length rest ≡ length (outcome text).lexemes → IfSome place (λ at. IsCutBefore text at (length rest))
+    → ((at : ℕ) → IsCutBefore text at (length rest) → place ≡ Some at) → AreCutsSoFar text (count + 1) (cuts ++ cuts_at place (count + 1))
+cuts_more text count rest cuts place so whole found reached = by place found reached
+  where
+    right_behind : (at : ℕ) → is_kept_cut text at ≡ true → at < length text → lexemes_before text at ≤ count + 1 → count < lexemes_before text at → IsCutBefore text at (length rest)
+    right_behind at kept inside few more = record { inside = inside; is_kept = kept; count = omega (arith, whole, few, more) }
+
+    all_more : (more : List Cut) → ((at : ℕ) → IsCutBefore text at (length rest) → holds_cut at more ≡ true) → (at : ℕ) → is_kept_cut text at ≡ true → at < length text → lexemes_before text at ≤ count + 1 → holds_cut at (cuts ++ more) ≡ true
+    all_more more last at kept inside few = go (nat_le (lexemes_before text at) count) refl
+      where
+        go : (b : Bool) → nat_le (lexemes_before text at) count ≡ b → holds_cut at (cuts ++ more) ≡ true
+        go true e = held_left at cuts more (so.all at kept inside (leb-true (lexemes_before text at) count e))
+        go false e = held_right at cuts more (last at (right_behind at kept inside few (leb-false (lexemes_before text at) count e)))
+
+    few_more : AllByRecursion (λ (cut : Cut). cut.lexemes ≤ count + 1) cuts
+    few_more = all_weaker (λ (cut : Cut). cut.lexemes ≤ count) (λ (cut : Cut). cut.lexemes ≤ count + 1) cuts (λ cut few. omega (arith, few)) so.few
+
+    by : (place : Option ℕ) → IfSome place (λ at. IsCutBefore text at (length rest)) → ((at : ℕ) → IsCutBefore text at (length rest) → place ≡ Some at) → AreCutsSoFar text (count + 1) (cuts ++ cuts_at place (count + 1))
+    by None none reached = record {
+      each = all_both (IsCutOf text) cuts [] so.each tt;
+      order = subst IsRising (sym (append-nil cuts)) so.order;
+      inside = all_both (λ (cut : Cut). cut.at < length text) cuts [] so.inside tt;
+      few = all_both (λ (cut : Cut). cut.lexemes ≤ count + 1) cuts [] few_more tt;
+      all = all_more [] (λ at cut. let some : None ≡ Some at = reached at cut in cc);
+    }
+    by (Some at) cut reached =
+        let last : Cut = record { at = at; lexemes = count + 1 } in
+        let is : IsCutOf text last = record { inside = omega (arith, cut.inside); is_kept = cut.is_kept; lexemes = omega (arith, cut.count, whole) } in
+        record {
+          each = all_both (IsCutOf text) cuts (last ∷ []) so.each (is, tt);
+          order = rising_last cuts last so.order (before_last text cuts count last so.each so.few is (omega arith));
+          inside = all_both (λ (cut : Cut). cut.at < length text) cuts (last ∷ []) so.inside (cut.inside, tt);
+          few = all_both (λ (cut : Cut). cut.lexemes ≤ count + 1) cuts (last ∷ []) few_more (omega arith, tt);
+          all = all_more (last ∷ []) (λ other there. let same : Some at ≡ Some other = reached other there in let equal : at ≡ other = cc in subst (λ n. holds_cut n (record { at = at; lexemes = count + 1 } ∷ []) ≡ true) equal (held_one (record { at = at; lexemes = count + 1 })));
+        }
+
+-- behind all lexemes they are all but the text's end
+kept_few : (text : Text) (at : ℕ) → is_kept_cut text at ≡ true → lexemes_before text at ≤ length (outcome text).lexemes
+kept_few text at kept = let law = kept_cuts_keep text at kept in omega (arith, ap length law.1, length-append (without_closing (outcome (take at text)).lexemes) law.0)
+
+all_held : (text : Text) (cuts more : List Cut) (count : ℕ) → AreCutsSoFar text count cuts → count ≡ length (outcome text).lexemes → (is_clean_cut text ≡ true → holds_cut (length text) more ≡ true) → (at : ℕ) → is_kept_cut text at ≡ true → holds_cut at (cuts ++ more) ≡ true
+all_held text cuts more count so same last at kept = go (nat_lt at (length text)) refl
+  where
+    go : (b : Bool) → nat_lt at (length text) ≡ b → holds_cut at (cuts ++ more) ≡ true
+    go true e = held_left at cuts more (so.all at kept (ltb-true at (length text) e) (omega (arith, same, kept_few text at kept)))
+    go false e =
+        let whole : at ≡ length text = omega (arith, ltb-false at (length text) e, kept_inside text at kept) in
+        let clean : is_clean_cut text ≡ true = ap is_clean_cut (sym (ap (λ n. take n text) whole ∙ take_all text)) ∙ (kept_parts text at kept).1 in
+        held_right at cuts more (ap (λ n. holds_cut n more) whole ∙ last clean)
+
+-- with the text's fault behind them
+pub fault_given : (text : Text) (reader : Reader) (part : Part) (is : IsCollected text reader part.lexemes.items) (fault : Spanned Fault) → is.rest ≡ [] → (outcome text).fault ≡ Some fault → IsPlacedFault (Some fault) part.fault
+    → AreCutsSoFar text (length part.lexemes.items) part.cuts.items → part.is_cut ≡ false → part.has_tab ≡ begins_with_tab text → IsPart text part
+fault_given text reader part is fault none at placed so no_cut tab = record {
+  lexemes = none_ahead text reader part.lexemes.items is none;
+  fault = subst (λ f. IsPlacedFault f part.fault) (sym at) placed;
+  cuts = record {
+    each = so.each;
+    order = so.order;
+    all = λ place kept. subst (λ cuts. holds_cut place cuts ≡ true) (append-nil part.cuts.items)
+        (all_held text part.cuts.items [] (length part.lexemes.items) so (found_all text reader part.lexemes.items is none) (λ clean. let both : true ≡ false = sym clean ∙ faulty_cut text fault at in cc) place kept);
+  };
+  is_cut = no_cut ∙ sym (faulty_cut text fault at);
+  tab = tab;
+}
+
+-- the cut at a text's end, where it is one, behind others
+end_is : (text : Text) (cuts : List Cut) (count : ℕ) (is_cut : Bool) → AreCutsSoFar text count cuts → is_cut ≡ is_clean_cut text → count ≡ length (outcome text).lexemes → AreCuts text (cuts ++ end_cuts text count is_cut)
+end_is text cuts count true so is same =
+    let last : IsCutOf text (record { at = length text; lexemes = count - 1 }) = subst (λ n. IsCutOf text (record { at = length text; lexemes = n - 1 })) (sym same) (whole_kept text (sym is)) in
+    record {
+      each = all_both (IsCutOf text) cuts (record { at = length text; lexemes = count - 1 } ∷ []) so.each (last, tt);
+      order = rising_last cuts (record { at = length text; lexemes = count - 1 }) so.order so.inside;
+      all = all_held text cuts (record { at = length text; lexemes = count - 1 } ∷ []) count so same (λ clean. held_one (record { at = length text; lexemes = count - 1 }));
+    }
+end_is text cuts count false so is same = record {
+  each = all_both (IsCutOf text) cuts [] so.each tt;
+  order = subst IsRising (sym (append-nil cuts)) so.order;
+  all = all_held text cuts [] count so same (λ clean. let both : false ≡ true = is ∙ clean in cc);
+}
+
+-- where the text has none
+pub all_given : (text : Text) (reader : Reader) (part : Part) (cuts : List Cut) (is : IsCollected text reader part.lexemes.items) → is.rest ≡ [] → (outcome text).fault ≡ None → part.fault ≡ None → AreCutsSoFar text (length part.lexemes.items) cuts
+    → part.cuts.items ≡ cuts ++ end_cuts text (length part.lexemes.items) part.is_cut → part.is_cut ≡ is_clean_cut text → part.has_tab ≡ false → IsPart text part
+all_given text reader part cuts is none at no_fault so same is_cut no_tabs =
+    let all = none_ahead text reader part.lexemes.items is none in
+    let total = found_all text reader part.lexemes.items is none in
+    record {
+      lexemes = all;
+      fault = subst (λ f. IsPlacedFault f part.fault) (sym at) (subst (IsPlacedFault None) (sym no_fault) tt);
+      cuts = subst (AreCuts text) (sym same) (end_is text cuts (length part.lexemes.items) part.is_cut so is_cut total);
+      is_cut = is_cut;
+      tab = let margin = begun text at in no_tabs ∙ sym (no_tab text margin.0 (sym (margin_first text) ∙ margin.1));
+    }
+
+-- how many are found and how many are ahead
+pub all_counted : (text : Text) (reader : Reader) (found : List (ℕ × Token × ℕ)) (is : IsCollected text reader found) → length found + length is.rest ≡ length (outcome text).lexemes
+all_counted text reader found is = omega (arith, ap length is.all, length-append (map lexeme_view found) is.rest, length-map found lexeme_view, length-map (outcome text).lexemes shown_lexeme)
+
+-- Nothing is ahead of a text without fault only where it has a lexeme at least.
+pub some_given : (text : Text) (reader : Reader) (found : List (ℕ × Token × ℕ)) (is : IsCollected text reader found) → is.rest ≡ [] → (outcome text).fault ≡ None → 0 < length found
+some_given text reader found is none at =
+    omega (arith, some_lexemes text at, ap length (none_ahead text reader found is none), length-map found lexeme_view, length-map (outcome text).lexemes shown_lexeme)

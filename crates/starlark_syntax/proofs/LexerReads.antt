@@ -1,0 +1,146 @@
+-- What a lexer's quick ways read is paid for by the place up to which they have looked.
+use Rattle.std.proofs.Common.{◌≡◌, ◌≤◌, ◌+◌, ◌*◌, Bool, List, Option, Some, true, false, ℕ, drop, length, leb, nat_eq, refl, subst, sym, take, arith}
+use Rattle.std.proofs.lemmas.Bool.{leb-true}
+use Rattle.std.proofs.lemmas.List.{length-drop, length-take}
+use Rattle.starlark_grammar.specs.Front.{language_front}
+use Rattle.starlark_grammar.specs.Tokens.{Fault, Spanned}
+use Rattle.starlark_grammar.specs.declared.class.Class.{Class}
+use Rattle.starlark_token.specs.TokenViews.{TokenView}
+use Rattle.starlark_reader.specs.declared.reader.Stage.TheVariants as stages
+use Rattle.starlark_reader.proofs.Pieces.CodePlaces.{word_class, word_len, word_some}
+use Rattle.starlark_reader.proofs.Pieces.PieceTaken.{left_onward}
+use Rattle.std.specs.Char.{is_ascii_digit, is_ascii_hexdigit}
+use Rattle.starlark_grammar.specs.Words.{Text, class_in, is_based, is_binary_digit, is_comment, is_float, is_identifier, is_octal_digit, is_pointed, is_run, line_ends, names, openers, patterns, symbols}
+use Rattle.starlark_grammar.specs.declared.class.Class.TheVariants as class
+use Rattle.starlark_grammar.specs.declared.class.LiteralKind.TheVariants as kind
+use Rattle.starlark_grammar.specs.declared.class.Quote.{Quote}
+use Rattle.starlark_grammar.proofs.Words.Classes.{all_fit, language_all_fit, none_found, row_fits}
+use Rattle.starlark_layout.specs.Joints.Pending.{IsPending}
+use Rattle.starlark_reader.specs.Joints.Reader.{IsAhead, IsAtCode, IsInCode}
+use Rattle.starlark_reader.specs.Joints.Reads.{HasLookedHere, HasRead, HasReadAt, IsPassedBy}
+use Rattle.starlark_reader.specs.declared.reader.LineEnd.{LineEnd}
+use Rattle.starlark_reader.specs.declared.reader.LineEnd.TheVariants as line_end
+use Rattle.starlark_reader.specs.declared.reader.Reader.{Reader}
+use Rattle.starlark_syntax.specs.Joints.Looked.{GoesOn, HasSpared, IsFoundBehindMargin, IsFoundFurther, IsFoundFurtherInCode, IsFoundInCode, IsFoundOut, IsLooked, is_front, is_nothing}
+use Rattle.starlark_syntax.specs.declared.lexemes.Looked.{Looked}
+use Rattle.starlark_syntax.specs.declared.lexemes.Looked.TheVariants as looked
+
+-- whatever is still to come, what was read is paid for
+pub spared : (text : Text) (reader : Reader) (to : ℕ) (it : Looked) → IsLooked text reader to it → HasSpared text 0 reader to
+spared text reader to looked.Nothing is = is.2
+spared text reader to looked.Front is = (is.2.0, omega (arith, is.2.1), is.2.2)
+spared text reader to looked.All is = is
+
+pub goes_on : (it : Looked) (has_ended : Bool) → has_ended ≡ false → GoesOn it has_ended
+goes_on looked.Nothing has_ended e = e
+goes_on looked.Front has_ended e = e
+goes_on looked.All has_ended e = tt
+
+-- what each test tells
+pub nothing_looked : (text : Text) (reader : Reader) (to : ℕ) (has_ended : Bool) (it : Looked) → is_nothing it ≡ true → GoesOn it has_ended → (has_ended ≡ false → IsLooked text reader to it)
+    → (has_ended ≡ false) × IsAtCode text reader × (to ≤ reader.at) × HasSpared text 0 reader to
+nothing_looked text reader to has_ended looked.Nothing quick goes is = (goes, (is goes).0, (is goes).1, (is goes).2)
+nothing_looked text reader to has_ended looked.Front quick goes is = cc
+nothing_looked text reader to has_ended looked.All quick goes is = cc
+
+pub nothing_kept : (text : Text) (reader : Reader) (to beside : ℕ) (it : Looked) → is_nothing it ≡ true → IsAtCode text reader → to ≤ reader.at → beside ≤ 16 * to → HasRead text beside reader → IsLooked text reader to it
+nothing_kept text reader to beside looked.Nothing quick code behind paid has = (code, behind, (beside, omega (arith, paid), has))
+nothing_kept text reader to beside looked.Front quick code behind paid has = cc
+nothing_kept text reader to beside looked.All quick code behind paid has = cc
+
+pub front_looked : (text : Text) (reader : Reader) (to : ℕ) (it : Looked) → is_front it ≡ true → IsLooked text reader to it → IsAtCode text reader × (to ≤ length text + 1) × HasSpared text 11 reader to
+front_looked text reader to looked.Nothing quick is = cc
+front_looked text reader to looked.Front quick is = is
+front_looked text reader to looked.All quick is = cc
+
+-- what is found out behind a lexeme
+pub found_out : (text : Text) (reader : Reader) (to beside : ℕ) (it : Looked) → IsFoundOut reader to it → IsPending text reader.pending → beside ≤ 16 * to → HasRead text beside reader → IsLooked text reader to it
+found_out text reader to beside looked.Nothing is pending paid has = (is.1 text pending, is.0, (beside, omega (arith, paid), has))
+found_out text reader to beside looked.Front is pending paid has = absurd is
+found_out text reader to beside looked.All is pending paid has = (beside, omega (arith, paid), has)
+
+pub found_in_code : (text : Text) (reader : Reader) (to beside : ℕ) (it : Looked) → IsFoundInCode reader it → (is_in_code : IsFoundInCode reader looked.Nothing → IsAtCode text reader) → to ≤ reader.at → beside ≤ 16 * to → HasRead text beside reader → IsLooked text reader to it
+found_in_code text reader to beside looked.Nothing is code behind paid has = (code is, behind, (beside, omega (arith, paid), has))
+found_in_code text reader to beside looked.Front is code behind paid has = absurd is
+found_in_code text reader to beside looked.All is code behind paid has = (beside, omega (arith, paid), has)
+
+pub found_further : (text : Text) (reader : Reader) (to beside : ℕ) (it : Looked) → IsFoundFurther reader to it → IsAtCode text reader → beside ≤ 16 * to → HasRead text beside reader → IsLooked text reader to it
+found_further text reader to beside looked.Nothing is code paid has = (code, is, (beside, omega (arith, paid), has))
+found_further text reader to beside looked.Front is code paid has = absurd is
+found_further text reader to beside looked.All is code paid has = (beside, omega (arith, paid), has)
+
+pub found_further_in_code : (text : Text) (reader : Reader) (to beside : ℕ) (it : Looked) → IsFoundFurtherInCode reader to it → (IsInCode reader → IsAtCode text reader) → beside ≤ 16 * to → HasRead text beside reader → IsLooked text reader to it
+found_further_in_code text reader to beside looked.Nothing is code paid has = (code is.1, is.0, (beside, omega (arith, paid), has))
+found_further_in_code text reader to beside looked.Front is code paid has = absurd is
+found_further_in_code text reader to beside looked.All is code paid has = (beside, omega (arith, paid), has)
+
+pub found_behind_margin : (text : Text) (reader : Reader) (to beside : ℕ) (it : Looked) → IsFoundBehindMargin reader to it → (reader.stage ≡ stages.Onward) × IsInCode reader → IsPending text reader.pending → beside ≤ 16 * to → HasRead text beside reader → IsLooked text reader to it
+found_behind_margin text reader to beside looked.Nothing is code pending paid has = (record { stage = code.0; idle = is.1 text pending; code = code.1 }, is.0, (beside, omega (arith, paid), has))
+found_behind_margin text reader to beside looked.Front is code pending paid has = absurd is
+found_behind_margin text reader to beside looked.All is code pending paid has = (beside, omega (arith, paid), has)
+
+-- a line end that counts isn't passed
+pub newline_counts : (it : LineEnd) → it ≡ line_end.Newline → it ≡ line_end.Passed → ⊥
+newline_counts it newline passed = cc
+
+pub fault_counts : (it : LineEnd) → it ≡ line_end.Fault → it ≡ line_end.Passed → ⊥
+fault_counts it fault passed = cc
+
+-- a word where a reader is has a byte at least, and lies inside of the text
+pub word_inside : (text : Text) (reader : Reader) (lexemes : List (Spanned TokenView)) (fault : Option (Spanned Fault)) (class : Class) (len : ℕ) → reader.stage ≡ stages.Onward → IsAhead text reader reader.stage lexemes fault
+    → language_front (drop reader.at text) ≡ Some (class, len) → (1 ≤ len) × (reader.at + len ≤ length text)
+word_inside text reader lexemes fault class len onward ahead front =
+    let inside = (left_onward text reader lexemes fault onward ahead).is_left.1.inside in
+    let whole = word_len (drop reader.at text) class len front in
+    let within = length-take len (drop reader.at text) in
+    (word_some (drop reader.at text) class len front, omega (arith, inside, whole, within, length-drop reader.at text))
+
+-- The opener of a text literal has at most two bytes.
+abbrev fits_two : Class → Text → Bool
+fits_two (class.Opener kind.Text is_raw quote) word = leb (length word) 2
+fits_two it word = true
+
+openers_fit : all_fit fits_two openers ≡ true
+unfolding openers
+openers_fit = refl
+
+line_ends_fit : all_fit fits_two line_ends ≡ true
+unfolding line_ends
+line_ends_fit = refl
+
+symbols_fit : all_fit fits_two symbols ≡ true
+unfolding symbols
+symbols_fit = refl
+
+names_fit : all_fit fits_two names ≡ true
+unfolding names
+names_fit = refl
+
+patterns_fit : (word : Text) (it : Class) → class_in patterns word ≡ Some it → fits_two it word ≡ true
+unfolding class_in patterns
+patterns_fit word it =
+    row_fits fits_two word (is_run (nat_eq 32) word) class.Skipped it _ (λ h. refl)
+    (row_fits fits_two word (is_comment word) class.Comment it _ (λ h. refl)
+    (row_fits fits_two word (is_run (nat_eq 9) word) class.Tabs it _ (λ h. refl)
+    (row_fits fits_two word (is_identifier word) class.Identifier it _ (λ h. refl)
+    (row_fits fits_two word (is_run is_ascii_digit word) class.Decimal it _ (λ h. refl)
+    (row_fits fits_two word (is_based 120 88 is_ascii_hexdigit word) class.Hexadecimal it _ (λ h. refl)
+    (row_fits fits_two word (is_based 111 79 is_octal_digit word) class.Octal it _ (λ h. refl)
+    (row_fits fits_two word (is_based 98 66 is_binary_digit word) class.Binary it _ (λ h. refl)
+    (row_fits fits_two word (is_float word) class.Float it _ (λ h. refl)
+    (row_fits fits_two word (is_pointed word) class.Float it _ (λ h. refl) (none_found fits_two word it))))))))))
+
+pub text_opener_len : (text : Text) (is_raw : Bool) (quote : Quote) (len : ℕ) → Some (class.Opener kind.Text is_raw quote, len) ≡ language_front text → (1 ≤ len) × (len ≤ 2)
+text_opener_len text is_raw quote len front =
+    let it = class.Opener kind.Text is_raw quote in
+    let known = word_class text it len (sym front) in
+    let fits : leb (length (take len text)) 2 ≡ true = language_all_fit fits_two openers_fit line_ends_fit symbols_fit names_fit patterns_fit (take len text) it known in
+    (word_some text it len (sym front), omega (arith, leb-true (length (take len text)) 2 fits, word_len text it len (sym front)))
+
+-- a plain text literal, of which the opener and the body were looked at
+pub plain_reads : (text : Text) (beside len body : ℕ) (old mid behind new : Reader) → old.stage ≡ stages.Onward → HasRead text beside old → HasLookedHere 2 2 old mid → HasLookedHere (body + 1) (2 * body + 3) mid behind
+    → (1 ≤ len) × (len ≤ 2) → IsPassedBy (behind.at + (len + body + 1)) behind new × (new.stage ≡ stages.Onward) → HasRead text beside new
+plain_reads text beside len body old mid behind new onward has opened looked short passed =
+    let on : HasReadAt text beside old stages.Onward = subst (HasReadAt text beside old) onward has in
+    subst (HasReadAt text beside new) (sym passed.1)
+    (omega (arith, short.1, opened.0, opened.3.0, looked.0, looked.3.0, on.0, passed.0.0, passed.0.1), omega (arith, short.0, opened.0, opened.2, opened.3.1, looked.0, looked.2, looked.3.1, on.1, passed.0.0, passed.0.1, passed.0.2))

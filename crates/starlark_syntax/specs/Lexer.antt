@@ -1,0 +1,72 @@
+-- Lexers, as their users see them, and the items that they yield.
+use Rattle.std.specs.Prelude.{◌≡◌, IfSome, ℕ, ◌+◌, ◌-◌, ◌||◌, if◌then◌else◌, Bool, true, false, length, Option, Some, None, Result, Ok, Err, ⊤}
+use Rattle.std.specs.Iterator.{Count, at_most}
+use Rattle.std.specs.List.{slice_get}
+use Rattle.std.specs.Str.{IsCharBoundary}
+use Rattle.starlark_base.specs.Sources.{SourceFile}
+use Rattle.starlark_base.specs.Diagnostics.{Diagnosed}
+use Rattle.starlark_text.specs.declared.or_memory.OrMemory.{OrMemory}
+use Rattle.starlark_text.specs.declared.or_memory.OrMemory.TheVariants as refusal
+use Rattle.starlark_syntax.specs.declared.error.kinds.ErrorKind.{ErrorKind}
+pub use Rattle.starlark_syntax.specs.Exceptions.{IsException}
+use Rattle.starlark_grammar.specs.Words.{Text}
+pub use Rattle.starlark_token.specs.Lexemes.{IsWithin}
+use Rattle.starlark_token.specs.Lexemes.{lexeme_view}
+pub use Rattle.starlark_token.specs.TextItems.{LexerItem, Given, Refused, items}
+use Rattle.starlark_token.specs.declared.tokens.Token.{Token}
+
+-- a lexer: its text, the code map of its fault, how many items it has yielded, and whether an error
+-- has ended it
+pub record LexerView : Type 0 where
+  pub text : Text
+  pub code_map : SourceFile
+  pub handed_out : ℕ
+  pub has_ended : Bool
+
+-- what a call returns for an item: a lexeme, the fault's exception, or out of memory in their place
+abbrev pub Answers : SourceFile → LexerItem → Result (ℕ × Token × ℕ) (OrMemory (Diagnosed ErrorKind)) → Type 0
+Answers file item (Err refusal.Memory) = ⊤
+Answers file (Given lexeme) (Ok found) = lexeme_view found ≡ lexeme
+Answers file (Refused fault) (Err (refusal.Error exception)) = IsException file fault exception
+Answers file item answer = ⊥
+
+-- a call returns `None` exactly if no item is left
+abbrev pub AnswersNext : SourceFile → Option LexerItem → Option (Result (ℕ × Token × ℕ) (OrMemory (Diagnosed ErrorKind))) → Type 0
+AnswersNext file None None = ⊤
+AnswersNext file (Some item) (Some answer) = Answers file item answer
+AnswersNext file item answer = ⊥
+
+-- a lexeme or a fault lies in the text
+abbrev pub AnswersWithin : Text → Option (Result (ℕ × Token × ℕ) (OrMemory (Diagnosed ErrorKind))) → Type 0
+AnswersWithin text (Some (Ok found)) = IsWithin text found.0 found.2
+AnswersWithin text (Some (Err (refusal.Error exception))) = IfSome exception.span (λ place. IsWithin text place.span.begin place.span.end)
+AnswersWithin text answer = ⊤
+
+-- a lexeme or a fault begins and ends at character boundaries of the text
+abbrev pub AnswersBetween : Text → Option (Result (ℕ × Token × ℕ) (OrMemory (Diagnosed ErrorKind))) → Type 0
+AnswersBetween text (Some (Ok found)) = IsCharBoundary text found.0 × IsCharBoundary text found.2
+AnswersBetween text (Some (Err (refusal.Error exception))) =
+    IfSome exception.span (λ place. IsCharBoundary text place.span.begin × IsCharBoundary text place.span.end)
+AnswersBetween text answer = ⊤
+
+-- how many items a result is: one, unless it is `None` or out of memory
+abbrev pub handed_out_by : Option (Result (ℕ × Token × ℕ) (OrMemory (Diagnosed ErrorKind))) → ℕ
+handed_out_by None = 0
+handed_out_by (Some (Err refusal.Memory)) = 0
+handed_out_by (Some answer) = 1
+
+-- whether a result ends the lexer: any error does
+abbrev pub is_ended_by : Option (Result (ℕ × Token × ℕ) (OrMemory (Diagnosed ErrorKind))) → Bool
+is_ended_by (Some (Err refused)) = true
+is_ended_by answer = false
+
+-- what one call of a lexer returns, and the lexer after it; after an error a call returns `None`
+pub record IsNextOf (old : LexerView) (answer : Option (Result (ℕ × Token × ℕ) (OrMemory (Diagnosed ErrorKind)))) (new : LexerView) : Type 0 where
+  pub item : AnswersNext old.code_map (if old.has_ended then None else slice_get (items old.text) old.handed_out) answer
+  pub within : AnswersWithin old.text answer
+  pub between : AnswersBetween old.text answer
+  pub after : new ≡ record old { handed_out = old.handed_out + handed_out_by answer; has_ended = old.has_ended || is_ended_by answer }
+
+-- the greatest number of items that are left
+abbrev pub items_left : LexerView → Count
+items_left lexer = at_most (if lexer.has_ended then 0 else length (items lexer.text) - lexer.handed_out)

@@ -1,0 +1,121 @@
+//! Replaces the end of a list of lexemes.
+
+ghost use Rattle.std.specs.Prelude.{◌≡◌, ◌<◌, ◌≤◌, ◌+◌, ◌++◌, ◌^◌, [], ℕ, None, IfSome, OnOk, Some, if◌then◌else◌, false, length, map, take, true, vec_capacity, vec_len};
+ghost use Rattle.starlark_syntax.specs.Joints.LexedTexts.{AllNear, IsTakenBack, is_newline_view, last_newline_of, later};
+ghost use Rattle.starlark_token.specs.Lexemes.{lexeme_view};
+ghost use Rattle.starlark_token.specs.TokenViews.{token_view};
+
+use crate::cuts::{Begin, Cut, cuts_up_to};
+use starlark_reader::PlacedToken;
+use starlark_token::tokens::Token;
+use std::alloc::AllocError;
+
+/// Reserves room for `more` items after the first `kept` of a list. Nothing changes on
+/// `AllocError`.
+pub fn make_room<T>(list: &mut Vec<T>, kept: usize, more: usize) -> Result<(), AllocError>
+    requires { kept + more < 2 ^ 64 }
+    ensures room { OnOk result (kept + more ≤ vec_capacity list.new) }
+    ensures same { list.new.items ≡ list.old.items }
+{
+    list.reserve((kept + more).saturating_sub(list.len()))
+}
+
+/// Keeps the first `kept` lexemes, and appends others, moved by `len` bytes.
+///
+/// It doesn't allocate: the list must have room for them.
+pub fn append_later(lexemes: &mut Vec<PlacedToken>, kept: usize, more: Vec<PlacedToken>, len: usize)
+    requires room { kept + vec_len more ≤ vec_capacity lexemes.old }
+    requires near { AllNear more.items }
+    requires fits { len < 2 ^ 32 }
+    ensures { lexemes.new.items ≡ take kept lexemes.old.items ++ map (later len) more.items }
+{
+    lexemes.truncate(kept);
+    for (begin, token, end) in more {
+        lexemes.push_reserved((len + begin, token, len + end));
+    }
+}
+
+/// Whether a token is `Newline`.
+#[tactic(auto, unfolding(starlark_token::specs::TokenViews::token_view))]
+fn is_newline(token: &Token) -> bool
+    ensures { result ≡ is_newline_view (token_view token.now) }
+{
+    matches!(token, Token::Newline)
+}
+
+/// Index of the last `Newline` in a list of lexemes.
+pub fn last_newline(lexemes: &[PlacedToken]) -> Option<usize>
+    ensures value { result ≡ last_newline_of (map lexeme_view lexemes.now) }
+    ensures within { IfSome result (λ at. at < length lexemes.now) }
+{
+    let mut at = lexemes.len();
+    while at > 0 {
+        at -= 1;
+        if is_newline(&lexemes[at].1) {
+            return Some(at);
+        }
+    }
+    None
+}
+
+/// What is kept of a lexed text that is lexed again from a cut on.
+#[derive(Clone, Copy)]
+pub struct Kept {
+    /// Number of lexemes that are kept.
+    pub lexemes: usize,
+    /// Number of cuts that are kept.
+    pub cuts: usize,
+    /// Bytes by which a fault of the rest is moved.
+    pub fault_at: usize,
+    /// Whether the lexemes of the rest are appended. Else they are dropped.
+    pub gives_more: bool,
+}
+
+/// What is kept of a lexed text where lexing begins again at a cut.
+///
+/// If the indentation there has a tab, the last `Newline` and all lexemes after it are dropped, and
+/// the fault begins where it began. Where there is no `Newline`, all before the cut is comments,
+/// and the fault begins at the start of the text.
+pub fn kept_of(lexemes: &[PlacedToken], cuts: &[Cut], begin: Begin, has_tab: bool) -> Kept
+    requires { begin.lexemes ≤ length lexemes.now }
+    ensures plain { has_tab ≡ false → result ≡ record { lexemes = begin.lexemes; cuts = begin.cuts; fault_at = begin.at; gives_more = true } }
+    ensures comments { has_tab ≡ true → last_newline_of (map lexeme_view (take begin.lexemes lexemes.now)) ≡ None → result ≡ record { lexemes = begin.lexemes; cuts = 0; fault_at = 0; gives_more = true } }
+    ensures line { has_tab ≡ true → (last : ℕ) → last_newline_of (map lexeme_view (take begin.lexemes lexemes.now)) ≡ Some last → IsTakenBack lexemes.now cuts.now last result }
+{
+    if !has_tab {
+        return Kept {
+            lexemes: begin.lexemes,
+            cuts: begin.cuts,
+            fault_at: begin.at,
+            gives_more: true,
+        };
+    }
+    match last_newline(&lexemes[..begin.lexemes]) {
+        Some(last) => {
+            let at = lexemes[last].0;
+            Kept {
+                lexemes: last,
+                cuts: cuts_up_to(cuts, at),
+                fault_at: at,
+                gives_more: false,
+            }
+        }
+        None => Kept {
+            lexemes: begin.lexemes,
+            cuts: 0,
+            fault_at: 0,
+            gives_more: true,
+        },
+    }
+}
+
+/// The lexemes to append to what is kept.
+pub fn given_behind(lexemes: Vec<PlacedToken>, kept: Kept) -> Vec<PlacedToken>
+    ensures { result.items ≡ (if kept.gives_more then lexemes.items else []) }
+{
+    let mut more = lexemes;
+    if !kept.gives_more {
+        more.clear();
+    }
+    more
+}

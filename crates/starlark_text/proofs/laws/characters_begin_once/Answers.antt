@@ -1,5 +1,0 @@
-use Rattle.starlark_text.proofs.Counts.{begun_count}
-use Rattle.starlark_text.proofs.laws.characters_begin_once.Goals as goal
-
-pub returns : goal.returns
-returns c = begun_count

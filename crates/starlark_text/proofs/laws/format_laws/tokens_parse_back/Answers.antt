@@ -1,0 +1,5 @@
+use Rattle.starlark_text.proofs.Readings.{parses_back}
+use Rattle.starlark_text.proofs.laws.format_laws.tokens_parse_back.Goals as goal
+
+pub returns : goal.returns
+returns c = parses_back
