@@ -17,8 +17,9 @@ PAGE = TOP / "docs/API.md"
 CRATES = ["starlark_text", "starlark_base", "starlark_syntax", "starlark_run"]
 HEAD = """# Public items
 
-Made by `scripts/api.py` from the sources; `.ci/run` compares it with them. Each item links to its line, where its
-whole doc comment and its contract are. [The pages for users](use/README.md) have examples.
+Made by `scripts/api.py` from the sources; `.ci/run` compares it with them. Each item links to its
+line, where its whole doc comment and its contract are. [The pages for users](use/README.md) have
+examples. A row with `·` is a method of the type above it.
 """
 ITEM = re.compile(r"pub (?:const |unsafe |final )*(fn|struct|enum|trait|const|type) (\w+)")
 USE = re.compile(r"pub use ([\w:]+?)(?:::)?(?:\{([^}]*)\})?;", re.DOTALL)
@@ -37,13 +38,13 @@ class Item:
         self.place = place
         self.members = []
 
-    def lines(self, indent=""):
-        """The item's lines of the page."""
+    def rows(self, owner=""):
+        """The item's rows of the page."""
         path, number = self.place
-        said = f": {self.docs}" if self.docs else ""
-        yield f"{indent}- [`{self.signature}`](../{path}#L{number}){said}"
+        name = f"{owner}{self.signature}".replace("|", "\\|")
+        yield f"| [`{name}`](../{path}#L{number}) | {self.docs} |"
         for member in self.members:
-            yield from member.lines(indent + "  ")
+            yield from member.rows(f"{self.name}::" if not member.signature.startswith(("fn ", "const ")) else "· ")
 
 
 class Source:
@@ -120,8 +121,8 @@ class Source:
                 said.insert(0, text[3:].strip())
             elif not text.startswith("#["):
                 break
-        paragraph = " ".join(said).split("  ")[0]
-        return re.split(r"(?<=[.:])\s", paragraph + " ")[0].strip()
+        first = said[: said.index("")] if "" in said else said
+        return re.split(r"(?<=\.)\s", " ".join(first) + " ")[0].strip()
 
 
 class Crate:
@@ -184,10 +185,12 @@ def section(crate, path):
     """The lines of a module and the modules in it."""
     items, modules, others = crate.public(path)
     yield f"\n{'##' if not path else '###'} `{'::'.join([crate.name, *path])}`\n"
+    if items or others:
+        yield "| Item | What it is |\n|---|---|"
     for item in items:
-        yield from item.lines()
+        yield from item.rows()
     for other in others:
-        yield f"- re-exports `{other}`"
+        yield f"| `{other}` | re-exported |"
     for name in modules:
         yield from section(crate, [*path, name])
 
