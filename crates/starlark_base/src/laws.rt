@@ -45,7 +45,7 @@ pub fn equal_code_maps_hash_alike(a: &CodeMap, b: &CodeMap)
     ensures { IsTrue (⟦<CodeMap as PartialEq>⟧.eq a.now b.now) → ⟦<CodeMap as Hash>⟧.hash_input a.now ≡ ⟦<CodeMap as Hash>⟧.hash_input b.now }
 {}
 
-/// File spans are equal exactly where they compare as equal, and equal ones have equal hashes.
+/// File spans are equal exactly where `cmp` returns `Equal`, and equal ones have equal hashes.
 pub fn file_spans_agree(a: &FileSpan, b: &FileSpan)
     ensures order { IsTrue (⟦<FileSpan as PartialEq>⟧.eq a.now b.now) ↔ (⟦<FileSpan as Ord>⟧.cmp a.now b.now ≡ Ordering.Equal) }
     ensures hash { IsTrue (⟦<FileSpan as PartialEq>⟧.eq a.now b.now) → ⟦<FileSpan as Hash>⟧.hash_input a.now ≡ ⟦<FileSpan as Hash>⟧.hash_input b.now }

@@ -29,7 +29,7 @@ pub fn margin_fault(len: usize, margin: Margin) -> (LexemeError, usize)
 
 /// Whether a margin neither opens nor closes an indent.
 ///
-/// That is so if no content follows, or if its width is the greatest open one.
+/// That is so if no content follows, or if it has no tab and the greatest open width.
 #[inline(always)]
 fn keeps_widths(levels: &IndentStack, margin: Margin) -> bool
     ensures { result ≡ keeps_widths margin levels.now }

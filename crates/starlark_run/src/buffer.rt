@@ -83,7 +83,7 @@ impl Buffer {
         Ok(())
     }
 
-    /// Appends bytes to the pending ones. A text as long as the buffer is written without a copy.
+    /// Appends a text to the pending bytes. One that fills the buffer is written without a copy.
     pub fn put<W: WriteDevice>(
         &mut self,
         writer: &mut Watched<W>,

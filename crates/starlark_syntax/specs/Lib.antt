@@ -21,6 +21,7 @@ pub use Rattle.starlark_grammar.specs.IntegerValues
 pub use Rattle.starlark_grammar.specs.PrintedWords
 pub use Rattle.starlark_grammar.specs.Tokens
 pub use Rattle.starlark_grammar.specs.Items
+pub use Rattle.starlark_grammar.specs.Literals
 pub use Rattle.starlark_grammar.specs.Depths
 pub use Rattle.starlark_grammar.specs.Margins
 pub use Rattle.starlark_grammar.specs.Pieces

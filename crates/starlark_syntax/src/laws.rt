@@ -6,7 +6,7 @@ ghost use Rattle.starlark_syntax.specs.Held.{FaultHeld, LexemesHeld};
 
 pub use starlark_grammar::laws::{
     balanced_layout, integers_keep_their_value, joins_at_clean_cuts, kept_cuts_keep,
-    line_ends_keep_tokens, one_longest_front, one_outcome, one_reading, ordered_lexemes,
+    line_ends_keep_tokens, one_body, one_longest_front, one_outcome, one_reading, ordered_lexemes,
     printed_words_read_back, texts_without_rf_stay,
 };
 pub use starlark_scanner::laws::identifiers_stay;

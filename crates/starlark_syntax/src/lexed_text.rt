@@ -26,7 +26,7 @@ use std::marker::Model;
 ///
 /// It stores the offsets where the text can be cut, so that after an edit only the text from the
 /// last of them on is lexed again. In a contract it is its text, lexemes, fault, and number of
-/// bytes read.
+/// reads.
 #[derive(Drop)]
 pub struct LexedText<'a> {
     text: &'a str,
@@ -114,12 +114,12 @@ impl<'a> LexedText<'a> {
         self.fault.as_ref()
     }
 
-    /// Number of reads of bytes by the call that made the lexed text. A byte read twice counts
-    /// twice.
+    /// Number of reads of bytes by the call that made the lexed text.
     ///
-    /// After `lex` of `n` bytes it is at most `16 * (n + 1)`, and at least `n` if there is no
+    /// A byte that is read twice counts twice, lookahead counts, and so does each byte of a SIMD
+    /// step. After `lex` of `n` bytes it is at most `16 * (n + 1)`, and at least `n` if there is no
     /// fault. After `relex` these bounds hold with the number of bytes after the cut that it began
-    /// at. After `join` it is 0. Lookahead counts, and so does each byte of a SIMD step.
+    /// at. After `join` it is 0.
     pub fn reads(&self) -> u64
         ensures { result ≡ self.now.reads }
     {
@@ -144,8 +144,7 @@ impl<'a> LexedText<'a> {
         self.is_cut || self.text.is_empty()
     }
 
-    /// Joins two lexed texts to one. The cost is linear in the second one's lexemes: no byte is
-    /// read.
+    /// Joins two lexed texts to one: no byte is read, and the second one's lexemes are moved.
     ///
     /// Four conditions must hold:
     ///
@@ -200,8 +199,8 @@ impl<'a> LexedText<'a> {
     /// - `edited` is shorter than 4294967296 bytes.
     ///
     /// The result is what `lex` returns for `edited`, with its fault in this code map. Only the
-    /// bytes after the last cut at or before `from` are read; the lexemes before it are kept. The
-    /// error is the lexed text, unchanged, where memory runs out.
+    /// bytes after the last cut at or before `from` are read, and no lexeme before it is made
+    /// again. The error is the lexed text, unchanged, where memory runs out.
     pub fn relex(
         self,
         from: usize,

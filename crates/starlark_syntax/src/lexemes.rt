@@ -21,8 +21,8 @@ pub type Lexeme = Result<(usize, Token, usize), OrMemory<EvalException>>;
 
 /// A lexer: an iterator over the lexemes of a text, up to its first fault if it has one.
 ///
-/// Any error ends it. In a contract it is its text, its code map, how many items it has yielded, and
-/// whether an error has ended it.
+/// Any error ends it. In a contract it is its text, its code map, how many items it has yielded,
+/// and whether an error has ended it.
 #[derive(Drop)]
 pub struct Lexer<'a> {
     alloc: Global,
@@ -161,8 +161,8 @@ impl<'a> Model for Lexer<'a> {
 impl<'a> Lexer<'a> {
     /// A lexer of a text, whose fault gets a span of the code map. It doesn't allocate.
     ///
-    /// Fails where the text has more than 4294967295 bytes, and drops the code map then. The dialect has
-    /// no effect. A text of `n` bytes yields at most `2 * n + 1` items.
+    /// Fails where the text has more than 4294967295 bytes, and drops the code map then. The
+    /// dialect has no effect. A text of `n` bytes yields at most `2 * n + 1` items.
     pub fn new(
         alloc: Global,
         input: &'a str,
@@ -429,8 +429,8 @@ impl<'a> Lexer<'a> {
 
     /// Returns the next lexeme or the fault; `None` after the last lexeme, and after any error.
     ///
-    /// The first error ends the lexer, out of memory too. A lexeme or fault lies in the text, and begins
-    /// and ends at character boundaries.
+    /// The first error ends the lexer, out of memory too. A lexeme or fault lies in the text, and
+    /// begins and ends at character boundaries.
     pub fn next(&mut self) -> Option<Lexeme>
         ensures ended { self.old.has_ended ≡ true → AnswersNext self.old.code_map None result }
         ensures item { self.old.has_ended ≡ false → AnswersNext self.old.code_map (slice_get (items self.old.text) self.old.handed_out) result }

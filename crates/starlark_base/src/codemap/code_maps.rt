@@ -70,7 +70,7 @@ fn put_new(
     Ok(())
 }
 
-/// Inserts code maps at those of their numbers that have none. It doesn't allocate.
+/// Inserts code maps at those of their numbers that have none. The map must have room for them.
 fn put_all_new(
     codemaps: &mut HashMap<CodeMapId, CodeMap>,
     new: Vec<(CodeMapId, CodeMap)>,

@@ -38,8 +38,8 @@ pub record IsLeftBy (levels : List ℕ) (width count : ℕ) : Type 0 where
   pub closed : list_all (nat_lt width) (drop count levels) ≡ true
   pub last : greatest_of (take count levels) ≤ width
 
--- whether a margin leaves the open widths as they are: no content follows, or its width is the
--- greatest open one
+-- whether a margin leaves the open widths as they are: no content follows, or it has no tab and
+-- the greatest open width
 abbrev pub keeps_widths : Margin → List ℕ → Bool
 keeps_widths margin levels = not margin.is_content || (not margin.blanks.has_tab && margin.blanks.width == greatest_of levels)
 
