@@ -57,9 +57,9 @@ before_newline (lexeme ∷ lexemes) = by (before_newline lexemes)
     by (Some found) = Some (lexeme ∷ found.0, found.1)
     by None = if is_newline lexeme.node then Some ([], lexeme.begin) else None
 
--- What a text of so many bytes and these lexemes, without its closing `Newline`, comes to where a tab follows in the
--- margin behind it. The last `Newline` is taken back with all that follows it. Where there is none the text was
--- comments alone, and those of the margin come behind them.
+-- What a text of so many bytes and these lexemes, without its closing `Newline`, becomes where a tab follows in the
+-- margin after it. The last `Newline` is taken back with all that follows it. Where there is none the text was
+-- comments alone, and those of the margin come after them.
 abbrev pub tabbed : ℕ → List Lexeme → List Lexeme → Outcome
 tabbed len lexemes comments = by (before_newline lexemes)
   where

@@ -8,7 +8,7 @@ abbrev pub longer : {C : Type 0} → Option (C × ℕ) → Option C → Option (
 longer None alone = option_map (λ class. (class, 1)) alone
 longer (Some front) alone = Some (front.0, front.1 + 1)
 
--- The class and the length of the longest front that isn't empty and has a class: the longest behind the first
+-- The class and the length of the longest front that isn't empty and has a class: the longest after the first
 -- byte, with that byte before it, and else the first byte alone.
 unfoldable pub longest_front : {C : Type 0} → (Text → Option C) → Text → Option (C × ℕ)
 longest_front class_of [] = None

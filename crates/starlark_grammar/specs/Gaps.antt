@@ -19,7 +19,7 @@ is_gap_byte (b ∷ bs) = is_blank b || is_feed b || (b == byte "\\" && begins_wi
 abbrev pub IsGap : Text → ℕ → ℕ → Type 0
 IsGap text from to = (at : ℕ) → from ≤ at → at < to → is_gap_byte (drop at text) ≡ true
 
--- Lexemes are in order from a place to another, and nothing but gaps stands before, between and behind them.
+-- Lexemes are in order from a place to another, and nothing but gaps stands before, between and after them.
 abbrev pub InOrder : Text → ℕ → List Lexeme → ℕ → Type 0
 InOrder text from [] to = (from ≤ to) × IsGap text from to
 InOrder text from (lexeme ∷ lexemes) to =

@@ -48,7 +48,7 @@ closing_quotes opening = if opening.is_triple then quotes 3 else quotes 1
     quotes zero = []
     quotes (suc n) = quote_byte opening.quote ∷ quotes n
 
--- An escape whose first `good` bytes are in order goes no further: the character behind them is the last that is
+-- An escape whose first `good` bytes are in order goes no further: the character after them is the last that is
 -- read, and at the text's end it is the last of the bytes themselves.
 abbrev pub broken_by : ℕ → Text → Found
 broken_by good [] = Stops (BadEscape good 1)
@@ -66,26 +66,26 @@ abbrev pub numbered : ℕ → Bool → ℕ → Found
 numbered len true n = if nat_lt n 256 then goes len (n ∷ []) else broken len []
 numbered len false n = if is_character n then goes len (encode_utf8 n) else broken len []
 
--- exactly so many hexadecimal digits behind a backslash and a letter
+-- exactly so many hexadecimal digits after a backslash and a letter
 abbrev pub hexadecimal : ℕ → Bool → Text → Found
 hexadecimal wanted is_byte text = by (prefix_len is_ascii_hexdigit (take wanted text))
   where
     by : ℕ → Found
     by n = if n == wanted then numbered (2 + n) is_byte (digits_value 16 (take n text)) else broken (2 + n) (drop n text)
 
--- octal digits behind a backslash, as many as stand there, up to three
+-- octal digits after a backslash, as many as stand there, up to three
 abbrev pub octal : Bool → Text → Found
 octal is_byte text = by (prefix_len is_octal_digit (take 3 text))
   where
     by : ℕ → Found
     by n = numbered (1 + n) is_byte (digits_value 8 (take n text))
 
--- a line end behind a backslash, from its LF on where a CR stood before it
+-- a newline after a backslash, from its LF on where a CR stood before it
 abbrev pub escaped_feed : Text → Found
 escaped_feed [] = broken 2 []
 escaped_feed (b ∷ bs) = if b == byte "\n" then goes 3 [] else broken 2 (b ∷ bs)
 
--- what one byte behind a backslash denotes
+-- what one byte after a backslash denotes
 unfoldable pub simple_escapes : List (ℕ × ℕ)
 simple_escapes =
     (byte "n", 10) ∷ (byte "r", 13) ∷ (byte "t", 9) ∷ (byte "a", 7) ∷ (byte "b", 8) ∷ (byte "f", 12) ∷ (byte "v", 11)
@@ -101,7 +101,7 @@ abbrev pub is_of_bytes : Kind → Bool
 is_of_bytes OfBytes = true
 is_of_bytes kind = false
 
--- An escape, by the text behind its backslash.
+-- An escape, by the text after its backslash.
 unfoldable pub escape : Kind → Text → Found
 escape kind [] = broken 1 []
 escape kind (b ∷ bs) =
@@ -118,7 +118,7 @@ abbrev pub drops_backslash : Kind → Quote → ℕ → Bool
 drops_backslash OfFString quote b = b == quote_byte quote
 drops_backslash kind quote b = b == quote_byte SingleQuote || b == quote_byte DoubleQuote
 
--- A raw backslash and the character that it takes, by the text behind it. At the text's end no item stands.
+-- A raw backslash and the character that it takes, by the text after it. At the text's end no item stands.
 unfoldable pub raw_pair : Kind → Quote → Text → Found
 raw_pair kind quote [] = Stops Ended
 raw_pair kind quote (b ∷ bs) = go (first_character (b ∷ bs))
@@ -159,7 +159,7 @@ body_len body = sum_by (λ (item : Item). item.len) body.items
 abbrev pub body_value : Body → Text
 body_value body = flat_map (λ (item : Item). item.value) body.items
 
--- an item, and the body that goes on behind it
+-- an item, and the body that goes on after it
 abbrev pub body_onward : Found → (ℕ → Body) → Body
 body_onward (Goes item) again = record { items = item ∷ (again (item.len - 1)).items; stop = (again (item.len - 1)).stop }
 body_onward (Stops stop) again = record { items = []; stop = stop }

@@ -81,7 +81,7 @@ OutcomeIsOne = (table : Table) (text : Text) (found : Outcome) → IsOutcome tab
 abbrev pub LexemesInOrder : Type 0
 LexemesInOrder = (text : Text) → (to : ℕ) × (to ≤ length text) × InOrder text 0 (outcome text).lexemes to
 
--- … In a text without fault nothing but a gap stands behind them either.
+-- … In a text without fault nothing but a gap stands after them either.
 abbrev pub FaultlessInOrder : Type 0
 FaultlessInOrder = (text : Text) → (outcome text).fault ≡ None → InOrder text 0 (outcome text).lexemes (length text)
 
@@ -127,6 +127,6 @@ BlocksClose = (table : Table) (text : Text) → (outcome_in table text).fault �
 abbrev pub ItemsAreFew : Type 0
 ItemsAreFew = (table : Table) (text : Text) → length (outcome_in table text).lexemes + length (option_to_list (outcome_in table text).fault) ≤ 2 * length text + 1
 
--- A text in which neither `rf'` nor `rf"` stands comes to what it came to before these were openers.
+-- A text in which neither `rf'` nor `rf"` stands has the outcome that it had before these were openers.
 abbrev pub TablesAgree : Type 0
 TablesAgree = (text : Text) → holds_rf_opener text ≡ false → outcome text ≡ outcome_in earlier_language text

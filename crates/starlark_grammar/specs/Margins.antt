@@ -1,4 +1,4 @@
--- Margins, which stand at the begin of lines, and the widths that are open.
+-- Margins, which stand at the start of lines, and the widths that are open.
 use Rattle.std.specs.Prelude.{ℕ, suc, ◌+◌, Bool, false, ◌&&◌, ◌||◌, not, ◌==◌, if◌then◌else◌, nat_eq, nat_lt, List, [], ◌∷◌, length, take, drop, take_while, count_by, sum_by, replicate}
 use Rattle.std.specs.List.{list_all, list_any, onto_first, prefix_len}
 use Rattle.std.specs.Str.{byte}
@@ -70,7 +70,7 @@ margin_from passed at line = record {
   behind = drop (blanks_len line) line;
 }
 
--- The margin at the front of a text: whole comment-only lines, as many as stand there, and the blanks behind them.
+-- The margin at the front of a text: whole comment-only lines, as many as stand there, and the blanks after them.
 unfoldable pub margin_of : Text → Margin
 margin_of text = go (comment_lines text) (sum_by length (comment_lines text))
   where

@@ -19,7 +19,7 @@ pub data Before : Type 0 where
   Gap : Before
   Other : Before
 
--- A piece: its bytes, its lexemes, the width where it leads to a content line, and what it is for the piece behind it.
+-- A piece: its bytes, its lexemes, the width where it leads to a content line, and what it is for the next piece.
 pub record Piece : Type 0 where
   pub len : ℕ
   pub lexemes : List Lexeme
@@ -55,8 +55,8 @@ fault begin node end = Fails (record { begin = begin; node = node; end = end })
 
 -- Margins
 
--- A line end of so many bytes that counts, with its lexeme, and the margin behind it; at the text's begin the margin
--- alone. A tab before content goes before a width that doesn't fit, and both lie from the line end on.
+-- A newline of `len` bytes that counts, with its lexeme, and the margin after it; at the start of the text the
+-- margin alone. A tab before content goes before a width that doesn't fit, and both lie from the line end on.
 unfoldable pub margin_step : ℕ → List Lexeme → List ℕ → Margin → Step
 margin_step len line_end levels margin =
     if not (is_content margin.behind) then layout [] None
@@ -80,7 +80,7 @@ line_end len levels behind = margin_step len (record { begin = 0; node = Newline
 
 -- Literals
 
--- the opening of a literal, by its opener and the text behind that: with two more of its quotes it is triple
+-- the opening of a literal, by its opener and the text after that: with two more of its quotes it is triple
 abbrev pub opening_of : Bool → Quote → Text → Opening
 opening_of is_raw quote behind = record {
   is_raw = is_raw;
@@ -95,7 +95,7 @@ abbrev pub literal_token : Kind → Text → Token
 literal_token OfBytes value = Bytes value
 literal_token kind value = String value
 
--- A bad escape from a backslash on, by the text that was read behind the backslash.
+-- A bad escape from a backslash on, by the text that was read after the backslash.
 abbrev pub escape_fault : ℕ → Text → Step
 escape_fault begin [] = fault begin EmptyEscapeSequence (1 + begin)
 escape_fault begin (b ∷ bs) = fault begin (InvalidEscapeSequence (b ∷ bs)) (begin + length (byte "\\" ∷ b ∷ bs))
@@ -104,14 +104,14 @@ escape_fault begin (b ∷ bs) = fault begin (InvalidEscapeSequence (b ∷ bs)) (
 abbrev pub is_plain : Opening → Text → Bool
 is_plain opening text = list_all (λ b. not (b == byte "\\" || b == byte "\r" || (b == byte "\n" && not opening.is_triple))) text
 
--- An unfinished literal. In an expression of an f-string a text literal with a plain text behind its opening, up to
+-- An unfinished literal. In an expression of an f-string a text literal with a plain text after its opening, up to
 -- the text's end, has a fault of its own.
 abbrev pub unfinished : Mode → Kind → Opening → Text → Fault
 unfinished Outside kind opening behind = UnfinishedStringLiteral
 unfinished place OfText opening behind = if is_plain opening behind then UnfinishedFStringExpression else UnfinishedStringLiteral
 unfinished place kind opening behind = UnfinishedStringLiteral
 
--- what a string or bytes literal comes to, by the bytes of its opening, the text behind that, and its body
+-- the step of a string or bytes literal, by the bytes of its opening, the text after that, and its body
 abbrev pub literal_by : Mode → Kind → Opening → ℕ → Text → Body → Stop → Step
 literal_by place kind opening len behind body Closing =
     token (len + body_len body + length (closing_quotes opening)) (literal_token kind (body_value body))
@@ -126,7 +126,7 @@ literal place kind opening len behind = go (body_at (record { kind = kind; openi
     go : Body → Step
     go body = literal_by place kind opening len behind body body.stop
 
--- an opener, and the literal behind it; of an f-string the opening alone
+-- an opener, and the literal after it; of an f-string the opening alone
 abbrev pub opener : Mode → Kind → Opening → ℕ → Text → Step
 opener place OfFString opening len behind = token (len + more_quotes opening) (FStringStart opening)
 opener place kind opening len behind = literal place kind opening (len + more_quotes opening) (drop (more_quotes opening) behind)
@@ -142,7 +142,7 @@ abbrev pub chunk_piece : Body → Token → ℕ → Step
 chunk_piece body node len =
     piece (body_len body + len) (chunk_text (body_len body) (body_value body) ++ record { begin = body_len body; node = node; end = body_len body + len } ∷ [])
 
--- what a chunk of an f-string's text comes to
+-- the step of a chunk of an f-string's text
 abbrev pub chunk_by : Opening → Text → Body → Stop → Step
 chunk_by opening text body OpeningBrace = chunk_piece body FStringExprStart 1
 chunk_by opening text body Closing = chunk_piece body FStringEnd (length (closing_quotes opening))
@@ -175,7 +175,7 @@ abbrev pub counts : Mode → Bool → Bool
 counts Outside is_balanced = is_balanced
 counts place is_balanced = false
 
--- what a word comes to, by the text behind it
+-- the step of a word, by the text after it
 abbrev pub word_step : Situation → Class → Text → Text → Step
 word_step s word.Skipped text behind = gap (length text)
 word_step s word.Comment text behind = token (length text) (Comment (drop 1 text))
@@ -196,13 +196,13 @@ abbrev pub front_step : Situation → Text → Option (Class × ℕ) → Step
 front_step s text None = fault 0 (InvalidInput (first_character text)) (length (first_character text))
 front_step s text (Some front) = word_step s front.0 (take front.1 text) (drop front.1 text)
 
--- an exclamation mark, and no `=` behind it
+-- an exclamation mark, and no `=` after it
 abbrev pub is_bang : Text → Bool
 is_bang [] = false
 is_bang (b ∷ []) = b == byte "!"
 is_bang (b ∷ c ∷ bs) = b == byte "!" && not (c == byte "=")
 
--- right behind a skipped piece no bang may stand
+-- right after a skipped piece no bang may stand
 abbrev pub takes_bang : Mode → Before → Bool
 takes_bang AtTop Gap = false
 takes_bang AtTop before = true

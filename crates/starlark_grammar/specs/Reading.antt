@@ -53,13 +53,13 @@ IsReading table history text (piece ∷ pieces) =
 abbrev pub pieces_len : List Piece → ℕ
 pieces_len pieces = sum_by (λ (piece : Piece). piece.len) pieces
 
--- A longest reading: what stands behind its last piece is no piece.
+-- A longest reading: what stands after its last piece is no piece.
 pub record IsLongestReading (table : Table) (history : History) (text : Text) (pieces : List Piece) (last : Step) : Type 0 where
   pub reads : IsReading table history text pieces
   pub stands_last : next_step table (after_all history pieces) (drop (pieces_len pieces) text) ≡ last
   pub no_piece : (piece : Piece) → last ≡ Stands piece → ⊥
 
--- pieces, and what stands behind them
+-- pieces, and what stands after them
 pub record Reading : Type 0 where
   pub pieces : List Piece
   pub last : Step
@@ -89,13 +89,13 @@ abbrev pub closing : ℕ → History → List Lexeme
 closing at history =
     record { begin = at; node = Newline; end = at } ∷ replicate (length (open_widths history.widths)) (record { begin = at; node = Dedent; end = at })
 
--- What is handed out before a fault: the lexemes of the pieces; where not even the text's first margin stands, the
+-- The lexemes before a fault: the lexemes of the pieces; where not even the text's first margin stands, the
 -- comments of that margin.
 abbrev pub before_fault : Text → List Piece → List Lexeme
 before_fault text [] = (margin_of text).comments
 before_fault text (piece ∷ pieces) = lexemes_along 0 (piece ∷ pieces)
 
--- what a reading and what stands behind it come to
+-- the outcome of a reading and what stands after it
 abbrev pub outcome_of : Text → List Piece → Step → Outcome
 outcome_of text pieces (Fails fault) = record { lexemes = before_fault text pieces; fault = Some (moved (pieces_len pieces) fault) }
 outcome_of text pieces step =

@@ -34,15 +34,15 @@ FailsLater text = ((outcome text).fault ≡ None) ⊎ (FirstMarginFails language
 abbrev pub LaterFaultsJoin : Type 0
 LaterFaultsJoin = (first second : Text) → is_clean_cut first ≡ true → FailsLater second → Join first second
 
--- Where a text is a clean cut, what was joined has a fault exactly where the text behind has one, …
+-- Where a text is a clean cut, what was joined has a fault exactly where the text after it has one, …
 abbrev pub FaultsJoin : Type 0
 FaultsJoin = (first second : Text) → is_clean_cut first ≡ true → ((outcome (first ++ second)).fault ≡ None) ↔ ((outcome second).fault ≡ None)
 
--- … and is a clean cut exactly where the text behind is one, if that isn't empty.
+-- … and is a clean cut exactly where the text after it is one, if that isn't empty.
 abbrev pub CutsOfJoined : Type 0
 CutsOfJoined = (first second : Text) → is_clean_cut first ≡ true → 0 < length second → is_clean_cut (first ++ second) ≡ is_clean_cut second
 
--- What a clean cut and a text behind it come to where that text's first margin has a fault.
+-- What a clean cut and a text after it become where that text's first margin has a fault.
 abbrev pub TabsBehindCuts : Type 0
 TabsBehindCuts = (first second : Text) (fault : Spanned Fault) → is_clean_cut first ≡ true → next_step language nothing second ≡ Fails fault
     → outcome (first ++ second) ≡ tabbed (length first) (without_closing (outcome first).lexemes) (margin_of second).comments
@@ -54,8 +54,8 @@ KeptCutsKeep = (text : Text) (at : ℕ) → is_kept_cut text at ≡ true → (mo
 abbrev pub tokens_of : Text → List Token
 tokens_of text = map (λ (lexeme : Lexeme). lexeme.node) (outcome text).lexemes
 
--- A text of characters without fault and without CR, in which no raw literal and no text of a raw f-string has a
--- backslash right before an LF, has no fault and the same tokens with each LF written as CR LF.
+-- With each LF written as CR LF, a UTF-8 text without fault and without CR keeps its tokens, and has no fault. No raw
+-- literal and no raw f-string text may have a backslash right before an LF.
 abbrev pub CrlfKeepsTokens : Type 0
 CrlfKeepsTokens = (text : Text) → IsUtf8 text → (outcome text).fault ≡ None → list_any (nat_eq (byte "\r")) text ≡ false → no_raw_feed nothing text (read language text).pieces ≡ true
     → ((outcome (crlf_form text)).fault ≡ None) × (tokens_of (crlf_form text) ≡ tokens_of text)

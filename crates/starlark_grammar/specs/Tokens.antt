@@ -1,4 +1,4 @@
--- Tokens, faults, and what a text comes to.
+-- Tokens, faults, and the outcome of a text.
 use Rattle.std.specs.Prelude.{ℕ, ◌+◌, Bool, List, Option}
 use Rattle.starlark_grammar.specs.Words.{Text, Quote, Terminal}
 use Rattle.starlark_grammar.specs.Numbers.{Integer}
@@ -52,7 +52,7 @@ moved n x = record { begin = n + x.begin; node = x.node; end = n + x.end }
 abbrev pub Lexeme : Type 0
 Lexeme = Spanned Token
 
--- What a text comes to: its lexemes, or those before its first fault and that fault.
+-- The outcome of a text: its lexemes, or those before its first fault and that fault.
 pub record Outcome : Type 0 where
   pub lexemes : List Lexeme
   pub fault : Option (Spanned Fault)

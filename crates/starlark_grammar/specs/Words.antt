@@ -130,7 +130,7 @@ is_octal_digit b = is_digit b 8
 abbrev pub is_binary_digit : ℕ → Bool
 is_binary_digit b = is_digit b 2
 
--- what stands behind the digits at the front
+-- what stands after the digits at the front
 abbrev pub behind_digits : Text → Text
 behind_digits text = drop (prefix_len is_ascii_digit text) text
 
@@ -177,7 +177,7 @@ makes_float word = is_fraction word || is_exponent word
 abbrev pub is_float : Text → Bool
 is_float word = begins_with_digit word && makes_float (behind_digits word)
 
--- a fraction that has a digit right behind its point
+-- a fraction that has a digit right after its point
 abbrev pub is_pointed : Text → Bool
 is_pointed word = is_fraction word && begins_with_digit (drop 1 word)
 

@@ -6,7 +6,7 @@ use starlark_syntax::dot_format_parser::EscapeCurlyBrace;
 use starlark_syntax::fast_string::CharIndex;
 use std::alloc::Global;
 
-/// The first byte of a text, then the others as characters, and the place that was come to.
+/// The first byte of a text, then the others as characters, and the position after them.
 fn bytes(alloc: Global, text: &str) -> Answer {
     let mut cursor = CursorBytes::new(text);
     let steps = (cursor.next(), cursor.next_char(), cursor.next_char());
@@ -20,7 +20,7 @@ fn bytes_as_characters(alloc: Global, text: &str) -> Answer {
     format!(in alloc; "{steps:?} {}", cursor.pos())
 }
 
-/// The character behind an offset, and the places before it, behind it, and before it again.
+/// The character after an offset, and the positions before it, after it, and before it again.
 fn characters(alloc: Global, text: &str, offset: usize) -> Answer {
     if !text.is_char_boundary(offset) {
         return String::from_str(alloc, "no boundary");

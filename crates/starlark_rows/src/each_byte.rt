@@ -5,7 +5,7 @@ use crate::lexed_text_rows::{Wanted, lex, relex, relex_joined};
 use crate::rows::Answer;
 use std::alloc::{AllocError, Global};
 
-/// A text lexed again behind an edit. It was lexed as one text, or joined of two.
+/// A text lexed again after an edit. It was lexed as one text, or joined of two.
 fn lexed_again(alloc: Global, first: &str, second: &str, at: u32, edited: &str) -> Answer {
     if second.is_empty() {
         return relex(alloc, first, at, edited, Wanted::Lexemes);
@@ -14,7 +14,7 @@ fn lexed_again(alloc: Global, first: &str, second: &str, at: u32, edited: &str) 
 }
 
 /// How many of the 128 characters of one byte, each in the place of a byte, give something else where the text is lexed
-/// again behind the edit than where the edited text is lexed.
+/// again after the edit than where the edited text is lexed.
 fn count_others(alloc: Global, first: &str, second: &str, at: u32) -> Result<u32, AllocError> {
     let text = both_texts(alloc, first, second)?;
     let mut others = 0u32;

@@ -18,7 +18,7 @@ pub fn forms<T: Display + Debug>(alloc: Global, value: &T) -> Answer {
     format!(in alloc; "{value}|{value:?}|{value:#}")
 }
 
-/// An error in each of the forms that it prints in, behind its kind.
+/// An error in each of the forms that it prints in, after its kind.
 pub fn shown_error(alloc: Global, error: &Error) -> Answer {
     let kind = match error.kind() {
         ErrorKind::Parser(_) => "parser",

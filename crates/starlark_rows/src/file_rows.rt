@@ -78,7 +78,7 @@ fn resolved(alloc: Global, row: &Row) -> Answer {
     copied_place(alloc, &span.resolve(alloc)?)
 }
 
-/// What is printed of a refusal, and of want of memory.
+/// What is printed of a refusal, and of an allocation failure.
 fn refusals(alloc: Global) -> Answer {
     let (refusal, memory) = (
         OrMemory::Error(SourceTooLong),

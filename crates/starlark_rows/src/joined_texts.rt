@@ -5,7 +5,7 @@ ghost use Rattle.std.specs.Str.{IsCharBoundary};
 
 use std::alloc::{AllocError, Global};
 
-/// One text behind another.
+/// One text after another.
 pub fn both_texts(alloc: Global, first: &str, second: &str) -> Result<String, AllocError>
     ensures { IfOk result (λ text. string_bytes text ≡ first.now ++ second.now) }
 {

@@ -1,4 +1,4 @@
-//! Lexed texts: their lexemes, whether they are clean cuts, and what they come to joined.
+//! Lexed texts: their lexemes, whether they are clean cuts, and what they are joined.
 
 ghost use Rattle.std.specs.Prelude.{◌≡◌, ◌++◌, IfOk};
 
@@ -104,7 +104,7 @@ fn wanted_of(alloc: Global, lexed: &LexedText<'_>, wanted: Wanted) -> Answer {
     }
 }
 
-/// Want of memory where two lexed texts that were handed back are as they were.
+/// Out of memory where two lexed texts that were given back are as they were.
 fn both_kept(alloc: Global, before: &str, handed_back: &(LexedText<'_>, LexedText<'_>)) -> Answer {
     let after = both_printed(alloc, &handed_back.0, &handed_back.1)?;
     unchanged(alloc, before, &after)
@@ -136,7 +136,7 @@ pub fn join(alloc: Global, first: &str, second: &str, wanted: Wanted) -> Answer 
     join_or_keep(alloc, first, second, both.as_str(), wanted)
 }
 
-/// A lexed text that is lexed again behind an edit, or as it was; none where the two texts aren't the same up to the edit.
+/// A lexed text that is lexed again after an edit, or as it was; none where the two texts aren't the same up to the edit.
 fn relex_lexed<'a>(
     old: LexedText<'a>,
     from: usize,
@@ -149,13 +149,13 @@ fn relex_lexed<'a>(
     Some(old.relex(from, edited, map))
 }
 
-/// Want of memory where a lexed text that was handed back is as it was.
+/// Out of memory where a lexed text that was given back is as it was.
 fn kept(alloc: Global, before: &str, old: &LexedText<'_>) -> Answer {
     let after = printed(alloc, old)?;
     unchanged(alloc, before, &after)
 }
 
-/// What is wanted of a lexed text that is lexed again behind an edit. Where that is refused, the text is handed back.
+/// What is wanted of a lexed text that is lexed again after an edit. Where that is refused, the text is handed back.
 fn relexed<'a>(
     alloc: Global,
     old: LexedText<'a>,
@@ -172,12 +172,12 @@ fn relexed<'a>(
     }
 }
 
-/// What is wanted of a text that is lexed again behind an edit.
+/// What is wanted of a text that is lexed again after an edit.
 pub fn relex(alloc: Global, text: &str, from: u32, edited: &str, wanted: Wanted) -> Answer {
     relexed(alloc, lexed(alloc, text)?, from as usize, edited, wanted)
 }
 
-/// What is wanted of two texts joined, and lexed again behind an edit.
+/// What is wanted of two texts joined, and lexed again after an edit.
 pub fn relex_joined(
     alloc: Global,
     first: &str,
@@ -217,7 +217,7 @@ fn mark(alloc: Global, first: &str, second: &str) -> Result<char, AllocError> {
     Ok(if are_same(&joined, &whole) { '=' } else { '!' })
 }
 
-/// The marks of a text with each of many behind it.
+/// The marks of a text with each of many after it.
 fn marks(alloc: Global, row: &Row) -> Answer {
     let mut marks = String::new(alloc);
     for second in row.texts_from(3) {

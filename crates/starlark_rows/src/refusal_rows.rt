@@ -1,5 +1,5 @@
-//! Calls that take memory. Where it is refused, a call has to leave what its caller had as it was, and only then is want
-//! of memory handed on. `scripts/refused_memory.py` refuses each request of each of these rows in turn.
+//! Calls that allocate. Where an allocation is refused, a call has to leave what its caller had as it was, and only then
+//! is the failure returned. `scripts/refused_memory.py` refuses each allocation of each of these rows in turn.
 
 use crate::error_rows::{first, forms, kind, one_call, placed, shown_error, tab};
 use crate::refused::unchanged;
@@ -14,13 +14,13 @@ use starlark_syntax::lexer::LexemeError;
 use std::alloc::{AllocError, Global};
 use std::fmt::{Debug, Display, Write};
 
-/// Want of memory where an error that was handed back is as it was; else how it was and how it is.
+/// Out of memory where an error that was given back is as it was; else how it was and how it is.
 fn kept(alloc: Global, before: &str, error: &Error) -> Answer {
     let after = shown_error(alloc, error)?;
     unchanged(alloc, before, &after)
 }
 
-/// The same of a value with its place.
+/// Out of memory where a value with its place is as it was; else how it was and how it is.
 fn kept_place<T: Display + Debug>(alloc: Global, before: &str, value: &T) -> Answer {
     let after = forms(alloc, value)?;
     unchanged(alloc, before, &after)

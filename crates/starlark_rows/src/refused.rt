@@ -1,10 +1,10 @@
-//! What a call leaves that is refused for want of memory.
+//! What a call leaves that an allocation failure refuses.
 
 use crate::rows::Answer;
 use std::alloc::{AllocError, Global};
 use std::fmt::Display;
 
-/// Want of memory where a refused call left something as it was; else how it was and how it is.
+/// Out of memory where a refused call left something as it was; else how it was and how it is.
 pub fn unchanged<T: Display>(alloc: Global, before: &str, after: &T) -> Answer {
     let after = after.to_string(alloc)?;
     if before == after.as_str() {

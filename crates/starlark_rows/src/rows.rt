@@ -14,7 +14,7 @@ pub struct Row {
     fields: Vec<String>,
 }
 
-/// What a character stands for, behind a backslash or without one.
+/// What a character stands for, after a backslash or without one.
 fn meant(is_escaped: bool, character: char) -> char {
     if !is_escaped {
         return character;
@@ -81,7 +81,7 @@ impl Row {
     }
 }
 
-/// What a call gave that only want of memory can refuse: no row has a text that is too long.
+/// The result of a call that only an allocation failure can refuse: no row has a text that is too long.
 pub fn given<T, E: Drop>(answer: Result<T, E>) -> Result<T, AllocError>
     ensures { IfOk result (λ value. answer ≡ Ok value) }
 {

@@ -1,10 +1,10 @@
-//! Tokens that no text comes to, and faults that none has.
+//! Tokens that no text has, and faults that none has.
 
 use crate::rows::{Answer, Row, both, unknown};
 use starlark_syntax::lexer::{LexemeError, Token};
 use std::alloc::Global;
 
-/// A token that no text comes to, by its name.
+/// A token that no text has, by its name.
 fn token(name: &str) -> Option<Token> {
     Some(match name {
         "Tabs" => Token::Tabs,

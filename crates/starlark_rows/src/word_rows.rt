@@ -39,7 +39,7 @@ fn integer(alloc: Global, text: &str, base: u32) -> Answer {
     }
 }
 
-/// Adds a token as it prints, behind its kind.
+/// Adds a token as it prints, after its kind.
 fn add_token<T: Display>(list: &mut String, kind: &str, token: &T) -> Result<(), AllocError> {
     write!(list, "{kind} {token}; ")
 }
@@ -57,7 +57,7 @@ pub fn add_placed(
     add_token(list, copy.kind(), &copy)
 }
 
-/// What is said where memory was wanting: behind that a lexer has to hand out nothing.
+/// What is said of an allocation failure: after it a lexer has to yield nothing.
 fn behind_memory(lexer: &mut Lexer<'_>) -> &'static str {
     match lexer.next() {
         None => "out of memory",
@@ -65,7 +65,7 @@ fn behind_memory(lexer: &mut Lexer<'_>) -> &'static str {
     }
 }
 
-/// Adds the next lexeme, a fault as it prints, or that memory was wanting. Answers whether the lexer may have more.
+/// Adds the next lexeme, a fault as it prints, or an allocation failure. Returns whether the lexer may have more.
 fn add_next(alloc: Global, list: &mut String, lexer: &mut Lexer<'_>) -> Result<bool, AllocError> {
     match lexer.next() {
         None => return Ok(false),
@@ -90,7 +90,7 @@ fn lexer<'a>(
     given(Lexer::new(alloc, text, &Dialect::Standard, map))
 }
 
-/// The lexemes of a text, or those before want of memory, over a code map of this name and source.
+/// The lexemes of a text, or those before an allocation failure, over a code map of this name and source.
 fn lexemes_in(alloc: Global, text: &str, name: &str, source: &str) -> Answer {
     let mut lexer = lexer(alloc, text, name, source)?;
     let mut list = String::new(alloc);
@@ -102,7 +102,7 @@ fn lexemes_in(alloc: Global, text: &str, name: &str, source: &str) -> Answer {
     Ok(list)
 }
 
-/// The lexemes of a text, or those before want of memory, over a code map named `f` that has this source.
+/// The lexemes of a text, or those before an allocation failure, over a code map named `f` that has this source.
 pub fn lexemes(alloc: Global, text: &str, source: &str) -> Answer {
     lexemes_in(alloc, text, "f", source)
 }

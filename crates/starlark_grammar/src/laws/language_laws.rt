@@ -45,7 +45,7 @@ pub fn balanced_layout()
     ensures few { ItemsAreFew }
 {}
 
-/// Lexemes are in order, with nothing but gaps before and between them, and where the text has no fault behind them
+/// Lexemes are in order, with nothing but gaps before and between them, and where the text has no fault after them
 /// too. They lie inside of the text, and in a text of characters they begin and end between
 /// characters. A fault does so too.
 pub fn ordered_lexemes()

@@ -19,8 +19,8 @@ pub fn kept_cuts_keep()
     ensures { KeptCutsKeep }
 {}
 
-/// A text of characters without fault and without CR has no fault and the same tokens with each LF written as CR LF, if no
-/// raw literal and no text of a raw f-string has a backslash right before an LF.
+/// With each LF written as CR LF, a UTF-8 text without fault and without CR keeps its tokens, and has no fault. No raw
+/// literal and no raw f-string text may have a backslash right before an LF.
 pub fn line_ends_keep_tokens()
     ensures { CrlfKeepsTokens }
 {}
