@@ -6,7 +6,7 @@ use Rattle.starlark_grammar.specs.Words.{Text, Kind, OfFString, Class, Table, cl
 use Rattle.starlark_grammar.specs.Front.{IsLongestFront, language_front}
 use Rattle.starlark_grammar.specs.Tokens.{Token, Indent, Dedent, Opening, Spanned, Lexeme, Outcome}
 use Rattle.starlark_grammar.specs.Items.{Literal, Item, Stop, Closing, Body, body_at, closing_quotes}
-use Rattle.starlark_grammar.specs.Literals.{items_len, items_value, IsGoodBody, IsBadBody, IsBody}
+use Rattle.starlark_grammar.specs.Literals.{ItemAt, items_len, items_value, IsGoodBody, IsBadBody, IsBody}
 use Rattle.starlark_grammar.specs.Depths.{Mode}
 use Rattle.starlark_grammar.specs.Pieces.{Piece, token, literal_token, literal_by, literal, chunk_by, chunk}
 use Rattle.starlark_grammar.specs.Reading.{History, IsReading, pieces_len, outcome_in, outcome, IsOutcome}
@@ -29,6 +29,10 @@ NoFrontIsWord text = (len : ℕ) → 1 ≤ len → len ≤ length text → class
 abbrev pub NoneWhereNoWord : Type 0
 NoneWhereNoWord = (text : Text) → (language_front text ≡ None) ↔ NoFrontIsWord text
 
+-- At most one item is at a place.
+abbrev pub ItemIsOne : Type 0
+ItemIsOne = (literal : Literal) (text : Text) (one other : Item) → ItemAt literal text one → ItemAt literal text other → one ≡ other
+
 -- What is computed as a body is a list of items with what ends it, …
 abbrev pub BodyIs : Type 0
 BodyIs = (literal : Literal) (text : Text) → IsBody literal text (body_at literal text)
@@ -41,6 +45,10 @@ BodyIsOne = (literal : Literal) (text : Text) (body : Body) → IsBody literal t
 abbrev pub BodyIsBad : Type 0
 BodyIsBad = (literal : Literal) (text : Text) (items : List Item) (stop : Stop)
     → IsBadBody literal text items stop ↔ ((body_at literal text ≡ record { items = items; stop = stop }) × (stop ≡ Closing → ⊥))
+
+-- A literal is good or bad.
+abbrev pub GoodOrBad : Type 0
+GoodOrBad = (literal : Literal) (text : Text) → ((items : List Item) × IsGoodBody literal text items) ⊎ ((items : List Item) × ((stop : Stop) × IsBadBody literal text items stop))
 
 -- A good literal is one token. Its value is what its items denote, and the closing quotes are its last bytes.
 abbrev pub GoodLiteralIsToken : Type 0

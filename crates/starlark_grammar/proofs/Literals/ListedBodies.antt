@@ -9,7 +9,7 @@ use Rattle.starlark_grammar.specs.Words.{Text, Quote, SingleQuote, DoubleQuote, 
 use Rattle.starlark_grammar.specs.Tokens.{Opening}
 use Rattle.starlark_grammar.specs.Items.{Literal, Item, Stop, Closing, Line, Ended, OpeningBrace, ClosingBrace, BadEscape, Found, Goes, Stops, goes, quote_byte, closing_quotes, found_at, Body, body_onward, body_from, body_at}
 use Rattle.starlark_grammar.specs.Literals.{ItemAt, ItemsAt, items_len, itself, is_itself, holds_closing, quotes_before_last, IsGoodBody, StopsAt, IsUnclosedBody, IsBadBody, IsBodyBy, IsBody}
-use Rattle.starlark_grammar.specs.Laws.{BodyIs, BodyIsOne, BodyIsBad, GoodLiteralIsToken, BadLiteralIsFault, ChunkIsBody}
+use Rattle.starlark_grammar.specs.Laws.{BodyIs, BodyIsOne, BodyIsBad, GoodOrBad, GoodLiteralIsToken, BadLiteralIsFault, ChunkIsBody}
 use Rattle.starlark_grammar.specs.Pieces.{literal_by, chunk, chunk_by}
 use Rattle.starlark_grammar.proofs.Lists.{drop-sum, drop-behind}
 use Rattle.starlark_grammar.proofs.Literals.Bodies.{found_fits, FoundFits}
@@ -574,6 +574,20 @@ body_is_bad literal text items stop = (λ bad. (unclosed_one literal text items 
           longest = λ more also allowed. longest literal stop text items more is.listed is.stops also (no_feed literal.opening more (or_parts (holds_closing literal.opening more) _ allowed).1);
           no_good = λ good is_good. open_still (ap (λ (body : Body). body.stop) (sym e ∙ good_one literal text good is_good));
         }
+
+pub good_or_bad : GoodOrBad
+good_or_bad literal text = go (body_at literal text).items (body_at literal text).stop refl (body_is literal text)
+  where
+    bad : (items : List Item) (stop : Stop) → record { items = items; stop = stop } ≡ body_at literal text → (stop ≡ Closing → ⊥) → ((items : List Item) × IsGoodBody literal text items) ⊎ ((items : List Item) × ((stop : Stop) × IsBadBody literal text items stop))
+    bad items stop e other = inr (items, (stop, (body_is_bad literal text items stop).1 (sym e, other)))
+
+    go : (items : List Item) (stop : Stop) → record { items = items; stop = stop } ≡ body_at literal text → IsBodyBy literal text items stop → ((items : List Item) × IsGoodBody literal text items) ⊎ ((items : List Item) × ((stop : Stop) × IsBadBody literal text items stop))
+    go items Closing e is = inl (items, is)
+    go items Line e is = bad items Line e (λ no. cc)
+    go items Ended e is = bad items Ended e (λ no. cc)
+    go items OpeningBrace e is = bad items OpeningBrace e (λ no. cc)
+    go items ClosingBrace e is = bad items ClosingBrace e (λ no. cc)
+    go items (BadEscape read last) e is = bad items (BadEscape read last) e (λ no. cc)
 
 pub good_literal : GoodLiteralIsToken
 good_literal place kind opening len behind items is = ap (λ (body : Body). literal_by place kind opening len behind body body.stop) (good_one (record { kind = kind; opening = opening }) behind items is)

@@ -2,7 +2,7 @@
 //! programs don't call them.
 
 ghost use Rattle.starlark_grammar.specs.IntegerValues.{IntegersKeepTheirValue};
-ghost use Rattle.starlark_grammar.specs.Laws.{FrontIsLongest, LongestFrontIsOne, NoneWhereNoWord, BodyIs, BodyIsOne, BodyIsBad, GoodLiteralIsToken, BadLiteralIsFault, ChunkIsBody, ReadingsAgree, ReadingsFit, OutcomeIs, OutcomeIsOne, DedentsFollow, BlocksClose, ItemsAreFew, LexemesInOrder, FaultlessInOrder, LexemesAtBoundaries, FaultsInside, FaultAtBoundaries, TablesAgree};
+ghost use Rattle.starlark_grammar.specs.Laws.{FrontIsLongest, LongestFrontIsOne, NoneWhereNoWord, ItemIsOne, BodyIs, BodyIsOne, BodyIsBad, GoodOrBad, GoodLiteralIsToken, BadLiteralIsFault, ChunkIsBody, ReadingsAgree, ReadingsFit, OutcomeIs, OutcomeIsOne, DedentsFollow, BlocksClose, ItemsAreFew, LexemesInOrder, FaultlessInOrder, LexemesAtBoundaries, FaultsInside, FaultAtBoundaries, TablesAgree};
 ghost use Rattle.starlark_grammar.specs.PrintedWords.{PrintedWordsReadBack};
 
 /// The longest front of a text that is a word is the longest, and there is only one. There is none exactly where no
@@ -14,12 +14,14 @@ pub fn one_longest_front()
 {}
 
 /// The body of a literal, or a chunk of an f-string's text, is a list of items that holds nothing forbidden, with what
-/// ends it, and there is only one. If no quotes close it, it is the longest such list, and there is no good literal. A
-/// literal's token or fault, and a chunk's lexemes, follow from that list.
+/// ends it, and there is only one. If no quotes close it, it is the longest such list, and there is no good literal. So
+/// a literal is either good or bad. A literal's token or fault, and a chunk's lexemes, follow from that list.
 pub fn one_body()
+    ensures item { ItemIsOne }
     ensures is_body { BodyIs }
     ensures only { BodyIsOne }
     ensures bad { BodyIsBad }
+    ensures good_or_bad { GoodOrBad }
     ensures token { GoodLiteralIsToken }
     ensures fault { BadLiteralIsFault }
     ensures chunk { ChunkIsBody }
