@@ -11,7 +11,7 @@ use Rattle.starlark_grammar.specs.EarlierLanguage.{earlier_front}
 abbrev pub FrontOf : Type 0
 FrontOf = Text → Option (Class × ℕ)
 
--- Words one behind another, each found at the front of what is left, and what is left behind them.
+-- Words one after another, each found at the front of what is left, and what is left after them.
 abbrev pub ReadsBy : FrontOf → Text → List (Class × Text) → Text → Type 0
 ReadsBy front text [] rest = text ≡ rest
 ReadsBy front text (word ∷ words) rest = (more : Text) × (text ≡ word.1 ++ more) × (front text ≡ Some (word.0, length word.1)) × ReadsBy front more words rest
@@ -37,7 +37,7 @@ IsOneIdentifier = IsOneIdentifierBy language_front
 abbrev pub IdentifiersStay : Type 0
 IdentifiersStay = (text name : Text) → IsOneIdentifier text name ↔ IsOneIdentifierBy earlier_front text name
 
--- skipped pieces and what is left behind them
+-- skipped pieces and what is left after them
 abbrev pub IsBehindSkipped : Text → Text → Type 0
 IsBehindSkipped text rest = (pieces : List Text) × Reads text (map skipped pieces) rest
 
@@ -50,7 +50,7 @@ abbrev pub if_identifier : Option (Class × ℕ) → Option ℕ
 if_identifier (Some (Identifier, len)) = Some len
 if_identifier front = None
 
--- a text may be cut behind so many bytes, and they are some
+-- a text may be cut after so many bytes, and they are some
 pub record IsCut (text : Text) (len : ℕ) : Type 0 where
   pub some : 1 ≤ len
   pub inside : len ≤ length text

@@ -42,7 +42,7 @@ fn identifier_len(text: &str) -> Option<usize>
     }
 }
 
-/// What stands behind the skipped pieces at the front of a text.
+/// What stands after the skipped pieces at the front of a text.
 fn behind_skipped(text: &str) -> &str
     ensures passed { spec.IsBehindSkipped text.now result.now }
     ensures all { spec.if_skipped (language_front result.now) ≡ None }
@@ -56,7 +56,7 @@ fn behind_skipped(text: &str) -> &str
 
 /// The identifier of a text that has skipped pieces, one identifier, and skipped pieces; `None` for any other text.
 ///
-/// Skipped are spaces, and line ends behind a backslash. Only an identifier that is found takes memory.
+/// Skipped are spaces, and newlines after a backslash. Only an identifier that is found allocates.
 pub fn lex_exactly_one_identifier(alloc: Global, s: &str) -> Result<Option<String>, AllocError>
     ensures value { IfOk result (λ found. (name : Text) → (option_map string_bytes found ≡ Some name) ↔ spec.IsOneIdentifier s.now name) }
     ensures memory { OnErr result ((name : Text) × spec.IsOneIdentifier s.now name) }
