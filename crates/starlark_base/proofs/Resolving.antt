@@ -9,9 +9,9 @@ use Rattle.std.specs.List.{concat, range_with_len}
 use Rattle.std.specs.Ordering.{nat_cmp, ordering_then}
 use Rattle.std.specs.Str.{chars, IsUtf8, IsCharBoundary}
 use Rattle.starlark_base.specs.declared.codemap.resolved.ResolvedPos.{ResolvedPos}
-use Rattle.starlark_base.specs.Places.{Text, is_line_feed, place_after, place_at, StandsBefore}
+use Rattle.starlark_base.specs.Places.{Text, is_lf, place_after, place_at, StandsBefore}
 use Rattle.starlark_base.specs.Lines.{line_begin, line_count, line_span, line_texts, text_of}
-use Rattle.starlark_base.proofs.LineFeeds.{feeds, feeds_count, feeds_rise, begin_before, begins_rise, begin_past, boundary_of_line, front_of_line}
+use Rattle.starlark_base.proofs.LineFeeds.{lf_search, feeds_count, feeds_rise, begin_before, begins_rise, begin_past, boundary_of_line, front_of_line}
 
 -- a text of some bytes has some characters
 some_chars : (text : Text) → IsUtf8 text → 0 < length text → 0 < length (chars text)
@@ -43,14 +43,14 @@ longer_front text begin a b utf8 at_begin at_a at_b order less =
 
 pub order : (text : Text) (a b : ℕ) → IsUtf8 text → IsCharBoundary text a → IsCharBoundary text b → a < b → StandsBefore (place_at text a) (place_at text b)
 unfolding place_after
-order text a b utf8 at_a at_b less = go (cases_lt (feeds (take a text)) (feeds (take b text)))
+order text a b utf8 at_a at_b less = go (cases_lt (lf_search (take a text)) (lf_search (take b text)))
   where
-    go : (feeds (take a text) < feeds (take b text)) ⊎ (feeds (take b text) ≤ feeds (take a text)) → StandsBefore (place_after (take a text)) (place_after (take b text))
+    go : (lf_search (take a text) < lf_search (take b text)) ⊎ (lf_search (take b text) ≤ lf_search (take a text)) → StandsBefore (place_after (take a text)) (place_after (take b text))
     go (inl above) = inl (omega (arith, feeds_count (take a text), feeds_count (take b text)))
     go (inr not_above) =
         let rise = feeds_rise text a b (omega arith) in
-        let same : feeds (take a text) ≡ feeds (take b text) = omega arith in
-        let line = feeds (take a text) in
+        let same : lf_search (take a text) ≡ lf_search (take b text) = omega arith in
+        let line = lf_search (take a text) in
         let begin = line_begin text line in
         let before : begin ≤ a = begin_before text line a (omega arith) in
         let front_a = front_of_line text line begin a at_a.0 (feeds_count (take a text)) refl in
@@ -76,7 +76,7 @@ lines_from text (suc n) line =
     ∙ sym (split text begin next end (begins_rise text line (line + 1) (omega arith)) (begins_rise text (line + 1) (line + 1 + n) (omega arith)))
     ∙ ap (λ k. take (line_begin text k - begin) (drop begin text)) (omega arith)
 
-pub pieces : (text : Text) → length (line_texts text) ≡ count_by is_line_feed text + 1
+pub pieces : (text : Text) → length (line_texts text) ≡ count_by is_lf text + 1
 pieces text = length-map (range_with_len 0 (line_count text)) (λ line. text_of text (line_span text line)) ∙ length-range_with_len 0 (line_count text)
 
 pub joined_lines : (text : Text) → concat (line_texts text) ≡ text

@@ -13,4 +13,4 @@ pub mod SourceFiles
 pub mod Refusals
 pub mod Starts
 pub mod Diagnostics
-pub mod Joints
+pub mod Inner

@@ -2,17 +2,17 @@
 use Rattle.std.specs.Prelude.{ℕ, zero, suc, ◌+◌, ◌-◌, Bool, ◌==◌, ◌||◌, if◌then◌else◌, List, [], ◌∷◌, map, nat_eq, length, take, count_by, slice_range}
 use Rattle.std.specs.List.{suffix_len, ends_with, range_with_len}
 use Rattle.starlark_base.specs.Spans.{ByteSpan}
-use Rattle.starlark_base.specs.Places.{Text, is_line_feed}
+use Rattle.starlark_base.specs.Places.{Text, is_lf}
 
 -- the number of lines: one more than there are LF
 abbrev pub line_count : Text → ℕ
-line_count text = count_by is_line_feed text + 1
+line_count text = count_by is_lf text + 1
 
 -- the offset at which a line begins: after as many LF, or at the end of a text that has fewer
 abbrev pub line_begin : Text → ℕ → ℕ
 line_begin text zero = 0
 line_begin [] (suc line) = 0
-line_begin (b ∷ rest) (suc line) = suc (if is_line_feed b then line_begin rest line else line_begin rest (suc line))
+line_begin (b ∷ rest) (suc line) = suc (if is_lf b then line_begin rest line else line_begin rest (suc line))
 
 -- the span of a line, with its LF
 abbrev pub line_span : Text → ℕ → ByteSpan

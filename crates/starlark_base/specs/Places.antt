@@ -12,14 +12,14 @@ abbrev pub Text : Type 0
 Text = List ℕ
 
 -- LF
-abbrev pub is_line_feed : ℕ → Bool
-is_line_feed b = b == 10
+abbrev pub is_lf : ℕ → Bool
+is_lf b = b == 10
 
 -- the line and column after the first part of a text: how many LF it has, and how many characters
 -- are after the last of them
 unfoldable pub place_after : Text → ResolvedPos
 place_after front =
-    record { line = count_by is_line_feed front; column = length (chars (after_last is_line_feed front)) }
+    record { line = count_by is_lf front; column = length (chars (after_last is_lf front)) }
 
 -- the line and column of a byte offset
 abbrev pub place_at : Text → ℕ → ResolvedPos

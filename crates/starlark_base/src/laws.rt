@@ -7,7 +7,7 @@ ghost use Rattle.std.specs.FinMap as map;
 ghost use Rattle.std.specs.Option.{option_or};
 ghost use Rattle.starlark_base.specs.Spans.{ByteSpan, Meets};
 ghost use Rattle.starlark_base.specs.Lines.{line_texts};
-ghost use Rattle.starlark_base.specs.Places.{Text, is_line_feed, place_at, StandsBefore};
+ghost use Rattle.starlark_base.specs.Places.{Text, is_lf, place_at, StandsBefore};
 ghost use Rattle.starlark_base.specs.SourceFiles.{SourceFiles, joined};
 
 use crate::codemap::{CodeMap, FileSpan, ResolvedPos};
@@ -31,7 +31,7 @@ pub fn resolving_keeps_order()
 
 /// The lines of a text are one more than its LF, and they join to the text.
 pub fn lines_join_to_the_text()
-    ensures pieces { (text : Text) → length (line_texts text) ≡ count_by is_line_feed text + 1 }
+    ensures pieces { (text : Text) → length (line_texts text) ≡ count_by is_lf text + 1 }
     ensures joined { (text : Text) → concat (line_texts text) ≡ text }
 {}
 

@@ -2,8 +2,8 @@
 
 ghost use Rattle.std.specs.Prelude.{◌≡◌, ◌+◌, ◌-◌, ◌*◌, ◌≤◌, drop, length, take};
 ghost use Rattle.std.specs.List.{prefix_len};
-ghost use Rattle.starlark_bytes.specs.Joints.Reads.{AreReads, more_reads};
-ghost use Rattle.starlark_bytes.specs.Joints.Lines.{is_in_front};
+ghost use Rattle.starlark_bytes.specs.Inner.Reads.{AreReads, more_reads};
+ghost use Rattle.starlark_bytes.specs.Inner.Lines.{is_in_front};
 
 use crate::lanes::{LANES, lowest_bit};
 use crate::reads::Reads;

@@ -3,7 +3,7 @@
 ghost use Rattle.std.specs.Prelude.{◌≡◌, ◌≤◌, ◌+◌, ◌*◌, length, take};
 ghost use Rattle.std.specs.List.{prefix_len, slice_get};
 ghost use Rattle.starlark_grammar.specs.Words as grammar;
-ghost use Rattle.starlark_bytes.specs.Joints.Reads.{AreReads};
+ghost use Rattle.starlark_bytes.specs.Inner.Reads.{AreReads};
 
 use crate::lanes::{LANES, lowest_bit};
 use crate::reads::Reads;

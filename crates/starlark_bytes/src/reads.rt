@@ -6,7 +6,7 @@ ghost use Rattle.std.specs.List.{prefix_len, slice_get};
 ghost use Rattle.std.specs.Str.{IsCharBoundary};
 ghost use Rattle.starlark_grammar.specs.Characters.{first_character};
 ghost use Rattle.starlark_grammar.specs.Words as grammar;
-ghost use Rattle.starlark_bytes.specs.Joints.Reads.{more_reads};
+ghost use Rattle.starlark_bytes.specs.Inner.Reads.{more_reads};
 
 use crate::lanes::LANES;
 use std::marker::Model;
@@ -142,7 +142,7 @@ impl Reads {
     ///
     /// The reads of the run are counted here: its `run` bytes, and the byte that ended it.
     #[inline(always)]
-    pub fn front_behind<'a>(&mut self, run: usize, text: &'a [u8], most: usize) -> &'a [u8]
+    pub fn front_after<'a>(&mut self, run: usize, text: &'a [u8], most: usize) -> &'a [u8]
         requires { run + most + 1 < 2 ^ 64 }
         ensures bytes { result.now ≡ take most text.now }
         ensures reads { self.new ≡ more_reads self.old (run + 1 + most) }

@@ -23,7 +23,7 @@ struct Formatter {
 }
 
 /// Number of LF in a text.
-fn count_line_feeds(text: &str) -> usize {
+fn count_newlines(text: &str) -> usize {
     text.bytes().filter(|byte| *byte == b'\n').count()
 }
 
@@ -75,8 +75,8 @@ impl Formatter {
     /// Appends line breaks that are no tokens, and the indentation before a token after them.
     ///
     /// Such line breaks are in brackets and after comment lines.
-    fn break_line(&mut self, line_feeds: usize, token: &Token) -> Result<(), AllocError> {
-        for _ in 0..line_feeds {
+    fn break_line(&mut self, newline_count: usize, token: &Token) -> Result<(), AllocError> {
+        for _ in 0..newline_count {
             self.formatted.push('\n')?;
         }
         self.begin_line(token)
@@ -94,7 +94,7 @@ impl Formatter {
 
     /// Appends the gap before a token, in place of the gap of the source.
     fn add_gap(&mut self, gap: &str, token: &Token) -> Result<(), AllocError> {
-        let line_feeds = count_line_feeds(gap);
+        let newline_count = count_newlines(gap);
         if self.fstrings > 0 {
             self.formatted.push_str(gap)
         } else if self.is_line_begin {
@@ -103,8 +103,8 @@ impl Formatter {
             self.formatted.push_str(" \\\n")?;
             self.formatted.push_str(STEP)?;
             self.add_indentation(token)
-        } else if line_feeds > 0 {
-            self.break_line(line_feeds, token)
+        } else if newline_count > 0 {
+            self.break_line(newline_count, token)
         } else {
             self.add_spaces(gap, token)
         }
@@ -147,18 +147,18 @@ fn with_new_gaps(
         fstrings: 0,
     };
     let mut at = 0;
-    let mut is_code_behind = false;
+    let mut is_code_after = false;
     for (index, lexeme) in lexemes.iter().enumerate() {
         let begin = lexeme.span.begin().get() as usize;
         let end = lexeme.span.end().get() as usize;
         let token = &lexeme.node;
         formatter.add_gap(source.get(at..begin).unwrap_or(""), token)?;
         formatter.add_token(token, source.get(begin..end).unwrap_or(""))?;
-        if is_code_behind && formatter.is_line_begin {
+        if is_code_after && formatter.is_line_begin {
             formatter.blocks = blocks_ahead(formatter.blocks, &lexemes[index + 1..]);
-            is_code_behind = false;
+            is_code_after = false;
         } else if !is_layout(token) {
-            is_code_behind = true;
+            is_code_after = true;
         }
         at = end;
     }

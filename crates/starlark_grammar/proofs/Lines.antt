@@ -9,7 +9,7 @@ use Rattle.std.specs.Str.{bytes_eq}
 use Rattle.std.proofs.lemmas.Bool.{and_parts, eqb-true}
 use Rattle.std.proofs.lemmas.Bool.Decides.{nat_tests}
 use Rattle.std.proofs.lemmas.Slice.Eq.{bytes_eq-Decides}
-use Rattle.starlark_grammar.specs.Words.{Text, class_in, openers, line_ends, symbols, names, patterns, language, is_name_start, is_run, is_in_name, is_in_line, is_identifier, is_comment, is_based, is_octal_digit, is_binary_digit, behind_digits, begins_with_digit, is_sign, unsigned, is_exponent, ends_float, is_fraction, is_float, is_pointed}
+use Rattle.starlark_grammar.specs.Words.{Text, class_in, openers, line_ends, symbols, names, patterns, language, is_name_start, is_run, is_in_name, is_in_line, is_identifier, is_comment, is_based, is_octal_digit, is_binary_digit, after_digits, begins_with_digit, is_sign, unsigned, is_exponent, ends_float, is_fraction, is_float, is_pointed}
 use Rattle.starlark_grammar.specs.declared.class.Class.{Class}
 use Rattle.starlark_grammar.specs.declared.class.Class.TheVariants.{Skipped, Comment, Tabs, LineEnd, Opener, Reserved, Identifier, Decimal, Hexadecimal, Octal, Binary, Float, Fixed}
 use Rattle.starlark_grammar.proofs.Words.Tables.{class_in-language}
@@ -127,11 +127,11 @@ based_in_line lower upper p (z ∷ letter ∷ digits) h k m e =
     rw (equal_in_line 48 z refl inner.0, either_in_line letter lower upper h k inner.1) (run_in_line p digits m outer.1)
 
 -- digits in front change nothing
-behind_in_line : (text : Text) → in_line (behind_digits text) ≡ true → in_line text ≡ true
+behind_in_line : (text : Text) → in_line (after_digits text) ≡ true → in_line text ≡ true
 behind_in_line [] h = refl
 behind_in_line (b ∷ bs) h = go (is_ascii_digit b) refl h (behind_in_line bs)
   where
-    go : (digit : Bool) → is_ascii_digit b ≡ digit → in_line (drop (cond digit (1 + prefix_len is_ascii_digit bs) 0) (b ∷ bs)) ≡ true → (in_line (behind_digits bs) ≡ true → in_line bs ≡ true) → in_line (b ∷ bs) ≡ true
+    go : (digit : Bool) → is_ascii_digit b ≡ digit → in_line (drop (cond digit (1 + prefix_len is_ascii_digit bs) 0) (b ∷ bs)) ≡ true → (in_line (after_digits bs) ≡ true → in_line bs ≡ true) → in_line (b ∷ bs) ≡ true
     go false e h more = h
     go true e h more = rw (digit_in_line b e) (more (rw one-add at h))
 
@@ -156,17 +156,17 @@ ends_in_line (b ∷ bs) h = exponent_in_line (b ∷ bs) h
 fraction_in_line : (word : Text) → is_fraction word ≡ true → in_line word ≡ true
 fraction_in_line [] h = refl
 fraction_in_line (b ∷ bs) h =
-    let parts = and_parts (b == 46) (ends_float (behind_digits bs)) h in
-    rw (equal_in_line 46 b refl parts.0) (behind_in_line bs (ends_in_line (behind_digits bs) parts.1))
+    let parts = and_parts (b == 46) (ends_float (after_digits bs)) h in
+    rw (equal_in_line 46 b refl parts.0) (behind_in_line bs (ends_in_line (after_digits bs) parts.1))
 
 pub float_in_line : (word : Text) → is_float word ≡ true → in_line word ≡ true
 float_in_line word h =
-    let parts = and_parts (begins_with_digit word) (is_fraction (behind_digits word) || is_exponent (behind_digits word)) h in
-    go (is_fraction (behind_digits word)) refl parts.1
+    let parts = and_parts (begins_with_digit word) (is_fraction (after_digits word) || is_exponent (after_digits word)) h in
+    go (is_fraction (after_digits word)) refl parts.1
   where
-    go : (fraction : Bool) → is_fraction (behind_digits word) ≡ fraction → (fraction || is_exponent (behind_digits word)) ≡ true → in_line word ≡ true
-    go true e h = behind_in_line word (fraction_in_line (behind_digits word) e)
-    go false e h = behind_in_line word (exponent_in_line (behind_digits word) h)
+    go : (fraction : Bool) → is_fraction (after_digits word) ≡ fraction → (fraction || is_exponent (after_digits word)) ≡ true → in_line word ≡ true
+    go true e h = behind_in_line word (fraction_in_line (after_digits word) e)
+    go false e h = behind_in_line word (exponent_in_line (after_digits word) h)
 
 pub pointed_in_line : (word : Text) → is_pointed word ≡ true → in_line word ≡ true
 pointed_in_line word h = fraction_in_line word (and_parts (is_fraction word) (begins_with_digit (drop 1 word)) h).0

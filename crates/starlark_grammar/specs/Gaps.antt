@@ -4,7 +4,7 @@ use Rattle.std.specs.List.{starts_with}
 use Rattle.std.specs.Str.{byte}
 use Rattle.starlark_grammar.specs.Words.{Text}
 use Rattle.starlark_grammar.specs.Tokens.{Lexeme}
-use Rattle.starlark_grammar.specs.Margins.{is_blank, is_feed}
+use Rattle.starlark_grammar.specs.Margins.{is_blank, is_lf}
 
 -- whether a line end stands at the front
 abbrev pub begins_with_line_end : Text → Bool
@@ -13,7 +13,7 @@ begins_with_line_end text = starts_with nat_eq text (codes "\n") || starts_with 
 -- What may stand between lexemes: a space, a tab, a CR, an LF, or a backslash right before a line end.
 unfoldable pub is_gap_byte : Text → Bool
 is_gap_byte [] = true
-is_gap_byte (b ∷ bs) = is_blank b || is_feed b || (b == byte "\\" && begins_with_line_end bs)
+is_gap_byte (b ∷ bs) = is_blank b || is_lf b || (b == byte "\\" && begins_with_line_end bs)
 
 -- nothing else stands from a place of a text to another
 abbrev pub IsGap : Text → ℕ → ℕ → Type 0

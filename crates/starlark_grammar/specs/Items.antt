@@ -81,9 +81,9 @@ octal is_byte text = by (prefix_len is_octal_digit (take 3 text))
     by n = numbered (1 + n) is_byte (digits_value 8 (take n text))
 
 -- a newline after a backslash, from its LF on where a CR stood before it
-abbrev pub escaped_feed : Text → Found
-escaped_feed [] = broken 2 []
-escaped_feed (b ∷ bs) = if b == byte "\n" then goes 3 [] else broken 2 (b ∷ bs)
+abbrev pub escaped_newline : Text → Found
+escaped_newline [] = broken 2 []
+escaped_newline (b ∷ bs) = if b == byte "\n" then goes 3 [] else broken 2 (b ∷ bs)
 
 -- what one byte after a backslash denotes
 unfoldable pub simple_escapes : List (ℕ × ℕ)
@@ -106,7 +106,7 @@ unfoldable pub escape : Kind → Text → Found
 escape kind [] = broken 1 []
 escape kind (b ∷ bs) =
     if b == byte "\n" then goes 2 []
-    else (if b == byte "\r" then escaped_feed bs
+    else (if b == byte "\r" then escaped_newline bs
     else (if b == byte "x" then hexadecimal 2 (is_of_bytes kind) bs
     else (if b == byte "u" then hexadecimal 4 false bs
     else (if b == byte "U" then hexadecimal 8 false bs

@@ -15,7 +15,7 @@ pub mod Reading
 pub mod Gaps
 pub mod EarlierLanguage
 pub mod Laws
-pub mod Joints
+pub mod Inner
 pub mod Cuts
 pub mod LineEnds
 pub mod TextLaws

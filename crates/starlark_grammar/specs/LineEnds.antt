@@ -8,18 +8,18 @@ use Rattle.starlark_grammar.specs.declared.class.LiteralKind.TheVariants.{FStrin
 use Rattle.starlark_grammar.specs.declared.class.Class.TheVariants.{Opener}
 use Rattle.starlark_grammar.specs.Front.{language_front}
 use Rattle.starlark_grammar.specs.Depths.{Mode, InText}
-use Rattle.starlark_grammar.specs.Margins.{is_feed}
+use Rattle.starlark_grammar.specs.Margins.{is_lf}
 use Rattle.starlark_grammar.specs.Pieces.{Piece}
 use Rattle.starlark_grammar.specs.Reading.{History, after, situation}
 
 -- a text with each LF written as CR LF
 abbrev pub crlf_form : Text → Text
-crlf_form = flat_map (λ b. if is_feed b then codes "\r\n" else b ∷ [])
+crlf_form = flat_map (λ b. if is_lf b then codes "\r\n" else b ∷ [])
 
 -- whether a backslash stands right before an LF
-abbrev pub holds_escaped_feed : Text → Bool
-holds_escaped_feed [] = false
-holds_escaped_feed (b ∷ bs) = (b == byte "\\" && starts_with nat_eq bs (codes "\n")) || holds_escaped_feed bs
+abbrev pub holds_escaped_newline : Text → Bool
+holds_escaped_newline [] = false
+holds_escaped_newline (b ∷ bs) = (b == byte "\\" && starts_with nat_eq bs (codes "\n")) || holds_escaped_newline bs
 
 -- the opener of a raw literal
 abbrev pub opens_raw : Option (Class × ℕ) → Bool
@@ -33,7 +33,7 @@ is_raw_in (InText opening) text = opening.is_raw
 is_raw_in place text = opens_raw (language_front text)
 
 -- No piece that is a raw literal or the text of a raw f-string has a backslash right before an LF.
-unfoldable pub no_raw_feed : History → Text → List Piece → Bool
-no_raw_feed history text [] = true
-no_raw_feed history text (piece ∷ pieces) =
-    not (is_raw_in (situation history).place text && holds_escaped_feed (take piece.len text)) && no_raw_feed (after history piece) (drop piece.len text) pieces
+unfoldable pub no_raw_newline : History → Text → List Piece → Bool
+no_raw_newline history text [] = true
+no_raw_newline history text (piece ∷ pieces) =
+    not (is_raw_in (situation history).place text && holds_escaped_newline (take piece.len text)) && no_raw_newline (after history piece) (drop piece.len text) pieces

@@ -9,8 +9,8 @@ use Rattle.starlark_grammar.specs.Tokens.{Lexeme, Comment, Indent, Dedent}
 abbrev pub is_blank : ℕ → Bool
 is_blank b = b == byte " " || b == byte "\t" || b == byte "\r"
 
-abbrev pub is_feed : ℕ → Bool
-is_feed b = b == byte "\n"
+abbrev pub is_lf : ℕ → Bool
+is_lf b = b == byte "\n"
 
 abbrev pub blanks_len : Text → ℕ
 blanks_len text = prefix_len is_blank text
@@ -18,7 +18,7 @@ blanks_len text = prefix_len is_blank text
 -- the lines of a text, each with its LF
 unfoldable pub lines : Text → List Text
 lines [] = []
-lines (b ∷ bs) = if is_feed b then (b ∷ []) ∷ lines bs else onto_first b (lines bs)
+lines (b ∷ bs) = if is_lf b then (b ∷ []) ∷ lines bs else onto_first b (lines bs)
 
 abbrev pub begins_comment : Text → Bool
 begins_comment [] = false
@@ -36,7 +36,7 @@ without_return (b ∷ c ∷ bs) = b ∷ without_return (c ∷ bs)
 
 -- a comment-only line up to its line end
 abbrev pub comment_part : Text → Text
-comment_part line = without_return (take_while (λ b. not (is_feed b)) line)
+comment_part line = without_return (take_while (λ b. not (is_lf b)) line)
 
 -- the comment of a comment-only line
 abbrev pub comment_of : ℕ → Text → Lexeme
@@ -83,7 +83,7 @@ margin_len margin = margin.at + length margin.blanks
 -- Content follows unless the text ends there or the line is blank.
 abbrev pub is_content : Text → Bool
 is_content [] = false
-is_content (b ∷ bs) = not (is_feed b)
+is_content (b ∷ bs) = not (is_lf b)
 
 abbrev pub has_tab : Margin → Bool
 has_tab margin = list_any (nat_eq (byte "\t")) margin.blanks

@@ -7,7 +7,7 @@ use Rattle.starlark_grammar.specs.Tokens.{Token, Spanned, Lexeme, moved, Fault}
 use Rattle.starlark_grammar.specs.Margins.{margin_of}
 use Rattle.starlark_grammar.specs.Pieces.{Piece, Stands, Fails}
 use Rattle.starlark_grammar.specs.Reading.{nothing, next_step, read, outcome}
-use Rattle.starlark_grammar.specs.LineEnds.{crlf_form, no_raw_feed}
+use Rattle.starlark_grammar.specs.LineEnds.{crlf_form, no_raw_newline}
 use Rattle.starlark_grammar.specs.Cuts.{is_clean_cut, is_kept_cut, without_closing, joined, tabbed}
 
 -- the first margin of a text stands
@@ -43,8 +43,8 @@ abbrev pub CutsOfJoined : Type 0
 CutsOfJoined = (first second : Text) → is_clean_cut first ≡ true → 0 < length second → is_clean_cut (first ++ second) ≡ is_clean_cut second
 
 -- What a clean cut and a text after it become where that text's first margin has a fault.
-abbrev pub TabsBehindCuts : Type 0
-TabsBehindCuts = (first second : Text) (fault : Spanned Fault) → is_clean_cut first ≡ true → next_step language nothing second ≡ Fails fault
+abbrev pub TabsAfterCuts : Type 0
+TabsAfterCuts = (first second : Text) (fault : Spanned Fault) → is_clean_cut first ≡ true → next_step language nothing second ≡ Fails fault
     → outcome (first ++ second) ≡ tabbed (length first) (without_closing (outcome first).lexemes) (margin_of second).comments
 
 -- At a kept cut the lexemes of a text begin with those of the text before it, without its closing `Newline`.
@@ -57,5 +57,5 @@ tokens_of text = map (λ (lexeme : Lexeme). lexeme.node) (outcome text).lexemes
 -- With each LF written as CR LF, a UTF-8 text without fault and without CR keeps its tokens, and has no fault. No raw
 -- literal and no raw f-string text may have a backslash right before an LF.
 abbrev pub CrlfKeepsTokens : Type 0
-CrlfKeepsTokens = (text : Text) → IsUtf8 text → (outcome text).fault ≡ None → list_any (nat_eq (byte "\r")) text ≡ false → no_raw_feed nothing text (read language text).pieces ≡ true
+CrlfKeepsTokens = (text : Text) → IsUtf8 text → (outcome text).fault ≡ None → list_any (nat_eq (byte "\r")) text ≡ false → no_raw_newline nothing text (read language text).pieces ≡ true
     → ((outcome (crlf_form text)).fault ≡ None) × (tokens_of (crlf_form text) ≡ tokens_of text)

@@ -131,8 +131,8 @@ abbrev pub is_binary_digit : ℕ → Bool
 is_binary_digit b = is_digit b 2
 
 -- what stands after the digits at the front
-abbrev pub behind_digits : Text → Text
-behind_digits text = drop (prefix_len is_ascii_digit text) text
+abbrev pub after_digits : Text → Text
+after_digits text = drop (prefix_len is_ascii_digit text) text
 
 abbrev pub begins_with_digit : Text → Bool
 begins_with_digit = begins is_ascii_digit
@@ -167,7 +167,7 @@ is_point b = b == 46
 
 -- a point, perhaps digits, and perhaps an exponent
 abbrev pub is_fraction : Text → Bool
-is_fraction text = begins is_point text && ends_float (behind_digits (drop 1 text))
+is_fraction text = begins is_point text && ends_float (after_digits (drop 1 text))
 
 -- what makes digits before it a float: a fraction or an exponent
 abbrev pub makes_float : Text → Bool
@@ -175,7 +175,7 @@ makes_float word = is_fraction word || is_exponent word
 
 -- digits, and then a fraction or an exponent
 abbrev pub is_float : Text → Bool
-is_float word = begins_with_digit word && makes_float (behind_digits word)
+is_float word = begins_with_digit word && makes_float (after_digits word)
 
 -- a fraction that has a digit right after its point
 abbrev pub is_pointed : Text → Bool

@@ -2,11 +2,11 @@
 
 ghost use Rattle.std.specs.Prelude.{◌≡◌, ◌+◌, ◌-◌, ◌<◌, ◌≤◌, ◌*◌, length, not, IfOk};
 ghost use Rattle.std.specs.List.{prefix_len};
-ghost use Rattle.starlark_layout.specs.Joints.Pending.{IsComments, IsFirstComment};
+ghost use Rattle.starlark_layout.specs.Inner.Pending.{IsComments, IsFirstComment};
 ghost use Rattle.starlark_grammar.specs.Margins as grammar;
-ghost use Rattle.starlark_bytes.specs.Joints.Reads.{AreReads, more_reads};
+ghost use Rattle.starlark_bytes.specs.Inner.Reads.{AreReads, more_reads};
 
-use crate::feeds::before_feed_len;
+use crate::lf_search::before_lf_len;
 use crate::margins::{blanks_len, line_len};
 use crate::placed_token::PlacedToken;
 use starlark_bytes::reads::Reads;
@@ -17,7 +17,7 @@ use std::alloc::{AllocError, Global};
 ///
 /// `feed` is the length of the line without its LF.
 fn comment_end(reads: &mut Reads, text: &[u8], feed: usize) -> usize
-    requires { feed ≡ prefix_len (λ b. not (grammar.is_feed b)) text.now }
+    requires { feed ≡ prefix_len (λ b. not (grammar.is_lf b)) text.now }
     ensures value { result ≡ length (grammar.comment_part text.now) }
     ensures reads { reads.new ≡ more_reads reads.old 1 }
 {
@@ -47,7 +47,7 @@ pub fn first_comment(
 {
     let lines = &text.as_bytes()[from..to];
     let begin = from + blanks_len(reads, lines);
-    let feed = before_feed_len(reads, lines);
+    let feed = before_lf_len(reads, lines);
     let len = line_len(lines, feed);
     let end = from + comment_end(reads, lines, feed);
     let comment = String::from_str(alloc, &text[begin + 1..end])?;

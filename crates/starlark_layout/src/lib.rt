@@ -5,8 +5,8 @@
 #![tactic(auto)]
 
 mod comments;
-mod feeds;
 mod indent_stack;
+mod lf_search;
 mod margins;
 mod pending;
 mod placed_token;

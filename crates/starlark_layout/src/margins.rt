@@ -2,11 +2,11 @@
 
 ghost use Rattle.std.specs.Prelude.{◌≡◌, ◌+◌, ◌*◌, ◌≤◌, ◌<◌, ◌^◌, ◌∷◌, if◌then◌else◌, drop, get_or, length, nat_eq, not, take};
 ghost use Rattle.std.specs.List.{prefix_len};
-ghost use Rattle.starlark_layout.specs.Joints.Layout.{IsBlanks, IsMargin};
+ghost use Rattle.starlark_layout.specs.Inner.Layout.{IsBlanks, IsMargin};
 ghost use Rattle.starlark_grammar.specs.Margins as grammar;
-ghost use Rattle.starlark_bytes.specs.Joints.Reads.{AreReads, more_reads};
+ghost use Rattle.starlark_bytes.specs.Inner.Reads.{AreReads, more_reads};
 
-use crate::feeds::before_feed_len;
+use crate::lf_search::before_lf_len;
 use starlark_bytes::reads::{Reads, uncounted_spaces_len};
 
 /// The blanks at the start of a line: spaces, tabs and CR.
@@ -47,7 +47,7 @@ pub fn blanks_len(reads: &mut Reads, text: &[u8]) -> usize
 
 /// Length of the first line of a text with its LF. `feed` is its length without that.
 pub fn line_len(text: &[u8], feed: usize) -> usize
-    requires { feed ≡ prefix_len (λ b. not (grammar.is_feed b)) text.now }
+    requires { feed ≡ prefix_len (λ b. not (grammar.is_lf b)) text.now }
     ensures line { 0 < length text.now → grammar.lines text.now ≡ take result text.now ∷ grammar.lines (drop result text.now) }
     ensures within { result ≤ length text.now }
     ensures feed { feed ≤ result }
@@ -58,7 +58,7 @@ pub fn line_len(text: &[u8], feed: usize) -> usize
 
 /// The blanks at the start of a text that begins with `spaces` spaces and then a tab or a CR.
 #[inline(always)]
-fn blanks_behind(text: &[u8], spaces: usize, is_tab: bool) -> Blanks
+fn blanks_after(text: &[u8], spaces: usize, is_tab: bool) -> Blanks
     requires spaces { spaces ≤ prefix_len (nat_eq 32) text.now }
     requires inside { spaces < length text.now }
     requires next { get_or text.now spaces 0 ≡ (if is_tab then 9 else 13) }
@@ -92,7 +92,7 @@ fn blanks_in_front(text: &[u8]) -> Blanks
 {
     let spaces = uncounted_spaces_len(text);
     if spaces < text.len() && (text[spaces] == b'\t' || text[spaces] == b'\r') {
-        return blanks_behind(text, spaces, text[spaces] == b'\t');
+        return blanks_after(text, spaces, text[spaces] == b'\t');
     }
     Blanks {
         len: spaces,
@@ -146,7 +146,7 @@ pub fn margin_of(reads: &mut Reads, text: &str) -> Margin
             is_content: is_content(behind),
         };
     }
-    let mut at = blanks.len + line_len(behind, before_feed_len(reads, behind));
+    let mut at = blanks.len + line_len(behind, before_lf_len(reads, behind));
     loop {
         let line = &bytes[at..];
         let blanks = blanks_of(reads, line);
@@ -158,6 +158,6 @@ pub fn margin_of(reads: &mut Reads, text: &str) -> Margin
                 is_content: is_content(behind),
             };
         }
-        at += blanks.len + line_len(behind, before_feed_len(reads, behind));
+        at += blanks.len + line_len(behind, before_lf_len(reads, behind));
     }
 }

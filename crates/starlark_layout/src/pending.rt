@@ -1,10 +1,10 @@
 //! Pending lexemes: read already, and made one by one as the lexer yields them.
 
 ghost use Rattle.std.specs.Prelude.{◌≡◌, ◌<◌, ◌≤◌, ◌+◌, ◌*◌, [], nat_lt, true, None, Some, OnErr, OnOk, IfOk};
-ghost use Rattle.starlark_layout.specs.Joints.Pending.{IsFirst, IsFirstBehind, IsPending, behind_lexemes, owed, pending_lexemes};
-ghost use Rattle.starlark_layout.specs.Joints.MarginLines.{IsLinePassed};
+ghost use Rattle.starlark_layout.specs.Inner.Pending.{IsFirst, IsFirstAfter, IsPending, lexemes_after, owed, pending_lexemes};
+ghost use Rattle.starlark_layout.specs.Inner.MarginLines.{IsLinePassed};
 ghost use Rattle.starlark_grammar.specs.Words.{Text};
-ghost use Rattle.starlark_bytes.specs.Joints.Reads.{more_reads};
+ghost use Rattle.starlark_bytes.specs.Inner.Reads.{more_reads};
 
 use crate::comments::first_comment;
 use crate::placed_token::PlacedToken;
@@ -52,7 +52,7 @@ pub struct Pending {
 impl Behind {
     /// No pending lexeme.
     pub const fn nothing() -> Self
-        ensures { behind_lexemes result ≡ [] }
+        ensures { lexemes_after result ≡ [] }
     {
         Behind::Dedents { at: 0, count: 0 }
     }
@@ -60,7 +60,7 @@ impl Behind {
     /// Takes the first pending lexeme; `None` if there is none.
     #[tactic(auto, unfolding(starlark_token::specs::TokenViews::token_view))]
     fn next(&mut self) -> Option<PlacedToken>
-        ensures { IsFirstBehind self.old self.new result }
+        ensures { IsFirstAfter self.old self.new result }
     {
         match *self {
             Behind::Dedents { at, count } => {
@@ -90,7 +90,7 @@ impl Pending {
 
     /// Pending lexemes without comments before them.
     pub fn only(behind: Behind) -> Self
-        ensures { (text : Text) → (pending_lexemes text result ≡ behind_lexemes behind) × IsPending text result }
+        ensures { (text : Text) → (pending_lexemes text result ≡ lexemes_after behind) × IsPending text result }
     {
         Pending {
             from: 0,

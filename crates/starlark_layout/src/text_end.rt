@@ -1,7 +1,7 @@
 //! The ends of f-string texts.
 
 ghost use Rattle.std.specs.Prelude.{◌≡◌};
-ghost use Rattle.starlark_layout.specs.Joints.TextEnds.{text_end_node};
+ghost use Rattle.starlark_layout.specs.Inner.TextEnds.{text_end_node};
 ghost use Rattle.starlark_token.specs.TokenViews.{Whole, token_view};
 
 use starlark_token::tokens::Token;

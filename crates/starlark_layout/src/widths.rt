@@ -1,9 +1,9 @@
 //! Takes margins: their lexemes become pending, and their widths go to the indentation stack.
 
 ghost use Rattle.std.specs.Prelude.{◌≡◌, ◌+◌, ◌<◌, ◌^◌, ℕ, List, [], true, false, IfOk, OnOk};
-ghost use Rattle.starlark_layout.specs.Joints.Layout.{IsFaultFound, IsLaid, IsMargin, keeps_widths, margin_fault};
-ghost use Rattle.starlark_layout.specs.Joints.Pending.{behind_lexemes};
-ghost use Rattle.starlark_layout.specs.Joints.MarginLines.{IsOfMargin};
+ghost use Rattle.starlark_layout.specs.Inner.Layout.{IsFaultFound, IsLaid, IsMargin, keeps_widths, margin_fault};
+ghost use Rattle.starlark_layout.specs.Inner.Pending.{lexemes_after};
+ghost use Rattle.starlark_layout.specs.Inner.MarginLines.{IsOfMargin};
 ghost use Rattle.starlark_grammar.specs.Margins as grammar;
 
 use crate::indent_stack::IndentStack;
@@ -89,7 +89,7 @@ pub fn take_margin(
     margin: Margin,
 ) -> Result<bool, AllocError>
     requires fits { begin + margin.at + margin.blanks.len < 2 ^ 64 }
-    requires idle { behind_lexemes pending.old.behind ≡ [] }
+    requires idle { lexemes_after pending.old.behind ≡ [] }
     ensures laid { IfOk result (λ is_laid. (widths : List ℕ) (seen : grammar.Margin) → levels.old ≡ grammar.open_widths widths → IsMargin seen margin →
         IsLaid is_laid begin seen widths levels.old levels.new pending.old.behind pending.new.behind) }
     ensures place { OnOk result (IsOfMargin begin margin.at levels.old pending.new) }

@@ -3,8 +3,8 @@
 ghost use Rattle.std.specs.Prelude.{◌≡◌, ◌+◌, ◌*◌, ◌++◌, [], encode_utf8, not, string_bytes, IfOk, OnOk};
 ghost use Rattle.std.specs.Str.{IsCharBoundary};
 ghost use Rattle.starlark_grammar.specs.Items as grammar;
-ghost use Rattle.starlark_literals.specs.Joints.Literals.{IsBody, IsCharacters, Takes, bytes_of, holds_text, literal_view, stopped_len, value_view};
-ghost use Rattle.starlark_bytes.specs.Joints.Reads.{AreReads};
+ghost use Rattle.starlark_literals.specs.Inner.Literals.{IsBody, IsCharacters, Takes, bytes_of, holds_text, literal_view, stopped_len, value_view};
+ghost use Rattle.starlark_bytes.specs.Inner.Reads.{AreReads};
 
 use super::escapes::simple_escape;
 use super::items::{Found, Literal, Stop, Value, found_at};

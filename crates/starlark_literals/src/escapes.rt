@@ -7,11 +7,11 @@ ghost use Rattle.std.specs.Map.{lookup};
 ghost use Rattle.std.specs.Str.Parse.{digits_value};
 ghost use Rattle.starlark_grammar.specs.Characters as characters;
 ghost use Rattle.starlark_grammar.specs.Items as grammar;
-ghost use Rattle.starlark_literals.specs.Joints.Literals.{IsCharacters, IsText, found_len, found_view, literal_view, value_view};
-ghost use Rattle.starlark_bytes.specs.Joints.Reads.{AreReads, more_reads};
+ghost use Rattle.starlark_literals.specs.Inner.Literals.{IsCharacters, IsText, found_len, found_view, literal_view, value_view};
+ghost use Rattle.starlark_bytes.specs.Inner.Reads.{AreReads, more_reads};
 ghost use Rattle.starlark_grammar.specs.Words.{Text, is_octal_digit};
 
-use super::items::{Found, Item, Literal, Stop, Value, behind_first, part};
+use super::items::{Found, Item, Literal, Stop, Value, after_first, part};
 use starlark_bytes::reads::Reads;
 use starlark_grammar::class::LiteralKind;
 
@@ -174,8 +174,8 @@ fn octal<'a>(reads: &mut Reads, is_byte: bool, text: &str) -> Found<'a>
 }
 
 /// The escape of a CR LF, which is empty; a bad one if no LF follows. `behind` begins after the CR.
-fn escaped_feed<'a>(reads: &mut Reads, behind: &str) -> Found<'a>
-    ensures value { found_view result ≡ grammar.escaped_feed behind.now }
+fn escaped_newline<'a>(reads: &mut Reads, behind: &str) -> Found<'a>
+    ensures value { found_view result ≡ grammar.escaped_newline behind.now }
     ensures text { IsText result }
     ensures reads { AreReads (found_len result - 2) (found_len result) reads.old reads.new }
 {
@@ -219,7 +219,7 @@ fn simple<'a>(reads: &mut Reads, first: u8, text: &'a str) -> Found<'a>
     if let Some(value) = simple_value(first) {
         return item(2, Value::Character(value));
     }
-    let len = 1 + reads.character_len(behind_first(text));
+    let len = 1 + reads.character_len(after_first(text));
     part(len, &text[..len])
 }
 
@@ -253,7 +253,7 @@ pub fn escape<'a>(reads: &mut Reads, kind: LiteralKind, text: &'a str) -> Found<
     ensures text { grammar.is_of_bytes kind ≡ false → IsText result }
     ensures reads { AreReads (found_len result - 2) (found_len result + 2) reads.old reads.new }
 {
-    let behind = behind_first(text);
+    let behind = after_first(text);
     let Some(first) = reads.at(behind.as_bytes(), 0) else {
         return broken(reads, 1, behind);
     };
@@ -263,10 +263,10 @@ pub fn escape<'a>(reads: &mut Reads, kind: LiteralKind, text: &'a str) -> Found<
     }
     match first {
         b'\n' => part(2, ""),
-        b'\r' => escaped_feed(reads, behind_first(behind)),
-        b'x' => hexadecimal(reads, 2, is_byte, behind_first(behind)),
-        b'u' => hexadecimal(reads, 4, false, behind_first(behind)),
-        b'U' => hexadecimal(reads, 8, false, behind_first(behind)),
+        b'\r' => escaped_newline(reads, after_first(behind)),
+        b'x' => hexadecimal(reads, 2, is_byte, after_first(behind)),
+        b'u' => hexadecimal(reads, 4, false, after_first(behind)),
+        b'U' => hexadecimal(reads, 8, false, after_first(behind)),
         _ => simple(reads, first, text),
     }
 }

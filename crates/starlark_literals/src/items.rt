@@ -4,9 +4,9 @@ ghost use Rattle.std.specs.Prelude.{◌≡◌, ◌<◌, ◌≤◌, ◌+◌, ◌-
 ghost use Rattle.std.specs.List.{starts_with};
 ghost use Rattle.starlark_grammar.specs.Characters as characters;
 ghost use Rattle.starlark_grammar.specs.Items as grammar;
-ghost use Rattle.starlark_literals.specs.Joints.Literals.{IsText, found_len, found_view, least_reads, literal_view};
-ghost use Rattle.starlark_grammar.specs.Joints.Openings.{opening_view};
-ghost use Rattle.starlark_bytes.specs.Joints.Reads.{AreReads, more_reads};
+ghost use Rattle.starlark_literals.specs.Inner.Literals.{IsText, found_len, found_view, least_reads, literal_view};
+ghost use Rattle.starlark_grammar.specs.Inner.Openings.{opening_view};
+ghost use Rattle.starlark_bytes.specs.Inner.Reads.{AreReads, more_reads};
 ghost use Rattle.starlark_grammar.specs.declared.class.LiteralKind.TheVariants.{FString as OfFString};
 
 use super::escapes::escape;
@@ -124,7 +124,7 @@ fn drops_backslash(kind: LiteralKind, quote: Quote, byte: u8) -> bool
 }
 
 /// The text after its first byte, which must be ASCII.
-pub fn behind_first(text: &str) -> &str
+pub fn after_first(text: &str) -> &str
     requires some { 0 < length text.now }
     requires ascii { get_or text.now 0 0 < 128 }
     ensures { result.now ≡ drop 1 text.now }
@@ -147,7 +147,7 @@ fn raw_pair<'a>(reads: &mut Reads, literal: Literal, text: &'a str) -> Found<'a>
     ensures text { IsText result }
     ensures reads { AreReads (found_len result) (found_len result + 1) reads.old reads.new }
 {
-    let behind = behind_first(text);
+    let behind = after_first(text);
     let Some(first) = reads.at(behind.as_bytes(), 0) else {
         return Found::Stops(Stop::Ended);
     };
@@ -169,7 +169,7 @@ fn brace<'a>(reads: &mut Reads, first: u8, text: &'a str) -> Found<'a>
     ensures reads { reads.new ≡ more_reads reads.old 1 }
     ensures len { found_len result ≤ 2 }
 {
-    match reads.at(behind_first(text).as_bytes(), 0) {
+    match reads.at(after_first(text).as_bytes(), 0) {
         Some(second) if second == first => part(2, &text[..1]),
         _ => Found::Stops(if first == b'{' {
             Stop::OpeningBrace

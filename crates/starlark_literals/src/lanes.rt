@@ -3,9 +3,9 @@
 ghost use Rattle.std.specs.Prelude.{◌≡◌, ℕ, ◌+◌, ◌≤◌, drop, length, not, take};
 ghost use Rattle.std.specs.List.{prefix_len};
 ghost use Rattle.starlark_grammar.specs.Items.{quote_byte};
-ghost use Rattle.starlark_literals.specs.Joints.Literals.{literal_view};
-ghost use Rattle.starlark_bytes.specs.Joints.Reads.{more_reads};
-ghost use Rattle.starlark_literals.specs.Joints.Runs.{is_end, is_special};
+ghost use Rattle.starlark_literals.specs.Inner.Literals.{literal_view};
+ghost use Rattle.starlark_bytes.specs.Inner.Reads.{more_reads};
+ghost use Rattle.starlark_literals.specs.Inner.Runs.{is_end, is_special};
 
 use super::items::Literal;
 use starlark_bytes::lanes::lowest_bit;

@@ -3,9 +3,9 @@
 ghost use Rattle.std.specs.Prelude.{◌≡◌, ◌≤◌, ◌==◌, ◌+◌, ◌*◌, get_or, length, take, IfErr, IfOk, IfSome};
 ghost use Rattle.starlark_grammar.specs.Items.{Stops, found_at, quote_byte};
 ghost use Rattle.starlark_grammar.specs.Words.{Text};
-ghost use Rattle.starlark_bytes.specs.Joints.Reads.{AreReads, more_reads};
-ghost use Rattle.starlark_literals.specs.Joints.Literals.{IsPlainBody, IsPlainChunk, fstring_literal, stop_view};
-ghost use Rattle.starlark_grammar.specs.Joints.Openings.{opening_view};
+ghost use Rattle.starlark_bytes.specs.Inner.Reads.{AreReads, more_reads};
+ghost use Rattle.starlark_literals.specs.Inner.Literals.{IsPlainBody, IsPlainChunk, fstring_literal, stop_view};
+ghost use Rattle.starlark_grammar.specs.Inner.Openings.{opening_view};
 
 use super::items::{Literal, Stop, closes, is_quote};
 use super::runs::first_run;

@@ -1,1 +1,1 @@
-pub mod Joints
+pub mod Inner

@@ -1,7 +1,7 @@
 //! The effect of a token on brackets and f-strings.
 
 ghost use Rattle.std.specs.Prelude.{◌≡◌};
-ghost use Rattle.starlark_nesting.specs.Joints.Nesting.{change_by};
+ghost use Rattle.starlark_nesting.specs.Inner.Nesting.{change_by};
 ghost use Rattle.starlark_token.specs.TokenViews.{token_view};
 
 use starlark_token::tokens::Token;
@@ -22,7 +22,7 @@ pub enum Change {
 }
 
 /// The effect of a token on brackets and f-strings.
-#[tactic(auto, unfolding(starlark_token::specs::TokenViews::token_view, crate::specs::Joints::Nesting::change_by))]
+#[tactic(auto, unfolding(starlark_token::specs::TokenViews::token_view, crate::specs::Inner::Nesting::change_by))]
 #[inline(always)]
 pub fn change_of(token: &Token) -> Change
     ensures { result ≡ change_by (token_view token.now) }

@@ -2,8 +2,8 @@
 
 ghost use Rattle.std.specs.Prelude.{◌≡◌, ◌+◌, ◌<◌, ◌^◌, ◌∷◌, [], List};
 ghost use Rattle.starlark_grammar.specs.Depths as depths;
-ghost use Rattle.starlark_grammar.specs.Joints.Openings.{opening_view};
-ghost use Rattle.starlark_nesting.specs.Joints.Nesting.{brackets_of, change_by, closes, fstring_of, fstring_view, opens, mode_view};
+ghost use Rattle.starlark_grammar.specs.Inner.Openings.{opening_view};
+ghost use Rattle.starlark_nesting.specs.Inner.Nesting.{brackets_of, change_by, closes, fstring_of, fstring_view, opens, mode_view};
 ghost use Rattle.starlark_token.specs.TokenViews.{Whole};
 ghost use Rattle.starlark_grammar.specs.Tokens as grammar;
 

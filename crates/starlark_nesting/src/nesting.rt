@@ -2,8 +2,8 @@
 
 ghost use Rattle.std.specs.Prelude.{◌≡◌, ◌+◌, ◌<◌, ◌≤◌, ◌^◌, ◌∷◌, [], List, false, OnErr, OnOk};
 ghost use Rattle.starlark_grammar.specs.Depths.{is_balanced, mode_after};
-ghost use Rattle.starlark_nesting.specs.Joints.Nesting.{IsUnchanged, Represents, bracket_count, change_by, is_fstring_start, mode_view};
-ghost use Rattle.starlark_grammar.specs.Joints.Openings.{opening_view};
+ghost use Rattle.starlark_nesting.specs.Inner.Nesting.{IsUnchanged, Represents, bracket_count, change_by, is_fstring_start, mode_view};
+ghost use Rattle.starlark_grammar.specs.Inner.Openings.{opening_view};
 ghost use Rattle.starlark_token.specs.TokenViews.{Whole, token_view};
 ghost use Rattle.starlark_grammar.specs.Tokens as grammar;
 

@@ -2,25 +2,25 @@
 
 ghost use Rattle.std.specs.Prelude.{◌≡◌, ◌≢◌, if◌then◌else◌, true, false, ◌<◌, ◌≤◌, ◌+◌, ◌-◌, ◌*◌, ◌^◌, [], ℕ, None, Some, List, Option, drop, length, map, nat_lt, OnErr, OnOk, IfErr, IfOk, IfSome};
 ghost use Rattle.std.specs.Str.{IsCharBoundary};
-ghost use Rattle.starlark_reader.specs.Joints.Steps.{IsStep};
+ghost use Rattle.starlark_reader.specs.Inner.Steps.{IsStep};
 ghost use Rattle.starlark_token.specs.Lexemes.{shown_lexeme};
-ghost use Rattle.starlark_literals.specs.Joints.Literals.{IsPlainBody};
-ghost use Rattle.starlark_grammar.specs.Joints.Openings.{opening_view};
-ghost use Rattle.starlark_scanner.specs.Joints.Words.{HasDigit, IsDigitAt, short_view, word_len};
+ghost use Rattle.starlark_literals.specs.Inner.Literals.{IsPlainBody};
+ghost use Rattle.starlark_grammar.specs.Inner.Openings.{opening_view};
+ghost use Rattle.starlark_scanner.specs.Inner.Words.{HasDigit, IsDigitAt, short_view, word_len};
 ghost use Rattle.starlark_grammar.specs.Margins.{open_widths};
 ghost use Rattle.starlark_grammar.specs.Pieces as grammar;
 ghost use Rattle.starlark_grammar.specs.declared.class.Class.TheVariants as class;
 ghost use Rattle.starlark_grammar.specs.declared.class.LiteralKind.TheVariants as kind;
-ghost use Rattle.starlark_layout.specs.Joints.Pending.{IsIdle, IsPending};
-ghost use Rattle.starlark_reader.specs.Joints.MarginCuts.{IsCutBefore};
-ghost use Rattle.starlark_reader.specs.Joints.Reads.{HasBegun, HasLooked, HasLookedHere, HasRead, HasReadAt, HasReadNext, IsMarginRead, IsPassed, IsPassedBy, IsTaken};
-ghost use Rattle.starlark_reader.specs.Joints.Reader.{CountsLineEnds, has_read_none, IsAhead, IsAheadBehind, IsAtCode, IsBangHere, IsInCode, IsInFlatMargin, IsReached, IsStateAfter, IsNext, IsOver, IsPlainTextHere, IsRead, IsReady, IsSomething, IsWordHere, before_view, left_here, left_to_read, newline_if, newline_of, silent_sort, step_here};
-ghost use Rattle.starlark_reader.specs.Joints.Pieces.{IsBehind};
+ghost use Rattle.starlark_layout.specs.Inner.Pending.{IsIdle, IsPending};
+ghost use Rattle.starlark_reader.specs.Inner.MarginCuts.{IsCutBefore};
+ghost use Rattle.starlark_reader.specs.Inner.Reads.{HasStarted, HasLooked, HasLookedHere, HasRead, HasReadAt, HasReadNext, IsMarginRead, IsPassed, IsPassedBy, IsTaken};
+ghost use Rattle.starlark_reader.specs.Inner.Reader.{CountsLineEnds, has_read_none, IsAhead, IsAheadAfter, IsAtCode, IsBangHere, IsInCode, IsInFlatMargin, IsReached, IsStateAfter, IsNext, IsOver, IsPlainTextHere, IsRead, IsReady, IsSomething, IsWordHere, before_view, left_here, left_to_read, newline_if, newline_of, silent_sort, step_here};
+ghost use Rattle.starlark_reader.specs.Inner.Pieces.{IsAfter};
 ghost use Rattle.starlark_grammar.specs.Cuts.{is_layout, is_settled};
 ghost use Rattle.starlark_grammar.specs.Reading.{History, outcome};
 ghost use Rattle.starlark_token.specs.TokenViews.{TokenView, token_view};
 ghost use Rattle.starlark_grammar.specs.Tokens.{FStringStart, Fault, Spanned};
-ghost use Rattle.starlark_nesting.specs.Joints.Nesting.{change_by};
+ghost use Rattle.starlark_nesting.specs.Inner.Nesting.{change_by};
 ghost use Rattle.starlark_nesting.specs.declared.changes.Change.TheVariants as change;
 ghost use Rattle.starlark_grammar.specs.Words.{Text};
 
@@ -37,7 +37,7 @@ use starlark_literals::plain_body_len;
 use starlark_nesting::{LexerMode, Nesting};
 use starlark_scanner::scanner::{
     LiteralKind, Quote, ShortWord, Terminal, TextOpener, Word, bytes_opener, comment_len,
-    fstring_opener, short_word, text_opener, word_behind,
+    fstring_opener, short_word, text_opener, word_after,
 };
 use starlark_token::lexeme_error::LexemeError;
 use starlark_token::tokens::Token;
@@ -343,7 +343,7 @@ impl Reader {
 
     /// Whether a skipped piece stands right before the place.
     fn follows_gap(&self) -> bool
-        ensures { (before : grammar.Before) → before_view self.now.before ≡ before → IsBehind result before }
+        ensures { (before : grammar.Before) → before_view self.now.before ≡ before → IsAfter result before }
     {
         matches!(self.before, Before::Gap)
     }
@@ -421,7 +421,7 @@ impl Reader {
         requires stage { self.old.stage ≡ Stage.Onward }
         requires ready { IsReady text.now self.old Stage.Onward }
         requires idle { IsIdle text.now self.old.pending }
-        ensures ahead { IfOk result (λ given. (lexemes : List (Spanned TokenView)) (fault : Option (Spanned Fault)) → IsAhead text.now self.old Stage.Onward lexemes fault → IsAheadBehind text.now given self.new lexemes fault) }
+        ensures ahead { IfOk result (λ given. (lexemes : List (Spanned TokenView)) (fault : Option (Spanned Fault)) → IsAhead text.now self.old Stage.Onward lexemes fault → IsAheadAfter text.now given self.new lexemes fault) }
         ensures less { OnOk result (left_to_read text.now self.new self.new.stage < left_to_read text.now self.old Stage.Onward) }
         ensures reads { OnOk result ((beside : ℕ) → HasReadAt text.now beside self.old Stage.Onward → HasRead text.now beside self.new) }
     {
@@ -519,7 +519,7 @@ impl Reader {
         ensures looked { HasLooked (word_len result) ((5 * word_len result - 4) + 3) self.old self.new }
     {
         let gap = self.pass_spaces(text);
-        word_behind(&mut self.reads, gap, &text[self.at..])
+        word_after(&mut self.reads, gap, &text[self.at..])
     }
 
     /// The word that comes next, where it is a symbol of two bytes or an integer of one digit, and the byte behind it tells
@@ -652,7 +652,7 @@ impl Reader {
         requires ready { IsReady text.now self.old self.old.stage }
         requires stands { IsWordHere text.now self.old (record { class = class.LineEnd; len = len }) }
         requires counts { CountsLineEnds self.old }
-        ensures ahead { IfOk result (λ is_laid. (lexemes : List (Spanned TokenView)) (fault : Option (Spanned Fault)) → IsAhead text.now self.old self.old.stage lexemes fault → IsAheadBehind text.now (newline_if is_laid self.old.at len) self.new lexemes fault) }
+        ensures ahead { IfOk result (λ is_laid. (lexemes : List (Spanned TokenView)) (fault : Option (Spanned Fault)) → IsAhead text.now self.old self.old.stage lexemes fault → IsAheadAfter text.now (newline_if is_laid self.old.at len) self.new lexemes fault) }
         ensures memory { OnErr result ((lexemes : List (Spanned TokenView)) (fault : Option (Spanned Fault)) → IsAhead text.now self.old self.old.stage lexemes fault → IsSomething lexemes fault) }
         ensures reads { OnOk result (IsMarginRead text.now len self.old self.new self.new.stage) }
         ensures onward { IfOk result (λ is_laid. is_laid ≡ true → (self.new.stage ≡ Stage.Onward) × IsInCode self.new) }
@@ -667,7 +667,7 @@ impl Reader {
         requires fits { length text.now < 2 ^ 32 }
         requires ready { IsReady text.now self.old self.old.stage }
         requires stands { IsWordHere text.now self.old (record { class = class.LineEnd; len = len }) }
-        ensures ahead { IfOk result (λ line_end. (lexemes : List (Spanned TokenView)) (fault : Option (Spanned Fault)) → IsAhead text.now self.old self.old.stage lexemes fault → IsAheadBehind text.now (newline_of line_end self.old.at len) self.new lexemes fault) }
+        ensures ahead { IfOk result (λ line_end. (lexemes : List (Spanned TokenView)) (fault : Option (Spanned Fault)) → IsAhead text.now self.old self.old.stage lexemes fault → IsAheadAfter text.now (newline_of line_end self.old.at len) self.new lexemes fault) }
         ensures memory { OnErr result ((lexemes : List (Spanned TokenView)) (fault : Option (Spanned Fault)) → IsAhead text.now self.old self.old.stage lexemes fault → IsSomething lexemes fault) }
         ensures less { IfOk result (λ line_end. line_end ≡ LineEnd.Passed → left_to_read text.now self.new self.new.stage < left_to_read text.now self.old self.old.stage) }
         ensures code { IfOk result (λ line_end. line_end ≡ LineEnd.Passed → IsAtCode text.now self.new) }
@@ -691,7 +691,7 @@ impl Reader {
         requires fits { length text.now < 2 ^ 32 }
         requires ready { IsReady text.now self.old self.old.stage }
         requires stands { IsWordHere text.now self.old (record { class = class.Identifier; len = len }) }
-        ensures ahead { IfOk result (λ given. (lexemes : List (Spanned TokenView)) (fault : Option (Spanned Fault)) → IsAhead text.now self.old self.old.stage lexemes fault → IsAheadBehind text.now (Some given) self.new lexemes fault) }
+        ensures ahead { IfOk result (λ given. (lexemes : List (Spanned TokenView)) (fault : Option (Spanned Fault)) → IsAhead text.now self.old self.old.stage lexemes fault → IsAheadAfter text.now (Some given) self.new lexemes fault) }
         ensures memory { OnErr result ((lexemes : List (Spanned TokenView)) (fault : Option (Spanned Fault)) → IsAhead text.now self.old self.old.stage lexemes fault → IsSomething lexemes fault) }
         ensures code { OnOk result (IsAtCode text.now self.new) }
         ensures taken { OnOk result (IsTaken len self.old self.new) }
@@ -709,7 +709,7 @@ impl Reader {
         requires fits { length text.now < 2 ^ 32 }
         requires ready { IsReady text.now self.old self.old.stage }
         requires stands { IsWordHere text.now self.old (record { class = class.Comment; len = len }) }
-        ensures ahead { IfOk result (λ given. (lexemes : List (Spanned TokenView)) (fault : Option (Spanned Fault)) → IsAhead text.now self.old self.old.stage lexemes fault → IsAheadBehind text.now (Some given) self.new lexemes fault) }
+        ensures ahead { IfOk result (λ given. (lexemes : List (Spanned TokenView)) (fault : Option (Spanned Fault)) → IsAhead text.now self.old self.old.stage lexemes fault → IsAheadAfter text.now (Some given) self.new lexemes fault) }
         ensures memory { OnErr result ((lexemes : List (Spanned TokenView)) (fault : Option (Spanned Fault)) → IsAhead text.now self.old self.old.stage lexemes fault → IsSomething lexemes fault) }
         ensures code { OnOk result (IsAtCode text.now self.new) }
         ensures taken { OnOk result (IsTaken len self.old self.new) }
@@ -762,7 +762,7 @@ impl Reader {
         requires ready { IsReady text.now self.old self.old.stage }
         requires stands { IsWordHere text.now self.old (record { class = class.Opener kind.Text is_raw quote; len = len }) }
         requires plain { IsPlainBody kind.Text is_raw quote (drop len (drop self.old.at text.now)) body }
-        ensures ahead { IfOk result (λ given. (lexemes : List (Spanned TokenView)) (fault : Option (Spanned Fault)) → IsAhead text.now self.old self.old.stage lexemes fault → IsAheadBehind text.now (Some given) self.new lexemes fault) }
+        ensures ahead { IfOk result (λ given. (lexemes : List (Spanned TokenView)) (fault : Option (Spanned Fault)) → IsAhead text.now self.old self.old.stage lexemes fault → IsAheadAfter text.now (Some given) self.new lexemes fault) }
         ensures memory { OnErr result ((lexemes : List (Spanned TokenView)) (fault : Option (Spanned Fault)) → IsAhead text.now self.old self.old.stage lexemes fault → IsSomething lexemes fault) }
         ensures code { OnOk result (IsAtCode text.now self.new) }
         ensures taken { OnOk result (IsTaken (len + body + 1) self.old self.new) }
@@ -789,7 +789,7 @@ impl Reader {
         requires ready { IsReady text.now self.old self.old.stage }
         requires stands { IsWordHere text.now self.old (record { class = class.Opener kind.Bytes false quote; len = 2 }) }
         requires plain { IsPlainBody kind.Bytes false quote (drop 2 (drop self.old.at text.now)) body }
-        ensures ahead { IfOk result (λ given. (lexemes : List (Spanned TokenView)) (fault : Option (Spanned Fault)) → IsAhead text.now self.old self.old.stage lexemes fault → IsAheadBehind text.now (Some given) self.new lexemes fault) }
+        ensures ahead { IfOk result (λ given. (lexemes : List (Spanned TokenView)) (fault : Option (Spanned Fault)) → IsAhead text.now self.old self.old.stage lexemes fault → IsAheadAfter text.now (Some given) self.new lexemes fault) }
         ensures memory { OnErr result ((lexemes : List (Spanned TokenView)) (fault : Option (Spanned Fault)) → IsAhead text.now self.old self.old.stage lexemes fault → IsSomething lexemes fault) }
         ensures code { OnOk result (IsAtCode text.now self.new) }
         ensures taken { OnOk result (IsTaken (2 + body + 1) self.old self.new) }
@@ -812,9 +812,9 @@ impl Reader {
         requires fits { length text.now < 2 ^ 32 }
         requires ready { IsReady text.now self.old self.old.stage }
         requires stands { IsWordHere text.now self.old (record { class = class.Opener kind.FString false quote; len = 2 }) }
-        ensures ahead { IfOk result (λ given. (lexemes : List (Spanned TokenView)) (fault : Option (Spanned Fault)) → IsAhead text.now self.old self.old.stage lexemes fault → IsAheadBehind text.now (Some given) self.new lexemes fault) }
+        ensures ahead { IfOk result (λ given. (lexemes : List (Spanned TokenView)) (fault : Option (Spanned Fault)) → IsAhead text.now self.old self.old.stage lexemes fault → IsAheadAfter text.now (Some given) self.new lexemes fault) }
         ensures memory { OnErr result ((lexemes : List (Spanned TokenView)) (fault : Option (Spanned Fault)) → IsAhead text.now self.old self.old.stage lexemes fault → IsSomething lexemes fault) }
-        ensures begun { OnOk result (HasBegun self.old self.new) }
+        ensures begun { OnOk result (HasStarted self.old self.new) }
     {
         let rest = &text[self.at..];
         let opening = opening_of(&mut self.reads, false, quote, &rest[2..]);
@@ -835,7 +835,7 @@ impl Reader {
     pub fn next_comment(&mut self, text: &str) -> Result<PlacedToken, AllocError>
         requires some { self.old.pending.from < self.old.pending.to }
         requires ready { IsReady text.now self.old self.old.stage }
-        ensures ahead { IfOk result (λ given. (lexemes : List (Spanned TokenView)) (fault : Option (Spanned Fault)) → IsAhead text.now self.old self.old.stage lexemes fault → IsAheadBehind text.now (Some given) self.new lexemes fault) }
+        ensures ahead { IfOk result (λ given. (lexemes : List (Spanned TokenView)) (fault : Option (Spanned Fault)) → IsAhead text.now self.old self.old.stage lexemes fault → IsAheadAfter text.now (Some given) self.new lexemes fault) }
         ensures memory { OnErr result ((lexemes : List (Spanned TokenView)) (fault : Option (Spanned Fault)) → IsAhead text.now self.old self.old.stage lexemes fault → IsSomething lexemes fault) }
         ensures reads { OnOk result ((beside : ℕ) → HasReadAt text.now beside self.old self.old.stage → HasRead text.now beside self.new) }
     {
@@ -846,7 +846,7 @@ impl Reader {
     #[inline(always)]
     pub fn next_mark(&mut self) -> Option<PlacedToken>
         requires none { self.old.pending.to ≤ self.old.pending.from }
-        ensures ahead { (text : Text) (lexemes : List (Spanned TokenView)) (fault : Option (Spanned Fault)) → IsAhead text self.old self.old.stage lexemes fault → IsAheadBehind text result self.new lexemes fault }
+        ensures ahead { (text : Text) (lexemes : List (Spanned TokenView)) (fault : Option (Spanned Fault)) → IsAhead text self.old self.old.stage lexemes fault → IsAheadAfter text result self.new lexemes fault }
         ensures stays { result ≡ None → self.new ≡ self.old }
         ensures reads { (text : Text) (beside : ℕ) → HasReadAt text beside self.old self.old.stage → HasRead text beside self.new }
     {
@@ -882,7 +882,7 @@ impl Reader {
         requires fits { length text.now < 2 ^ 32 }
         requires ready { IsReady text.now self.old self.old.stage }
         requires stands { IsPlainTextHere text.now self.old found }
-        ensures ahead { IfOk result (λ given. (lexemes : List (Spanned TokenView)) (fault : Option (Spanned Fault)) → IsAhead text.now self.old self.old.stage lexemes fault → IsAheadBehind text.now (Some given) self.new lexemes fault) }
+        ensures ahead { IfOk result (λ given. (lexemes : List (Spanned TokenView)) (fault : Option (Spanned Fault)) → IsAhead text.now self.old self.old.stage lexemes fault → IsAheadAfter text.now (Some given) self.new lexemes fault) }
         ensures memory { OnErr result ((lexemes : List (Spanned TokenView)) (fault : Option (Spanned Fault)) → IsAhead text.now self.old self.old.stage lexemes fault → IsSomething lexemes fault) }
         ensures passed { OnOk result (IsPassedBy (self.old.at + (found.len + found.stop_len)) self.old self.new × (self.new.stage ≡ Stage.Onward)) }
     {
@@ -897,7 +897,7 @@ impl Reader {
         requires fits { length text.now < 2 ^ 32 }
         requires ready { IsReady text.now self.old self.old.stage }
         requires stands { IsWordHere text.now self.old (record { class = class.Fixed terminal; len = len }) }
-        ensures ahead { (lexemes : List (Spanned TokenView)) (fault : Option (Spanned Fault)) → IsAhead text.now self.old self.old.stage lexemes fault → IsAheadBehind text.now (Some result) self.new lexemes fault }
+        ensures ahead { (lexemes : List (Spanned TokenView)) (fault : Option (Spanned Fault)) → IsAhead text.now self.old self.old.stage lexemes fault → IsAheadAfter text.now (Some result) self.new lexemes fault }
         ensures code { IsInCode self.new → IsAtCode text.now self.new }
         ensures taken { IsTaken len self.old self.new }
     {
@@ -914,7 +914,7 @@ impl Reader {
         requires ready { IsReady text.now self.old self.old.stage }
         requires stands { IsWordHere text.now self.old (record { class = class.Decimal; len = 1 }) }
         requires digit { IsDigitAt digit (drop self.old.at text.now) }
-        ensures ahead { (lexemes : List (Spanned TokenView)) (fault : Option (Spanned Fault)) → IsAhead text.now self.old self.old.stage lexemes fault → IsAheadBehind text.now (Some result) self.new lexemes fault }
+        ensures ahead { (lexemes : List (Spanned TokenView)) (fault : Option (Spanned Fault)) → IsAhead text.now self.old self.old.stage lexemes fault → IsAheadAfter text.now (Some result) self.new lexemes fault }
         ensures code { IsAtCode text.now self.new }
         ensures taken { IsTaken 1 self.old self.new }
     {
@@ -930,7 +930,7 @@ impl Reader {
         requires fits { length text.now < 2 ^ 32 }
         requires ready { IsReady text.now self.old self.old.stage }
         requires stands { IsBangHere text.now self.old }
-        ensures ahead { (lexemes : List (Spanned TokenView)) (fault : Option (Spanned Fault)) → IsAhead text.now self.old self.old.stage lexemes fault → IsAheadBehind text.now (Some result) self.new lexemes fault }
+        ensures ahead { (lexemes : List (Spanned TokenView)) (fault : Option (Spanned Fault)) → IsAhead text.now self.old self.old.stage lexemes fault → IsAheadAfter text.now (Some result) self.new lexemes fault }
         ensures code { IsAtCode text.now self.new }
         ensures taken { IsTaken 1 self.old self.new }
     {

@@ -3,13 +3,13 @@
 ghost use Rattle.std.specs.Prelude.{◌≡◌, ℕ, ◌+◌, ◌<◌, ◌^◌, ◌&&◌, if◌then◌else◌, Some, drop, length, IfOk};
 ghost use Rattle.std.specs.Str.{IsCharBoundary};
 ghost use Rattle.starlark_grammar.specs.Front.{language_front};
-ghost use Rattle.starlark_bytes.specs.Joints.Reads.{AreReads, more_reads};
-ghost use Rattle.starlark_reader.specs.Joints.Reads.{ArePieceReads, AreReadsBehind, AreStepReads};
-ghost use Rattle.starlark_reader.specs.Joints.Steps.{IsStep};
+ghost use Rattle.starlark_bytes.specs.Inner.Reads.{AreReads, more_reads};
+ghost use Rattle.starlark_reader.specs.Inner.Reads.{ArePieceReads, AreReadsAfter, AreStepReads};
+ghost use Rattle.starlark_reader.specs.Inner.Steps.{IsStep};
 ghost use Rattle.starlark_grammar.specs.Cuts.{is_outside};
-ghost use Rattle.starlark_nesting.specs.Joints.Nesting.{mode_view};
+ghost use Rattle.starlark_nesting.specs.Inner.Nesting.{mode_view};
 ghost use Rattle.starlark_grammar.specs.Pieces as grammar;
-ghost use Rattle.starlark_reader.specs.Joints.Pieces.{IsBehind, IsPiece};
+ghost use Rattle.starlark_reader.specs.Inner.Pieces.{IsAfter, IsPiece};
 ghost use Rattle.starlark_grammar.specs.Tokens.{InvalidInput};
 ghost use Rattle.starlark_grammar.specs.Characters.{first_character};
 ghost use Rattle.starlark_grammar.specs.Words as word;
@@ -62,14 +62,14 @@ pub fn line_end_counts(place: LexerMode, is_balanced: bool) -> bool
 
 /// Whether a bang may stand at a place: at the top of an expression, and not right behind a skipped piece.
 fn takes_bang(place: LexerMode, follows_gap: bool) -> bool
-    ensures { (before : grammar.Before) → IsBehind follows_gap before → result ≡ grammar.takes_bang (mode_view place) before }
+    ensures { (before : grammar.Before) → IsAfter follows_gap before → result ≡ grammar.takes_bang (mode_view place) before }
 {
     matches!(place, LexerMode::AtTop) && !follows_gap
 }
 
 /// A line end of so many bytes.
 fn line_end(place: LexerMode, is_balanced: bool, len: usize) -> Piece
-    ensures reads { (rest reads : ℕ) → AreReadsBehind len 9 rest 9 result reads reads }
+    ensures reads { (rest reads : ℕ) → AreReadsAfter len 9 rest 9 result reads reads }
     ensures piece { (s : grammar.Situation) (front behind text : word.Text) → s.place ≡ mode_view place → s.is_balanced ≡ is_balanced → length front ≡ len → drop len text ≡ behind → IsCharBoundary text len →
         IsPiece s.levels text (grammar.word_step s class.LineEnd front behind) result }
 {
@@ -83,7 +83,7 @@ fn line_end(place: LexerMode, is_balanced: bool, len: usize) -> Piece
 /// The start of an f-string, by its opener's length and the text behind that.
 fn fstring(reads: &mut Reads, is_raw: bool, quote: Quote, len: usize, behind: &str) -> Piece
     requires { len + length behind.now < 2 ^ 64 }
-    ensures reads { AreReadsBehind len 9 (length behind.now) 9 result reads.old reads.new }
+    ensures reads { AreReadsAfter len 9 (length behind.now) 9 result reads.old reads.new }
     ensures piece { (s : grammar.Situation) (front text : word.Text) → length front ≡ len →
         IsPiece s.levels text (grammar.word_step s (class.Opener kind.FString is_raw quote) front behind.now) result }
 {
@@ -104,7 +104,7 @@ fn opener(
     behind: &str,
 ) -> Result<Piece, AllocError>
     requires { len + length behind.now < 2 ^ 64 }
-    ensures reads { IfOk result (λ piece. AreReadsBehind len 9 (length behind.now) 9 piece reads.old reads.new) }
+    ensures reads { IfOk result (λ piece. AreReadsAfter len 9 (length behind.now) 9 piece reads.old reads.new) }
     ensures piece { IfOk result (λ piece. (s : grammar.Situation) (front text : word.Text) → s.place ≡ mode_view place → length front ≡ len →
         IsPiece s.levels text (grammar.word_step s (class.Opener kind is_raw quote) front behind.now) piece) }
 {
@@ -130,7 +130,7 @@ fn word_piece(
 ) -> Result<Piece, AllocError>
     requires known { class_in language front.now ≡ Some class }
     requires fits { length front.now + length behind.now < 2 ^ 64 }
-    ensures reads { IfOk result (λ piece. AreReadsBehind (length front.now) 9 (length behind.now) 9 piece reads.old reads.new) }
+    ensures reads { IfOk result (λ piece. AreReadsAfter (length front.now) 9 (length behind.now) 9 piece reads.old reads.new) }
     ensures piece { IfOk result (λ piece. (s : grammar.Situation) (text : word.Text) → s.place ≡ mode_view place → s.is_balanced ≡ is_balanced → drop (length front.now) text ≡ behind.now → IsCharBoundary text (length front.now) →
         IsPiece s.levels text (grammar.word_step s class front.now behind.now) piece) }
 {
@@ -187,7 +187,7 @@ fn is_bang(text: &[u8]) -> bool
 #[inline(always)]
 pub fn bang_stands(reads: &mut Reads, place: LexerMode, follows_gap: bool, text: &str) -> bool
     ensures reads { AreReads (if result then 1 else 0) 2 reads.old reads.new }
-    ensures value { (before : grammar.Before) → IsBehind follows_gap before → result ≡ (grammar.takes_bang (mode_view place) before && grammar.is_bang text.now) }
+    ensures value { (before : grammar.Before) → IsAfter follows_gap before → result ≡ (grammar.takes_bang (mode_view place) before && grammar.is_bang text.now) }
 {
     takes_bang(place, follows_gap) && is_bang(reads.front(text.as_bytes(), 2))
 }
@@ -225,7 +225,7 @@ pub fn piece_at(
     text: &str,
 ) -> Result<Piece, AllocError>
     ensures reads { IfOk result (λ piece. ArePieceReads 16 (length text.now) 8 piece reads.old reads.new) }
-    ensures piece { IfOk result (λ piece. (s : grammar.Situation) → s.place ≡ mode_view place → s.is_balanced ≡ is_balanced → IsBehind follows_gap s.before →
+    ensures piece { IfOk result (λ piece. (s : grammar.Situation) → s.place ≡ mode_view place → s.is_balanced ≡ is_balanced → IsAfter follows_gap s.before →
         IsPiece s.levels text.now (grammar.step_at language s text.now) piece) }
 {
     if let LexerMode::InText(opening) = place {

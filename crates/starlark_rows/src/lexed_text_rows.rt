@@ -105,8 +105,8 @@ fn wanted_of(alloc: Global, lexed: &LexedText<'_>, wanted: Wanted) -> Answer {
 }
 
 /// Out of memory where two lexed texts that were given back are as they were.
-fn both_kept(alloc: Global, before: &str, handed_back: &(LexedText<'_>, LexedText<'_>)) -> Answer {
-    let after = both_printed(alloc, &handed_back.0, &handed_back.1)?;
+fn both_kept(alloc: Global, before: &str, given_back: &(LexedText<'_>, LexedText<'_>)) -> Answer {
+    let after = both_printed(alloc, &given_back.0, &given_back.1)?;
     unchanged(alloc, before, &after)
 }
 
@@ -123,7 +123,7 @@ fn join_or_keep<'a>(
     let before = both_printed(alloc, &first, &second)?;
     match join_lexed(first, second, both) {
         Some(Ok(joined)) => wanted_of(alloc, &joined, wanted),
-        Some(Err(handed_back)) => both_kept(alloc, before.as_str(), &handed_back),
+        Some(Err(given_back)) => both_kept(alloc, before.as_str(), &given_back),
         None => String::from_str(alloc, "not joined"),
     }
 }

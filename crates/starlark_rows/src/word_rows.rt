@@ -58,7 +58,7 @@ pub fn add_placed(
 }
 
 /// What is said of an allocation failure: after it a lexer has to yield nothing.
-fn behind_memory(lexer: &mut Lexer<'_>) -> &'static str {
+fn after_memory(lexer: &mut Lexer<'_>) -> &'static str {
     match lexer.next() {
         None => "out of memory",
         Some(_) => "more behind want of memory",
@@ -72,7 +72,7 @@ fn add_next(alloc: Global, list: &mut String, lexer: &mut Lexer<'_>) -> Result<b
         Some(Ok((begin, token, end))) => add_placed(alloc, list, begin, &token, end)?,
         Some(Err(OrMemory::Error(exception))) => write!(list, "{exception}; ")?,
         Some(Err(OrMemory::Memory)) => {
-            list.push_str(behind_memory(lexer))?;
+            list.push_str(after_memory(lexer))?;
             return Ok(false);
         }
     }

@@ -11,7 +11,7 @@ use Rattle.starlark_grammar.specs.Reading.{outcome}
 use Rattle.starlark_token.specs.TextItems.{Given, LexerItem, Refused, items}
 use Rattle.starlark_token.specs.declared.tokens.Token.{Token}
 use Rattle.starlark_syntax.specs.Lexer.{AnswersNext}
-use Rattle.starlark_run.specs.Joints.Lines.{fault_items}
+use Rattle.starlark_run.specs.Inner.Lines.{fault_items}
 use Rattle.starlark_run.proofs.Items.{IsNextLexeme, next_given, next_refused, none_left}
 
 -- A lexeme that is answered is the next one of the grammar.

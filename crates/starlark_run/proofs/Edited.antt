@@ -4,7 +4,7 @@ use Rattle.std.proofs.lemmas.Str.{IsCharBoundary-from_take, IsUtf8-take}
 use Rattle.std.specs.Str.{IsUtf8}
 use Rattle.starlark_base.specs.Places.{Text}
 use Rattle.starlark_run.specs.Edits.{edited_text, text_after, text_after_one}
-use Rattle.starlark_run.specs.Joints.Versions.{AreVersions, Fits, Follows, IsRefusal, WasRelexed, newest_text}
+use Rattle.starlark_run.specs.Inner.Versions.{AreVersions, Fits, Follows, IsRefusal, WasRelexed, newest_text}
 use Rattle.starlark_run.specs.declared.edits.Edit.{Edit}
 use Rattle.starlark_run.specs.declared.versions.Version.{Version}
 use Rattle.starlark_syntax.specs.LexedTexts.{IsReadFrom, LexedView}

@@ -33,7 +33,7 @@ use Rattle.starlark_grammar.proofs.Order.WholeTexts.{outcome_edges, fault_edges}
 use Rattle.starlark_grammar.proofs.Reading.Faults.{outcome_fault}
 use Rattle.starlark_grammar.specs.Words.{language}
 use Rattle.starlark_grammar.proofs.Lists.{drop-sum}
-use Rattle.starlark_run.specs.Joints.Lines.{fault_items, fault_lines}
+use Rattle.starlark_run.specs.Inner.Lines.{fault_items, fault_lines}
 use Rattle.starlark_run.specs.Output as output
 use Rattle.starlark_run.specs.Output.{item_line, lines_of, message_of, place_text}
 use Rattle.starlark_run.specs.Runs.{status_of}

@@ -9,7 +9,7 @@ use Rattle.starlark_run.specs.Runs.{IsPrinted, IsRun, IsWhole}
 use Rattle.starlark_run.specs.Watch.{Watch}
 use Rattle.starlark_run.specs.declared.ends.RunFault.{RunFault}
 use Rattle.starlark_run.specs.declared.ends.RunFault.TheVariants as fault
-use Rattle.starlark_run.specs.Joints.Versions.{IsRefusal}
+use Rattle.starlark_run.specs.Inner.Versions.{IsRefusal}
 
 module _ {R W : Type 0} (calls : WriterCalls W) (name came : Text) (last : Result Text RunFault) (reader : Watch R) (old : Watch W) where
   without_memory : (l : Result Text RunFault) → old.failed ≡ false → IsPrinted calls name l old old (Err fault.Memory)

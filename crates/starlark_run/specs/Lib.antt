@@ -4,5 +4,5 @@ pub mod Places
 pub mod Output
 pub mod Writing
 pub mod Runs
-pub mod Joints
+pub mod Inner
 pub mod Edits

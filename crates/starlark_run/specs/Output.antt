@@ -40,13 +40,13 @@ value_of (grammar.FStringText value) = Some (hex value)
 value_of token = None
 
 -- a value, if there is one, after a space
-abbrev pub behind_space : Option Text → Text
-behind_space None = []
-behind_space (Some value) = codes " " ++ value
+abbrev pub after_space : Option Text → Text
+after_space None = []
+after_space (Some value) = codes " " ++ value
 
 -- the printed value of a token after a space; empty for a token without one
 unfoldable pub value_text : TokenView → Text
-value_text (Whole token) = behind_space (value_of token)
+value_text (Whole token) = after_space (value_of token)
 value_text view = []
 
 -- the line of a lexeme: `begin-end place Kind`, and the value

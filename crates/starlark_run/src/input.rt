@@ -29,7 +29,7 @@ fn make_room(bytes: &mut Vec<u8>, filled: usize) -> Result<(), AllocError>
 }
 
 /// Reads once into the room after the first `filled` bytes, and keeps those.
-fn read_behind<R: ReadDevice>(
+fn read_after<R: ReadDevice>(
     reader: &mut Watched<R>,
     bytes: &mut Vec<u8>,
     filled: usize,
@@ -58,7 +58,7 @@ fn read_bytes<R: ReadDevice>(alloc: Global, reader: &mut Watched<R>) -> Result<V
     let mut filled = 0;
     while filled <= GREATEST_LEN {
         make_room(&mut bytes, filled)?;
-        match read_behind(reader, &mut bytes, filled) {
+        match read_after(reader, &mut bytes, filled) {
             Err(_) => return Err(RunFault::Read),
             Ok(0) => {
                 bytes.truncate(filled);

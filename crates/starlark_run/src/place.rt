@@ -35,7 +35,7 @@ impl Place {
     {
         Place {
             at: to,
-            position: position_behind(self.position, &text[self.at..to]),
+            position: position_after(self.position, &text[self.at..to]),
         }
     }
 
@@ -55,14 +55,14 @@ impl Place {
 }
 
 /// Number of LF in a text.
-fn line_feeds(text: &str) -> usize
+fn newline_count(text: &str) -> usize
     ensures { result ≡ count_by (λ byte. byte == 10) text.now }
 {
     memchr_iter(b'\n', text.as_bytes()).count()
 }
 
 /// The line and column after a text that begins at a line and column.
-fn position_behind(begin: ResolvedPos, passed: &str) -> ResolvedPos
+fn position_after(begin: ResolvedPos, passed: &str) -> ResolvedPos
     requires line { begin.line + length passed.now < 2 ^ 64 }
     requires column { begin.column + length passed.now < 2 ^ 64 }
     ensures { (front : List ℕ) → IsUtf8 front → place_after front ≡ begin → place_after (front ++ passed.now) ≡ result }
@@ -73,7 +73,7 @@ fn position_behind(begin: ResolvedPos, passed: &str) -> ResolvedPos
             column: begin.column + count_characters(passed),
         },
         Some(last) => ResolvedPos {
-            line: begin.line + line_feeds(passed),
+            line: begin.line + newline_count(passed),
             column: count_characters(&passed[last + 1..]),
         },
     }

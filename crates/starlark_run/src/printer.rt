@@ -6,7 +6,7 @@ ghost use Rattle.starlark_base.specs.Sources.{SourceFile};
 ghost use Rattle.starlark_syntax.specs.Errors.{kind_text};
 ghost use Rattle.starlark_syntax.specs.Exceptions.{IsFaultIn};
 ghost use Rattle.starlark_grammar.specs.Reading.{outcome};
-ghost use Rattle.starlark_run.specs.Joints.Lines.{fault_lines};
+ghost use Rattle.starlark_run.specs.Inner.Lines.{fault_lines};
 ghost use Rattle.starlark_run.specs.Output.{fault_text, item_line, place_text};
 ghost use Rattle.starlark_run.specs.Places.{IsPlace};
 ghost use Rattle.starlark_run.specs.Writing.{Writes};

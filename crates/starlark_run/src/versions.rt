@@ -3,7 +3,7 @@
 ghost use Rattle.std.specs.Prelude.{◌≡◌, ◌≤◌, ◌+◌, IfErr, IfOk, Ok, length, string_bytes};
 ghost use Rattle.starlark_base.specs.Sources.{SourceFile};
 ghost use Rattle.starlark_run.specs.Edits.{text_after, text_after_one};
-ghost use Rattle.starlark_run.specs.Joints.Versions.{AreVersions, Follows, IsRefusal, WasLexed, WasRelexed, newest_text};
+ghost use Rattle.starlark_run.specs.Inner.Versions.{AreVersions, Follows, IsRefusal, WasLexed, WasRelexed, newest_text};
 ghost use Rattle.starlark_run.specs.declared.ends.RunFault.TheVariants.{Memory};
 ghost use Rattle.starlark_run.specs.declared.ends.TheConstants.{GREATEST_LEN};
 ghost use Rattle.starlark_syntax.specs.LexedTexts.{IsLexed, LexedView};

@@ -1,2 +1,2 @@
 pub mod OneIdentifier
-pub mod Joints
+pub mod Inner

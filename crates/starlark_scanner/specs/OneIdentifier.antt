@@ -38,8 +38,8 @@ abbrev pub IdentifiersStay : Type 0
 IdentifiersStay = (text name : Text) → IsOneIdentifier text name ↔ IsOneIdentifierBy earlier_front text name
 
 -- skipped pieces and what is left after them
-abbrev pub IsBehindSkipped : Text → Text → Type 0
-IsBehindSkipped text rest = (pieces : List Text) × Reads text (map skipped pieces) rest
+abbrev pub IsAfterSkipped : Text → Text → Type 0
+IsAfterSkipped text rest = (pieces : List Text) × Reads text (map skipped pieces) rest
 
 -- the length of a front, if it is skipped, and if it is an identifier
 abbrev pub if_skipped : Option (Class × ℕ) → Option ℕ

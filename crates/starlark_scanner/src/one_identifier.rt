@@ -43,8 +43,8 @@ fn identifier_len(text: &str) -> Option<usize>
 }
 
 /// What stands after the skipped pieces at the front of a text.
-fn behind_skipped(text: &str) -> &str
-    ensures passed { spec.IsBehindSkipped text.now result.now }
+fn after_skipped(text: &str) -> &str
+    ensures passed { spec.IsAfterSkipped text.now result.now }
     ensures all { spec.if_skipped (language_front result.now) ≡ None }
 {
     let mut rest = text;
@@ -61,11 +61,11 @@ pub fn lex_exactly_one_identifier(alloc: Global, s: &str) -> Result<Option<Strin
     ensures value { IfOk result (λ found. (name : Text) → (option_map string_bytes found ≡ Some name) ↔ spec.IsOneIdentifier s.now name) }
     ensures memory { OnErr result ((name : Text) × spec.IsOneIdentifier s.now name) }
 {
-    let rest = behind_skipped(s);
+    let rest = after_skipped(s);
     let Some(len) = identifier_len(rest) else {
         return Ok(None);
     };
-    if !behind_skipped(&rest[len..]).is_empty() {
+    if !after_skipped(&rest[len..]).is_empty() {
         return Ok(None);
     }
     Ok(Some(String::from_str(alloc, &rest[..len])?))

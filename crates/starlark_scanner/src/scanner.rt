@@ -4,8 +4,8 @@ ghost use Rattle.std.specs.Prelude.{◌≡◌, false, ◌<◌, ◌≤◌, ◌==�
 ghost use Rattle.std.specs.List.{prefix_len, slice_get};
 ghost use Rattle.std.specs.Option.{option_map};
 ghost use Rattle.starlark_grammar.specs.Front.{language_front};
-ghost use Rattle.starlark_bytes.specs.Joints.Reads.{AreReads, more_reads};
-ghost use Rattle.starlark_scanner.specs.Joints.Words.{HasDigit, begins_number, opener_view, short_view, word_len, word_view};
+ghost use Rattle.starlark_bytes.specs.Inner.Reads.{AreReads, more_reads};
+ghost use Rattle.starlark_scanner.specs.Inner.Words.{HasDigit, begins_number, opener_view, short_view, word_len, word_view};
 ghost use Rattle.starlark_grammar.specs.Pieces.{is_bang};
 ghost use Rattle.starlark_grammar.specs.Words as grammar;
 ghost use Rattle.starlark_grammar.specs.declared.class.Class.TheVariants as class;
@@ -77,7 +77,7 @@ fn quote_word(quote: Quote) -> Word
     }
 }
 
-/// The length of the run of spaces at the front of a text. `word_behind` counts that they were read.
+/// The length of the run of spaces at the front of a text. `word_after` counts that they were read.
 #[inline(always)]
 pub fn gap_len(text: &str) -> usize
     ensures word { 0 < result → language_front text.now ≡ Some (class.Skipped, result) }
@@ -127,13 +127,13 @@ pub fn common_word(reads: &mut Reads, text: &str) -> Option<Word>
 
 /// The same of a text behind so many spaces, which are counted with its first two bytes.
 #[inline(always)]
-pub fn word_behind(reads: &mut Reads, gap: usize, text: &str) -> Option<Word>
+pub fn word_after(reads: &mut Reads, gap: usize, text: &str) -> Option<Word>
     requires { gap < 2 ^ 32 }
     ensures word { IfSome result (λ word. Some (word_view word) ≡ language_front text.now) }
     ensures bang { IfSome result (λ word. is_bang text.now ≡ false) }
     ensures reads { AreReads (gap + word_len result) (gap + (5 * word_len result - 4) + 3) reads.old reads.new }
 {
-    let front = reads.front_behind(gap, text.as_bytes(), 2);
+    let front = reads.front_after(gap, text.as_bytes(), 2);
     word_by_front(reads, front, text)
 }
 
@@ -176,7 +176,7 @@ pub fn fstring_opener(reads: &mut Reads, text: &str) -> Option<Quote>
     ensures reads { reads.new ≡ more_reads reads.old 2 }
 {
     let front = reads.front(text.as_bytes(), 2);
-    openers::quote_behind(b'f', front)
+    openers::quote_after(b'f', front)
 }
 
 /// The quote of the opener at the front of a text, where that is a `b` and a quote.
@@ -187,7 +187,7 @@ pub fn bytes_opener(reads: &mut Reads, text: &str) -> Option<Quote>
     ensures reads { reads.new ≡ more_reads reads.old 2 }
 {
     let front = reads.front(text.as_bytes(), 2);
-    openers::quote_behind(b'b', front)
+    openers::quote_after(b'b', front)
 }
 
 /// The length of the comment at the front of a text. `None` where something else stands there.

@@ -19,7 +19,7 @@ use Rattle.starlark_token.specs.Lexemes.{shown_lexeme}
 use Rattle.starlark_syntax.specs.Lexer.{AnswersNext, AnswersBetween}
 use Rattle.starlark_token.specs.TextItems.{LexerItem, Given, Refused, items}
 use Rattle.starlark_token.specs.Lexemes.{IsWithin}
-use Rattle.starlark_reader.specs.Joints.Reader.{IsSomething}
+use Rattle.starlark_reader.specs.Inner.Reader.{IsSomething}
 use Rattle.starlark_token.specs.TokenViews.{TokenView}
 use Rattle.starlark_grammar.proofs.Order.Inside.{all_within}
 use Rattle.starlark_grammar.proofs.Indentation.Totals.{outcome_balances}

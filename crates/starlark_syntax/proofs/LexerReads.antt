@@ -15,13 +15,13 @@ use Rattle.starlark_grammar.specs.declared.class.Class.TheVariants as class
 use Rattle.starlark_grammar.specs.declared.class.LiteralKind.TheVariants as kind
 use Rattle.starlark_grammar.specs.declared.class.Quote.{Quote}
 use Rattle.starlark_grammar.proofs.Words.Classes.{all_fit, language_all_fit, none_found, row_fits}
-use Rattle.starlark_layout.specs.Joints.Pending.{IsPending}
-use Rattle.starlark_reader.specs.Joints.Reader.{IsAhead, IsAtCode, IsInCode}
-use Rattle.starlark_reader.specs.Joints.Reads.{HasLookedHere, HasRead, HasReadAt, IsPassedBy}
+use Rattle.starlark_layout.specs.Inner.Pending.{IsPending}
+use Rattle.starlark_reader.specs.Inner.Reader.{IsAhead, IsAtCode, IsInCode}
+use Rattle.starlark_reader.specs.Inner.Reads.{HasLookedHere, HasRead, HasReadAt, IsPassedBy}
 use Rattle.starlark_reader.specs.declared.reader.LineEnd.{LineEnd}
 use Rattle.starlark_reader.specs.declared.reader.LineEnd.TheVariants as line_end
 use Rattle.starlark_reader.specs.declared.reader.Reader.{Reader}
-use Rattle.starlark_syntax.specs.Joints.Looked.{GoesOn, HasSpared, IsFoundBehindMargin, IsFoundFurther, IsFoundFurtherInCode, IsFoundInCode, IsFoundOut, IsLooked, is_front, is_nothing}
+use Rattle.starlark_syntax.specs.Inner.Looked.{GoesOn, HasSpared, IsFoundBehindMargin, IsFoundFurther, IsFoundFurtherInCode, IsFoundInCode, IsFoundOut, IsLooked, is_front, is_nothing}
 use Rattle.starlark_syntax.specs.declared.lexemes.Looked.{Looked}
 use Rattle.starlark_syntax.specs.declared.lexemes.Looked.TheVariants as looked
 

@@ -3,7 +3,7 @@
 use Rattle.std.specs.Prelude.{◌≡◌, ◌≤◌, ℕ, IfSome, length, take, count_by}
 use Rattle.std.specs.List.{AllByRecursion, after_last}
 use Rattle.std.specs.Str.{IsUtf8, chars}
-use Rattle.starlark_base.specs.Places.{is_line_feed, resolved}
+use Rattle.starlark_base.specs.Places.{is_lf, resolved}
 use Rattle.starlark_base.specs.Sources.{Holds}
 use Rattle.starlark_base.specs.Spans.{ByteSpan}
 use Rattle.starlark_base.specs.declared.codemap.resolved.ResolvedPos.{ResolvedPos}
@@ -19,7 +19,7 @@ span_of x = record { begin = x.begin; end = x.end }
 -- last of them
 abbrev pub IsCounted : Text → ℕ → ResolvedPos → Type 0
 IsCounted text at place =
-    (place.line ≡ count_by is_line_feed (take at text)) × (place.column ≡ length (chars (after_last is_line_feed (take at text))))
+    (place.line ≡ count_by is_lf (take at text)) × (place.column ≡ length (chars (after_last is_lf (take at text))))
 
 -- the text holds the span of a lexeme or a fault, and both ends resolve to counted lines and
 -- columns

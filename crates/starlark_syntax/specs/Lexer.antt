@@ -20,7 +20,7 @@ use Rattle.starlark_token.specs.declared.tokens.Token.{Token}
 pub record LexerView : Type 0 where
   pub text : Text
   pub code_map : SourceFile
-  pub handed_out : ℕ
+  pub yielded_count : ℕ
   pub has_ended : Bool
 
 -- what a call returns for an item: a lexeme, the fault's exception, or out of memory in their place
@@ -50,10 +50,10 @@ AnswersBetween text (Some (Err (refusal.Error exception))) =
 AnswersBetween text answer = ⊤
 
 -- how many items a result is: one, unless it is `None` or out of memory
-abbrev pub handed_out_by : Option (Result (ℕ × Token × ℕ) (OrMemory (Diagnosed ErrorKind))) → ℕ
-handed_out_by None = 0
-handed_out_by (Some (Err refusal.Memory)) = 0
-handed_out_by (Some answer) = 1
+abbrev pub yielded_by : Option (Result (ℕ × Token × ℕ) (OrMemory (Diagnosed ErrorKind))) → ℕ
+yielded_by None = 0
+yielded_by (Some (Err refusal.Memory)) = 0
+yielded_by (Some answer) = 1
 
 -- whether a result ends the lexer: any error does
 abbrev pub is_ended_by : Option (Result (ℕ × Token × ℕ) (OrMemory (Diagnosed ErrorKind))) → Bool
@@ -62,11 +62,11 @@ is_ended_by answer = false
 
 -- what one call of a lexer returns, and the lexer after it; after an error a call returns `None`
 pub record IsNextOf (old : LexerView) (answer : Option (Result (ℕ × Token × ℕ) (OrMemory (Diagnosed ErrorKind)))) (new : LexerView) : Type 0 where
-  pub item : AnswersNext old.code_map (if old.has_ended then None else slice_get (items old.text) old.handed_out) answer
+  pub item : AnswersNext old.code_map (if old.has_ended then None else slice_get (items old.text) old.yielded_count) answer
   pub within : AnswersWithin old.text answer
   pub between : AnswersBetween old.text answer
-  pub after : new ≡ record old { handed_out = old.handed_out + handed_out_by answer; has_ended = old.has_ended || is_ended_by answer }
+  pub after : new ≡ record old { yielded_count = old.yielded_count + yielded_by answer; has_ended = old.has_ended || is_ended_by answer }
 
 -- the greatest number of items that are left
 abbrev pub items_left : LexerView → Count
-items_left lexer = at_most (if lexer.has_ended then 0 else length (items lexer.text) - lexer.handed_out)
+items_left lexer = at_most (if lexer.has_ended then 0 else length (items lexer.text) - lexer.yielded_count)

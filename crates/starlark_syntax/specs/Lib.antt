@@ -1,7 +1,7 @@
 pub mod Errors
 pub mod Exceptions
 pub mod Lexer
-pub mod Joints
+pub mod Inner
 pub mod LexedTexts
 pub mod Held
 pub mod SourceErrors

@@ -2,7 +2,7 @@
 
 ghost use Rattle.std.specs.Prelude.{◌≡◌, ◌&&◌, ◌||◌, ◌==◌, ◌<◌, ◌≤◌, ◌+◌, ◌++◌, ◌^◌, length, map, nat_lt, take, vec_capacity, vec_len};
 ghost use Rattle.starlark_grammar.specs.Words.{Text};
-ghost use Rattle.starlark_syntax.specs.Joints.LexedTexts.{AllNearCuts, AreBeyond, AreCuts, IsBegin, IsUpTo, later_cut};
+ghost use Rattle.starlark_syntax.specs.Inner.LexedTexts.{AllNearCuts, AreBeyond, AreCuts, IsBegin, IsUpTo, later_cut};
 
 /// A cut: its offset in bytes, and the number of lexemes before it.
 #[derive(Clone, Copy)]
@@ -60,7 +60,7 @@ pub fn begin_of(cuts: &[Cut], from: usize) -> Begin
 /// Whether a text is a clean cut, if lexing began at the cut `at` and `is_cut` says so of the rest.
 ///
 /// It is also if the rest after a cut is empty.
-pub fn is_cut_behind(is_cut: bool, rest: &str, at: usize) -> bool
+pub fn is_cut_after(is_cut: bool, rest: &str, at: usize) -> bool
     ensures { result ≡ (is_cut || (length rest.now == 0 && nat_lt 0 at)) }
 {
     is_cut || (rest.is_empty() && at > 0)

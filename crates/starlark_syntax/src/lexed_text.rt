@@ -11,10 +11,10 @@ ghost use Rattle.starlark_syntax.specs.LexedTexts as texts;
 ghost use Rattle.starlark_token.specs.Lexemes.{lexeme_view};
 ghost use Rattle.starlark_token.specs.Lexemes.{IsWithin};
 
-use crate::cuts::{Cut, append_cuts, begin_of, is_cut_behind};
+use crate::cuts::{Cut, append_cuts, begin_of, is_cut_after};
 use crate::eval_exception::EvalException;
 use crate::parts::{exception_of, read_part};
-use crate::tails::{append_later, given_behind, kept_of, make_room};
+use crate::tails::{append_later, given_after, kept_of, make_room};
 use starlark_base::codemap::{CodeMap, OrMemory, SourceTooLong};
 use starlark_base::dialect::Dialect;
 use starlark_reader::PlacedToken;
@@ -41,7 +41,7 @@ impl<'a> Model for LexedText<'a> {
     ghost use Rattle.std.specs.Prelude.{◌≡◌, ◌<◌, ◌^◌, length, map};
     ghost use Rattle.starlark_base.specs.Sources.{SourceFile};
     ghost use Rattle.starlark_grammar.specs.Cuts.{is_clean_cut};
-    ghost use Rattle.starlark_syntax.specs.Joints.LexedTexts.{AreCuts};
+    ghost use Rattle.starlark_syntax.specs.Inner.LexedTexts.{AreCuts};
     ghost use Rattle.starlark_syntax.specs.LexedTexts.{IsLexed, LexedView};
     ghost use Rattle.starlark_token.specs.Lexemes.{lexeme_view};
 
@@ -227,13 +227,13 @@ impl<'a> LexedText<'a> {
         let Ok(fault) = exception_of(alloc, part.fault, kept.fault_at, code_map) else {
             return Err(old);
         };
-        let more = given_behind(part.lexemes, kept);
+        let more = given_after(part.lexemes, kept);
         if make_room(&mut old.lexemes, kept.lexemes, more.len()).is_err()
             || make_room(&mut old.cuts, kept.cuts, part.cuts.len()).is_err()
         {
             return Err(old);
         }
-        let is_cut = is_cut_behind(part.is_cut, rest, begin.at);
+        let is_cut = is_cut_after(part.is_cut, rest, begin.at);
         append_later(&mut old.lexemes, kept.lexemes, more, begin.at);
         append_cuts(&mut old.cuts, kept.cuts, part.cuts, begin.at, begin.lexemes);
         Ok(LexedText {

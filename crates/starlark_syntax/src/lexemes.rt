@@ -2,8 +2,8 @@
 
 ghost use Rattle.std.specs.Prelude.{◌≡◌, ◌<◌, ◌≤◌, ◌+◌, ◌*◌, ◌^◌, ◌↔◌, ◌||◌, None, length, true, false, IfOk, IsErr};
 ghost use Rattle.std.specs.List.{slice_get};
-ghost use Rattle.starlark_syntax.specs.Joints.Looked.{IsFoundBehindMargin, IsFoundFurther, IsFoundFurtherInCode, IsFoundInCode, IsFoundOut, is_front, is_nothing};
-ghost use Rattle.starlark_syntax.specs.Lexer.{AnswersBetween, AnswersNext, AnswersWithin, handed_out_by, is_ended_by};
+ghost use Rattle.starlark_syntax.specs.Inner.Looked.{IsFoundBehindMargin, IsFoundFurther, IsFoundFurtherInCode, IsFoundInCode, IsFoundOut, is_front, is_nothing};
+ghost use Rattle.starlark_syntax.specs.Lexer.{AnswersBetween, AnswersNext, AnswersWithin, yielded_by, is_ended_by};
 ghost use Rattle.starlark_token.specs.TextItems.{items};
 
 use crate::eval_exception::EvalException;
@@ -29,7 +29,7 @@ pub struct Lexer<'a> {
     text: &'a str,
     code_map: CodeMap,
     reader: Reader,
-    handed_out: usize,
+    yielded_count: usize,
     has_ended: bool,
     looked: Looked,
     looked_to: usize,
@@ -142,17 +142,17 @@ impl<'a> Model for Lexer<'a> {
     ghost use Rattle.starlark_token.specs.Lexemes.{shown_lexeme};
     ghost use Rattle.starlark_syntax.specs.Lexer.{LexerView};
     ghost use Rattle.std.specs.Prelude.{◌*◌, ◌+◌};
-    ghost use Rattle.starlark_reader.specs.Joints.Reader.{IsAhead};
-    ghost use Rattle.starlark_syntax.specs.Joints.Looked.{GoesOn, IsLooked};
+    ghost use Rattle.starlark_reader.specs.Inner.Reader.{IsAhead};
+    ghost use Rattle.starlark_syntax.specs.Inner.Looked.{GoesOn, IsLooked};
     ghost use Rattle.starlark_grammar.specs.Reading.{outcome};
 
     ghost Value = { LexerView };
 
-    ghost view = { λ lexer. record { text = lexer.text.now; code_map = lexer.code_map; handed_out = lexer.handed_out; has_ended = lexer.has_ended } };
+    ghost view = { λ lexer. record { text = lexer.text.now; code_map = lexer.code_map; yielded_count = lexer.yielded_count; has_ended = lexer.has_ended } };
 
     ghost invariant = { λ lexer. (length lexer.text.now < 2 ^ 32)
-        × (lexer.has_ended ≡ false → (lexer.handed_out ≤ length (outcome lexer.text.now).lexemes)
-        × IsAhead lexer.text.now lexer.reader lexer.reader.stage (drop lexer.handed_out (map shown_lexeme (outcome lexer.text.now).lexemes)) (outcome lexer.text.now).fault)
+        × (lexer.has_ended ≡ false → (lexer.yielded_count ≤ length (outcome lexer.text.now).lexemes)
+        × IsAhead lexer.text.now lexer.reader lexer.reader.stage (drop lexer.yielded_count (map shown_lexeme (outcome lexer.text.now).lexemes)) (outcome lexer.text.now).fault)
         × GoesOn lexer.looked lexer.has_ended
         × (lexer.has_ended ≡ false → IsLooked lexer.text.now lexer.reader lexer.looked_to lexer.looked)
         × (lexer.looked_to ≤ 2 * length lexer.text.now + 1) };
@@ -169,7 +169,7 @@ impl<'a> Lexer<'a> {
         _dialect: &Dialect,
         code_map: CodeMap,
     ) -> Result<Lexer<'a>, SourceTooLong>
-        ensures ok { IfOk result (λ lexer. lexer ≡ record { text = input.now; code_map = code_map; handed_out = 0; has_ended = false }) }
+        ensures ok { IfOk result (λ lexer. lexer ≡ record { text = input.now; code_map = code_map; yielded_count = 0; has_ended = false }) }
         ensures few { IfOk result (λ lexer. length (items lexer.text) ≤ 2 * length input.now + 1) }
         ensures too_long { IsErr result ↔ (2 ^ 32 ≤ length input.now) }
     {
@@ -181,7 +181,7 @@ impl<'a> Lexer<'a> {
             text: input,
             code_map,
             reader: Reader::new(alloc),
-            handed_out: 0,
+            yielded_count: 0,
             has_ended: false,
             looked: Looked::All,
             looked_to: 0,
@@ -192,13 +192,13 @@ impl<'a> Lexer<'a> {
     #[inline(always)]
     fn next_of_reader(&mut self) -> Option<Lexeme>
         requires { self.old.has_ended ≡ false }
-        ensures item { AnswersNext self.old.code_map (slice_get (items self.old.text) self.old.handed_out) result }
+        ensures item { AnswersNext self.old.code_map (slice_get (items self.old.text) self.old.yielded_count) result }
         ensures within { AnswersWithin self.old.text result }
-        ensures after { self.new ≡ record self.old { handed_out = self.old.handed_out + handed_out_by result; has_ended = is_ended_by result } }
+        ensures after { self.new ≡ record self.old { yielded_count = self.old.yielded_count + yielded_by result; has_ended = is_ended_by result } }
     {
         match self.reader.next(self.text) {
             Ok(Next::Lexeme(lexeme)) => {
-                self.handed_out += 1;
+                self.yielded_count += 1;
                 self.looked = looked_behind(&self.reader, self.looked_to);
                 Some(Ok(lexeme))
             }
@@ -207,7 +207,7 @@ impl<'a> Lexer<'a> {
                 self.looked = Looked::All;
                 match exception(self.alloc, begin, fault, end, &self.code_map) {
                     Ok(exception) => {
-                        self.handed_out += 1;
+                        self.yielded_count += 1;
                         Some(Err(OrMemory::Error(exception)))
                     }
                     Err(_) => Some(Err(OrMemory::Memory)),
@@ -230,14 +230,14 @@ impl<'a> Lexer<'a> {
     #[inline(always)]
     fn next_waiting(&mut self) -> Option<Lexeme>
         requires { self.old.has_ended ≡ false }
-        ensures item { AnswersNext self.old.code_map (slice_get (items self.old.text) self.old.handed_out) result }
+        ensures item { AnswersNext self.old.code_map (slice_get (items self.old.text) self.old.yielded_count) result }
         ensures within { AnswersWithin self.old.text result }
-        ensures after { self.new ≡ record self.old { handed_out = self.old.handed_out + handed_out_by result; has_ended = is_ended_by result } }
+        ensures after { self.new ≡ record self.old { yielded_count = self.old.yielded_count + yielded_by result; has_ended = is_ended_by result } }
     {
         if self.reader.has_comments() {
             return match self.reader.next_comment(self.text) {
                 Ok(lexeme) => {
-                    self.handed_out += 1;
+                    self.yielded_count += 1;
                     self.looked = looked_behind(&self.reader, self.looked_to);
                     Some(Ok(lexeme))
                 }
@@ -249,7 +249,7 @@ impl<'a> Lexer<'a> {
             };
         }
         if let Some(lexeme) = self.reader.next_mark() {
-            self.handed_out += 1;
+            self.yielded_count += 1;
             self.looked = looked_behind(&self.reader, self.looked_to);
             return Some(Ok(lexeme));
         }
@@ -266,7 +266,7 @@ impl<'a> Lexer<'a> {
         };
         match self.reader.take_text(found, self.text) {
             Ok(lexeme) => {
-                self.handed_out += 1;
+                self.yielded_count += 1;
                 self.looked = looked_behind(&self.reader, self.looked_to);
                 Some(Ok(lexeme))
             }
@@ -284,22 +284,22 @@ impl<'a> Lexer<'a> {
     #[inline(never)]
     fn next_of_all(&mut self) -> Option<Lexeme>
         requires { self.old.has_ended ≡ false }
-        ensures item { AnswersNext self.old.code_map (slice_get (items self.old.text) self.old.handed_out) result }
+        ensures item { AnswersNext self.old.code_map (slice_get (items self.old.text) self.old.yielded_count) result }
         ensures within { AnswersWithin self.old.text result }
-        ensures after { self.new ≡ record self.old { handed_out = self.old.handed_out + handed_out_by result; has_ended = is_ended_by result } }
+        ensures after { self.new ≡ record self.old { yielded_count = self.old.yielded_count + yielded_by result; has_ended = is_ended_by result } }
     {
         if !self.looked.is_front() {
             return self.next_waiting();
         }
         match self.reader.short_word(self.text) {
             Some(ShortWord::Symbol(terminal)) => {
-                self.handed_out += 1;
+                self.yielded_count += 1;
                 let lexeme = self.reader.take_terminal(terminal, 2, self.text);
                 self.looked = looked_further_in_code(&self.reader, self.looked_to);
                 return Some(Ok(lexeme));
             }
             Some(ShortWord::Digit(digit)) => {
-                self.handed_out += 1;
+                self.yielded_count += 1;
                 let lexeme = self.reader.take_digit(digit, self.text);
                 self.looked = looked_further(&self.reader, self.looked_to);
                 return Some(Ok(lexeme));
@@ -310,7 +310,7 @@ impl<'a> Lexer<'a> {
             self.looked = Looked::All;
             return match self.reader.take_fstring(quote, self.text) {
                 Ok(lexeme) => {
-                    self.handed_out += 1;
+                    self.yielded_count += 1;
                     Some(Ok(lexeme))
                 }
                 Err(_) => {
@@ -331,7 +331,7 @@ impl<'a> Lexer<'a> {
             };
             return match self.reader.take_plain_bytes(quote, body, self.text) {
                 Ok(lexeme) => {
-                    self.handed_out += 1;
+                    self.yielded_count += 1;
                     self.looked = looked_further(&self.reader, self.looked_to);
                     Some(Ok(lexeme))
                 }
@@ -343,7 +343,7 @@ impl<'a> Lexer<'a> {
             };
         }
         if self.reader.bang_stands(self.text) {
-            self.handed_out += 1;
+            self.yielded_count += 1;
             let lexeme = self.reader.take_bang(self.text);
             self.looked = looked_further(&self.reader, self.looked_to);
             return Some(Ok(lexeme));
@@ -354,7 +354,7 @@ impl<'a> Lexer<'a> {
         };
         match self.reader.take_comment(len, self.text) {
             Ok(lexeme) => {
-                self.handed_out += 1;
+                self.yielded_count += 1;
                 self.looked = looked_further(&self.reader, self.looked_to);
                 Some(Ok(lexeme))
             }
@@ -371,9 +371,9 @@ impl<'a> Lexer<'a> {
     #[inline(never)]
     fn next_text(&mut self) -> Option<Lexeme>
         requires { self.old.has_ended ≡ false }
-        ensures item { AnswersNext self.old.code_map (slice_get (items self.old.text) self.old.handed_out) result }
+        ensures item { AnswersNext self.old.code_map (slice_get (items self.old.text) self.old.yielded_count) result }
         ensures within { AnswersWithin self.old.text result }
-        ensures after { self.new ≡ record self.old { handed_out = self.old.handed_out + handed_out_by result; has_ended = is_ended_by result } }
+        ensures after { self.new ≡ record self.old { yielded_count = self.old.yielded_count + yielded_by result; has_ended = is_ended_by result } }
     {
         if !self.looked.is_front() {
             return self.next_of_all();
@@ -399,7 +399,7 @@ impl<'a> Lexer<'a> {
             .take_plain_text(is_raw, quote, len, body, self.text)
         {
             Ok(lexeme) => {
-                self.handed_out += 1;
+                self.yielded_count += 1;
                 self.looked = looked_further(&self.reader, self.looked_to);
                 Some(Ok(lexeme))
             }
@@ -416,9 +416,9 @@ impl<'a> Lexer<'a> {
     #[inline(always)]
     fn next_slowly(&mut self, is_text: bool) -> Option<Lexeme>
         requires { self.old.has_ended ≡ false }
-        ensures item { AnswersNext self.old.code_map (slice_get (items self.old.text) self.old.handed_out) result }
+        ensures item { AnswersNext self.old.code_map (slice_get (items self.old.text) self.old.yielded_count) result }
         ensures within { AnswersWithin self.old.text result }
-        ensures after { self.new ≡ record self.old { handed_out = self.old.handed_out + handed_out_by result; has_ended = is_ended_by result } }
+        ensures after { self.new ≡ record self.old { yielded_count = self.old.yielded_count + yielded_by result; has_ended = is_ended_by result } }
     {
         if is_text {
             self.next_text()
@@ -433,10 +433,10 @@ impl<'a> Lexer<'a> {
     /// begins and ends at character boundaries.
     pub fn next(&mut self) -> Option<Lexeme>
         ensures ended { self.old.has_ended ≡ true → AnswersNext self.old.code_map None result }
-        ensures item { self.old.has_ended ≡ false → AnswersNext self.old.code_map (slice_get (items self.old.text) self.old.handed_out) result }
+        ensures item { self.old.has_ended ≡ false → AnswersNext self.old.code_map (slice_get (items self.old.text) self.old.yielded_count) result }
         ensures within { AnswersWithin self.old.text result }
         ensures between { AnswersBetween self.old.text result }
-        ensures after { self.new ≡ record self.old { handed_out = self.old.handed_out + handed_out_by result; has_ended = self.old.has_ended || is_ended_by result } }
+        ensures after { self.new ≡ record self.old { yielded_count = self.old.yielded_count + yielded_by result; has_ended = self.old.has_ended || is_ended_by result } }
     {
         // The proof of `between` needs that the text is UTF-8, which the read of a `&str` says.
         let _text = self.text();
@@ -455,9 +455,9 @@ impl<'a> Lexer<'a> {
     #[inline(always)]
     fn next_item(&mut self) -> Option<Lexeme>
         ensures ended { self.old.has_ended ≡ true → AnswersNext self.old.code_map None result }
-        ensures item { self.old.has_ended ≡ false → AnswersNext self.old.code_map (slice_get (items self.old.text) self.old.handed_out) result }
+        ensures item { self.old.has_ended ≡ false → AnswersNext self.old.code_map (slice_get (items self.old.text) self.old.yielded_count) result }
         ensures within { AnswersWithin self.old.text result }
-        ensures after { self.new ≡ record self.old { handed_out = self.old.handed_out + handed_out_by result; has_ended = self.old.has_ended || is_ended_by result } }
+        ensures after { self.new ≡ record self.old { yielded_count = self.old.yielded_count + yielded_by result; has_ended = self.old.has_ended || is_ended_by result } }
     {
         let is_text = loop {
             if !self.looked.is_nothing() {
@@ -475,7 +475,7 @@ impl<'a> Lexer<'a> {
                 Class::Identifier => {
                     return match self.reader.take_name(len, self.text) {
                         Ok(lexeme) => {
-                            self.handed_out += 1;
+                            self.yielded_count += 1;
                             Some(Ok(lexeme))
                         }
                         Err(_) => {
@@ -486,7 +486,7 @@ impl<'a> Lexer<'a> {
                     };
                 }
                 Class::Fixed(terminal) => {
-                    self.handed_out += 1;
+                    self.yielded_count += 1;
                     let lexeme = self.reader.take_terminal(terminal, len, self.text);
                     self.looked = looked_in_code(&self.reader);
                     return Some(Ok(lexeme));
@@ -496,7 +496,7 @@ impl<'a> Lexer<'a> {
                     match self.reader.take_line_end(len, self.text) {
                         Ok(LineEnd::Passed) => {}
                         Ok(LineEnd::Newline) => {
-                            self.handed_out += 1;
+                            self.yielded_count += 1;
                             self.looked = looked_behind_margin(&self.reader, self.looked_to);
                             return Some(Ok((begin, Token::Newline, begin + len)));
                         }

@@ -2,9 +2,9 @@
 
 ghost use Rattle.std.specs.Prelude.{◌≡◌, ◌<◌, ◌≤◌, ◌+◌, ◌*◌, ◌^◌, ◌++◌, Option, None, IfOk, IfSome, OnOk, codes, length, nat_eq, option_map};
 ghost use Rattle.std.specs.List.{ends_with};
-ghost use Rattle.starlark_bytes.specs.Joints.Reads.{more_reads};
+ghost use Rattle.starlark_bytes.specs.Inner.Reads.{more_reads};
 ghost use Rattle.starlark_grammar.specs.Tokens.{Fault, Spanned, moved};
-ghost use Rattle.starlark_syntax.specs.Joints.LexedTexts.{IsPart, IsPlacedFault, cuts_at, end_cuts};
+ghost use Rattle.starlark_syntax.specs.Inner.LexedTexts.{IsPart, IsPlacedFault, cuts_at, end_cuts};
 ghost use Rattle.starlark_syntax.specs.Exceptions.{IsFaultIn};
 
 use crate::cuts::Cut;
@@ -40,7 +40,7 @@ pub struct Part {
 }
 
 /// Whether the last byte of a text is an LF.
-fn ends_with_feed(reads: &mut Reads, text: &str) -> bool
+fn ends_with_lf(reads: &mut Reads, text: &str) -> bool
     ensures value { result ≡ ends_with nat_eq text.now (codes "\n") }
     ensures reads { reads.new ≡ more_reads reads.old 1 }
 {
@@ -106,7 +106,7 @@ pub fn read_part(alloc: Global, text: &str) -> Result<Part, AllocError>
             }
             Next::Nothing => {
                 let mut reads = Reads::new();
-                let is_cut = reader.is_settled() && ends_with_feed(&mut reads, text);
+                let is_cut = reader.is_settled() && ends_with_lf(&mut reads, text);
                 let cuts = with_end_cut(cuts, text, &lexemes, is_cut)?;
                 return Ok(Part {
                     lexemes,

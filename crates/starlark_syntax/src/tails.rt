@@ -1,7 +1,7 @@
 //! Replaces the end of a list of lexemes.
 
 ghost use Rattle.std.specs.Prelude.{◌≡◌, ◌<◌, ◌≤◌, ◌+◌, ◌++◌, ◌^◌, [], ℕ, None, IfSome, OnOk, Some, if◌then◌else◌, false, length, map, take, true, vec_capacity, vec_len};
-ghost use Rattle.starlark_syntax.specs.Joints.LexedTexts.{AllNear, IsTakenBack, is_newline_view, last_newline_of, later};
+ghost use Rattle.starlark_syntax.specs.Inner.LexedTexts.{AllNear, IsTakenBack, is_newline_view, last_newline_of, later};
 ghost use Rattle.starlark_token.specs.Lexemes.{lexeme_view};
 ghost use Rattle.starlark_token.specs.TokenViews.{token_view};
 
@@ -110,7 +110,7 @@ pub fn kept_of(lexemes: &[PlacedToken], cuts: &[Cut], begin: Begin, has_tab: boo
 }
 
 /// The lexemes to append to what is kept.
-pub fn given_behind(lexemes: Vec<PlacedToken>, kept: Kept) -> Vec<PlacedToken>
+pub fn given_after(lexemes: Vec<PlacedToken>, kept: Kept) -> Vec<PlacedToken>
     ensures { result.items ≡ (if kept.gives_more then lexemes.items else []) }
 {
     let mut more = lexemes;

@@ -1,4 +1,4 @@
-pub mod Begun
+pub mod CharacterStarts
 pub mod Counts
 mod StringRows
 pub mod Ascii

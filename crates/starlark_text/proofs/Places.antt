@@ -5,9 +5,9 @@ use Rattle.std.proofs.lemmas.Bool.Decides.{nat_tests}
 use Rattle.std.proofs.lemmas.List.{take-append-drop}
 use Rattle.std.proofs.lemmas.Str.{encodes-chars, chars-append, IsUtf8-take}
 use Rattle.std.specs.Str.{chars, IsUtf8, IsCharBoundary}
-use Rattle.starlark_text.specs.Characters.{begins_character, char_count}
+use Rattle.starlark_text.specs.Characters.{starts_character, char_count}
 use Rattle.starlark_text.proofs.Counts.{begun_count}
-use Rattle.starlark_text.specs.Joints.Begins.{IsBegin}
+use Rattle.starlark_text.specs.Inner.Begins.{IsBegin}
 use Rattle.starlark_text.specs.Strings.{byte_place, character_place, IsFrom}
 use Rattle.starlark_text.proofs.Characters.{place_after, place_bound, chars_from}
 use mathlib.Core.Bool.{true≢false}
@@ -31,14 +31,14 @@ begin_place text index at utf8 begin =
     omega (arith, ap length (begin_from text index at utf8 begin).bytes, length-drop at text, length-drop (byte_place text index) text, begin.within, place_bound text index utf8)
 
 -- what the search for the byte that begins it answers
-pub place_is : (text : List ℕ) (index : ℕ) (found : Option ℕ) → IsUtf8 text → MatchOption found (count_by begins_character text < index) (IsBegin text index) → found ≡ character_place text index
+pub place_is : (text : List ℕ) (index : ℕ) (found : Option ℕ) → IsUtf8 text → MatchOption found (count_by starts_character text < index) (IsBegin text index) → found ≡ character_place text index
 place_is text index None utf8 few =
     let outside : nat_le index (char_count text) ≡ false = let count = begun_count text utf8 in grind (arith, nat_tests) in
     rw outside refl
 place_is text index (Some at) utf8 begin =
     rw (le-leb index (char_count text) (begin_from text index at utf8 begin).within) (ap Some (begin_place text index at utf8 begin))
 
-pub place_boundary_is : (text : List ℕ) (index : ℕ) (found : Option ℕ) → MatchOption found (count_by begins_character text < index) (IsBegin text index) → IfSome found (IsCharBoundary text)
+pub place_boundary_is : (text : List ℕ) (index : ℕ) (found : Option ℕ) → MatchOption found (count_by starts_character text < index) (IsBegin text index) → IfSome found (IsCharBoundary text)
 place_boundary_is text index None few = tt
 place_boundary_is text index (Some at) begin = begin_boundary text index at begin
 

@@ -7,9 +7,9 @@ abbrev pub char_count : List ℕ → ℕ
 char_count text = length (chars text)
 
 -- a byte of a text that begins a character; each other byte continues one
-abbrev pub begins_character : ℕ → Bool
-begins_character byte = nat_lt byte 128 || nat_le 192 byte
+abbrev pub starts_character : ℕ → Bool
+starts_character byte = nat_lt byte 128 || nat_le 192 byte
 
 -- a text has as many characters as bytes that begin a character
 abbrev pub CharactersBeginOnce : Type 0
-CharactersBeginOnce = (text : List ℕ) → IsUtf8 text → count_by begins_character text ≡ char_count text
+CharactersBeginOnce = (text : List ℕ) → IsUtf8 text → count_by starts_character text ≡ char_count text

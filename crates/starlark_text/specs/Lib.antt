@@ -2,7 +2,7 @@ pub mod Characters
 pub mod Dialects
 pub mod Cursors
 pub mod Indices
-pub mod Joints
+pub mod Inner
 pub mod Parts
 pub mod Strings
 pub mod FormatLaws

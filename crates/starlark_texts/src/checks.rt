@@ -71,7 +71,7 @@ fn is_balanced(lexed: &LexedText<'_>) -> bool {
 }
 
 /// Whether a token is one that no lexer yields.
-fn is_never_handed_out(token: &Token) -> bool {
+fn is_never_yielded(token: &Token) -> bool {
     let kind = token.kind();
     kind == "Tabs" || kind == "Reserved" || kind.starts_with("Raw")
 }
@@ -138,7 +138,7 @@ fn is_fault(
 /// Whether a lexer with a code map of an empty text yields the same lexemes and fault.
 ///
 /// After these it must yield `None`, twice.
-fn is_handed_out(alloc: Global, lexed: &LexedText<'_>) -> Result<bool, AllocError> {
+fn is_yielded(alloc: Global, lexed: &LexedText<'_>) -> Result<bool, AllocError> {
     let file = file_of(alloc, "")?;
     let Ok(mut lexer) = Lexer::new(alloc, lexed.text(), &Dialect::Standard, file) else {
         return Ok(false);
@@ -173,7 +173,7 @@ fn wrong_with_lexemes(lexed: &LexedText<'_>) -> Option<&'static str> {
     if lexed
         .lexemes()
         .iter()
-        .any(|(_, token, _)| is_never_handed_out(token))
+        .any(|(_, token, _)| is_never_yielded(token))
     {
         return Some("a token that no lexer hands out");
     }
@@ -204,7 +204,7 @@ pub fn wrong_with_lexed(
     file: &CodeMap,
     printed: &[u8],
 ) -> Result<Option<&'static str>, AllocError> {
-    if !is_handed_out(alloc, lexed)? {
+    if !is_yielded(alloc, lexed)? {
         return Ok(Some("a lexer hands out something else"));
     }
     if !is_printed(alloc, lexed, file, printed)? {

@@ -2,10 +2,10 @@
 
 ghost use Rattle.std.specs.Prelude.{◌≡◌, ◌<◌, ◌≤◌, ◌^◌, [], IfOk, length, slice_range};
 ghost use Rattle.std.specs.Str.{IsAscii, IsCharBoundary};
-ghost use Rattle.starlark_base.specs.Joints.CharacterCounts.{AreCounts, begun_before};
+ghost use Rattle.starlark_base.specs.Inner.CharacterCounts.{AreCounts, starts_before};
 ghost use Rattle.starlark_text.specs.Characters.{char_count};
 
-use starlark_text::character_starts::{count_begun, count_characters};
+use starlark_text::character_starts::{count_characters, count_starts};
 use std::alloc::{AllocError, Global};
 
 /// Bytes in a step.
@@ -20,7 +20,7 @@ fn counts_of_steps(alloc: Global, bytes: &[u8]) -> Result<Vec<u32>, AllocError>
     let mut count = 0;
     counts.push(count)?;
     for step in bytes.chunks_exact(STEP) {
-        count += count_begun(step) as u32;
+        count += count_starts(step) as u32;
         counts.push(count)?;
     }
     Ok(counts)
@@ -45,13 +45,13 @@ pub(crate) fn counts_of(alloc: Global, text: &str) -> Result<Vec<u32>, AllocErro
 fn characters_before(text: &str, counts: &[u32], at: usize) -> usize
     requires counted { AreCounts STEP text.now counts.now }
     requires within { at ≤ length text.now }
-    ensures { result ≡ begun_before text.now at }
+    ensures { result ≡ starts_before text.now at }
 {
     if counts.is_empty() {
         return at;
     }
     let step = at / STEP;
-    counts[step] as usize + count_begun(&text.as_bytes()[step * STEP..at])
+    counts[step] as usize + count_starts(&text.as_bytes()[step * STEP..at])
 }
 
 /// Number of characters between bytes `begin` and `end` of a text. Reads at most two steps of it.

@@ -3,7 +3,7 @@
 ghost use Rattle.std.specs.Prelude.{◌≡◌, ◌+◌, ◌<◌, ◌≤◌, ◌^◌, ◌↔◌, IsTrue, IfOk, OnOk, length, take, string_bytes, slice_index, SomeIff, IfSome};
 ghost use Rattle.std.specs.List.{suffix_len};
 ghost use Rattle.std.specs.Str.{IsCharBoundary, IsUtf8};
-ghost use Rattle.starlark_base.specs.Joints.CharacterCounts.{AreCounts};
+ghost use Rattle.starlark_base.specs.Inner.CharacterCounts.{AreCounts};
 ghost use Rattle.starlark_base.specs.Lines.{is_line_end, line_begin, line_count, line_span, line_text, text_of, trimmed_line_span, without_last, without_line_ends};
 ghost use Rattle.starlark_base.specs.Places.{place_at, resolved};
 ghost use Rattle.starlark_base.specs.Refusals.{IsRefused};

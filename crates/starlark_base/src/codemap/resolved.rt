@@ -46,9 +46,9 @@ impl ResolvedSpan {
     {
         let not_before = self.begin.line < pos.line
             || (self.begin.line == pos.line && self.begin.column <= pos.column);
-        let not_behind = pos.line < self.end.line
+        let not_after = pos.line < self.end.line
             || (pos.line == self.end.line && pos.column <= self.end.column);
-        not_before && not_behind
+        not_before && not_after
     }
 }
 

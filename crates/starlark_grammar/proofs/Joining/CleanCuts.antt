@@ -115,13 +115,13 @@ cut text h =
     cut_of text (read language text).pieces (read language text).last (read_is language text) refl two.0 two.1 (ends_line_of text one.1)
 
 -- the reading of a text whose first margin stands
-pub record Begun (text : Text) (first : Piece) : Type 0 where
+pub record CharacterStarts (text : Text) (first : Piece) : Type 0 where
   pub pieces : List Piece
   pub last : Step
   pub longest : IsLongestReading language (after nothing first) (drop first.len text) pieces last
   pub is : outcome text ≡ outcome_of text (first ∷ pieces) last
 
-pub begun : (text : Text) (first : Piece) → next_step language nothing text ≡ Stands first → Begun text first
+pub begun : (text : Text) (first : Piece) → next_step language nothing text ≡ Stands first → CharacterStarts text first
 unfolding outcome
 begun text first stands =
     let fits = piece_fits language nothing text first stands in
@@ -148,7 +148,7 @@ some_both (piece ∷ one) other some e = cc
 same_outcome : {one other : List Lexeme} {fault end : Option (Spanned Fault)} → one ≡ other → fault ≡ end → ◌≡◌ {A = Outcome} (record { lexemes = one; fault = fault }) (record { lexemes = other; fault = end })
 same_outcome e f = rw (e, f) refl
 
-module _ (text more : Text) (first : Piece) (pieces : List Piece) (here : Cut text pieces) (there : Begun more first) (stands : next_step language nothing more ≡ Stands first) where
+module _ (text more : Text) (first : Piece) (pieces : List Piece) (here : Cut text pieces) (there : CharacterStarts more first) (stands : next_step language nothing more ≡ Stands first) where
   pub both : Joined nothing (after_all nothing pieces) text more pieces first
   both = join_reading nothing text more pieces first here.ends here.some here.reads here.reach here.is_settled (margin_of_first more first stands)
 

@@ -14,7 +14,7 @@ use Rattle.starlark_grammar.specs.declared.class.LiteralKind.{LiteralKind as Kin
 use Rattle.starlark_grammar.specs.declared.class.Quote.TheVariants.{Single as SingleQuote, Double as DoubleQuote}
 use Rattle.starlark_grammar.specs.declared.class.LiteralKind.TheVariants.{Text as OfText, Bytes as OfBytes, FString as OfFString}
 use Rattle.starlark_grammar.specs.Tokens.{Opening}
-use Rattle.starlark_grammar.specs.Items.{Literal, Stop, Closing, Line, Ended, OpeningBrace, ClosingBrace, BadEscape, Found, Goes, Stops, goes, closing_quotes, broken, is_character, numbered, hexadecimal, octal, escaped_feed, simple_escapes, simple, is_of_bytes, escape, drops_backslash, raw_pair, brace, is_brace, found_at, Body, body_onward, body_from, body_at}
+use Rattle.starlark_grammar.specs.Items.{Literal, Stop, Closing, Line, Ended, OpeningBrace, ClosingBrace, BadEscape, Found, Goes, Stops, goes, closing_quotes, broken, is_character, numbered, hexadecimal, octal, escaped_newline, simple_escapes, simple, is_of_bytes, escape, drops_backslash, raw_pair, brace, is_brace, found_at, Body, body_onward, body_from, body_at}
 use Rattle.starlark_grammar.specs.Characters.{first_character}
 use Rattle.starlark_grammar.proofs.Literals.Bodies.{found_fits, FoundFits}
 use Rattle.starlark_grammar.proofs.Lines.{in_line}
@@ -136,7 +136,7 @@ octal_followed is_byte text more = go (prefix_len is_octal_digit (take 3 text)) 
     go : (n : ℕ) → prefix_len is_octal_digit (take 3 text) ≡ n → FoundFollowed (1 + length text) (by n text) (octal is_byte (text ++ more))
     go n e = numbered_followed (1 + length text) (1 + n) is_byte (digits_value 8 (take n text)) _ (equal n e)
 
-escaped_feed_followed : (len : ℕ) (text more : Text) → FoundFollowed len (escaped_feed text) (escaped_feed (text ++ more))
+escaped_feed_followed : (len : ℕ) (text more : Text) → FoundFollowed len (escaped_newline text) (escaped_newline (text ++ more))
 escaped_feed_followed len [] more = tt
 escaped_feed_followed len (b ∷ bs) more = both (FoundFollowed len) (b == byte "\n") _ _ _ _ (λ e. same_followed len (goes 3 [])) (λ e. broken_followed len 2 (b ∷ bs) (broken 2 (b ∷ (bs ++ more))))
 

@@ -8,13 +8,13 @@ use Rattle.std.proofs.lemmas.List.{drop-append-le, take-append-le, length-drop, 
 use Rattle.std.proofs.lemmas.List.Sums.{sum_by-append, sum_by-cons}
 use Rattle.starlark_grammar.specs.Words.{Text}
 use Rattle.starlark_grammar.specs.Tokens.{Lexeme, moved}
-use Rattle.starlark_grammar.specs.Margins.{is_blank, is_feed, blanks_len, lines, is_comment_only, comment_of, comments_from, comment_lines, comment_part, margin_from, Margin, margin_of, margin_len}
+use Rattle.starlark_grammar.specs.Margins.{is_blank, is_lf, blanks_len, lines, is_comment_only, comment_of, comments_from, comment_lines, comment_part, margin_from, Margin, margin_of, margin_len}
 use Rattle.starlark_grammar.proofs.Reading.Steps.{lines_len}
 
 -- the text is empty, or its last byte is an LF
 abbrev pub has_whole_lines : Text → Bool
 has_whole_lines [] = true
-has_whole_lines (b ∷ []) = is_feed b
+has_whole_lines (b ∷ []) = is_lf b
 has_whole_lines (b ∷ c ∷ bs) = has_whole_lines (c ∷ bs)
 
 -- a line has a byte
@@ -24,7 +24,7 @@ is_some_line (b ∷ bs) = true
 
 no_line : (b : ℕ) (bs : Text) → lines (b ∷ bs) ≡ [] → ⊥
 unfolding lines
-no_line b bs = go (is_feed b) (lines bs)
+no_line b bs = go (is_lf b) (lines bs)
   where
     go : (feed : Bool) (m : List Text) → (if feed then (b ∷ []) ∷ m else onto_first b m) ≡ [] → ⊥
     go true m e = cc
@@ -35,7 +35,7 @@ pub lines_followed : (text more : Text) → has_whole_lines text ≡ true → li
 unfolding lines
 lines_followed [] more h = refl
 lines_followed (b ∷ []) more h = rw h refl
-lines_followed (b ∷ c ∷ bs) more h = go (is_feed b) (lines (c ∷ bs)) (no_line c bs) (lines_followed (c ∷ bs) more h)
+lines_followed (b ∷ c ∷ bs) more h = go (is_lf b) (lines (c ∷ bs)) (no_line c bs) (lines_followed (c ∷ bs) more h)
   where
     go : (feed : Bool) (m : List Text) → (m ≡ [] → ⊥) → lines ((c ∷ bs) ++ more) ≡ m ++ lines more
         → (if feed then (b ∷ []) ∷ lines ((c ∷ bs) ++ more) else onto_first b (lines ((c ∷ bs) ++ more))) ≡ (if feed then (b ∷ []) ∷ m else onto_first b m) ++ lines more
@@ -64,7 +64,7 @@ lines_sum ls = sum_by (λ (line : Text). length line) ls
 pub some_lines : (text : Text) → list_all (λ (line : Text). is_some_line line) (lines text) ≡ true
 unfolding lines
 some_lines [] = refl
-some_lines (b ∷ bs) = go (is_feed b) (lines bs) (some_lines bs)
+some_lines (b ∷ bs) = go (is_lf b) (lines bs) (some_lines bs)
   where
     go : (feed : Bool) (m : List Text) → list_all (λ (line : Text). is_some_line line) m ≡ true → list_all (λ (line : Text). is_some_line line) (if feed then (b ∷ []) ∷ m else onto_first b m) ≡ true
     go true m h = h

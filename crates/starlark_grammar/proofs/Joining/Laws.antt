@@ -12,13 +12,13 @@ use Rattle.starlark_grammar.specs.Margins.{margin_of}
 use Rattle.starlark_grammar.specs.Pieces.{Piece, Step, Fails, Situation}
 use Rattle.starlark_grammar.specs.Reading.{History, nothing, after_all, situation, IsLongestReading, pieces_len, read, outcome}
 use Rattle.starlark_grammar.specs.Cuts.{is_layout, is_outside, is_settled, is_faultless, is_clean_cut, is_clean_cut_in, is_kept_cut, without_closing}
-use Rattle.starlark_grammar.specs.TextLaws.{LaterFaultsJoin, FailsLater, FaultsJoin, CutsOfJoined, TabsBehindCuts, KeptCutsKeep, HasFirstMargin}
+use Rattle.starlark_grammar.specs.TextLaws.{LaterFaultsJoin, FailsLater, FaultsJoin, CutsOfJoined, TabsAfterCuts, KeptCutsKeep, HasFirstMargin}
 use Rattle.starlark_grammar.proofs.Reading.Readings.{one_longest, longest_onward, read_is}
 use Rattle.starlark_grammar.proofs.Joining.Settled.{Settled, behind, situation_behind, map_none}
 use Rattle.starlark_grammar.proofs.Joining.CleanCuts.{cut, begun, longest, past, cuts_join}
 use Rattle.starlark_grammar.proofs.Joining.Tabs.{tab, HasTab, tab_of, margin_tab, first_step, first_margin_is, tab_longest, outcome_by, behind_tab}
 
-pub tabs_behind_cuts : TabsBehindCuts
+pub tabs_behind_cuts : TabsAfterCuts
 tabs_behind_cuts first second fault h fails = (behind_tab first second h (tab_of (margin_of second) fault (sym (first_step second) ∙ fails))).is
 
 -- a text whose first margin has a tab

@@ -11,7 +11,7 @@ use Rattle.starlark_grammar.specs.Words.{Text, class_in, language, line_ends, na
 use Rattle.starlark_grammar.specs.declared.class.Class.{Class}
 use Rattle.starlark_grammar.specs.Front.{longest_front}
 use Rattle.starlark_grammar.specs.Tokens.{Lexeme, Newline, Outcome, moved}
-use Rattle.starlark_grammar.specs.Margins.{is_comment_only, is_feed, lines, open_widths}
+use Rattle.starlark_grammar.specs.Margins.{is_comment_only, is_lf, lines, open_widths}
 use Rattle.starlark_grammar.specs.Depths.{is_balanced, open_fstring}
 use Rattle.starlark_grammar.specs.Pieces.{Piece, Stands}
 use Rattle.starlark_grammar.specs.Reading.{History, IsLongestReading, IsReading, after, after_all, lexemes_along, next_step, nothing, outcome, pieces_len, read}
@@ -73,12 +73,12 @@ line_end_ends rest n front =
 pub one_line : (line : Text) → is_line line ≡ true → 0 < length line → lines line ≡ line ∷ []
 unfolding lines
 one_line [] one some = absurd (omega (arith, some))
-one_line (b ∷ []) one some = go (is_feed b)
+one_line (b ∷ []) one some = go (is_lf b)
   where
     go : (feed : Bool) → (if feed then (b ∷ []) ∷ [] else onto_first b []) ≡ (b ∷ []) ∷ []
     go true = refl
     go false = refl
-one_line (b ∷ c ∷ bs) one some = go (is_feed b) (and_parts (not (is_feed b)) (is_line (c ∷ bs)) one) (one_line (c ∷ bs))
+one_line (b ∷ c ∷ bs) one some = go (is_lf b) (and_parts (not (is_lf b)) (is_line (c ∷ bs)) one) (one_line (c ∷ bs))
   where
     go : (feed : Bool) → (not feed ≡ true) × (is_line (c ∷ bs) ≡ true) → (is_line (c ∷ bs) ≡ true → 0 < length (c ∷ bs) → lines (c ∷ bs) ≡ (c ∷ bs) ∷ []) → (if feed then (b ∷ []) ∷ lines (c ∷ bs) else onto_first b (lines (c ∷ bs))) ≡ (b ∷ c ∷ bs) ∷ []
     go true h more = cc

@@ -13,7 +13,7 @@ use Rattle.starlark_grammar.specs.Words.{Text, is_octal_digit}
 use Rattle.starlark_grammar.specs.declared.class.Quote.{Quote}
 use Rattle.starlark_grammar.specs.declared.class.LiteralKind.{LiteralKind as Kind}
 use Rattle.starlark_grammar.specs.declared.class.LiteralKind.TheVariants.{Text as OfText, Bytes as OfBytes, FString as OfFString}
-use Rattle.starlark_grammar.specs.Items.{Literal, Line, Ended, Item, Found, Goes, Stops, goes, closing_quotes, broken, is_character, numbered, hexadecimal, octal, escaped_feed, simple_escapes, simple, is_of_bytes, escape, drops_backslash, raw_pair, brace, is_brace, found_at, Body, body_len, body_onward, body_from, body_at}
+use Rattle.starlark_grammar.specs.Items.{Literal, Line, Ended, Item, Found, Goes, Stops, goes, closing_quotes, broken, is_character, numbered, hexadecimal, octal, escaped_newline, simple_escapes, simple, is_of_bytes, escape, drops_backslash, raw_pair, brace, is_brace, found_at, Body, body_len, body_onward, body_from, body_at}
 use Rattle.starlark_grammar.specs.Characters.{first_character}
 use Rattle.starlark_grammar.proofs.Literals.Bodies.{found_fits, FoundFits}
 use Rattle.starlark_grammar.proofs.Joining.Followed.{ends_line, ends_line_rest}
@@ -81,9 +81,9 @@ octal_shortened is_byte text more = go (prefix_len is_octal_digit (take 3 (text 
     go : (n : ℕ) → prefix_len is_octal_digit (take 3 (text ++ more)) ≡ n → FoundShortened (1 + length text) (by n (text ++ more)) (octal is_byte text)
     go n e = numbered_shortened (1 + length text) (1 + n) is_byte (digits_value 8 (take n (text ++ more))) _ (equal n e)
 
-escaped_feed_shortened : (text more : Text) → FoundShortened (2 + length text) (escaped_feed (text ++ more)) (escaped_feed text)
+escaped_feed_shortened : (text more : Text) → FoundShortened (2 + length text) (escaped_newline (text ++ more)) (escaped_newline text)
 escaped_feed_shortened [] [] = λ closed. cc
-escaped_feed_shortened [] (c ∷ more) = both (λ one other. FoundShortened 2 one (escaped_feed [])) (c == byte "\n") _ _ (Stops Ended) (Stops Ended) (λ e. λ inside. absurd (omega (arith, inside))) (λ e. broken_shortened 2 2 (c ∷ more) (escaped_feed []))
+escaped_feed_shortened [] (c ∷ more) = both (λ one other. FoundShortened 2 one (escaped_newline [])) (c == byte "\n") _ _ (Stops Ended) (Stops Ended) (λ e. λ inside. absurd (omega (arith, inside))) (λ e. broken_shortened 2 2 (c ∷ more) (escaped_newline []))
 escaped_feed_shortened (b ∷ bs) more = both (FoundShortened (2 + length (b ∷ bs))) (b == byte "\n") _ _ _ _ (λ e. same_shortened _ (goes 3 [])) (λ e. broken_shortened (2 + length (b ∷ bs)) 2 (b ∷ (bs ++ more)) (broken 2 (b ∷ bs)))
 
 character_shortened : (text more : Text) → length (first_character (text ++ more)) < length text → first_character text ≡ first_character (text ++ more)
@@ -102,7 +102,7 @@ escape_shortened kind (b ∷ bs) more some =
     let two : 2 + length bs ≡ 1 + length (b ∷ bs) = omega arith in
     let P : Found → Found → Type 0 = FoundShortened (1 + length (b ∷ bs)) in
     both P (b == byte "\n") _ _ _ _ (λ e. same_shortened _ (goes 2 [])) (λ e.
-    both P (b == byte "\r") _ _ _ _ (λ e. subst (λ n. FoundShortened n (escaped_feed (bs ++ more)) (escaped_feed bs)) two (escaped_feed_shortened bs more)) (λ e.
+    both P (b == byte "\r") _ _ _ _ (λ e. subst (λ n. FoundShortened n (escaped_newline (bs ++ more)) (escaped_newline bs)) two (escaped_feed_shortened bs more)) (λ e.
     both P (b == byte "x") _ _ _ _ (λ e. subst (λ n. FoundShortened n (hexadecimal 2 (is_of_bytes kind) (bs ++ more)) (hexadecimal 2 (is_of_bytes kind) bs)) two (hexadecimal_shortened 2 (is_of_bytes kind) bs more)) (λ e.
     both P (b == byte "u") _ _ _ _ (λ e. subst (λ n. FoundShortened n (hexadecimal 4 false (bs ++ more)) (hexadecimal 4 false bs)) two (hexadecimal_shortened 4 false bs more)) (λ e.
     both P (b == byte "U") _ _ _ _ (λ e. subst (λ n. FoundShortened n (hexadecimal 8 false (bs ++ more)) (hexadecimal 8 false bs)) two (hexadecimal_shortened 8 false bs more)) (λ e.

@@ -18,8 +18,8 @@ use Rattle.starlark_grammar.specs.declared.class.Quote.TheVariants.{Single as Si
 use Rattle.starlark_grammar.specs.declared.class.LiteralKind.TheVariants.{Text as OfText, Bytes as OfBytes, FString as OfFString}
 use Rattle.starlark_grammar.specs.Items.{Literal, Item, Stop, Line, OpeningBrace, ClosingBrace, Found, Goes, Stops, goes, closing_quotes, broken, is_character, numbered, hexadecimal, octal, simple_escapes, simple, is_of_bytes, escape, drops_backslash, raw_pair, brace, is_brace, found_at, Body, body_len, body_value, body_onward, body_from, body_at}
 use Rattle.starlark_grammar.specs.Characters.{first_character}
-use Rattle.starlark_grammar.specs.Margins.{is_feed}
-use Rattle.starlark_grammar.specs.LineEnds.{holds_escaped_feed}
+use Rattle.starlark_grammar.specs.Margins.{is_lf}
+use Rattle.starlark_grammar.specs.LineEnds.{holds_escaped_newline}
 use Rattle.starlark_grammar.proofs.Lists.{drop-sum, drop-behind}
 use Rattle.starlark_grammar.proofs.Lines.{in_line}
 use Rattle.starlark_grammar.proofs.Literals.Bodies.{FoundFits, found_fits}
@@ -34,10 +34,10 @@ use Rattle.starlark_grammar.proofs.LineEnds.Texts.{crlf, no_return, crlf_front, 
 abbrev pub apart : ℕ → Text → Bool
 apart zero [] = true
 apart (suc n) [] = true
-apart (suc n) (b ∷ bs) = not (is_feed b) && apart n bs
+apart (suc n) (b ∷ bs) = not (is_lf b) && apart n bs
 apart zero (b ∷ bs) = apart (continuation_len b) bs
 
-high_byte : (b : ℕ) → 128 ≤ b → is_feed b ≡ false
+high_byte : (b : ℕ) → 128 ≤ b → is_lf b ≡ false
 high_byte b h = grind (arith, nat_tests)
 
 low_byte : (b : ℕ) → b < 128 → continuation_len b ≡ 0
@@ -86,7 +86,7 @@ utf8_apart text utf8 = subst (λ (t : Text). apart 0 t ≡ true) utf8.1.1 (go ut
     go [] s = refl
     go (c ∷ cs) s = let parts = and_parts (scalar c) (scalars cs) s in encode_apart c (encodes cs) (in_range c (scalar_cases c parts.0)) (go cs parts.1)
 
-pub form_other : (b : ℕ) (bs : Text) → is_feed b ≡ false → crlf (b ∷ bs) ≡ b ∷ crlf bs
+pub form_other : (b : ℕ) (bs : Text) → is_lf b ≡ false → crlf (b ∷ bs) ≡ b ∷ crlf bs
 form_other b bs e = rw e refl
 
 -- the rest of a character
@@ -100,14 +100,14 @@ rest_crlf zero [] h = record { same = refl; left = refl; apart = refl }
 rest_crlf (suc n) [] h = record { same = refl; left = refl; apart = refl }
 rest_crlf zero (b ∷ bs) h = record { same = refl; left = refl; apart = h }
 rest_crlf (suc n) (b ∷ bs) h =
-    let parts = and_parts (not (is_feed b)) (apart n bs) h in
-    go (not_true (is_feed b) parts.0) (rest_crlf n bs parts.1)
+    let parts = and_parts (not (is_lf b)) (apart n bs) h in
+    go (not_true (is_lf b) parts.0) (rest_crlf n bs parts.1)
   where
     not_true : (test : Bool) → not test ≡ true → test ≡ false
     not_true true h = cc
     not_true false h = refl
 
-    go : is_feed b ≡ false → RestCrlf n bs → RestCrlf (suc n) (b ∷ bs)
+    go : is_lf b ≡ false → RestCrlf n bs → RestCrlf (suc n) (b ∷ bs)
     go e rest = record {
       same = ap (take (suc n)) (form_other b bs e) ∙ ap (λ (t : Text). b ∷ t) rest.same;
       left = ap (drop (suc (length (take n bs)))) (form_other b bs e) ∙ rest.left;
@@ -171,7 +171,7 @@ octal_line : (b : ℕ) → is_octal_digit b ≡ true → is_in_line b ≡ true
 octal_line b h = grind (arith, nat_tests)
 
 -- digits behind a backslash and a letter
-hexadecimal_crlf : (x wanted : ℕ) (is_byte : Bool) (bs : Text) → is_feed x ≡ false → apart 0 bs ≡ true → FoundCrlf (92 ∷ x ∷ bs) (hexadecimal wanted is_byte bs) (hexadecimal wanted is_byte (crlf bs))
+hexadecimal_crlf : (x wanted : ℕ) (is_byte : Bool) (bs : Text) → is_lf x ≡ false → apart 0 bs ≡ true → FoundCrlf (92 ∷ x ∷ bs) (hexadecimal wanted is_byte bs) (hexadecimal wanted is_byte (crlf bs))
 hexadecimal_crlf x wanted is_byte bs plain more = go (prefix_len is_ascii_hexdigit (take wanted bs)) refl
   where
     by : ℕ → Text → Found
@@ -219,11 +219,11 @@ octal_crlf is_byte bs more = go (prefix_len is_octal_digit (take 3 bs)) refl
         numbered_crlf (92 ∷ bs) (1 + n) is_byte (digits_value 8 (take n bs)) _ left rest (same ∙ ap (λ (t : Text). numbered (1 + n) is_byte (digits_value 8 t)) front.0)
 
 -- a character behind so many bytes
-character_crlf : (b : ℕ) (bs : Text) → is_feed b ≡ false → apart 0 (b ∷ bs) ≡ true
+character_crlf : (b : ℕ) (bs : Text) → is_lf b ≡ false → apart 0 (b ∷ bs) ≡ true
     → (first_character (b ∷ crlf bs) ≡ first_character (b ∷ bs)) × (drop (length (first_character (b ∷ bs))) (b ∷ crlf bs) ≡ crlf (drop (length (first_character (b ∷ bs))) (b ∷ bs))) × (apart 0 (drop (length (first_character (b ∷ bs))) (b ∷ bs)) ≡ true)
 character_crlf b bs plain h = let rest = rest_crlf (continuation_len b) bs h in (ap (λ (t : Text). b ∷ t) rest.same, rest.left, rest.apart)
 
-simple_crlf : (b : ℕ) (bs : Text) (value : Option ℕ) → is_feed b ≡ false → b < 128 ⊎ (value ≡ None) → apart 0 (b ∷ bs) ≡ true → FoundCrlf (92 ∷ b ∷ bs) (simple value (first_character (b ∷ bs))) (simple value (first_character (b ∷ crlf bs)))
+simple_crlf : (b : ℕ) (bs : Text) (value : Option ℕ) → is_lf b ≡ false → b < 128 ⊎ (value ≡ None) → apart 0 (b ∷ bs) ≡ true → FoundCrlf (92 ∷ b ∷ bs) (simple value (first_character (b ∷ bs))) (simple value (first_character (b ∷ crlf bs)))
 simple_crlf b bs None plain known h =
     let rest = character_crlf b bs plain h in
     let len : 1 + length (first_character (b ∷ bs)) ≡ suc (length (first_character (b ∷ bs))) = omega arith in
@@ -248,7 +248,7 @@ looked_up b = go (cases_lt b 128)
 escape_crlf : (kind : Kind) (bs : Text) → no_return bs ≡ true → apart 0 bs ≡ true → FoundCrlf (92 ∷ bs) (escape kind bs) (escape kind (crlf bs))
 unfolding escape
 escape_crlf kind [] h more = broken_crlf (92 ∷ []) 1 [] (escape kind [])
-escape_crlf kind (b ∷ bs) h more = go (is_feed b) refl
+escape_crlf kind (b ∷ bs) h more = go (is_lf b) refl
   where
     parts : (not (b == 13) ≡ true) × (no_return bs ≡ true)
     parts = and_parts (not (b == 13)) (no_return bs) h
@@ -262,7 +262,7 @@ escape_crlf kind (b ∷ bs) h more = go (is_feed b) refl
     letter : (c : ℕ) → c < 128 → (b == c) ≡ true → apart 0 bs ≡ true
     letter c low e = ascii (omega (arith, low, eqb-true b c e))
 
-    other : is_feed b ≡ false → FoundCrlf (92 ∷ b ∷ bs) (escape kind (b ∷ bs)) (escape kind (b ∷ crlf bs))
+    other : is_lf b ≡ false → FoundCrlf (92 ∷ b ∷ bs) (escape kind (b ∷ bs)) (escape kind (b ∷ crlf bs))
     other plain =
         both (FoundCrlf (92 ∷ b ∷ bs)) (b == byte "\n") _ _ _ _ (λ e. let wrong : true ≡ false = sym e ∙ plain in cc) (λ e.
         both (FoundCrlf (92 ∷ b ∷ bs)) (b == byte "\r") _ _ _ _ (λ e. let wrong : not true ≡ true = subst (λ (t : Bool). not t ≡ true) e parts.0 in cc) (λ e.
@@ -275,7 +275,7 @@ escape_crlf kind (b ∷ bs) h more = go (is_feed b) refl
     feed : (c : ℕ) → c ≡ 10 → apart 0 (c ∷ bs) ≡ true → FoundCrlf (92 ∷ c ∷ bs) (escape kind (c ∷ bs)) (escape kind (13 ∷ 10 ∷ crlf bs))
     feed c e k = subst (λ c. apart 0 (c ∷ bs) ≡ true → FoundCrlf (92 ∷ c ∷ bs) (escape kind (c ∷ bs)) (escape kind (13 ∷ 10 ∷ crlf bs))) (sym e) (λ k. (record { len = 3; value = [] }, refl, refl, refl, k)) k
 
-    go : (feeds : Bool) → is_feed b ≡ feeds → FoundCrlf (92 ∷ b ∷ bs) (escape kind (b ∷ bs)) (escape kind (if feeds then 13 ∷ 10 ∷ crlf bs else b ∷ crlf bs))
+    go : (lf_search : Bool) → is_lf b ≡ lf_search → FoundCrlf (92 ∷ b ∷ bs) (escape kind (b ∷ bs)) (escape kind (if lf_search then 13 ∷ 10 ∷ crlf bs else b ∷ crlf bs))
     go true e = feed b (eqb-true b 10 e) more
     go false e = other e
 
@@ -284,25 +284,25 @@ raw_pair_crlf : (kind : Kind) (quote : Quote) (bs : Text) → starts_with nat_eq
 unfolding raw_pair
 raw_pair_crlf kind quote [] other more = λ closed. cc
 raw_pair_crlf kind quote (b ∷ bs) other more =
-    let plain : is_feed b ≡ false = not_feed b bs other in
+    let plain : is_lf b ≡ false = not_feed b bs other in
     let rest = character_crlf b bs plain more in
     let len : 1 + length (first_character (b ∷ bs)) ≡ suc (length (first_character (b ∷ bs))) = omega arith in
     same_item (92 ∷ b ∷ bs) (1 + length (first_character (b ∷ bs))) (if drops_backslash kind quote b then first_character (b ∷ bs) else byte "\\" ∷ first_character (b ∷ bs)) _
     (rw (len) (ap (drop (length (first_character (b ∷ bs)))) (form_other b bs plain) ∙ rest.1)) (rw (len) rest.2)
     (ap (raw_pair kind quote) (form_other b bs plain) ∙ ap (λ (character : Text). goes (1 + length character) (if drops_backslash kind quote b then character else byte "\\" ∷ character)) rest.0)
   where
-    not_feed : (b : ℕ) (bs : Text) → starts_with nat_eq (b ∷ bs) (codes "\n") ≡ false → is_feed b ≡ false
-    not_feed b bs h = go (is_feed b) refl
+    not_feed : (b : ℕ) (bs : Text) → starts_with nat_eq (b ∷ bs) (codes "\n") ≡ false → is_lf b ≡ false
+    not_feed b bs h = go (is_lf b) refl
       where
-        go : (feed : Bool) → is_feed b ≡ feed → feed ≡ false
+        go : (feed : Bool) → is_lf b ≡ feed → feed ≡ false
         go false e = refl
         go true e = let wrong : true ≡ false = subst (λ c. starts_with nat_eq (c ∷ bs) (codes "\n") ≡ false) (eqb-true b 10 e) h in cc
 
 brace_crlf : (kind : Kind) (b : ℕ) (bs : Text) → is_brace kind b ≡ true → no_return bs ≡ true → apart 0 (b ∷ bs) ≡ true → FoundCrlf (b ∷ bs) (brace b bs) (brace b (crlf bs))
 brace_crlf kind b [] h k more = same_stop (b ∷ []) (if b == byte "{" then OpeningBrace else ClosingBrace)
-brace_crlf kind b (c ∷ cs) h k more = go (is_feed c) refl
+brace_crlf kind b (c ∷ cs) h k more = go (is_lf c) refl
   where
-    low : (kind : Kind) → is_brace kind b ≡ true → (b < 128) × (is_feed b ≡ false) × (nat_eq b 13 ≡ false)
+    low : (kind : Kind) → is_brace kind b ≡ true → (b < 128) × (is_lf b ≡ false) × (nat_eq b 13 ≡ false)
     low OfFString h = (grind (arith, nat_tests), grind (arith, nat_tests), grind (arith, nat_tests))
     low OfText h = cc
     low OfBytes h = cc
@@ -313,7 +313,7 @@ brace_crlf kind b (c ∷ cs) h k more = go (is_feed c) refl
     behind : apart 0 (c ∷ cs) ≡ true
     behind = subst (λ n. apart n (c ∷ cs) ≡ true) (low_byte b (low kind h).0) more
 
-    go : (feeds : Bool) → is_feed c ≡ feeds → FoundCrlf (b ∷ c ∷ cs) (brace b (c ∷ cs)) (brace b (if feeds then 13 ∷ 10 ∷ crlf cs else c ∷ crlf cs))
+    go : (lf_search : Bool) → is_lf c ≡ lf_search → FoundCrlf (b ∷ c ∷ cs) (brace b (c ∷ cs)) (brace b (if lf_search then 13 ∷ 10 ∷ crlf cs else c ∷ crlf cs))
     go true e =
         let other : (b == c) ≡ false = ap (λ n. b == n) (eqb-true c 10 e) ∙ (low kind h).1 in
         rw (other, (low kind h).2) (λ closed. refl)
@@ -321,11 +321,11 @@ brace_crlf kind b (c ∷ cs) h k more = go (is_feed c) refl
         (λ same. same_item (b ∷ c ∷ cs) 2 (b ∷ []) _ (drop_two (low kind h).1 e) (subst (λ n. apart n cs ≡ true) (low_byte c (omega (arith, (low kind h).0, eqb-true b c same))) behind) refl)
         (λ differs. λ closed. refl)
       where
-        drop_two : is_feed b ≡ false → is_feed c ≡ false → drop 2 (crlf (b ∷ c ∷ cs)) ≡ crlf (drop 2 (b ∷ c ∷ cs))
+        drop_two : is_lf b ≡ false → is_lf c ≡ false → drop 2 (crlf (b ∷ c ∷ cs)) ≡ crlf (drop 2 (b ∷ c ∷ cs))
         drop_two f e = rw (f, e) refl
 
 -- What stands at a place that no LF begins.
-found_crlf : (literal : Literal) (b : ℕ) (bs : Text) → is_feed b ≡ false → not (b == 13) ≡ true → no_return bs ≡ true → apart 0 (b ∷ bs) ≡ true
+found_crlf : (literal : Literal) (b : ℕ) (bs : Text) → is_lf b ≡ false → not (b == 13) ≡ true → no_return bs ≡ true → apart 0 (b ∷ bs) ≡ true
     → ((b == byte "\\" && literal.opening.is_raw) ≡ true → starts_with nat_eq bs (codes "\n") ≡ false) → FoundCrlf (b ∷ bs) (found_at literal (b ∷ bs)) (found_at literal (b ∷ crlf bs))
 unfolding found_at
 found_crlf literal b bs plain returned h more raw =
@@ -447,7 +447,7 @@ feed_onward literal bs rest triple again =
 
 -- Raw bodies hold no backslash right before an LF.
 abbrev pub RawApart : Literal → Text → Body → Type 0
-RawApart literal text body = literal.opening.is_raw ≡ true → holds_escaped_feed (take (body_len body) text) ≡ false
+RawApart literal text body = literal.opening.is_raw ≡ true → holds_escaped_newline (take (body_len body) text) ≡ false
 
 raw_apart : (literal : Literal) (b : ℕ) (bs : Text) (rest : ℕ → Body) → RawApart literal (b ∷ bs) (body_onward (found_at literal (b ∷ bs)) rest) → (b == byte "\\" && literal.opening.is_raw) ≡ true → starts_with nat_eq bs (codes "\n") ≡ false
 raw_apart literal b bs rest none e = go (starts_with nat_eq bs (codes "\n")) refl
@@ -464,16 +464,16 @@ raw_apart literal b bs rest none e = go (starts_with nat_eq bs (codes "\n")) ref
         let item : Item = record { len = 2; value = found.0 } in
         let len : body_len (body_onward (found_at literal (92 ∷ 10 ∷ drop 1 bs)) rest) ≡ suc (suc (body_len (rest 1))) =
         ap (λ (found : Found). body_len (body_onward found rest)) found.1 ∙ item_total item (rest 1) ∙ omega arith in
-        let holds : holds_escaped_feed (take (body_len (body_onward (found_at literal (92 ∷ 10 ∷ drop 1 bs)) rest)) (92 ∷ 10 ∷ drop 1 bs)) ≡ false =
-        subst (λ (t : Text). holds_escaped_feed (take (body_len (body_onward (found_at literal t) rest)) t) ≡ false) same (none parts.1) in
-        sym (ap (λ n. holds_escaped_feed (take n (92 ∷ 10 ∷ drop 1 bs))) len) ∙ holds
+        let holds : holds_escaped_newline (take (body_len (body_onward (found_at literal (92 ∷ 10 ∷ drop 1 bs)) rest)) (92 ∷ 10 ∷ drop 1 bs)) ≡ false =
+        subst (λ (t : Text). holds_escaped_newline (take (body_len (body_onward (found_at literal t) rest)) t) ≡ false) same (none parts.1) in
+        sym (ap (λ n. holds_escaped_newline (take n (92 ∷ 10 ∷ drop 1 bs))) len) ∙ holds
 
-pub holds_drop : (n : ℕ) (text : Text) → holds_escaped_feed text ≡ false → holds_escaped_feed (drop n text) ≡ false
+pub holds_drop : (n : ℕ) (text : Text) → holds_escaped_newline text ≡ false → holds_escaped_newline (drop n text) ≡ false
 holds_drop zero text h = h
 holds_drop (suc n) [] h = h
 holds_drop (suc n) (b ∷ bs) h = holds_drop n bs (go (b == byte "\\" && starts_with nat_eq bs (codes "\n")) h)
   where
-    go : (test : Bool) → (test || holds_escaped_feed bs) ≡ false → holds_escaped_feed bs ≡ false
+    go : (test : Bool) → (test || holds_escaped_newline bs) ≡ false → holds_escaped_newline bs ≡ false
     go true e = cc
     go false e = e
 
@@ -483,7 +483,7 @@ unfolding body_from
 body_from_crlf literal zero [] h more raw closed = cc
 body_from_crlf literal (suc passed) [] h more raw closed = cc
 body_from_crlf literal (suc passed) (b ∷ bs) h more raw closed = body_from_crlf literal passed bs (and_parts (not (b == 13)) (no_return bs) h).1 more raw closed
-body_from_crlf literal zero (b ∷ bs) h more raw closed = by (is_feed b) refl (λ passed. body_from_crlf literal passed bs parts.1)
+body_from_crlf literal zero (b ∷ bs) h more raw closed = by (is_lf b) refl (λ passed. body_from_crlf literal passed bs parts.1)
   where
     parts : (not (b == 13) ≡ true) × (no_return bs ≡ true)
     parts = and_parts (not (b == 13)) (no_return bs) h
@@ -501,7 +501,7 @@ body_from_crlf literal zero (b ∷ bs) h more raw closed = by (is_feed b) refl (
         let total : take (body_len (with_item item (body_from literal (item.len - 1) bs))) (b ∷ bs) ≡ take (item.len + body_len (body_from literal (item.len - 1) bs)) (b ∷ bs) = ap (λ n. take n (b ∷ bs)) (item_total item (body_from literal (item.len - 1) bs)) in
         let dropped : drop item.len (take (item.len + body_len (body_from literal (item.len - 1) bs)) (b ∷ bs)) ≡ take (body_len (body_from literal (item.len - 1) bs)) (drop (item.len - 1) bs) =
         drop-take item.len (body_len (body_from literal (item.len - 1) bs)) (b ∷ bs) ∙ ap (take (body_len (body_from literal (item.len - 1) bs))) (drop-behind item.len b bs some) in
-        subst (λ (t : Text). holds_escaped_feed t ≡ false) (ap (drop item.len) total ∙ dropped) (holds_drop item.len (take (body_len (with_item item (body_from literal (item.len - 1) bs))) (b ∷ bs)) all)
+        subst (λ (t : Text). holds_escaped_newline t ≡ false) (ap (drop item.len) total ∙ dropped) (holds_drop item.len (take (body_len (with_item item (body_from literal (item.len - 1) bs))) (b ∷ bs)) all)
 
     feed : (b : ℕ) → b ≡ 10 → apart 0 (b ∷ bs) ≡ true → RawApart literal (b ∷ bs) (body_onward (found_at literal (b ∷ bs)) rest) → is_closed (body_onward (found_at literal (b ∷ bs)) rest).stop ≡ true → Again
         → BodyCrlf literal (b ∷ bs) (body_onward (found_at literal (b ∷ bs)) rest)
@@ -527,9 +527,9 @@ body_from_crlf literal zero (b ∷ bs) h more raw closed = by (is_feed b) refl (
             one_less : RawApart literal (b ∷ bs) (with_item (record { len = 1; value = 10 ∷ [] }) (body_from literal 0 bs)) → RawApart literal bs (body_from literal 0 bs)
             one_less none is_raw =
                 let one : body_len (with_item (record { len = 1; value = 10 ∷ [] }) (body_from literal 0 bs)) ≡ suc (body_len (body_from literal 0 bs)) = item_total (record { len = 1; value = 10 ∷ [] }) (body_from literal 0 bs) ∙ omega arith in
-                holds_drop 1 (take (suc (body_len (body_from literal 0 bs))) (b ∷ bs)) (subst (λ n. holds_escaped_feed (take n (b ∷ bs)) ≡ false) one (none is_raw))
+                holds_drop 1 (take (suc (body_len (body_from literal 0 bs))) (b ∷ bs)) (subst (λ n. holds_escaped_newline (take n (b ∷ bs)) ≡ false) one (none is_raw))
 
-    by : (feeds : Bool) → is_feed b ≡ feeds → Again → BodyCrlf literal (b ∷ bs) (body_onward (found_at literal (b ∷ bs)) rest)
+    by : (lf_search : Bool) → is_lf b ≡ lf_search → Again → BodyCrlf literal (b ∷ bs) (body_onward (found_at literal (b ∷ bs)) rest)
     by true e again = feed b (eqb-true b 10 e) more raw closed again
     by false e again = go (found_at literal (b ∷ bs)) refl (found_crlf literal b bs e parts.0 parts.1 more (raw_apart literal b bs rest raw)) raw closed
       where

@@ -12,7 +12,7 @@ use Rattle.starlark_grammar.specs.Words.{Text, class_in, openers, line_ends, sym
 use Rattle.starlark_grammar.specs.declared.class.Class.{Class}
 use Rattle.starlark_grammar.specs.declared.class.Class.TheVariants.{Skipped, Comment, Tabs, LineEnd, Identifier, Decimal, Hexadecimal, Octal, Binary, Float}
 use Rattle.starlark_grammar.specs.Front.{longer, longest_front}
-use Rattle.starlark_grammar.specs.Margins.{is_feed}
+use Rattle.starlark_grammar.specs.Margins.{is_lf}
 use Rattle.starlark_grammar.proofs.Words.Tables.{class_in-language}
 use Rattle.starlark_grammar.proofs.Lines.{in_line, same_in_line, run_in_line, comment_in_line, identifier_in_line, digit_in_line, based_in_line, hexadecimal_in_line, octal_in_line, binary_in_line, float_in_line, pointed_in_line}
 use Rattle.starlark_grammar.proofs.LineEnds.Texts.{crlf, no_return, crlf_line, stripped, stripped_plain, stripped_crlf}
@@ -103,13 +103,13 @@ Stripped word = SameClass (stripped word)
 -- a CR LF in it
 crlf_out : (text : Text) → in_line text ≡ false → in_line (crlf text) ≡ false
 crlf_out [] h = h
-crlf_out (b ∷ bs) h = go (is_feed b) refl (crlf_out bs)
+crlf_out (b ∷ bs) h = go (is_lf b) refl (crlf_out bs)
   where
     rest : (line : Bool) → (line && in_line bs) ≡ false → (in_line bs ≡ false → in_line (crlf bs) ≡ false) → (line && in_line (crlf bs)) ≡ false
     rest true h more = more h
     rest false h more = refl
 
-    go : (feed : Bool) → is_feed b ≡ feed → (in_line bs ≡ false → in_line (crlf bs) ≡ false) → in_line (if feed then 13 ∷ 10 ∷ crlf bs else b ∷ crlf bs) ≡ false
+    go : (feed : Bool) → is_lf b ≡ feed → (in_line bs ≡ false → in_line (crlf bs) ≡ false) → in_line (if feed then 13 ∷ 10 ∷ crlf bs else b ∷ crlf bs) ≡ false
     go true e more = refl
     go false e more = rest (not (b == 13) && not (b == 10)) h more
 
@@ -161,7 +161,7 @@ front_forms : {C : Type 0} (class_of other : Text → Option C) (text : Text) �
     → longest_front other (crlf text) ≡ option_map (λ (front : C × ℕ). (front.0, length (crlf (take front.1 text)))) (longest_front class_of text)
 unfolding longest_front
 front_forms {C} class_of other [] h same none = refl
-front_forms {C} class_of other (b ∷ bs) h same none = go (is_feed b) refl (λ feed e. front_forms (λ word. class_of (b ∷ word)) (λ word. other (form feed word)) bs parts.1 (same_rest feed e) (λ word. none_rest feed word))
+front_forms {C} class_of other (b ∷ bs) h same none = go (is_lf b) refl (λ feed e. front_forms (λ word. class_of (b ∷ word)) (λ word. other (form feed word)) bs parts.1 (same_rest feed e) (λ word. none_rest feed word))
   where
     parts : (not (b == 13) ≡ true) × (no_return bs ≡ true)
     parts = and_parts (not (b == 13)) (no_return bs) h
@@ -169,27 +169,27 @@ front_forms {C} class_of other (b ∷ bs) h same none = go (is_feed b) refl (λ 
     form : (feed : Bool) → Text → Text
     form feed t = if feed then 13 ∷ 10 ∷ t else b ∷ t
 
-    same_rest : (feed : Bool) → is_feed b ≡ feed → (word : Text) → no_return word ≡ true → other (form feed (crlf word)) ≡ class_of (b ∷ word)
+    same_rest : (feed : Bool) → is_lf b ≡ feed → (word : Text) → no_return word ≡ true → other (form feed (crlf word)) ≡ class_of (b ∷ word)
     same_rest feed e word k = ap (λ (f : Bool). other (form f (crlf word))) (sym e) ∙ same (b ∷ word) (rw (parts.0) k)
 
     none_rest : (feed : Bool) (word : Text) → other (form feed (word ++ 13 ∷ [])) ≡ None
     none_rest true word = none (13 ∷ 10 ∷ word)
     none_rest false word = none (b ∷ word)
 
-    lens : (front : C × ℕ) (feed : Bool) → is_feed b ≡ feed → length (form feed (crlf (take front.1 bs))) ≡ length (crlf (take (front.1 + 1) (b ∷ bs)))
+    lens : (front : C × ℕ) (feed : Bool) → is_lf b ≡ feed → length (form feed (crlf (take front.1 bs))) ≡ length (crlf (take (front.1 + 1) (b ∷ bs)))
     lens front feed e = rw add-one (ap (λ (f : Bool). length (form f (crlf (take front.1 bs)))) (sym e))
 
-    alone : (feed : Bool) → is_feed b ≡ feed → length (form feed []) ≡ length (crlf (take 1 (b ∷ bs)))
+    alone : (feed : Bool) → is_lf b ≡ feed → length (form feed []) ≡ length (crlf (take 1 (b ∷ bs)))
     alone feed e = ap (λ (f : Bool). length (form f [])) (sym e)
 
-    plain : is_feed b ≡ false → (more : Option (C × ℕ)) (one : Option C) → longer (option_map (λ (front : C × ℕ). (front.0, length (crlf (take front.1 bs)))) more) one ≡ option_map (λ (front : C × ℕ). (front.0, length (crlf (take front.1 (b ∷ bs))))) (longer more one)
+    plain : is_lf b ≡ false → (more : Option (C × ℕ)) (one : Option C) → longer (option_map (λ (front : C × ℕ). (front.0, length (crlf (take front.1 bs)))) more) one ≡ option_map (λ (front : C × ℕ). (front.0, length (crlf (take front.1 (b ∷ bs))))) (longer more one)
     plain e (Some front) one =
         let total : length (crlf (take front.1 bs)) + 1 ≡ length (crlf (take (front.1 + 1) (b ∷ bs))) = omega (arith, lens front false e) in
         ap (λ n. Some (front.0, n)) total
     plain e None (Some class) = ap (λ n. Some (class, n)) (alone false e)
     plain e None None = refl
 
-    fed : is_feed b ≡ true → (more : Option (C × ℕ)) (one : Option C) → longer (longer (option_map (λ (front : C × ℕ). (front.0, length (crlf (take front.1 bs)))) more) one) None ≡ option_map (λ (front : C × ℕ). (front.0, length (crlf (take front.1 (b ∷ bs))))) (longer more one)
+    fed : is_lf b ≡ true → (more : Option (C × ℕ)) (one : Option C) → longer (longer (option_map (λ (front : C × ℕ). (front.0, length (crlf (take front.1 bs)))) more) one) None ≡ option_map (λ (front : C × ℕ). (front.0, length (crlf (take front.1 (b ∷ bs))))) (longer more one)
     fed e (Some front) one =
         let total : length (crlf (take front.1 bs)) + 1 + 1 ≡ length (crlf (take (front.1 + 1) (b ∷ bs))) = omega (arith, lens front true e) in
         ap (λ n. Some (front.0, n)) total
@@ -198,8 +198,8 @@ front_forms {C} class_of other (b ∷ bs) h same none = go (is_feed b) refl (λ 
         ap (λ n. Some (class, n)) total
     fed e None None = refl
 
-    go : (feed : Bool) → is_feed b ≡ feed
-        → ((feed : Bool) → is_feed b ≡ feed → longest_front (λ word. other (form feed word)) (crlf bs) ≡ option_map (λ (front : C × ℕ). (front.0, length (crlf (take front.1 bs)))) (longest_front (λ word. class_of (b ∷ word)) bs))
+    go : (feed : Bool) → is_lf b ≡ feed
+        → ((feed : Bool) → is_lf b ≡ feed → longest_front (λ word. other (form feed word)) (crlf bs) ≡ option_map (λ (front : C × ℕ). (front.0, length (crlf (take front.1 bs)))) (longest_front (λ word. class_of (b ∷ word)) bs))
         → longest_front other (form feed (crlf bs)) ≡ option_map (λ (front : C × ℕ). (front.0, length (crlf (take front.1 (b ∷ bs))))) (longest_front class_of (b ∷ bs))
     go false e more = rw (more false e, same_rest false e [] refl) (plain e _ _)
     go true e more = rw (more true e, same_rest true e [] refl, none []) (fed e _ _)

@@ -8,7 +8,7 @@ use Rattle.std.proofs.lemmas.List.{take-append-drop, length-take-le}
 use Rattle.std.proofs.lemmas.List.Sums.{sum_by-cons, prefix_len-le-length}
 use Rattle.starlark_grammar.specs.Words.{Text}
 use Rattle.starlark_grammar.specs.Tokens.{Token, Newline, Comment, Indent, Dedent, Lexeme, InvalidTab, Indentation, moved}
-use Rattle.starlark_grammar.specs.Margins.{is_blank, is_feed, blanks_len, lines, begins_comment, is_comment_only, without_return, comment_part, comment_of, comments_from, comment_lines, Margin, margin_from, margin_of, margin_len, is_content, has_tab, width_of, is_widest, fits, indentation}
+use Rattle.starlark_grammar.specs.Margins.{is_blank, is_lf, blanks_len, lines, begins_comment, is_comment_only, without_return, comment_part, comment_of, comments_from, comment_lines, Margin, margin_from, margin_of, margin_len, is_content, has_tab, width_of, is_widest, fits, indentation}
 use Rattle.starlark_grammar.specs.Pieces.{Layout, Piece, Stands, Fails, margin_step}
 use Rattle.starlark_grammar.proofs.Lists.{drop-sum}
 use Rattle.starlark_grammar.proofs.LineEnds.Texts.{crlf, no_return, crlf_both}
@@ -34,14 +34,14 @@ data BlanksCrlf (text : Text) : Type 0 where
       → is_content (crlf (drop (blanks_len text) text)) ≡ is_content (drop (blanks_len text) text) → BlanksCrlf text
   Fed : (rest : Text) → drop (blanks_len text) text ≡ 10 ∷ rest → drop (blanks_len (crlf text)) (crlf text) ≡ 10 ∷ crlf rest → BlanksCrlf text
 
-blank_feed : (b : ℕ) → is_feed b ≡ true → is_blank b ≡ false
+blank_feed : (b : ℕ) → is_lf b ≡ true → is_blank b ≡ false
 blank_feed b e = subst (λ c. is_blank c ≡ false) (sym (eqb-true b 10 e)) refl
 
 blanks_crlf : (text : Text) → BlanksCrlf text
 blanks_crlf [] = Plain refl refl refl refl
-blanks_crlf (b ∷ bs) = by (is_feed b) refl (is_blank b) refl (blanks_crlf bs)
+blanks_crlf (b ∷ bs) = by (is_lf b) refl (is_blank b) refl (blanks_crlf bs)
   where
-    by : (feed : Bool) → is_feed b ≡ feed → (blank : Bool) → is_blank b ≡ blank → BlanksCrlf bs → BlanksCrlf (b ∷ bs)
+    by : (feed : Bool) → is_lf b ≡ feed → (blank : Bool) → is_blank b ≡ blank → BlanksCrlf bs → BlanksCrlf (b ∷ bs)
     by true e blank f more =
         let same : b ≡ 10 = eqb-true b 10 e in
         subst (λ c. BlanksCrlf (c ∷ bs)) (sym same) (Fed bs refl refl)
@@ -57,23 +57,23 @@ blanks_crlf (b ∷ bs) = by (is_feed b) refl (is_blank b) refl (blanks_crlf bs)
 
 -- Lines
 
-onto_crlf : (b : ℕ) (ls : List Text) → is_feed b ≡ false → onto_first b (map crlf ls) ≡ map crlf (onto_first b ls)
+onto_crlf : (b : ℕ) (ls : List Text) → is_lf b ≡ false → onto_first b (map crlf ls) ≡ map crlf (onto_first b ls)
 onto_crlf b [] e = ap (λ (t : Text). t ∷ []) (sym (form_other b [] e))
 onto_crlf b (l ∷ ls) e = ap (λ (t : Text). t ∷ map crlf ls) (sym (form_other b l e))
 
 lines_crlf : (text : Text) → lines (crlf text) ≡ map crlf (lines text)
 unfolding lines
 lines_crlf [] = refl
-lines_crlf (b ∷ bs) = by (is_feed b) refl (lines_crlf bs)
+lines_crlf (b ∷ bs) = by (is_lf b) refl (lines_crlf bs)
   where
-    by : (feed : Bool) → is_feed b ≡ feed → lines (crlf bs) ≡ map crlf (lines bs) → lines (if feed then 13 ∷ 10 ∷ crlf bs else b ∷ crlf bs) ≡ map crlf (if feed then (b ∷ []) ∷ lines bs else onto_first b (lines bs))
+    by : (feed : Bool) → is_lf b ≡ feed → lines (crlf bs) ≡ map crlf (lines bs) → lines (if feed then 13 ∷ 10 ∷ crlf bs else b ∷ crlf bs) ≡ map crlf (if feed then (b ∷ []) ∷ lines bs else onto_first b (lines bs))
     by true e more = ap (λ ls. (13 ∷ 10 ∷ []) ∷ ls) more ∙ ap (λ c. crlf (c ∷ []) ∷ map crlf (lines bs)) (sym (eqb-true b 10 e))
     by false e more = rw (e) (ap (onto_first b) more ∙ onto_crlf b (lines bs) e)
 
 lines_no_return : (text : Text) → no_return text ≡ true → list_all (λ (line : Text). no_return line) (lines text) ≡ true
 unfolding lines
 lines_no_return [] h = refl
-lines_no_return (b ∷ bs) h = by (is_feed b) (lines bs) (lines_no_return bs parts.1)
+lines_no_return (b ∷ bs) h = by (is_lf b) (lines bs) (lines_no_return bs parts.1)
   where
     parts : (not (b == 13) ≡ true) × (no_return bs ≡ true)
     parts = and_parts (not (b == 13)) (no_return bs) h
@@ -85,9 +85,9 @@ lines_no_return (b ∷ bs) h = by (is_feed b) (lines bs) (lines_no_return bs par
 
 comment_crlf : (text : Text) → begins_comment (crlf text) ≡ begins_comment text
 comment_crlf [] = refl
-comment_crlf (b ∷ bs) = by (is_feed b) refl
+comment_crlf (b ∷ bs) = by (is_lf b) refl
   where
-    by : (feed : Bool) → is_feed b ≡ feed → begins_comment (if feed then 13 ∷ 10 ∷ crlf bs else b ∷ crlf bs) ≡ begins_comment (b ∷ bs)
+    by : (feed : Bool) → is_lf b ≡ feed → begins_comment (if feed then 13 ∷ 10 ∷ crlf bs else b ∷ crlf bs) ≡ begins_comment (b ∷ bs)
     by true e = ap (λ c. begins_comment (c ∷ bs)) (sym (eqb-true b 10 e))
     by false e = refl
 
@@ -126,24 +126,24 @@ without_plain (b ∷ []) h = by (b == 13) (and_parts (not (b == 13)) true h).0
 without_plain (b ∷ c ∷ bs) h = ap (λ (t : Text). b ∷ t) (without_plain (c ∷ bs) (and_parts (not (b == 13)) (no_return (c ∷ bs)) h).1)
 
 abbrev line_part : Text → Text
-line_part text = take_while (λ b. not (is_feed b)) text
+line_part text = take_while (λ b. not (is_lf b)) text
 
 part_no_return : (text : Text) → no_return text ≡ true → no_return (line_part text) ≡ true
 part_no_return [] h = refl
-part_no_return (b ∷ bs) h = by (not (is_feed b)) (part_no_return bs parts.1)
+part_no_return (b ∷ bs) h = by (not (is_lf b)) (part_no_return bs parts.1)
   where
     parts : (not (b == 13) ≡ true) × (no_return bs ≡ true)
     parts = and_parts (not (b == 13)) (no_return bs) h
 
-    by : (in_line : Bool) → no_return (line_part bs) ≡ true → no_return (take (cond in_line (1 + prefix_len (λ b. not (is_feed b)) bs) 0) (b ∷ bs)) ≡ true
+    by : (in_line : Bool) → no_return (line_part bs) ≡ true → no_return (take (cond in_line (1 + prefix_len (λ b. not (is_lf b)) bs) 0) (b ∷ bs)) ≡ true
     by true k = rw one-add (rw (parts.0) k)
     by false k = refl
 
 part_crlf : (text : Text) → (line_part (crlf text) ≡ line_part text) ⊎ (line_part (crlf text) ≡ line_part text ++ 13 ∷ [])
 part_crlf [] = inl refl
-part_crlf (b ∷ bs) = by (is_feed b) refl (part_crlf bs)
+part_crlf (b ∷ bs) = by (is_lf b) refl (part_crlf bs)
   where
-    by : (feed : Bool) → is_feed b ≡ feed → (line_part (crlf bs) ≡ line_part bs) ⊎ (line_part (crlf bs) ≡ line_part bs ++ 13 ∷ [])
+    by : (feed : Bool) → is_lf b ≡ feed → (line_part (crlf bs) ≡ line_part bs) ⊎ (line_part (crlf bs) ≡ line_part bs ++ 13 ∷ [])
         → (line_part (if feed then 13 ∷ 10 ∷ crlf bs else b ∷ crlf bs) ≡ line_part (b ∷ bs)) ⊎ (line_part (if feed then 13 ∷ 10 ∷ crlf bs else b ∷ crlf bs) ≡ line_part (b ∷ bs) ++ 13 ∷ [])
     by true e more = inr (rw (e) refl)
     by false e (inl same) = inl (rw (e) (rw (one-add, one-add) (ap (λ (t : Text). b ∷ t) same)))
@@ -202,7 +202,7 @@ flat (l ∷ ls) = l ++ flat ls
 flat_lines : (text : Text) → flat (lines text) ≡ text
 unfolding lines
 flat_lines [] = refl
-flat_lines (b ∷ bs) = by (is_feed b) (lines bs) (flat_lines bs)
+flat_lines (b ∷ bs) = by (is_lf b) (lines bs) (flat_lines bs)
   where
     by : (feed : Bool) (ls : List Text) → flat ls ≡ bs → flat (if feed then (b ∷ []) ∷ ls else onto_first b ls) ≡ b ∷ bs
     by true ls e = ap (λ (t : Text). b ∷ t) e

@@ -18,7 +18,7 @@ use Rattle.starlark_grammar.specs.Tokens.{Token, Newline, Int, StartsZero, Openi
 use Rattle.starlark_grammar.specs.Items.{Literal, Stop, Closing, Line, Ended, OpeningBrace, ClosingBrace, BadEscape, Body, body_len, body_value, body_at, quote_byte, closing_quotes}
 use Rattle.starlark_grammar.specs.Depths.{Mode, Outside, InText}
 use Rattle.starlark_grammar.specs.Margins.{margin_of, margin_len}
-use Rattle.starlark_grammar.specs.LineEnds.{holds_escaped_feed}
+use Rattle.starlark_grammar.specs.LineEnds.{holds_escaped_newline}
 use Rattle.starlark_grammar.specs.Pieces.{Before, Layout, Gap, Other, Piece, Step, Stands, Situation, fault, token, margin_step, opening_of, more_quotes, literal_token, escape_fault, literal_by, literal, opener, chunk_text, chunk_by, chunk, starts_zero, counts, word_step}
 use Rattle.starlark_grammar.proofs.Lists.{drop-sum}
 use Rattle.starlark_grammar.proofs.Words.Bytes.{is_plain}
@@ -76,7 +76,7 @@ empty_word place front made behind sort piece e =
 
 -- Literals
 
-holds_front : (one other : Text) → holds_escaped_feed (one ++ other) ≡ false → holds_escaped_feed one ≡ false
+holds_front : (one other : Text) → holds_escaped_newline (one ++ other) ≡ false → holds_escaped_newline one ≡ false
 holds_front [] other h = refl
 holds_front (b ∷ one) other h = by (b == byte "\\") (starts_with nat_eq one (codes "\n")) refl (holds_front one other) h
   where
@@ -84,15 +84,15 @@ holds_front (b ∷ one) other h = by (b == byte "\\") (starts_with nat_eq one (c
     starts_more [] other e = cc
     starts_more (c ∷ cs) other e = e
 
-    by : (slash starts : Bool) → starts_with nat_eq one (codes "\n") ≡ starts → (holds_escaped_feed (one ++ other) ≡ false → holds_escaped_feed one ≡ false)
-        → (slash && starts_with nat_eq (one ++ other) (codes "\n") || holds_escaped_feed (one ++ other)) ≡ false → (slash && starts || holds_escaped_feed one) ≡ false
+    by : (slash starts : Bool) → starts_with nat_eq one (codes "\n") ≡ starts → (holds_escaped_newline (one ++ other) ≡ false → holds_escaped_newline one ≡ false)
+        → (slash && starts_with nat_eq (one ++ other) (codes "\n") || holds_escaped_newline (one ++ other)) ≡ false → (slash && starts || holds_escaped_newline one) ≡ false
     by false starts e more h = more h
     by true false e more h = more (second (starts_with nat_eq (one ++ other) (codes "\n")) h)
       where
-        second : (test : Bool) → (test || holds_escaped_feed (one ++ other)) ≡ false → holds_escaped_feed (one ++ other) ≡ false
+        second : (test : Bool) → (test || holds_escaped_newline (one ++ other)) ≡ false → holds_escaped_newline (one ++ other) ≡ false
         second true h = cc
         second false h = h
-    by true true e more h = let wrong : true ≡ false = sym (ap (λ (test : Bool). test || holds_escaped_feed (one ++ other)) (starts_more one other e)) ∙ h in cc
+    by true true e more h = let wrong : true ≡ false = sym (ap (λ (test : Bool). test || holds_escaped_newline (one ++ other)) (starts_more one other e)) ∙ h in cc
 
 take_more : (n m : ℕ) (text : Text) → (rest : Text) × (take (n + m) text ≡ take n text ++ rest)
 take_more n m text = (take m (drop n text), take-add n m text)
@@ -138,7 +138,7 @@ token_like len other node piece e =
     subst (λ (p : Piece). PieceCrlf p (record { len = other; lexemes = record { begin = 0; node = node; end = other } ∷ []; width = None; sort = Other })) same (record { same = refl; width = refl; sort = refl })
 
 literal_crlf : (place : Mode) (kind : Kind) (opening : Opening) (len form : ℕ) (text whole other : Text) (piece : Piece) → no_return text ≡ true → apart 0 text ≡ true
-    → drop len whole ≡ text → drop form other ≡ crlf text → (opening.is_raw ≡ true → holds_escaped_feed (take piece.len whole) ≡ false)
+    → drop len whole ≡ text → drop form other ≡ crlf text → (opening.is_raw ≡ true → holds_escaped_newline (take piece.len whole) ≡ false)
     → literal place kind opening len text ≡ Stands piece → StandsCrlf place whole other (literal place kind opening form (crlf text)) piece
 literal_crlf place kind opening len form text whole other piece h more here there raw e =
     let is : Literal = record { kind = kind; opening = opening } in
@@ -169,7 +169,7 @@ literal_crlf place kind opening len form text whole other piece h more here ther
         ap (λ k. drop len (take k whole)) sum ∙ drop-take len (body_len (body_at (record { kind = kind; opening = opening }) text) + length (closing_quotes opening)) whole ∙ ap (take (body_len (body_at (record { kind = kind; opening = opening }) text) + length (closing_quotes opening))) here in
         let front = take_more (body_len (body_at (record { kind = kind; opening = opening }) text)) (length (closing_quotes opening)) text in
         holds_front (take (body_len (body_at (record { kind = kind; opening = opening }) text)) text) front.0
-        (subst (λ (t : Text). holds_escaped_feed t ≡ false) (dropped ∙ front.1) (holds_drop len (take piece.len whole) (raw is_raw)))
+        (subst (λ (t : Text). holds_escaped_newline t ≡ false) (dropped ∙ front.1) (holds_drop len (take piece.len whole) (raw is_raw)))
 
 -- Openers
 
@@ -230,7 +230,7 @@ module _ (place : Mode) (is_raw : Bool) (quote : Quote) (front behind : Text) (p
         left = AtWhole (ap (λ n. drop n (crlf front ++ crlf behind)) len ∙ there ∙ ap crlf (sym (ap (λ n. drop n (front ++ behind)) len ∙ here)));
       }
 
-  text_crlf : (kind : Kind) → (is_raw ≡ true → holds_escaped_feed (take piece.len (front ++ behind)) ≡ false)
+  text_crlf : (kind : Kind) → (is_raw ≡ true → holds_escaped_newline (take piece.len (front ++ behind)) ≡ false)
       → literal place kind (opening_of is_raw quote behind) (length front + more_quotes (opening_of is_raw quote behind)) (drop (more_quotes (opening_of is_raw quote behind)) behind) ≡ Stands piece
       → StandsCrlf place (front ++ behind) (crlf front ++ crlf behind) (literal place kind (opening_of is_raw quote (crlf behind)) (length (crlf front) + more_quotes (opening_of is_raw quote (crlf behind))) (drop (more_quotes (opening_of is_raw quote (crlf behind))) (crlf behind))) piece
   text_crlf kind raw e =
@@ -244,7 +244,7 @@ module _ (place : Mode) (is_raw : Bool) (quote : Quote) (front behind : Text) (p
       ∙ ap (literal place kind (opening_of is_raw quote behind) (length front + more_quotes (opening_of is_raw quote behind))) (quotes_left is_raw quote behind more).0 in
       record { form = found.form; stands = step ∙ found.stands; like = found.like; left = found.left }
 
-  opener_crlf : (kind : Kind) → (is_raw_kind kind is_raw ≡ true → holds_escaped_feed (take piece.len (front ++ behind)) ≡ false) → opener place kind (opening_of is_raw quote behind) (length front) behind ≡ Stands piece
+  opener_crlf : (kind : Kind) → (is_raw_kind kind is_raw ≡ true → holds_escaped_newline (take piece.len (front ++ behind)) ≡ false) → opener place kind (opening_of is_raw quote behind) (length front) behind ≡ Stands piece
       → StandsCrlf place (front ++ behind) (crlf front ++ crlf behind) (opener place kind (opening_of is_raw quote (crlf behind)) (length (crlf front)) (crlf behind)) piece
   opener_crlf OfFString raw e = fstring_crlf e
   opener_crlf OfText raw e = text_crlf OfText raw e
@@ -287,7 +287,7 @@ line_end_crlf s front made behind piece h e = by (counts s.place s.is_balanced) 
         at place sort calm (Whole e) = AtWhole e
         at place sort calm (Behind rest e f none) = AtFeed rest e f place (calm none) sort
 
-pub word_crlf : (s : Situation) (class : Class) (front behind : Text) (piece : Piece) → line_fits class front ≡ true → no_return behind ≡ true → apart 0 behind ≡ true → (is_raw_class class ≡ true → holds_escaped_feed (take piece.len (front ++ behind)) ≡ false)
+pub word_crlf : (s : Situation) (class : Class) (front behind : Text) (piece : Piece) → line_fits class front ≡ true → no_return behind ≡ true → apart 0 behind ≡ true → (is_raw_class class ≡ true → holds_escaped_newline (take piece.len (front ++ behind)) ≡ false)
     → word_step s class front behind ≡ Stands piece → StandsCrlf s.place (front ++ behind) (crlf front ++ crlf behind) (word_step s class (crlf front) (crlf behind)) piece
 word_crlf s word.Skipped front behind piece fits h more raw e = empty_word s.place front (crlf front) behind Gap piece e
 word_crlf s word.LineEnd front behind piece fits h more raw e = line_end_crlf s front (crlf front) behind piece h e
@@ -328,7 +328,7 @@ chunk_closed opening text body (BadEscape read last) piece e = cc
 chunk_closed opening text body Line piece e = cc
 chunk_closed opening text body Ended piece e = cc
 
-pub chunk_crlf : (opening : Opening) (text : Text) (piece : Piece) → no_return text ≡ true → apart 0 text ≡ true → (opening.is_raw ≡ true → holds_escaped_feed (take piece.len text) ≡ false) → chunk opening text ≡ Stands piece
+pub chunk_crlf : (opening : Opening) (text : Text) (piece : Piece) → no_return text ≡ true → apart 0 text ≡ true → (opening.is_raw ≡ true → holds_escaped_newline (take piece.len text) ≡ false) → chunk opening text ≡ Stands piece
     → StandsCrlf (InText opening) text (crlf text) (chunk opening (crlf text)) piece
 unfolding chunk
 chunk_crlf opening text piece h more raw e = by (chunk_closed opening text (body_at (record { kind = OfFString; opening = opening }) text) (body_at (record { kind = OfFString; opening = opening }) text).stop piece e)
@@ -339,7 +339,7 @@ chunk_crlf opening text piece h more raw e = by (chunk_closed opening text (body
     raw_body : (k : ℕ) → piece.len ≡ body_len (body_at (record { kind = OfFString; opening = opening }) text) + k → RawApart (record { kind = OfFString; opening = opening }) text (body_at (record { kind = OfFString; opening = opening }) text)
     raw_body k size is_raw =
         let front = take_more (body_len (body_at (record { kind = OfFString; opening = opening }) text)) k text in
-        holds_front (take (body_len (body_at (record { kind = OfFString; opening = opening }) text)) text) front.0 (subst (λ (t : Text). holds_escaped_feed t ≡ false) (ap (λ n. take n text) size ∙ front.1) (raw is_raw))
+        holds_front (take (body_len (body_at (record { kind = OfFString; opening = opening }) text)) text) front.0 (subst (λ (t : Text). holds_escaped_newline t ≡ false) (ap (λ n. take n text) size ∙ front.1) (raw is_raw))
 
     made : (node : Token) (k : ℕ) → BodyCrlf (record { kind = OfFString; opening = opening }) text (body_at (record { kind = OfFString; opening = opening }) text)
         → made_chunk (body_at (record { kind = OfFString; opening = opening }) text) node k ≡ piece

@@ -14,11 +14,11 @@ use Rattle.starlark_grammar.specs.declared.class.LiteralKind.TheVariants.{Text a
 use Rattle.starlark_grammar.specs.Front.{longest_front, language_front}
 use Rattle.starlark_grammar.specs.Tokens.{Token, Comment, Newline, Indent, Dedent, Identifier, Int, Float, String, Bytes, FStringStart, FStringText, FStringExprStart, FStringExprEnd, FStringBang, FStringEnd, Word, Lexeme, moved, Outcome}
 use Rattle.starlark_grammar.specs.Depths.{Mode, Outside, InText, AtTop, Deeper, open_fstring, mode_by, mode_after}
-use Rattle.starlark_grammar.specs.Margins.{is_feed, margin_of, margin_len, open_widths}
+use Rattle.starlark_grammar.specs.Margins.{is_lf, margin_of, margin_len, open_widths}
 use Rattle.starlark_grammar.specs.Pieces.{Before, Nothing, Layout, Gap, Other, Piece, Step, Stands, Fails, Ends, Situation, token, word_step, front_step, is_bang, takes_bang, in_code, by_place, by_before, step_at}
 use Rattle.starlark_grammar.specs.Reading.{tokens_onto, History, nothing, after, after_all, situation, next_step, IsReading, IsLongestReading, pieces_len, read, lexemes_along, closing, outcome_of, outcome}
 use Rattle.starlark_grammar.specs.Cuts.{is_outside}
-use Rattle.starlark_grammar.specs.LineEnds.{holds_escaped_feed, opens_raw, is_raw_in, no_raw_feed}
+use Rattle.starlark_grammar.specs.LineEnds.{holds_escaped_newline, opens_raw, is_raw_in, no_raw_newline}
 use Rattle.starlark_grammar.specs.TextLaws.{CrlfKeepsTokens}
 use Rattle.starlark_grammar.proofs.Lists.{drop-sum}
 use Rattle.starlark_grammar.proofs.Words.Fronts.{front_single, front_sound}
@@ -38,14 +38,14 @@ use Rattle.starlark_grammar.proofs.LineEnds.Pieces.{LeftAt, AtWhole, AtFeed, Sta
 
 bang_crlf : (text : Text) → is_bang (crlf text) ≡ is_bang text
 bang_crlf [] = refl
-bang_crlf (b ∷ []) = by (is_feed b) refl
+bang_crlf (b ∷ []) = by (is_lf b) refl
   where
-    by : (feed : Bool) → is_feed b ≡ feed → is_bang (if feed then 13 ∷ 10 ∷ [] else b ∷ []) ≡ is_bang (b ∷ [])
+    by : (feed : Bool) → is_lf b ≡ feed → is_bang (if feed then 13 ∷ 10 ∷ [] else b ∷ []) ≡ is_bang (b ∷ [])
     by true e = ap (λ c. is_bang (c ∷ [])) (sym (eqb-true b 10 e))
     by false e = refl
-bang_crlf (b ∷ c ∷ bs) = by (is_feed b) refl (is_feed c) refl
+bang_crlf (b ∷ c ∷ bs) = by (is_lf b) refl (is_lf c) refl
   where
-    by : (feed : Bool) → is_feed b ≡ feed → (next : Bool) → is_feed c ≡ next → is_bang (if feed then 13 ∷ 10 ∷ (if next then 13 ∷ 10 ∷ crlf bs else c ∷ crlf bs) else b ∷ (if next then 13 ∷ 10 ∷ crlf bs else c ∷ crlf bs)) ≡ is_bang (b ∷ c ∷ bs)
+    by : (feed : Bool) → is_lf b ≡ feed → (next : Bool) → is_lf c ≡ next → is_bang (if feed then 13 ∷ 10 ∷ (if next then 13 ∷ 10 ∷ crlf bs else c ∷ crlf bs) else b ∷ (if next then 13 ∷ 10 ∷ crlf bs else c ∷ crlf bs)) ≡ is_bang (b ∷ c ∷ bs)
     by true e next f = ap (λ d. is_bang (d ∷ c ∷ bs)) (sym (eqb-true b 10 e))
     by false e true f = ap (λ d. is_bang (b ∷ d ∷ bs)) (sym (eqb-true c 10 f))
     by false e false f = refl
@@ -55,7 +55,7 @@ abbrev code : Situation → Text → Step
 code s text = if takes_bang s.place s.before && is_bang text then token 1 FStringBang else front_step s text (longest_front (class_in language) text)
 
 code_form : (s : Situation) (b : ℕ) (bs : Text) → in_code language s (crlf (b ∷ bs)) ≡ code s (crlf (b ∷ bs))
-code_form s b bs = by (is_feed b)
+code_form s b bs = by (is_lf b)
   where
     by : (feed : Bool) → in_code language s (if feed then 13 ∷ 10 ∷ crlf bs else b ∷ crlf bs) ≡ code s (if feed then 13 ∷ 10 ∷ crlf bs else b ∷ crlf bs)
     by true = refl
@@ -78,7 +78,7 @@ opens_raw_of word.Binary len h = cc
 opens_raw_of word.Float len h = cc
 opens_raw_of (word.Fixed terminal) len h = cc
 
-front_stands : (s : Situation) (text : Text) (found : Option (Class × ℕ)) (piece : Piece) → no_return text ≡ true → IsUtf8 text → longest_front (class_in language) text ≡ found → (opens_raw found ≡ true → holds_escaped_feed (take piece.len text) ≡ false)
+front_stands : (s : Situation) (text : Text) (found : Option (Class × ℕ)) (piece : Piece) → no_return text ≡ true → IsUtf8 text → longest_front (class_in language) text ≡ found → (opens_raw found ≡ true → holds_escaped_newline (take piece.len text) ≡ false)
     → front_step s text found ≡ Stands piece → StandsCrlf s.place text (crlf text) (front_step s (crlf text) (longest_front (class_in language) (crlf text))) piece
 front_stands s text None piece h utf8 known raw e = cc
 front_stands s text (Some front) piece h utf8 known raw e =
@@ -87,7 +87,7 @@ front_stands s text (Some front) piece h utf8 known raw e =
     let whole : take front.1 text ++ drop front.1 text ≡ text = take-append-drop front.1 text in
     let more : apart 0 (drop front.1 text) ≡ true = utf8_apart (drop front.1 text) (IsUtf8-drop text front.1 utf8 (word_edge text front.0 front.1 utf8 known)) in
     let found = word_crlf s front.0 (take front.1 text) (drop front.1 text) piece (language_lines (take front.1 text) front.0 sound.2) (no_return_drop front.1 text h) more
-    (λ k. subst (λ (t : Text). holds_escaped_feed (take piece.len t) ≡ false) (sym whole) (raw (opens_raw_of front.0 front.1 k))) e in
+    (λ k. subst (λ (t : Text). holds_escaped_newline (take piece.len t) ≡ false) (sym whole) (raw (opens_raw_of front.0 front.1 k))) e in
     let form : crlf text ≡ crlf (take front.1 text) ++ crlf (drop front.1 text) = ap crlf (sym whole) ∙ crlf_both (take front.1 text) (drop front.1 text) in
     let len : ℕ = length (crlf (take front.1 text)) in
     let taken : take (length (crlf (take front.1 text))) (crlf text) ≡ crlf (take front.1 text) = ap (take (length (crlf (take front.1 text)))) form ∙ take-append_seam (crlf (take front.1 text)) (crlf (drop front.1 text)) in
@@ -103,19 +103,19 @@ front_stands s text (Some front) piece h utf8 known raw e =
           (subst (λ (t : Text). LeftAt s.place piece (drop piece.len (take front.1 text ++ drop front.1 text)) (drop found.form.len t)) (sym form) found.left);
     }
 
-code_stands : (s : Situation) (text : Text) (piece : Piece) → no_return text ≡ true → IsUtf8 text → (opens_raw (longest_front (class_in language) text) ≡ true → holds_escaped_feed (take piece.len text) ≡ false)
+code_stands : (s : Situation) (text : Text) (piece : Piece) → no_return text ≡ true → IsUtf8 text → (opens_raw (longest_front (class_in language) text) ≡ true → holds_escaped_newline (take piece.len text) ≡ false)
     → in_code language s text ≡ Stands piece → StandsCrlf s.place text (crlf text) (in_code language s (crlf text)) piece
 code_stands s [] piece h utf8 raw e = cc
 code_stands s (b ∷ bs) piece h utf8 raw e = subst (λ (step : Step). StandsCrlf s.place (b ∷ bs) (crlf (b ∷ bs)) step piece) (sym (code_form s b bs)) (by (takes_bang s.place s.before && is_bang (b ∷ bs)) refl e)
   where
-    no_feed : (b : ℕ) (bs : Text) → is_bang (b ∷ bs) ≡ true → is_feed b ≡ false
-    no_feed b bs h = go (is_feed b) refl
+    no_feed : (b : ℕ) (bs : Text) → is_bang (b ∷ bs) ≡ true → is_lf b ≡ false
+    no_feed b bs h = go (is_lf b) refl
       where
         none : (bs : Text) → is_bang (10 ∷ bs) ≡ true → ⊥
         none [] h = cc
         none (c ∷ bs) h = cc
 
-        go : (feed : Bool) → is_feed b ≡ feed → feed ≡ false
+        go : (feed : Bool) → is_lf b ≡ feed → feed ≡ false
         go false f = refl
         go true f = absurd (none bs (subst (λ c. is_bang (c ∷ bs) ≡ true) (eqb-true b 10 f) h))
 
@@ -143,7 +143,7 @@ code_stands s (b ∷ bs) piece h utf8 raw e = subst (λ (step : Step). StandsCrl
         }
 
 -- What stands behind some history, in the form.
-next_stands : (history : History) (text : Text) (piece : Piece) → is_nothing history.before ≡ false → no_return text ≡ true → IsUtf8 text → (is_raw_in (situation history).place text ≡ true → holds_escaped_feed (take piece.len text) ≡ false)
+next_stands : (history : History) (text : Text) (piece : Piece) → is_nothing history.before ≡ false → no_return text ≡ true → IsUtf8 text → (is_raw_in (situation history).place text ≡ true → holds_escaped_newline (take piece.len text) ≡ false)
     → next_step language history text ≡ Stands piece → StandsCrlf (situation history).place text (crlf text) (next_step language history (crlf text)) piece
 unfolding next_step situation step_at language_front
 next_stands history text piece later h utf8 raw e = before history.before later e
@@ -151,7 +151,7 @@ next_stands history text piece later h utf8 raw e = before history.before later 
     s : Situation
     s = situation history
 
-    at : (place : Mode) → mode_after history.tokens ≡ place → (is_raw_in place text ≡ true → holds_escaped_feed (take piece.len text) ≡ false) → by_place language (situation history) place text ≡ Stands piece
+    at : (place : Mode) → mode_after history.tokens ≡ place → (is_raw_in place text ≡ true → holds_escaped_newline (take piece.len text) ≡ false) → by_place language (situation history) place text ≡ Stands piece
         → StandsCrlf (mode_after history.tokens) text (crlf text) (by_place language (situation history) place (crlf text)) piece
     at Outside f raw e = code_stands (situation history) text piece h utf8 raw e
     at (InText opening) f raw e = subst (λ (place : Mode). StandsCrlf place text (crlf text) (by_place language (situation history) (InText opening) (crlf text)) piece) (sym f) (chunk_crlf opening text piece h (utf8_apart text utf8) raw e)
@@ -187,7 +187,7 @@ data Standing (history : History) (text other : Text) : Type 0 where
   AtForm : other ≡ crlf text → Standing history text other
   AtLine : (rest : Text) → text ≡ 10 ∷ rest → other ≡ 10 ∷ crlf rest → history.before ≡ Layout → mode_after history.tokens ≡ Outside → Standing history text other
 
-standing_step : (history : History) (text other : Text) (piece : Piece) → is_nothing history.before ≡ false → no_return text ≡ true → IsUtf8 text → (is_raw_in (situation history).place text ≡ true → holds_escaped_feed (take piece.len text) ≡ false)
+standing_step : (history : History) (text other : Text) (piece : Piece) → is_nothing history.before ≡ false → no_return text ≡ true → IsUtf8 text → (is_raw_in (situation history).place text ≡ true → holds_escaped_newline (take piece.len text) ≡ false)
     → Standing history text other → next_step language history text ≡ Stands piece → StandsCrlf (situation history).place text other (next_step language history other) piece
 standing_step history text other piece later h utf8 raw (AtForm same) e =
     subst (λ (t : Text). StandsCrlf (situation history).place text t (next_step language history t) piece) (sym same) (next_stands history text piece later h utf8 raw e)
@@ -271,12 +271,12 @@ record ReadingCrlf (history : History) (other : Text) (pieces : List Piece) : Ty
   none : drop (pieces_len forms) other ≡ []
   same : (at place : ℕ) → nodes (lexemes_along place forms) ≡ nodes (lexemes_along at pieces)
 
-raw_parts : (history : History) (text : Text) (piece : Piece) (pieces : List Piece) → no_raw_feed history text (piece ∷ pieces) ≡ true
-    → (is_raw_in (situation history).place text ≡ true → holds_escaped_feed (take piece.len text) ≡ false) × (no_raw_feed (after history piece) (drop piece.len text) pieces ≡ true)
-unfolding no_raw_feed
+raw_parts : (history : History) (text : Text) (piece : Piece) (pieces : List Piece) → no_raw_newline history text (piece ∷ pieces) ≡ true
+    → (is_raw_in (situation history).place text ≡ true → holds_escaped_newline (take piece.len text) ≡ false) × (no_raw_newline (after history piece) (drop piece.len text) pieces ≡ true)
+unfolding no_raw_newline
 raw_parts history text piece pieces h =
-    let parts = and_parts (not (is_raw_in (situation history).place text && holds_escaped_feed (take piece.len text))) (no_raw_feed (after history piece) (drop piece.len text) pieces) h in
-    (by (is_raw_in (situation history).place text) (holds_escaped_feed (take piece.len text)) parts.0, parts.1)
+    let parts = and_parts (not (is_raw_in (situation history).place text && holds_escaped_newline (take piece.len text))) (no_raw_newline (after history piece) (drop piece.len text) pieces) h in
+    (by (is_raw_in (situation history).place text) (holds_escaped_newline (take piece.len text)) parts.0, parts.1)
   where
     by : (raw holds : Bool) → not (raw && holds) ≡ true → raw ≡ true → holds ≡ false
     by true true h e = cc
@@ -301,7 +301,7 @@ onward history text other piece pieces found rest =
       same = λ at place. along_nodes at place piece found.form pieces rest.forms found.like (rest.same (at + piece.len) (place + found.form.len));
     }
 
-reading_crlf : (history : History) (text other : Text) (pieces : List Piece) → is_nothing history.before ≡ false → no_return text ≡ true → IsUtf8 text → Standing history text other → IsReading language history text pieces → no_raw_feed history text pieces ≡ true → pieces_len pieces ≡ length text
+reading_crlf : (history : History) (text other : Text) (pieces : List Piece) → is_nothing history.before ≡ false → no_return text ≡ true → IsUtf8 text → Standing history text other → IsReading language history text pieces → no_raw_newline history text pieces ≡ true → pieces_len pieces ≡ length text
     → ReadingCrlf history other pieces
 reading_crlf history text other [] later h utf8 standing reads raw reach = record { forms = []; reads = tt; past = refl; none = at_end text reach standing; same = λ at place. refl }
   where
@@ -339,7 +339,7 @@ first_crlf text piece h e =
     at sort calm (Whole e) = AtWhole e
     at sort calm (Behind rest e f none) = AtFeed rest e f nothing_outside (calm none) sort
 
-whole_crlf : (text : Text) (pieces : List Piece) → no_return text ≡ true → IsUtf8 text → ¬ (pieces ≡ []) → IsReading language nothing text pieces → no_raw_feed nothing text pieces ≡ true → pieces_len pieces ≡ length text → ReadingCrlf nothing (crlf text) pieces
+whole_crlf : (text : Text) (pieces : List Piece) → no_return text ≡ true → IsUtf8 text → ¬ (pieces ≡ []) → IsReading language nothing text pieces → no_raw_newline nothing text pieces ≡ true → pieces_len pieces ≡ length text → ReadingCrlf nothing (crlf text) pieces
 whole_crlf text [] h utf8 some reads raw reach = absurd (some refl)
 whole_crlf text (piece ∷ pieces) h utf8 some reads raw reach =
     let parts = raw_parts nothing text piece pieces raw in

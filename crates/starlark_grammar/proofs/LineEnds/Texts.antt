@@ -6,7 +6,7 @@ use Rattle.std.proofs.Math.Seq.{drop-append_seam, take-append_seam}
 use Rattle.std.proofs.lemmas.Bool.{and_parts, eqb-true}
 use Rattle.std.proofs.lemmas.List.{take-append-drop, length-take-le}
 use Rattle.starlark_grammar.specs.Words.{Text, is_in_line}
-use Rattle.starlark_grammar.specs.Margins.{is_feed}
+use Rattle.starlark_grammar.specs.Margins.{is_lf}
 use Rattle.starlark_grammar.specs.LineEnds.{crlf_form}
 use Rattle.starlark_grammar.proofs.Lines.{in_line}
 use Rattle.starlark_grammar.proofs.Order.Edges.{starts_split}
@@ -14,11 +14,11 @@ use Rattle.starlark_grammar.proofs.Order.Edges.{starts_split}
 -- the same by recursion on the text
 abbrev pub crlf : Text → Text
 crlf [] = []
-crlf (b ∷ bs) = if is_feed b then 13 ∷ 10 ∷ crlf bs else b ∷ crlf bs
+crlf (b ∷ bs) = if is_lf b then 13 ∷ 10 ∷ crlf bs else b ∷ crlf bs
 
 pub crlf_is : (text : Text) → crlf_form text ≡ crlf text
 crlf_is [] = refl
-crlf_is (b ∷ bs) = go (is_feed b) (crlf_is bs)
+crlf_is (b ∷ bs) = go (is_lf b) (crlf_is bs)
   where
     go : (feed : Bool) → crlf_form bs ≡ crlf bs → (if feed then 13 ∷ 10 ∷ [] else b ∷ []) ++ crlf_form bs ≡ (if feed then 13 ∷ 10 ∷ crlf bs else b ∷ crlf bs)
     go true more = ap (λ (t : Text). 13 ∷ 10 ∷ t) more
@@ -50,7 +50,7 @@ no_return_drop (suc n) (b ∷ bs) h = no_return_drop n bs (and_parts (not (b == 
 
 pub crlf_both : (one other : Text) → crlf (one ++ other) ≡ crlf one ++ crlf other
 crlf_both [] other = refl
-crlf_both (b ∷ one) other = go (is_feed b) (crlf_both one other)
+crlf_both (b ∷ one) other = go (is_lf b) (crlf_both one other)
   where
     go : (feed : Bool) → crlf (one ++ other) ≡ crlf one ++ crlf other → (if feed then 13 ∷ 10 ∷ crlf (one ++ other) else b ∷ crlf (one ++ other)) ≡ (if feed then 13 ∷ 10 ∷ crlf one else b ∷ crlf one) ++ crlf other
     go true more = ap (λ (t : Text). 13 ∷ 10 ∷ t) more
@@ -60,7 +60,7 @@ not_true : (test : Bool) → not test ≡ true → test ≡ false
 not_true true h = cc
 not_true false h = refl
 
-pub line_byte : (b : ℕ) → is_in_line b ≡ true → is_feed b ≡ false
+pub line_byte : (b : ℕ) → is_in_line b ≡ true → is_lf b ≡ false
 line_byte b h = not_true (b == 10) (and_parts (not (b == 13)) (not (b == 10)) h).1
 
 -- a text without LF stays
@@ -91,12 +91,12 @@ line_other c b h k = go (nat_eq c b) refl
 pub starts_crlf : (text needle : Text) → in_line needle ≡ true → starts_with nat_eq (crlf text) needle ≡ starts_with nat_eq text needle
 starts_crlf text [] h = refl
 starts_crlf [] (c ∷ cs) h = refl
-starts_crlf (b ∷ bs) (c ∷ cs) h = go (is_feed b) refl (starts_crlf bs cs)
+starts_crlf (b ∷ bs) (c ∷ cs) h = go (is_lf b) refl (starts_crlf bs cs)
   where
     parts : (is_in_line c ≡ true) × (in_line cs ≡ true)
     parts = and_parts (is_in_line c) (in_line cs) h
 
-    go : (feed : Bool) → is_feed b ≡ feed → (in_line cs ≡ true → starts_with nat_eq (crlf bs) cs ≡ starts_with nat_eq bs cs) → starts_with nat_eq (if feed then 13 ∷ 10 ∷ crlf bs else b ∷ crlf bs) (c ∷ cs) ≡ starts_with nat_eq (b ∷ bs) (c ∷ cs)
+    go : (feed : Bool) → is_lf b ≡ feed → (in_line cs ≡ true → starts_with nat_eq (crlf bs) cs ≡ starts_with nat_eq bs cs) → starts_with nat_eq (if feed then 13 ∷ 10 ∷ crlf bs else b ∷ crlf bs) (c ∷ cs) ≡ starts_with nat_eq (b ∷ bs) (c ∷ cs)
     go false e more = ap (λ (starts : Bool). nat_eq c b && starts) (more parts.1)
     go true e more = rw (line_other c 13 parts.0 refl, eqb-true b 10 e, line_other c 10 parts.0 refl) refl
 
@@ -111,9 +111,9 @@ behind_crlf text needle h starts =
 pub run_crlf : (test : ℕ → Bool) (most : ℕ) (text : Text) → test 10 ≡ false → test 13 ≡ false → prefix_len test (take most (crlf text)) ≡ prefix_len test (take most text)
 run_crlf test zero text h k = refl
 run_crlf test (suc most) [] h k = refl
-run_crlf test (suc most) (b ∷ bs) h k = go (is_feed b) refl (run_crlf test most bs h k)
+run_crlf test (suc most) (b ∷ bs) h k = go (is_lf b) refl (run_crlf test most bs h k)
   where
-    go : (feed : Bool) → is_feed b ≡ feed → prefix_len test (take most (crlf bs)) ≡ prefix_len test (take most bs) → prefix_len test (take (suc most) (if feed then 13 ∷ 10 ∷ crlf bs else b ∷ crlf bs)) ≡ prefix_len test (take (suc most) (b ∷ bs))
+    go : (feed : Bool) → is_lf b ≡ feed → prefix_len test (take most (crlf bs)) ≡ prefix_len test (take most bs) → prefix_len test (take (suc most) (if feed then 13 ∷ 10 ∷ crlf bs else b ∷ crlf bs)) ≡ prefix_len test (take (suc most) (b ∷ bs))
     go false e more = ap (λ n. cond (test b) (1 + n) 0) more
     go true e more = rw (k, eqb-true b 10 e, h) refl
 
@@ -130,11 +130,11 @@ stripped_plain (b ∷ bs) h =
 
 pub stripped_crlf : (text : Text) → no_return text ≡ true → stripped (crlf text) ≡ text
 stripped_crlf [] h = refl
-stripped_crlf (b ∷ bs) h = go (is_feed b) refl (stripped_crlf bs)
+stripped_crlf (b ∷ bs) h = go (is_lf b) refl (stripped_crlf bs)
   where
     parts : (not (b == 13) ≡ true) × (no_return bs ≡ true)
     parts = and_parts (not (b == 13)) (no_return bs) h
 
-    go : (feed : Bool) → is_feed b ≡ feed → (no_return bs ≡ true → stripped (crlf bs) ≡ bs) → stripped (if feed then 13 ∷ 10 ∷ crlf bs else b ∷ crlf bs) ≡ b ∷ bs
+    go : (feed : Bool) → is_lf b ≡ feed → (no_return bs ≡ true → stripped (crlf bs) ≡ bs) → stripped (if feed then 13 ∷ 10 ∷ crlf bs else b ∷ crlf bs) ≡ b ∷ bs
     go true e more = ap (λ (t : Text). 10 ∷ t) (more parts.1) ∙ ap (λ c. c ∷ bs) (sym (eqb-true b 10 e))
     go false e more = rw (not_true (b == 13) parts.0) (ap (λ (t : Text). b ∷ t) (more parts.1))

@@ -12,7 +12,7 @@ use Rattle.std.specs.Str.Parse.{digits_value}
 use Rattle.starlark_grammar.proofs.Lists.{take_fits, drop-sum, drop-behind}
 use Rattle.starlark_grammar.specs.Words.{Text, Quote, Kind, is_octal_digit}
 use Rattle.starlark_grammar.specs.Tokens.{Opening}
-use Rattle.starlark_grammar.specs.Items.{Literal, Item, Stop, Closing, Line, Ended, OpeningBrace, ClosingBrace, BadEscape, Found, Goes, Stops, goes, closing_quotes, broken, is_character, numbered, hexadecimal, octal, escaped_feed, simple_escapes, simple, is_of_bytes, escape, raw_pair, brace, is_brace, found_at, Body, body_len, body_onward, body_from, body_at}
+use Rattle.starlark_grammar.specs.Items.{Literal, Item, Stop, Closing, Line, Ended, OpeningBrace, ClosingBrace, BadEscape, Found, Goes, Stops, goes, closing_quotes, broken, is_character, numbered, hexadecimal, octal, escaped_newline, simple_escapes, simple, is_of_bytes, escape, raw_pair, brace, is_brace, found_at, Body, body_len, body_onward, body_from, body_at}
 use Rattle.starlark_grammar.specs.Characters.{first_character}
 use Rattle.starlark_grammar.proofs.Choices.{either, by_test}
 
@@ -59,7 +59,7 @@ octal_fits opening is_byte text whole inside =
     let fits = digits_fit is_octal_digit 3 text in
     numbered_fits opening (1 + prefix_len is_octal_digit (take 3 text)) is_byte (digits_value 8 (take (prefix_len is_octal_digit (take 3 text)) text)) whole (omega arith) (omega (arith, fits))
 
-escaped_feed_fits : (opening : Opening) (text whole : Text) → 2 + length text ≤ length whole → FoundFits opening whole (escaped_feed text)
+escaped_feed_fits : (opening : Opening) (text whole : Text) → 2 + length text ≤ length whole → FoundFits opening whole (escaped_newline text)
 escaped_feed_fits opening [] whole inside = broken_fits opening 2 [] whole (omega arith) inside
 escaped_feed_fits opening (b ∷ bs) whole inside = either (FoundFits opening whole) (b == byte "\n") (goes 3 []) (broken 2 (b ∷ bs)) (omega arith, omega arith) (broken_fits opening 2 (b ∷ bs) whole (omega arith) inside)
 

@@ -11,7 +11,7 @@ use Rattle.std.proofs.lemmas.Bool.Decides.{nat_tests}
 use Rattle.std.proofs.lemmas.Str.{length-encode}
 use Rattle.std.proofs.lemmas.List.Sums.{sum_by-cons}
 use Rattle.starlark_grammar.specs.Words.{Text, Quote, Kind, is_octal_digit}
-use Rattle.starlark_grammar.specs.Items.{Literal, Item, Stop, Found, Goes, Stops, goes, closing_quotes, broken, is_character, numbered, hexadecimal, escaped_feed, simple_escapes, simple, is_of_bytes, escape, drops_backslash, raw_pair, brace, is_brace, found_at, Body, body_len, body_value, body_onward, body_from, body_at, OpeningBrace, ClosingBrace}
+use Rattle.starlark_grammar.specs.Items.{Literal, Item, Stop, Found, Goes, Stops, goes, closing_quotes, broken, is_character, numbered, hexadecimal, escaped_newline, simple_escapes, simple, is_of_bytes, escape, drops_backslash, raw_pair, brace, is_brace, found_at, Body, body_len, body_value, body_onward, body_from, body_at, OpeningBrace, ClosingBrace}
 use Rattle.starlark_grammar.specs.Characters.{first_character}
 use Rattle.starlark_grammar.specs.Gaps.{is_gap_byte, IsGap}
 use Rattle.starlark_grammar.proofs.Lists.{drop-behind}
@@ -55,7 +55,7 @@ simple_silent : (text : Text) (value : Option ℕ) (character : Text) → Silent
 simple_silent text (Some value) character = loud text 2 value []
 simple_silent text None character = loud text (1 + length character) 92 character
 
-escaped_feed_silent : (bs : Text) → Silent (92 ∷ 13 ∷ bs) (escaped_feed bs)
+escaped_feed_silent : (bs : Text) → Silent (92 ∷ 13 ∷ bs) (escaped_newline bs)
 unfolding is_gap_byte
 escaped_feed_silent [] = tt
 escaped_feed_silent (b ∷ bs) = when (Silent (92 ∷ 13 ∷ b ∷ bs)) (b == byte "\n") _ _
@@ -68,7 +68,7 @@ escape_silent kind [] = tt
 escape_silent kind (b ∷ bs) =
     let P : Found → Type 0 = Silent (92 ∷ b ∷ bs) in
     when P (b == byte "\n") _ _ (λ e none. let same : b ≡ 10 = eqb-true b 10 e in subst (λ c. IsGap (92 ∷ c ∷ bs) 0 2) (sym same) (word_gap (92 ∷ 10 ∷ []) bs refl))
-    (when P (b == byte "\r") _ _ (λ e. let same : b ≡ 13 = eqb-true b 13 e in subst (λ c. Silent (92 ∷ c ∷ bs) (escaped_feed bs)) (sym same) (escaped_feed_silent bs))
+    (when P (b == byte "\r") _ _ (λ e. let same : b ≡ 13 = eqb-true b 13 e in subst (λ c. Silent (92 ∷ c ∷ bs) (escaped_newline bs)) (sym same) (escaped_feed_silent bs))
     (either P (b == byte "x") _ _ (hexadecimal_silent (92 ∷ b ∷ bs) 2 (is_of_bytes kind) bs)
     (either P (b == byte "u") _ _ (hexadecimal_silent (92 ∷ b ∷ bs) 4 false bs)
     (either P (b == byte "U") _ _ (hexadecimal_silent (92 ∷ b ∷ bs) 8 false bs)

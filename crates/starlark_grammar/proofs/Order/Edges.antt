@@ -16,7 +16,7 @@ use Rattle.std.proofs.lemmas.Slice.Eq.{bytes_eq-Decides}
 use Rattle.std.proofs.lemmas.Str.{IsCharBoundary-before_ascii, IsCharBoundary-from_take, IsCharBoundary-from_rest, IsUtf8-drop, IsUtf8-from_ascii, IsCharBoundary-end, IsCharBoundary-past_char, length-encode}
 use Rattle.starlark_grammar.specs.Words.{Text, Quote, SingleQuote, DoubleQuote, Kind, OfText, OfBytes, OfFString, is_octal_digit}
 use Rattle.starlark_grammar.specs.Tokens.{Opening, Lexeme, moved}
-use Rattle.starlark_grammar.specs.Items.{Literal, Item, Stop, Closing, Line, Ended, OpeningBrace, ClosingBrace, BadEscape, Found, Goes, Stops, closing_quotes, quote_byte, broken, numbered, is_character, hexadecimal, octal, escaped_feed, simple, simple_escapes, escape, raw_pair, brace, found_at, Body, body_len, body_onward, body_from, body_at, is_brace, is_of_bytes}
+use Rattle.starlark_grammar.specs.Items.{Literal, Item, Stop, Closing, Line, Ended, OpeningBrace, ClosingBrace, BadEscape, Found, Goes, Stops, closing_quotes, quote_byte, broken, numbered, is_character, hexadecimal, octal, escaped_newline, simple, simple_escapes, escape, raw_pair, brace, found_at, Body, body_len, body_onward, body_from, body_at, is_brace, is_of_bytes}
 use Rattle.starlark_grammar.specs.Characters.{first_character}
 use Rattle.starlark_grammar.specs.Laws.{AtBoundaries}
 use Rattle.starlark_grammar.proofs.Lists.{drop-sum, drop-behind}
@@ -208,7 +208,7 @@ octal_at opening is_byte bs =
     let plain : is_plain (take (1 + n) (92 ∷ bs)) ≡ true = subst (λ k. is_plain (take k (92 ∷ bs)) ≡ true) (sym one) run.1 in
     numbered_at opening bs (1 + n) is_byte (digits_value 8 (take n bs)) (omega arith, omega (arith, inside), plain)
 
-escaped_feed_at : (opening : Opening) (behind : Text) → FoundAt opening (92 ∷ 13 ∷ behind) (escaped_feed behind)
+escaped_feed_at : (opening : Opening) (behind : Text) → FoundAt opening (92 ∷ 13 ∷ behind) (escaped_newline behind)
 escaped_feed_at opening [] = broken_at opening (13 ∷ []) 2 [] (omega arith, omega arith, refl) refl
 escaped_feed_at opening (b ∷ bs) = either (FoundAt opening (92 ∷ 13 ∷ b ∷ bs)) (b == byte "\n") _ _ tt (broken_at opening (13 ∷ b ∷ bs) 2 (b ∷ bs) (omega arith, omega arith, refl) refl)
 
@@ -225,7 +225,7 @@ escape_at opening kind [] = broken_at opening [] 1 [] (omega arith, omega arith,
 escape_at opening kind (b ∷ bs) =
     let P : Found → Type 0 = FoundAt opening (92 ∷ b ∷ bs) in
     either P (b == byte "\n") _ _ tt
-    (when P (b == byte "\r") _ _ (λ e. subst (λ c. FoundAt opening (92 ∷ c ∷ bs) (escaped_feed bs)) (sym (eqb-true b 13 e)) (escaped_feed_at opening bs))
+    (when P (b == byte "\r") _ _ (λ e. subst (λ c. FoundAt opening (92 ∷ c ∷ bs) (escaped_newline bs)) (sym (eqb-true b 13 e)) (escaped_feed_at opening bs))
     (when P (b == byte "x") _ _ (λ e. hexadecimal_at opening b 2 (is_of_bytes kind) bs (letter_small b (byte "x") refl e))
     (when P (b == byte "u") _ _ (λ e. hexadecimal_at opening b 4 false bs (letter_small b (byte "u") refl e))
     (when P (b == byte "U") _ _ (λ e. hexadecimal_at opening b 8 false bs (letter_small b (byte "U") refl e))

@@ -6,7 +6,7 @@ use Rattle.std.specs.Str.{byte}
 use Rattle.std.proofs.lemmas.Bool.{and_parts, cases_lt}
 use Rattle.starlark_grammar.specs.Words.{Text}
 use Rattle.starlark_grammar.specs.Tokens.{Lexeme, moved}
-use Rattle.starlark_grammar.specs.Margins.{is_blank, is_feed}
+use Rattle.starlark_grammar.specs.Margins.{is_blank, is_lf}
 use Rattle.starlark_grammar.specs.Gaps.{begins_with_line_end, is_gap_byte, IsGap, InOrder}
 use Rattle.starlark_grammar.proofs.Lists.{drop-sum}
 
@@ -46,11 +46,11 @@ or_right false y h = h
 
 pub blank_gap : (b : ℕ) (bs : Text) → is_blank b ≡ true → is_gap_byte (b ∷ bs) ≡ true
 unfolding is_gap_byte
-blank_gap b bs h = or_left (is_blank b || is_feed b) _ (or_left (is_blank b) (is_feed b) h)
+blank_gap b bs h = or_left (is_blank b || is_lf b) _ (or_left (is_blank b) (is_lf b) h)
 
-pub feed_gap : (b : ℕ) (bs : Text) → is_feed b ≡ true → is_gap_byte (b ∷ bs) ≡ true
+pub feed_gap : (b : ℕ) (bs : Text) → is_lf b ≡ true → is_gap_byte (b ∷ bs) ≡ true
 unfolding is_gap_byte
-feed_gap b bs h = or_left (is_blank b || is_feed b) _ (or_right (is_blank b) (is_feed b) h)
+feed_gap b bs h = or_left (is_blank b || is_lf b) _ (or_right (is_blank b) (is_lf b) h)
 
 -- the blanks at the front of a text
 pub blanks_gap : (line rest : Text) → IsGap (line ++ rest) 0 (prefix_len is_blank line)
@@ -93,7 +93,7 @@ begins_line-more (x ∷ y ∷ ys) rest h = h
 
 gap_byte-more : (word rest : Text) (b : ℕ) → is_gap_byte (b ∷ word) ≡ true → is_gap_byte (b ∷ (word ++ rest)) ≡ true
 unfolding is_gap_byte
-gap_byte-more word rest b h = go (is_blank b) (is_feed b) (b == byte "\\") (begins_with_line_end word) h (begins_line-more word rest)
+gap_byte-more word rest b h = go (is_blank b) (is_lf b) (b == byte "\\") (begins_with_line_end word) h (begins_line-more word rest)
   where
     go : (blank feed back line : Bool) → (blank || feed || (back && line)) ≡ true → (line ≡ true → begins_with_line_end (word ++ rest) ≡ true) → (blank || feed || (back && begins_with_line_end (word ++ rest))) ≡ true
     go true feed back line h more = refl

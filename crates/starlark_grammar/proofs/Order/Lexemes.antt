@@ -15,7 +15,7 @@ use Rattle.starlark_grammar.specs.Numbers.{integer_of}
 use Rattle.starlark_grammar.specs.Tokens.{Token, Comment, Identifier, Int, Float, Opening, Lexeme, moved, Indent, Dedent, Newline, Outcome, FStringBang, FStringEnd, FStringExprStart, FStringStart}
 use Rattle.starlark_grammar.specs.Items.{Stop, Closing, Line, Ended, OpeningBrace, ClosingBrace, BadEscape, Body, body_at, body_len, body_value, closing_quotes}
 use Rattle.starlark_grammar.specs.Depths.{Mode, Outside, InText, AtTop, Deeper}
-use Rattle.starlark_grammar.specs.Margins.{is_blank, is_feed, blanks_len, lines, begins_comment, is_comment_only, without_return, comment_part, comments_from, comment_lines, margin_from, Margin, margin_of, margin_len, is_content, has_tab, width_of, fits, is_widest, indentation}
+use Rattle.starlark_grammar.specs.Margins.{is_blank, is_lf, blanks_len, lines, begins_comment, is_comment_only, without_return, comment_part, comments_from, comment_lines, margin_from, Margin, margin_of, margin_len, is_content, has_tab, width_of, fits, is_widest, indentation}
 use Rattle.starlark_grammar.specs.Pieces.{Before, Nothing, Layout, Gap, Other, Piece, Step, Stands, Fails, Ends, Situation, token, margin_step, line_end, opening_of, more_quotes, escape_fault, literal_token, literal_by, opener, chunk_text, chunk_piece, chunk_by, chunk, terminal_token, counts, starts_zero, word_step, front_step, takes_bang, is_bang, in_code, by_place, by_before, step_at}
 use Rattle.starlark_grammar.specs.Reading.{History, nothing, after, after_all, situation, next_step, IsReading, IsLongestReading, pieces_len, lexemes_along, closing, outcome_of, outcome_in, outcome, read}
 use Rattle.starlark_grammar.specs.Gaps.{IsGap, InOrder}
@@ -34,7 +34,7 @@ use Rattle.starlark_grammar.proofs.Choices.{either}
 abbrev pub is_line : Text → Bool
 is_line [] = true
 is_line (b ∷ []) = true
-is_line (b ∷ c ∷ bs) = not (is_feed b) && is_line (c ∷ bs)
+is_line (b ∷ c ∷ bs) = not (is_lf b) && is_line (c ∷ bs)
 
 -- the first of a text's lines and what is left behind it
 pub record Split (text line : Text) (more : List Text) : Type 0 where
@@ -47,7 +47,7 @@ pub record Split (text line : Text) (more : List Text) : Type 0 where
 no_lines : (text : Text) → lines text ≡ [] → text ≡ []
 unfolding lines
 no_lines [] e = refl
-no_lines (b ∷ bs) e = go (is_feed b) (lines bs) e
+no_lines (b ∷ bs) e = go (is_lf b) (lines bs) e
   where
     go : (feed : Bool) (m : List Text) → (if feed then (b ∷ []) ∷ m else onto_first b m) ≡ [] → ◌≡◌ {A = Text} (b ∷ bs) []
     go true m e = cc
@@ -60,9 +60,9 @@ other_split text line line' more more' e f h = subst (λ (l : Text). Split text 
 pub first_line : (text line : Text) (more : List Text) → lines text ≡ line ∷ more → Split text line more
 unfolding lines
 first_line [] line more e = cc
-first_line (b ∷ bs) line more e = go (is_feed b) refl (lines bs) refl (first_line bs) e
+first_line (b ∷ bs) line more e = go (is_lf b) refl (lines bs) refl (first_line bs) e
   where
-    longer : (l : Text) → is_feed b ≡ false → is_line l ≡ true → is_line (b ∷ l) ≡ true
+    longer : (l : Text) → is_lf b ≡ false → is_line l ≡ true → is_line (b ∷ l) ≡ true
     longer [] f h = refl
     longer (c ∷ cs) f h = rw f h
 
@@ -70,7 +70,7 @@ first_line (b ∷ bs) line more e = go (is_feed b) refl (lines bs) refl (first_l
     later l rest (inl none) = inl none
     later l rest (inr found) = inr (b ∷ found.0, ap (λ (t : Text). b ∷ t) found.1)
 
-    go : (feed : Bool) → is_feed b ≡ feed → (m : List Text) → lines bs ≡ m → ((l : Text) (ms : List Text) → lines bs ≡ l ∷ ms → Split bs l ms) → (if feed then (b ∷ []) ∷ m else onto_first b m) ≡ line ∷ more → Split (b ∷ bs) line more
+    go : (feed : Bool) → is_lf b ≡ feed → (m : List Text) → lines bs ≡ m → ((l : Text) (ms : List Text) → lines bs ≡ l ∷ ms → Split bs l ms) → (if feed then (b ∷ []) ∷ m else onto_first b m) ≡ line ∷ more → Split (b ∷ bs) line more
     go true f m k h e =
         let first : b ∷ [] ≡ line = cc in
         let rest : m ≡ more = cc in
@@ -90,28 +90,28 @@ first_line (b ∷ bs) line more e = go (is_feed b) refl (lines bs) refl (first_l
 
 -- a line up to its LF
 abbrev before_feed : Text → Text
-before_feed line = take_while (λ b. not (is_feed b)) line
+before_feed line = take_while (λ b. not (is_lf b)) line
 
-part_feed : (b : ℕ) (bs : Text) → is_feed b ≡ true → comment_part (b ∷ bs) ≡ []
+part_feed : (b : ℕ) (bs : Text) → is_lf b ≡ true → comment_part (b ∷ bs) ≡ []
 part_feed b bs e = rw e refl
 
 take_more : (n b : ℕ) (bs : Text) → take (1 + n) (b ∷ bs) ≡ b ∷ take n bs
 take_more n b bs = rw one-add refl
 
-part_more : (b : ℕ) (bs : Text) → is_feed b ≡ false → comment_part (b ∷ bs) ≡ without_return (b ∷ before_feed bs)
+part_more : (b : ℕ) (bs : Text) → is_lf b ≡ false → comment_part (b ∷ bs) ≡ without_return (b ∷ before_feed bs)
 part_more b bs e =
-    let same : before_feed (b ∷ bs) ≡ b ∷ before_feed bs = rw e (take_more (prefix_len (λ b. not (is_feed b)) bs) b bs) in
+    let same : before_feed (b ∷ bs) ≡ b ∷ before_feed bs = rw e (take_more (prefix_len (λ b. not (is_lf b)) bs) b bs) in
     ap without_return same
 
 -- the blanks end before the comment does
 pub comment_spans : (line : Text) → is_comment_only line ≡ true → blanks_len line < length (comment_part line)
 comment_spans [] h = cc
-comment_spans (b ∷ bs) h = go (is_blank b) refl (is_feed b) refl h (comment_spans bs)
+comment_spans (b ∷ bs) h = go (is_blank b) refl (is_lf b) refl h (comment_spans bs)
   where
-    not_both : is_blank b ≡ true → is_feed b ≡ true → ⊥
+    not_both : is_blank b ≡ true → is_lf b ≡ true → ⊥
     not_both h k = grind (arith, nat_tests)
 
-    begun : begins_comment (b ∷ bs) ≡ true → is_feed b ≡ true → ⊥
+    begun : begins_comment (b ∷ bs) ≡ true → is_lf b ≡ true → ⊥
     begun h k = grind (arith, nat_tests)
 
     not_return : begins_comment (b ∷ bs) ≡ true → (b == byte "\r") ≡ false
@@ -125,7 +125,7 @@ comment_spans (b ∷ bs) h = go (is_blank b) refl (is_feed b) refl h (comment_sp
     longer [] k = absurd (omega (arith, k))
     longer (c ∷ cs) k = omega (arith, k)
 
-    go : (blank : Bool) → is_blank b ≡ blank → (feed : Bool) → is_feed b ≡ feed
+    go : (blank : Bool) → is_blank b ≡ blank → (feed : Bool) → is_lf b ≡ feed
         → begins_comment (drop (cond blank (1 + prefix_len is_blank bs) 0) (b ∷ bs)) ≡ true
         → (is_comment_only bs ≡ true → blanks_len bs < length (comment_part bs))
         → cond blank (1 + prefix_len is_blank bs) 0 < length (comment_part (b ∷ bs))
@@ -149,20 +149,20 @@ tail_more b (c ∷ cs) behind n gap = gap_cons b behind (length (without_return 
 -- behind a comment its line end stands
 pub comment_tail : (line rest : Text) → is_line line ≡ true → IsGap (line ++ rest) (length (comment_part line)) (length line)
 comment_tail [] rest h = gap_none rest 0
-comment_tail (b ∷ []) rest h = go (is_feed b) refl
+comment_tail (b ∷ []) rest h = go (is_lf b) refl
   where
-    go : (feed : Bool) → is_feed b ≡ feed → IsGap (b ∷ rest) (length (comment_part (b ∷ []))) 1
+    go : (feed : Bool) → is_lf b ≡ feed → IsGap (b ∷ rest) (length (comment_part (b ∷ []))) 1
     go true e = subst (λ (t : Text). IsGap (b ∷ rest) (length t) 1) (sym (part_feed b [] e)) (gap_first b rest 0 (feed_gap b rest e) (gap_none rest 0))
     go false e = subst (λ (t : Text). IsGap (b ∷ rest) (length t) 1) (sym (part_more b [] e)) (tail_more b [] rest 0 (gap_none rest 0))
 comment_tail (b ∷ c ∷ bs) rest h =
-    let parts = and_parts (not (is_feed b)) (is_line (c ∷ bs)) h in
+    let parts = and_parts (not (is_lf b)) (is_line (c ∷ bs)) h in
     let text : IsGap (b ∷ (c ∷ bs ++ rest)) (length (without_return (b ∷ before_feed (c ∷ bs)))) (suc (length (c ∷ bs))) =
     tail_more b (before_feed (c ∷ bs)) (c ∷ bs ++ rest) (length (c ∷ bs)) (comment_tail (c ∷ bs) rest parts.1) in
-    subst (λ (t : Text). IsGap (b ∷ (c ∷ bs ++ rest)) (length t) (suc (length (c ∷ bs)))) (sym (part_more b (c ∷ bs) (not-true (is_feed b) parts.0))) text
+    subst (λ (t : Text). IsGap (b ∷ (c ∷ bs ++ rest)) (length t) (suc (length (c ∷ bs)))) (sym (part_more b (c ∷ bs) (not-true (is_lf b) parts.0))) text
 
 pub part_len : (line : Text) → length (comment_part line) ≤ length line
 part_len line =
-    let taken = take_fits (prefix_len (λ b. not (is_feed b)) line) line in
+    let taken = take_fits (prefix_len (λ b. not (is_lf b)) line) line in
     let cut = shorter (before_feed line) in
     omega (arith, cut, taken.0)
   where
@@ -222,14 +222,14 @@ comments_order whole at text (line ∷ more) tail to e f h = go (is_comment_only
         )
 
 -- the blanks behind the comments
-blanks_behind : (text : Text) → IsGap text 0 (blanks_len text)
-blanks_behind text = subst (λ (t : Text). IsGap t 0 (blanks_len text)) (append-nil text) (blanks_gap text [])
+blanks_after : (text : Text) → IsGap text 0 (blanks_len text)
+blanks_after text = subst (λ (t : Text). IsGap t 0 (blanks_len text)) (append-nil text) (blanks_gap text [])
 
 pub margin_blanks : (passed : List Text) (at : ℕ) (text : Text) → IsGap text at (margin_len (margin_from passed at (drop at text)))
 margin_blanks passed at text =
     let within = prefix_len-le-length is_blank (drop at text) in
     let taken : length (take (blanks_len (drop at text)) (drop at text)) ≡ blanks_len (drop at text) = length-take-le (blanks_len (drop at text)) (drop at text) within in
-    gap_shift at text 0 (blanks_len (drop at text)) at (at + length (take (blanks_len (drop at text)) (drop at text))) (omega arith) (ap (λ n. at + n) taken) (blanks_behind (drop at text))
+    gap_shift at text 0 (blanks_len (drop at text)) at (at + length (take (blanks_len (drop at text)) (drop at text))) (omega arith) (ap (λ n. at + n) taken) (blanks_after (drop at text))
 
 pub margin_order : (text : Text) (tail : List Lexeme) → InOrder text (margin_of text).at tail (margin_len (margin_of text)) → InOrder text 0 ((margin_of text).comments ++ tail) (margin_len (margin_of text))
 unfolding margin_of

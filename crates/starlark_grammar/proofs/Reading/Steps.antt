@@ -10,7 +10,7 @@ use Rattle.starlark_grammar.specs.Front.{longest_front}
 use Rattle.starlark_grammar.specs.Tokens.{Token, Opening, Fault, Spanned, Lexeme, FStringBang, FStringStart}
 use Rattle.starlark_grammar.specs.Items.{Stop, Closing, Line, Ended, OpeningBrace, ClosingBrace, BadEscape, Body, body_at, body_len, closing_quotes, quote_byte}
 use Rattle.starlark_grammar.specs.Depths.{Mode, Outside, InText, AtTop, Deeper}
-use Rattle.starlark_grammar.specs.Margins.{lines, is_feed, is_comment_only, comment_lines, blanks_len, margin_from, Margin, margin_of, margin_len, is_content, has_tab, width_of, fits}
+use Rattle.starlark_grammar.specs.Margins.{lines, is_lf, is_comment_only, comment_lines, blanks_len, margin_from, Margin, margin_of, margin_len, is_content, has_tab, width_of, fits}
 use Rattle.starlark_grammar.specs.Pieces.{Before, Nothing, Layout, Gap, Other, Piece, Step, Stands, Fails, Ends, Situation, piece, token, fault, margin_step, opening_of, more_quotes, escape_fault, literal_by, literal, opener, chunk_by, chunk, counts, starts_zero, word_step, front_step, takes_bang, is_bang, in_code, by_place, by_before, step_at}
 use Rattle.starlark_grammar.proofs.Lists.{take_fits}
 use Rattle.starlark_grammar.proofs.Words.Fronts.{front_sound}
@@ -51,7 +51,7 @@ token_fits len node text some inside = record { some = some; inside = inside; so
 pub lines_len : (text : Text) → sum_by (λ (line : Text). length line) (lines text) ≡ length text
 unfolding lines
 lines_len [] = refl
-lines_len (b ∷ bs) = go (is_feed b) (lines bs) (lines_len bs)
+lines_len (b ∷ bs) = go (is_lf b) (lines bs) (lines_len bs)
   where
     onto : (more : List Text) → sum_by (λ (line : Text). length line) (onto_first b more) ≡ suc (sum_by (λ (line : Text). length line) more)
     onto [] = refl

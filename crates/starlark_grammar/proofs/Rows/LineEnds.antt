@@ -5,13 +5,13 @@ use Rattle.starlark_grammar.specs.Words.{Text, language}
 use Rattle.starlark_grammar.specs.Front.{language_front}
 use Rattle.starlark_grammar.specs.Tokens.{Comment, Newline, String}
 use Rattle.starlark_grammar.specs.Reading.{nothing, read, outcome}
-use Rattle.starlark_grammar.specs.LineEnds.{crlf_form, no_raw_feed}
+use Rattle.starlark_grammar.specs.LineEnds.{crlf_form, no_raw_newline}
 use Rattle.starlark_grammar.specs.TextLaws.{tokens_of}
 use Rattle.starlark_grammar.proofs.Rows.Shapes.{all_definitions}
 
 -- whether no raw text has a backslash right before an LF
 abbrev is_free : Text → Bool
-is_free text = no_raw_feed nothing text (read language text).pieces
+is_free text = no_raw_newline nothing text (read language text).pieces
 
 -- the text and its form have the same tokens, and neither has a fault
 abbrev Keeps : Text → Type 0
@@ -25,7 +25,7 @@ kept :
     × Keeps (codes "'''a\nb'''")
     × Keeps (codes "'a\\\nb'")
     × Keeps (codes "f\"{\n}\"\n")
-unfolding all_definitions language_front no_raw_feed
+unfolding all_definitions language_front no_raw_newline
 kept = ((refl, refl, refl, refl), (refl, refl, refl, refl), (refl, refl, refl, refl), (refl, refl, refl, refl), (refl, refl, refl, refl), (refl, refl, refl, refl))
 
 -- Where one of the conditions doesn't hold, tokens or faults change: a raw backslash takes the CR alone, a comment's
@@ -39,5 +39,5 @@ changed :
     × (tokens_of (crlf_form (codes "# a\r\n")) ≡ Comment (codes " a\r") ∷ Newline ∷ [])
     × (is_some (outcome (39 ∷ 195 ∷ 10 ∷ 39 ∷ [])).fault ≡ false)
     × (is_some (outcome (crlf_form (39 ∷ 195 ∷ 10 ∷ 39 ∷ []))).fault ≡ true)
-unfolding all_definitions language_front no_raw_feed
+unfolding all_definitions language_front no_raw_newline
 changed = (refl, refl, refl, refl, refl, refl, refl, refl)

@@ -5,7 +5,7 @@ use Rattle.std.specs.Char.{is_ascii, is_ascii_digit, is_ascii_hexdigit}
 use Rattle.std.specs.List.{list_all, prefix_len}
 use Rattle.std.proofs.lemmas.Bool.{and_parts, eqb-true}
 use Rattle.std.proofs.lemmas.Bool.Decides.{nat_tests}
-use Rattle.starlark_grammar.specs.Words.{Text, Class, Skipped, Comment, Tabs, LineEnd, Opener, Reserved, Identifier, Decimal, Hexadecimal, Octal, Binary, Float, Fixed, Table, class_in, openers, line_ends, symbols, names, patterns, language, is_run, is_in_name, is_identifier, is_comment, is_based, is_octal_digit, is_binary_digit, behind_digits, begins_with_digit, is_sign, unsigned, is_exponent, ends_float, is_fraction, is_float, is_pointed}
+use Rattle.starlark_grammar.specs.Words.{Text, Class, Skipped, Comment, Tabs, LineEnd, Opener, Reserved, Identifier, Decimal, Hexadecimal, Octal, Binary, Float, Fixed, Table, class_in, openers, line_ends, symbols, names, patterns, language, is_run, is_in_name, is_identifier, is_comment, is_based, is_octal_digit, is_binary_digit, after_digits, begins_with_digit, is_sign, unsigned, is_exponent, ends_float, is_fraction, is_float, is_pointed}
 use Rattle.starlark_grammar.specs.Gaps.{is_gap_byte}
 use Rattle.starlark_grammar.proofs.Words.Classes.{all_fit, all_more, language_all_fit, row_fits, none_found}
 use Rattle.starlark_grammar.proofs.Order.Gaps.{all_gaps, blank_gap}
@@ -96,11 +96,11 @@ based_plain lower upper p (z ∷ letter ∷ digits) h k m e =
     rw (zero_plain, either_byte letter lower upper h k inner.1) (run_plain p digits m outer.1)
 
 -- digits in front change nothing
-behind_plain : (text : Text) → is_plain (behind_digits text) ≡ true → is_plain text ≡ true
+behind_plain : (text : Text) → is_plain (after_digits text) ≡ true → is_plain text ≡ true
 behind_plain [] h = refl
 behind_plain (b ∷ bs) h = go (is_ascii_digit b) refl h (behind_plain bs)
   where
-    go : (digit : Bool) → is_ascii_digit b ≡ digit → is_plain (drop (cond digit (1 + prefix_len is_ascii_digit bs) 0) (b ∷ bs)) ≡ true → (is_plain (behind_digits bs) ≡ true → is_plain bs ≡ true) → is_plain (b ∷ bs) ≡ true
+    go : (digit : Bool) → is_ascii_digit b ≡ digit → is_plain (drop (cond digit (1 + prefix_len is_ascii_digit bs) 0) (b ∷ bs)) ≡ true → (is_plain (after_digits bs) ≡ true → is_plain bs ≡ true) → is_plain (b ∷ bs) ≡ true
     go false e h more = h
     go true e h more = rw (digit_plain b e) (more (rw one-add at h))
 
@@ -128,18 +128,18 @@ ends_plain (b ∷ bs) h = exponent_plain (b ∷ bs) h
 fraction_plain : (word : Text) → is_fraction word ≡ true → is_plain word ≡ true
 fraction_plain [] h = refl
 fraction_plain (b ∷ bs) h =
-    let parts = and_parts (b == 46) (ends_float (behind_digits bs)) h in
+    let parts = and_parts (b == 46) (ends_float (after_digits bs)) h in
     let first : is_ascii b ≡ true = let same : b ≡ 46 = eqb-true b 46 parts.0 in rw same refl in
-    rw first (behind_plain bs (ends_plain (behind_digits bs) parts.1))
+    rw first (behind_plain bs (ends_plain (after_digits bs) parts.1))
 
 float_plain : (word : Text) → is_float word ≡ true → is_plain word ≡ true
 float_plain word h =
-    let parts = and_parts (begins_with_digit word) (is_fraction (behind_digits word) || is_exponent (behind_digits word)) h in
-    go (is_fraction (behind_digits word)) refl parts.1
+    let parts = and_parts (begins_with_digit word) (is_fraction (after_digits word) || is_exponent (after_digits word)) h in
+    go (is_fraction (after_digits word)) refl parts.1
   where
-    go : (fraction : Bool) → is_fraction (behind_digits word) ≡ fraction → (fraction || is_exponent (behind_digits word)) ≡ true → is_plain word ≡ true
-    go true e h = behind_plain word (fraction_plain (behind_digits word) e)
-    go false e h = behind_plain word (exponent_plain (behind_digits word) h)
+    go : (fraction : Bool) → is_fraction (after_digits word) ≡ fraction → (fraction || is_exponent (after_digits word)) ≡ true → is_plain word ≡ true
+    go true e h = behind_plain word (fraction_plain (after_digits word) e)
+    go false e h = behind_plain word (exponent_plain (after_digits word) h)
 
 pointed_plain : (word : Text) → is_pointed word ≡ true → is_plain word ≡ true
 pointed_plain word h = fraction_plain word (and_parts (is_fraction word) (begins_with_digit (drop 1 word)) h).0

@@ -1,7 +1,7 @@
 //! Laws of texts that are joined, cut, or written with other line ends. Each function here has a law as its contract and
 //! nothing to do; programs don't call them.
 
-ghost use Rattle.starlark_grammar.specs.TextLaws.{CutsJoin, LaterFaultsJoin, FaultsJoin, CutsOfJoined, TabsBehindCuts, KeptCutsKeep, CrlfKeepsTokens};
+ghost use Rattle.starlark_grammar.specs.TextLaws.{CutsJoin, LaterFaultsJoin, FaultsJoin, CutsOfJoined, TabsAfterCuts, KeptCutsKeep, CrlfKeepsTokens};
 
 /// At a clean cut the lexemes of two texts joined are the joined list. A fault of the second text stays the same fault,
 /// that much later, unless it is its first margin's: then it takes the place of the last `Newline`. The joined text
@@ -11,7 +11,7 @@ pub fn joins_at_clean_cuts()
     ensures later { LaterFaultsJoin }
     ensures faults { FaultsJoin }
     ensures cuts { CutsOfJoined }
-    ensures tabs { TabsBehindCuts }
+    ensures tabs { TabsAfterCuts }
 {}
 
 /// At a kept cut the lexemes of a text begin with those of the text before it, without its closing `Newline`.

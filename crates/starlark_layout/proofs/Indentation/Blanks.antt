@@ -8,7 +8,7 @@ use Rattle.std.proofs.lemmas.List.{length-drop}
 use Rattle.std.proofs.lemmas.List.Sums.{prefix_len-le-length, prefix_len_passes, prefix_len_stops, sum_by-cons}
 use Rattle.starlark_grammar.specs.Words.{Text}
 use Rattle.starlark_grammar.specs.Margins.{is_blank, blanks_len}
-use Rattle.starlark_layout.specs.Joints.Layout.{IsBlanks}
+use Rattle.starlark_layout.specs.Inner.Layout.{IsBlanks}
 use Rattle.starlark_layout.specs.declared.margins.Blanks.{Blanks}
 
 -- the blanks at the front of a text

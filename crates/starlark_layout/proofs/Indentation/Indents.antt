@@ -3,7 +3,7 @@ use Rattle.std.proofs.Common.{◌≡◌, ℕ, zero, suc, ◌+◌, true, false, L
 use Rattle.std.specs.Prelude.{◌&&◌, count_by, replicate}
 use Rattle.starlark_grammar.specs.Margins.{Margin, indentation, is_widest, margin_len, width_of}
 use Rattle.starlark_grammar.specs.Tokens.{Dedent, Indent, moved}
-use Rattle.starlark_layout.specs.Joints.Layout.{IsMargin, margin_indentation}
+use Rattle.starlark_layout.specs.Inner.Layout.{IsMargin, margin_indentation}
 use Rattle.starlark_layout.specs.declared.margins.Margin.{Margin as Measured}
 
 -- an `Indent`

@@ -10,8 +10,8 @@ use Rattle.std.proofs.lemmas.List.Sums.{sum_by-cons}
 use Rattle.std.proofs.lemmas.List.Folds.{list_all-append, list_any-append}
 use Rattle.starlark_grammar.specs.Margins.{Margin, fits, is_content, is_widest, open_widths, width_of}
 use Rattle.starlark_grammar.proofs.Indentation.Widths.{newest, open-push, open_all}
-use Rattle.starlark_layout.specs.Joints.Layout.{IsLaidOut, IsMargin, greatest_of, keeps_widths}
-use Rattle.starlark_layout.specs.Joints.Pending.{behind_lexemes}
+use Rattle.starlark_layout.specs.Inner.Layout.{IsLaidOut, IsMargin, greatest_of, keeps_widths}
+use Rattle.starlark_layout.specs.Inner.Pending.{lexemes_after}
 use Rattle.starlark_layout.specs.declared.margins.Margin.{Margin as Measured}
 use Rattle.starlark_layout.specs.declared.pending.Behind.{Behind}
 use Rattle.starlark_layout.proofs.Indentation.Indents.{dedented}
@@ -163,7 +163,7 @@ module _ (levels widths : List ℕ) (margin : Measured) (seen : Margin) (same : 
       no_tab false h = refl
       no_tab true h = cc
 
-  pub is_kept : (begin : ℕ) (behind : Behind) → behind_lexemes behind ≡ [] → IsLaidOut begin seen widths levels levels behind
+  pub is_kept : (begin : ℕ) (behind : Behind) → lexemes_after behind ≡ [] → IsLaidOut begin seen widths levels levels behind
   is_kept begin behind idle = go margin.is_content refl
     where
       go : (content : Bool) → margin.is_content ≡ content → IsLaidOut begin seen widths levels levels behind
@@ -171,7 +171,7 @@ module _ (levels widths : List ℕ) (margin : Measured) (seen : Margin) (same : 
           let blank : is_content seen.behind ≡ false = sym same.is_content ∙ none in
           record {
             stands = λ len before. decided_blank len before levels seen margin same none;
-            behind_them = idle ∙ rw blank refl;
+            those_after = idle ∙ rw blank refl;
             open_now = open_now ∙ ap open_widths (rw blank (sym (append-nil widths)));
           }
       go true some =
@@ -183,6 +183,6 @@ module _ (levels widths : List ℕ) (margin : Measured) (seen : Margin) (same : 
           let pushed : filter (λ w. nat_lt w (width_of seen)) levels ++ newest (width_of seen) ≡ levels = rw width at fits.1.pushed in
           record {
             stands = λ len before. decided_fits len before levels seen margin same some fits.0 fits.1.fitting;
-            behind_them = idle ∙ rw (content, dedented levels seen other, dedents) refl;
+            those_after = idle ∙ rw (content, dedented levels seen other, dedents) refl;
             open_now = sym pushed ∙ ap (λ ls. filter (λ w. nat_lt w (width_of seen)) ls ++ newest (width_of seen)) open_now ∙ sym (open-push widths (width_of seen)) ∙ rw content refl;
           }

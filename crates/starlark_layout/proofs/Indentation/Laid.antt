@@ -7,9 +7,9 @@ use Rattle.starlark_grammar.specs.Words.{Text}
 use Rattle.starlark_grammar.specs.Tokens.{Indentation, InvalidTab, Lexeme, Newline, moved}
 use Rattle.starlark_grammar.specs.Margins.{Margin, comments_from, fits, has_tab, margin_len, margin_of, open_widths}
 use Rattle.starlark_grammar.specs.Pieces.{Stands, fault, first_margin, line_end, margin_step}
-use Rattle.starlark_layout.specs.Joints.Layout.{IsFaultFound, IsLaidOut, IsLeftOut, IsMargin, IsRefused, IsTaken, margin_fault, margin_indentation, margin_lexemes, margin_piece}
-use Rattle.starlark_layout.specs.Joints.MarginLines.{IsOfMargin}
-use Rattle.starlark_layout.specs.Joints.Pending.{IsPending, behind_lexemes, lines_between, pending_lexemes}
+use Rattle.starlark_layout.specs.Inner.Layout.{IsFaultFound, IsLaidOut, IsLeftOut, IsMargin, IsRefused, IsTaken, margin_fault, margin_indentation, margin_lexemes, margin_piece}
+use Rattle.starlark_layout.specs.Inner.MarginLines.{IsOfMargin}
+use Rattle.starlark_layout.specs.Inner.Pending.{IsPending, lexemes_after, lines_between, pending_lexemes}
 use Rattle.starlark_layout.specs.declared.margins.Margin.{Margin as Measured}
 use Rattle.starlark_layout.specs.declared.pending.Behind.{Behind}
 use Rattle.starlark_layout.specs.declared.pending.Pending.{Pending}
@@ -66,11 +66,11 @@ moved_none (lexeme ∷ lexemes) = rw (zero-add lexeme.begin, zero-add lexeme.end
 -- What is still to be handed out
 
 -- what is behind no lexemes is none
-pub behind_none : (text : Text) (pending : Pending) → pending_lexemes text pending ≡ [] → behind_lexemes pending.behind ≡ []
+pub behind_none : (text : Text) (pending : Pending) → pending_lexemes text pending ≡ [] → lexemes_after pending.behind ≡ []
 unfolding pending_lexemes
 behind_none text pending none = go (comments_from pending.from (lines_between text pending.from pending.to)) none
   where
-    go : (comments : List Lexeme) → comments ++ behind_lexemes pending.behind ≡ [] → behind_lexemes pending.behind ≡ []
+    go : (comments : List Lexeme) → comments ++ lexemes_after pending.behind ≡ [] → lexemes_after pending.behind ≡ []
     go [] h = h
     go (comment ∷ comments) h = cc
 
@@ -79,7 +79,7 @@ abbrev margin_pending : ℕ → ℕ → Behind → Bool → Pending
 margin_pending begin at behind flat = record { from = begin; to = begin + at; behind = behind; is_flat = flat }
 
 module _ (text : Text) (begin : ℕ) (margin : Measured) (utf8 : IsUtf8 text) (here : IsCharBoundary text begin) (same : IsMargin (margin_of (drop begin text)) margin) where
-  margin_waits : (levels : List ℕ) (behind : Behind) (flat : Bool) → behind_lexemes behind ≡ map (moved begin) (margin_indentation levels (margin_of (drop begin text)))
+  margin_waits : (levels : List ℕ) (behind : Behind) (flat : Bool) → lexemes_after behind ≡ map (moved begin) (margin_indentation levels (margin_of (drop begin text)))
       → IsPending text (margin_pending begin margin.at behind flat) × (map (moved begin) (margin_lexemes levels (margin_of (drop begin text))) ≡ pending_lexemes text (margin_pending begin margin.at behind flat))
   unfolding pending_lexemes
   margin_waits levels behind flat e =
@@ -98,13 +98,13 @@ module _ (text : Text) (begin : ℕ) (pending : Pending) (margin : Measured) (ut
       go from to e f = rw (e, f) refl
 
   -- the lexemes of a margin wait, if what stands behind its comments does
-  waits : (levels : List ℕ) → behind_lexemes pending.behind ≡ map (moved begin) (margin_indentation levels (margin_of (drop begin text)))
+  waits : (levels : List ℕ) → lexemes_after pending.behind ≡ map (moved begin) (margin_indentation levels (margin_of (drop begin text)))
       → IsPending text pending × (map (moved begin) (margin_lexemes levels (margin_of (drop begin text))) ≡ pending_lexemes text pending)
   waits levels e = subst (λ p. IsPending text p × (map (moved begin) (margin_lexemes levels (margin_of (drop begin text))) ≡ pending_lexemes text p)) of_margin
       (margin_waits text begin margin utf8 here same levels pending.behind pending.is_flat e)
 
   -- the comments alone, if nothing does
-  comments_wait : behind_lexemes pending.behind ≡ [] → IsPending text pending × (map (moved begin) (margin_of (drop begin text)).comments ≡ pending_lexemes text pending)
+  comments_wait : lexemes_after pending.behind ≡ [] → IsPending text pending × (map (moved begin) (margin_of (drop begin text)).comments ≡ pending_lexemes text pending)
   unfolding pending_lexemes
   comments_wait none = subst (λ p. IsPending text p × (map (moved begin) (margin_of (drop begin text)).comments ≡ pending_lexemes text p)) of_margin (
     are_comments text begin margin.at utf8 here same.at,
@@ -118,7 +118,7 @@ none_open levels e = e
 module _ (text : Text) (levels now : List ℕ) (margin : Measured) (pending : Pending) (utf8 : IsUtf8 text) (same : IsMargin (margin_of text) margin) (of : IsOfMargin 0 margin.at levels pending) where
   pub first_taken : levels ≡ [] → IsLaidOut 0 (margin_of text) [] levels now pending.behind → IsTaken text 0 (first_margin text) [] [] now pending (margin.at + margin.blanks.len)
   first_taken none laid =
-      let both = waits text 0 pending margin utf8 (IsCharBoundary-start text utf8) same levels of levels laid.behind_them in
+      let both = waits text 0 pending margin utf8 (IsCharBoundary-start text utf8) same levels of levels laid.those_after in
       record {
         piece = margin_piece 0 [] [] (margin_of text);
         stands = rw none at (laid.stands 0 []);
@@ -128,10 +128,10 @@ module _ (text : Text) (levels now : List ℕ) (margin : Measured) (pending : Pe
         open_now = laid.open_now;
       }
 
-  pub first_refused : levels ≡ [] → (behind : Behind) → IsLeftOut (margin_of text) levels now behind pending.behind → behind_lexemes behind ≡ [] → (error : LexemeError) (end : ℕ) → IsFaultFound (margin_fault 0 (margin_of text)) (error, end)
+  pub first_refused : levels ≡ [] → (behind : Behind) → IsLeftOut (margin_of text) levels now behind pending.behind → lexemes_after behind ≡ [] → (error : LexemeError) (end : ℕ) → IsFaultFound (margin_fault 0 (margin_of text)) (error, end)
       → IsRefused text (first_margin text) (margin_of text).comments [] now pending error end
   first_refused none behind left idle error end found =
-      let both = comments_wait text 0 pending margin utf8 (IsCharBoundary-start text utf8) same levels of (ap behind_lexemes left.same ∙ idle) in
+      let both = comments_wait text 0 pending margin utf8 (IsCharBoundary-start text utf8) same levels of (ap lexemes_after left.same ∙ idle) in
       record {
         node = found.0;
         is = found.1;
@@ -150,7 +150,7 @@ module _ (text : Text) (at len : ℕ) (levels now widths : List ℕ) (margin : M
       → IsTaken text at (line_end len (open_widths widths) (drop (at + len) text)) (record { begin = at; node = Newline; end = at + len } ∷ []) widths now pending (len + margin.at + margin.blanks.len)
   end_taken utf8 here of laid =
       let start : at + 0 ≡ at = omega arith in
-      let both = waits text (at + len) pending margin utf8 here same levels of levels laid.behind_them in
+      let both = waits text (at + len) pending margin utf8 here same levels of levels laid.those_after in
       record {
         piece = margin_piece len (newline len ∷ []) levels (margin_of (drop (at + len) text));
         stands = ap (λ ls. margin_step len (newline len ∷ []) ls (margin_of (drop (at + len) text))) (sym open_now) ∙ laid.stands len (newline len ∷ []);
@@ -160,9 +160,9 @@ module _ (text : Text) (at len : ℕ) (levels now widths : List ℕ) (margin : M
         open_now = laid.open_now;
       }
 
-  pub end_refused : (behind behind_now : Behind) → IsLeftOut (margin_of (drop (at + len) text)) levels now behind behind_now → (pending_lexemes text pending ≡ []) × IsPending text pending → (error : LexemeError) (end : ℕ) → IsFaultFound (margin_fault len (margin_of (drop (at + len) text))) (error, end)
+  pub end_refused : (behind after_now : Behind) → IsLeftOut (margin_of (drop (at + len) text)) levels now behind after_now → (pending_lexemes text pending ≡ []) × IsPending text pending → (error : LexemeError) (end : ℕ) → IsFaultFound (margin_fault len (margin_of (drop (at + len) text))) (error, end)
       → IsRefused text (line_end len (open_widths widths) (drop (at + len) text)) [] widths now pending error end
-  end_refused behind behind_now left none error end found = record {
+  end_refused behind after_now left none error end found = record {
     node = found.0;
     is = found.1;
     stands = ap (λ ls. margin_step len (newline len ∷ []) ls (margin_of (drop (at + len) text))) (sym open_now) ∙ left.stands len (newline len ∷ []) ∙ found.2;

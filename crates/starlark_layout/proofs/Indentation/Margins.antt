@@ -8,14 +8,14 @@ use Rattle.std.proofs.lemmas.List.{drop_all, length-drop, length-take-le, take_a
 use Rattle.std.proofs.lemmas.List.Folds.{length-prefix_len}
 use Rattle.std.proofs.lemmas.List.Sums.{sum_by-cons}
 use Rattle.starlark_grammar.specs.Words.{Text}
-use Rattle.starlark_grammar.specs.Margins.{is_blank, is_feed, blanks_len, lines, begins_comment, is_comment_only, comment_lines, is_content, margin_of}
-use Rattle.starlark_layout.specs.Joints.Layout.{IsBlanks, IsMargin}
+use Rattle.starlark_grammar.specs.Margins.{is_blank, is_lf, blanks_len, lines, begins_comment, is_comment_only, comment_lines, is_content, margin_of}
+use Rattle.starlark_layout.specs.Inner.Layout.{IsBlanks, IsMargin}
 use Rattle.starlark_layout.specs.declared.margins.Blanks.{Blanks}
 use Rattle.starlark_grammar.proofs.Lists.{drop-sum}
 use Rattle.starlark_grammar.proofs.Order.Lexemes.{Split, first_line, lines_sum}
 
 abbrev pub is_other : ℕ → Bool
-is_other b = not (is_feed b)
+is_other b = not (is_lf b)
 
 -- The first line
 
@@ -23,9 +23,9 @@ is_other b = not (is_feed b)
 pub line_to_feed : (text : Text) → prefix_len is_other text < length text → lines text ≡ take (suc (prefix_len is_other text)) text ∷ lines (drop (suc (prefix_len is_other text)) text)
 unfolding lines
 line_to_feed [] h = absurd (omega (arith, h))
-line_to_feed (b ∷ bs) h = go (is_feed b) refl h (line_to_feed bs)
+line_to_feed (b ∷ bs) h = go (is_lf b) refl h (line_to_feed bs)
   where
-    go : (feed : Bool) → is_feed b ≡ feed → cond (not feed) (1 + prefix_len is_other bs) 0 < suc (length bs)
+    go : (feed : Bool) → is_lf b ≡ feed → cond (not feed) (1 + prefix_len is_other bs) 0 < suc (length bs)
         → (prefix_len is_other bs < length bs → lines bs ≡ take (suc (prefix_len is_other bs)) bs ∷ lines (drop (suc (prefix_len is_other bs)) bs))
         → (if feed then (b ∷ []) ∷ lines bs else onto_first b (lines bs)) ≡ take (suc (cond (not feed) (1 + prefix_len is_other bs) 0)) (b ∷ bs) ∷ lines (drop (suc (cond (not feed) (1 + prefix_len is_other bs) 0)) (b ∷ bs))
     go true e h more = refl
@@ -34,12 +34,12 @@ line_to_feed (b ∷ bs) h = go (is_feed b) refl h (line_to_feed bs)
 -- up to the text's end
 pub line_to_end : (b : ℕ) (bs : Text) → length (b ∷ bs) ≤ prefix_len is_other (b ∷ bs) → lines (b ∷ bs) ≡ (b ∷ bs) ∷ []
 unfolding lines
-line_to_end b [] h = go (is_feed b) h
+line_to_end b [] h = go (is_lf b) h
   where
     go : (feed : Bool) → 1 ≤ cond (not feed) (1 + prefix_len is_other []) 0 → (if feed then (b ∷ []) ∷ [] else onto_first b []) ≡ (b ∷ []) ∷ []
     go true h = refl
     go false h = refl
-line_to_end b (c ∷ cs) h = go (is_feed b) h (line_to_end c cs)
+line_to_end b (c ∷ cs) h = go (is_lf b) h (line_to_end c cs)
   where
     go : (feed : Bool) → suc (length (c ∷ cs)) ≤ cond (not feed) (1 + prefix_len is_other (c ∷ cs)) 0
         → (length (c ∷ cs) ≤ prefix_len is_other (c ∷ cs) → lines (c ∷ cs) ≡ (c ∷ cs) ∷ [])
@@ -49,7 +49,7 @@ line_to_end b (c ∷ cs) h = go (is_feed b) h (line_to_end c cs)
 
 -- The first comment-only line
 
-blank_other : (b : ℕ) → is_blank b ≡ true → is_feed b ≡ false
+blank_other : (b : ℕ) → is_blank b ≡ true → is_lf b ≡ false
 blank_other b h = grind (arith, nat_tests)
 
 -- blanks before a line are a part of it

@@ -10,8 +10,8 @@ use Rattle.std.proofs.Math.Seq.{take-add, take-append_seam, drop-append_seam}
 use Rattle.starlark_grammar.specs.Words.{Text}
 use Rattle.starlark_grammar.specs.Tokens.{moved}
 use Rattle.starlark_grammar.specs.Laws.{AtBoundaries}
-use Rattle.starlark_grammar.specs.Margins.{blanks_len, begins_comment, comment_lines, comment_of, comment_part, comments_from, is_blank, is_comment_only, is_feed, lines, margin_of}
-use Rattle.starlark_layout.specs.Joints.Pending.{IsComments, lines_between}
+use Rattle.starlark_grammar.specs.Margins.{blanks_len, begins_comment, comment_lines, comment_of, comment_part, comments_from, is_blank, is_comment_only, is_lf, lines, margin_of}
+use Rattle.starlark_layout.specs.Inner.Pending.{IsComments, lines_between}
 use Rattle.starlark_grammar.proofs.Lists.{drop-sum}
 use Rattle.starlark_grammar.proofs.Order.Boundaries.{margin_edges}
 use Rattle.starlark_grammar.proofs.Order.Edges.{boundary_shift, edges_shift}
@@ -47,7 +47,7 @@ some_lines text from to some inside none = go (take (to - from) (drop from text)
     go [] e h =
         let len : to - from ≡ 0 = sym (length-take-le (to - from) (drop from text) (omega (arith, length-drop from text, inside))) ∙ ap (λ (t : Text). length t) e in
         absurd (omega (arith, some, len))
-    go (b ∷ bs) e h = by (is_feed b) (lines bs) h
+    go (b ∷ bs) e h = by (is_lf b) (lines bs) h
       where
         by : (feed : Bool) (m : List Text) → (if feed then (b ∷ []) ∷ m else onto_first b m) ≡ [] → ⊥
         by true m k = cc
@@ -182,13 +182,13 @@ IsCutBy text (line ∷ more) = IsCut text line more
 cut_by : (text : Text) → IsCutBy text (lines text)
 unfolding lines
 cut_by [] = refl
-cut_by (b ∷ bs) = go (is_feed b) refl (lines bs) (cut_by bs) refl
+cut_by (b ∷ bs) = go (is_lf b) refl (lines bs) (cut_by bs) refl
   where
-    last : (n : ℕ) → is_feed b ≡ false → lines (b ∷ take n []) ≡ (b ∷ []) ∷ lines (take n [])
+    last : (n : ℕ) → is_lf b ≡ false → lines (b ∷ take n []) ≡ (b ∷ []) ∷ lines (take n [])
     last zero f = rw f refl
     last (suc n) f = rw f refl
 
-    go : (feed : Bool) → is_feed b ≡ feed → (m : List Text) → IsCutBy bs m → lines bs ≡ m → IsCutBy (b ∷ bs) (if feed then (b ∷ []) ∷ m else onto_first b m)
+    go : (feed : Bool) → is_lf b ≡ feed → (m : List Text) → IsCutBy bs m → lines bs ≡ m → IsCutBy (b ∷ bs) (if feed then (b ∷ []) ∷ m else onto_first b m)
     go true f m cut k = record { rest = bs; whole = refl; left = k; front = λ n. rw f refl }
     go false f [] none k = record { rest = []; whole = ap (λ (t : Text). b ∷ t) none; left = refl; front = λ n. last n f }
     go false f (l ∷ ls) cut k = record { rest = cut.rest; whole = ap (λ (t : Text). b ∷ t) cut.whole; left = cut.left; front = λ n. rw f (ap (onto_first b) (cut.front n)) }

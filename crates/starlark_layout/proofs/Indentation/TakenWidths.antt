@@ -11,8 +11,8 @@ use Rattle.starlark_grammar.specs.Margins.{Margin, fits, is_content, is_widest, 
 use Rattle.starlark_grammar.specs.Pieces.{fault}
 use Rattle.starlark_grammar.specs.Tokens.{Indentation, moved}
 use Rattle.starlark_grammar.proofs.Indentation.Widths.{newest, open-push}
-use Rattle.starlark_layout.specs.Joints.Layout.{IsLaidOut, IsLeftBy, IsLeftOut, IsMargin, greatest_of, margin_indentation}
-use Rattle.starlark_layout.specs.Joints.Pending.{behind_lexemes}
+use Rattle.starlark_layout.specs.Inner.Layout.{IsLaidOut, IsLeftBy, IsLeftOut, IsMargin, greatest_of, margin_indentation}
+use Rattle.starlark_layout.specs.Inner.Pending.{lexemes_after}
 use Rattle.starlark_layout.specs.declared.margins.Margin.{Margin as Measured}
 use Rattle.starlark_layout.specs.declared.pending.Behind.{Behind}
 use Rattle.starlark_layout.specs.declared.pending.Behind.TheVariants as behind
@@ -191,13 +191,13 @@ misfits widths width count left few other =
 -- Margins before content, without a tab
 
 module _ (begin : ℕ) (widths levels : List ℕ) (margin : Measured) (seen : Margin) (open_now : levels ≡ open_widths widths) (same : IsMargin seen margin) (some : margin.is_content ≡ true) (untabbed : margin.blanks.has_tab ≡ false) where
-  laid_out : (new : List ℕ) (behind : Behind) → fits margin.blanks.width levels ≡ true → behind_lexemes behind ≡ map (moved begin) (margin_indentation levels seen) → filter (λ w. nat_lt w margin.blanks.width) levels ++ newest margin.blanks.width ≡ new → IsLaidOut begin seen widths levels new behind
+  laid_out : (new : List ℕ) (behind : Behind) → fits margin.blanks.width levels ≡ true → lexemes_after behind ≡ map (moved begin) (margin_indentation levels seen) → filter (λ w. nat_lt w margin.blanks.width) levels ++ newest margin.blanks.width ≡ new → IsLaidOut begin seen widths levels new behind
   laid_out new behind fitting gives pushed =
       let content : is_content seen.behind ≡ true = sym same.is_content ∙ some in
       let pushed_seen : filter (λ w. nat_lt w (width_of seen)) levels ++ newest (width_of seen) ≡ new = rw same.blanks.width at pushed in
       record {
         stands = λ len before. decided_fits len before levels seen margin same some untabbed fitting;
-        behind_them = gives;
+        those_after = gives;
         open_now = sym pushed_seen ∙ ap (λ ls. filter (λ w. nat_lt w (width_of seen)) ls ++ newest (width_of seen)) open_now ∙ sym (open-push widths (width_of seen)) ∙ rw content refl;
       }
 

@@ -5,7 +5,7 @@ use Rattle.starlark_grammar.specs.Words.{Text}
 use Rattle.starlark_grammar.specs.Margins.{comment_of, comments_from}
 use Rattle.starlark_grammar.specs.Tokens.{Lexeme}
 use Rattle.starlark_token.specs.Lexemes.{lexeme_view, shown_lexeme}
-use Rattle.starlark_layout.specs.Joints.Pending.{IsFirst, IsFirstBehind, IsFirstComment, IsIdle, IsPending, behind_lexemes, lines_between, pending_lexemes}
+use Rattle.starlark_layout.specs.Inner.Pending.{IsFirst, IsFirstAfter, IsFirstComment, IsIdle, IsPending, lexemes_after, lines_between, pending_lexemes}
 use Rattle.starlark_layout.specs.declared.pending.Behind.{Behind}
 use Rattle.starlark_layout.specs.declared.pending.Pending.{Pending}
 use Rattle.starlark_token.specs.declared.tokens.Token.{Token}
@@ -19,7 +19,7 @@ comment_first text old found len is =
     let all : comments_from old.from (lines_between text old.from old.to) ≡ comment_of old.from is.line ∷ later =
     ap (comments_from old.from) is.first ∙ ap (λ n. comment_of old.from is.line ∷ comments_from (old.from + n) (lines_between text (old.from + len) old.to)) is.whole in (
       is.behind,
-      ap (λ ls. map shown_lexeme (ls ++ behind_lexemes old.behind)) all ∙ ap (λ v. v ∷ map shown_lexeme (later ++ behind_lexemes old.behind)) (sym is.comment),
+      ap (λ ls. map shown_lexeme (ls ++ lexemes_after old.behind)) all ∙ ap (λ v. v ∷ map shown_lexeme (later ++ lexemes_after old.behind)) (sym is.comment),
     )
 
 -- comments are still to be handed out
@@ -27,19 +27,19 @@ pub comments_left : (text : Text) (old : Pending) → IsPending text old → old
 unfolding pending_lexemes
 comments_left text old is some none = go (lines_between text old.from old.to) refl none
   where
-    go : (ls : List Text) → lines_between text old.from old.to ≡ ls → comments_from old.from ls ++ behind_lexemes old.behind ≡ [] → ⊥
+    go : (ls : List Text) → lines_between text old.from old.to ≡ ls → comments_from old.from ls ++ lexemes_after old.behind ≡ [] → ⊥
     go [] e h = some_lines text old.from old.to some is.inside e
     go (l ∷ ls) e h = cc
 
 -- where no comments are, what stands behind them
-pub behind_first : (text : Text) (old : Pending) (new : Behind) (flat : Bool) (found : Option (ℕ × Token × ℕ)) → IsPending text old → old.to ≤ old.from → IsFirstBehind old.behind new found → (found ≡ None → flat ≡ old.is_flat)
+pub after_first : (text : Text) (old : Pending) (new : Behind) (flat : Bool) (found : Option (ℕ × Token × ℕ)) → IsPending text old → old.to ≤ old.from → IsFirstAfter old.behind new found → (found ≡ None → flat ≡ old.is_flat)
     → IsFirst text old (record { from = old.from; to = old.to; behind = new; is_flat = flat }) found
 unfolding pending_lexemes
-behind_first text old new flat None is none h same = (rw (no_lines_between text old.from old.to none) h.0, rw (h.1, same refl) refl)
-behind_first text old new flat (Some found) is none h same = (is, rw (no_lines_between text old.from old.to none) h)
+after_first text old new flat None is none h same = (rw (no_lines_between text old.from old.to none) h.0, rw (h.1, same refl) refl)
+after_first text old new flat (Some found) is none h same = (is, rw (no_lines_between text old.from old.to none) h)
 
 -- nothing is left where no comments are and nothing stands behind them
-pub nothing_left : (text : Text) (pending : Pending) → pending.to ≤ pending.from → behind_lexemes pending.behind ≡ [] → pending_lexemes text pending ≡ []
+pub nothing_left : (text : Text) (pending : Pending) → pending.to ≤ pending.from → lexemes_after pending.behind ≡ [] → pending_lexemes text pending ≡ []
 unfolding pending_lexemes
 nothing_left text pending none empty = rw (no_lines_between text pending.from pending.to none, empty) refl
 
@@ -66,6 +66,6 @@ pub hands_later : (text : Text) (pending : Pending) (lexemes : List Lexeme) → 
 hands_later text pending lexemes is e = (is, ap (map shown_lexeme) e)
 
 -- what stands behind no comments
-pub only_behind : (text : Text) (behind : Behind) → (pending_lexemes text (record { from = 0; to = 0; behind = behind; is_flat = false }) ≡ behind_lexemes behind) × IsPending text (record { from = 0; to = 0; behind = behind; is_flat = false })
+pub only_behind : (text : Text) (behind : Behind) → (pending_lexemes text (record { from = 0; to = 0; behind = behind; is_flat = false }) ≡ lexemes_after behind) × IsPending text (record { from = 0; to = 0; behind = behind; is_flat = false })
 unfolding pending_lexemes
 only_behind text behind = (rw (no_lines_between text 0 0 (omega arith)) refl, no_comments text 0 (omega arith))

@@ -1,6 +1,6 @@
 -- How often the bytes of a body are read.
 use Rattle.std.proofs.Common.{◌≡◌, ℕ, ◌+◌, ◌-◌, ◌*◌, ◌<◌, arith}
-use Rattle.starlark_bytes.specs.Joints.Reads.{AreReads, more_reads}
+use Rattle.starlark_bytes.specs.Inner.Reads.{AreReads, more_reads}
 
 -- a run and an item behind what was read, of which three bytes were read before it was found
 pub item_reads : (len run item before there here front after : ℕ) → 0 < item → AreReads len (8 * len) before there → AreReads run (2 * run + 1) there here

@@ -13,7 +13,7 @@ use Rattle.starlark_grammar.specs.Characters.{first_character}
 use Rattle.starlark_grammar.specs.Words.{Text}
 use Rattle.starlark_grammar.specs.declared.class.Quote.{Quote}
 use Rattle.starlark_grammar.specs.Items.{Literal, Item, goes, closing_quotes, found_at, is_brace, quote_byte, body_at, body_value}
-use Rattle.starlark_literals.specs.Joints.Runs.{is_in_run, is_special}
+use Rattle.starlark_literals.specs.Inner.Runs.{is_in_run, is_special}
 use Rattle.starlark_literals.proofs.Literals.BodySteps.{IsFront, front_more, front_none}
 use Rattle.starlark_grammar.proofs.Order.Edges.{encoded}
 use Rattle.starlark_grammar.proofs.Lists.{drop-sum}
@@ -55,8 +55,8 @@ run_item literal b bs h =
     rw (stays literal b bs other.quote, other.line, other.return, other.backslash, other.brace) refl
 
 -- a front, and one of what is left behind it
-pub front_behind : (literal : Literal) (text : Text) (n m : ℕ) (first second : Text) → IsFront literal text n first → IsFront literal (drop n text) m second → IsFront literal text (n + m) (first ++ second)
-front_behind literal text n m first second front more =
+pub front_after : (literal : Literal) (text : Text) (n m : ℕ) (first second : Text) → IsFront literal text n first → IsFront literal (drop n text) m second → IsFront literal text (n + m) (first ++ second)
+front_after literal text n m first second front more =
     let rest : drop (n + m) text ≡ drop m (drop n text) = drop-sum n m text in
     record {
       inside = omega (arith, front.inside, more.inside, length-drop n text);
@@ -94,7 +94,7 @@ characters_front literal (c ∷ cs) rest s all =
     let behind : drop (length (encode c)) (encode c ++ (encodes cs ++ rest)) ≡ encodes cs ++ rest = drop_at (encode c) (encodes cs ++ rest) (length (encode c)) refl in
     let first = character_front literal c (encodes cs ++ rest) (in_range (scalar_cases c parts.0)) bytes.0 in
     let more = subst (λ (t : Text). IsFront literal t (length (encodes cs)) (encodes cs)) (sym behind) (characters_front literal cs rest parts.1 bytes.1) in
-    let whole = front_behind literal (encode c ++ (encodes cs ++ rest)) (length (encode c)) (length (encodes cs)) (encode c) (encodes cs) first more in
+    let whole = front_after literal (encode c ++ (encodes cs ++ rest)) (length (encode c)) (length (encodes cs)) (encode c) (encodes cs) first more in
     subst (λ n. IsFront literal ((encode c ++ encodes cs) ++ rest) n (encode c ++ encodes cs)) (sym (length-append (encode c) (encodes cs)))
     (subst (λ (t : Text). IsFront literal t (length (encode c) + length (encodes cs)) (encode c ++ encodes cs)) (sym nested) whole)
   where
@@ -124,5 +124,5 @@ run_front literal text run utf8 same =
 pub front_run : (literal : Literal) (text rest : Text) (count : ℕ) (denoted run : Text) → IsUtf8 text → IsCharBoundary text count → IsFront literal text count denoted → rest ≡ drop count text → run ≡ take (prefix_len (is_in_run literal) rest) rest
     → IsFront literal text (count + length run) (denoted ++ run)
 front_run literal text rest count denoted run utf8 boundary front behind same =
-    front_behind literal text count (length run) denoted run front
+    front_after literal text count (length run) denoted run front
     (run_front literal (drop count text) run (IsUtf8-drop text count utf8 boundary) (same ∙ ap (λ (t : Text). take (prefix_len (is_in_run literal) t) t) behind))

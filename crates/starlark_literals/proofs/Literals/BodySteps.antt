@@ -7,7 +7,7 @@ use Rattle.starlark_grammar.specs.Items.{Literal, Item, Stop, Goes, Stops, found
 use Rattle.starlark_literals.specs.declared.items.Value.{Value}
 use Rattle.starlark_literals.specs.declared.body.LiteralValue.{LiteralValue}
 use Rattle.starlark_literals.specs.declared.body.LiteralValue.TheVariants as read
-use Rattle.starlark_literals.specs.Joints.Literals.{IsCharacters, Takes, holds_text}
+use Rattle.starlark_literals.specs.Inner.Literals.{IsCharacters, Takes, holds_text}
 use Rattle.starlark_grammar.proofs.Lists.{drop-behind, drop-sum}
 use Rattle.starlark_grammar.proofs.Literals.Bodies.{FoundFits, found_fits}
 

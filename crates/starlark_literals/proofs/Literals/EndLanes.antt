@@ -2,7 +2,7 @@
 use Rattle.std.proofs.Common.{◌≡◌, ℕ, Bool, true, false, ◌||◌, eqb, List, map, length, refl, ◌∙◌, bit_or}
 use Rattle.std.proofs.lemmas.Simd.{zip2_splat}
 use lib.Lanes.{zip2}
-use Rattle.starlark_literals.specs.Joints.Runs.{is_end}
+use Rattle.starlark_literals.specs.Inner.Runs.{is_end}
 use Rattle.starlark_literals.specs.declared.lanes.Ends.{Ends}
 use Rattle.starlark_bytes.proofs.LaneRuns.{lane_of}
 use Rattle.starlark_bytes.proofs.EqualLanes.{equal, equals, either_lanes}

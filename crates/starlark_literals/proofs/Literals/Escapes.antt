@@ -6,7 +6,7 @@ use Rattle.std.specs.List.{slice_get}
 use Rattle.std.specs.Map.{lookup}
 use Rattle.starlark_grammar.specs.Words.{Text, is_octal_digit}
 use Rattle.starlark_grammar.specs.declared.class.LiteralKind.{LiteralKind as Kind}
-use Rattle.starlark_grammar.specs.Items.{goes, broken, is_of_bytes, hexadecimal, octal, escaped_feed, simple, simple_escapes, escape}
+use Rattle.starlark_grammar.specs.Items.{goes, broken, is_of_bytes, hexadecimal, octal, escaped_newline, simple, simple_escapes, escape}
 use Rattle.starlark_grammar.specs.Characters.{first_character}
 
 -- a text with its first byte
@@ -23,7 +23,7 @@ pub escape_feed : (kind : Kind) (behind : Text) → escape kind (10 ∷ behind) 
 unfolding escape
 escape_feed kind behind = refl
 
-pub escape_return : (kind : Kind) (behind : Text) → escape kind (13 ∷ behind) ≡ escaped_feed behind
+pub escape_return : (kind : Kind) (behind : Text) → escape kind (13 ∷ behind) ≡ escaped_newline behind
 unfolding escape
 escape_return kind behind = refl
 

@@ -13,7 +13,7 @@ use Rattle.starlark_grammar.specs.Words.{Text, is_octal_digit}
 use Rattle.starlark_grammar.specs.declared.class.Quote.{Quote}
 use Rattle.starlark_grammar.specs.declared.class.LiteralKind.{LiteralKind as Kind}
 use Rattle.starlark_grammar.specs.declared.class.LiteralKind.TheVariants.{Text as OfText, Bytes as OfBytes, FString as OfFString}
-use Rattle.starlark_grammar.specs.Items.{Literal, Item, Found, Goes, Stops, closing_quotes, broken, numbered, is_character, hexadecimal, octal, escaped_feed, simple, simple_escapes, escape, raw_pair, brace, found_at, is_brace, is_of_bytes}
+use Rattle.starlark_grammar.specs.Items.{Literal, Item, Found, Goes, Stops, closing_quotes, broken, numbered, is_character, hexadecimal, octal, escaped_newline, simple, simple_escapes, escape, raw_pair, brace, found_at, is_brace, is_of_bytes}
 use Rattle.starlark_grammar.specs.Characters.{first_character}
 use Rattle.starlark_grammar.proofs.Order.Edges.{boundary_shift, character_edge, digits_run, hex_plain, letter_small, octal_plain, plain_end}
 use Rattle.starlark_grammar.proofs.Choices.{either, when}
@@ -58,7 +58,7 @@ octal_edge is_byte bs =
     let plain : is_plain (take (1 + n) (92 ∷ bs)) ≡ true = subst (λ k. is_plain (take k (92 ∷ bs)) ≡ true) (sym one) run.1 in
     numbered_edge (92 ∷ bs) (1 + n) is_byte (digits_value 8 (take n bs)) (omega (arith, inside), plain)
 
-escaped_feed_edge : (behind : Text) → EdgeAt (92 ∷ 13 ∷ behind) (escaped_feed behind)
+escaped_feed_edge : (behind : Text) → EdgeAt (92 ∷ 13 ∷ behind) (escaped_newline behind)
 escaped_feed_edge [] = tt
 escaped_feed_edge (b ∷ bs) = when (EdgeAt (92 ∷ 13 ∷ b ∷ bs)) (b == byte "\n") _ _ (λ e. ascii_edge (92 ∷ 13 ∷ b ∷ bs) 3 (omega arith, rw (letter_small b (byte "\n") refl e) refl)) (broken_edge (92 ∷ 13 ∷ b ∷ bs) 2 (b ∷ bs))
 
@@ -83,7 +83,7 @@ escape_edge kind [] = tt
 escape_edge kind (b ∷ bs) =
     let P : Found → Type 0 = EdgeAt (92 ∷ b ∷ bs) in
     when P (b == byte "\n") _ _ (λ e. ascii_edge (92 ∷ b ∷ bs) 2 (omega arith, rw (letter_small b (byte "\n") refl e) refl))
-    (when P (b == byte "\r") _ _ (λ e. subst (λ c. EdgeAt (92 ∷ c ∷ bs) (escaped_feed bs)) (sym (eqb-true b 13 e)) (escaped_feed_edge bs))
+    (when P (b == byte "\r") _ _ (λ e. subst (λ c. EdgeAt (92 ∷ c ∷ bs) (escaped_newline bs)) (sym (eqb-true b 13 e)) (escaped_feed_edge bs))
     (when P (b == byte "x") _ _ (λ e. hexadecimal_edge b 2 (is_of_bytes kind) bs (letter_small b (byte "x") refl e))
     (when P (b == byte "u") _ _ (λ e. hexadecimal_edge b 4 false bs (letter_small b (byte "u") refl e))
     (when P (b == byte "U") _ _ (λ e. hexadecimal_edge b 8 false bs (letter_small b (byte "U") refl e))

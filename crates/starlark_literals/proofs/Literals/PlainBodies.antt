@@ -14,8 +14,8 @@ use Rattle.starlark_grammar.specs.Words.{Text}
 use Rattle.starlark_grammar.specs.declared.class.LiteralKind.{LiteralKind}
 use Rattle.starlark_grammar.specs.declared.class.Quote.{Quote}
 use Rattle.starlark_grammar.specs.declared.class.Quote.TheVariants.{Single as SingleQuote, Double as DoubleQuote}
-use Rattle.starlark_literals.specs.Joints.Literals.{IsPlainBody, IsPlainChunk, fstring_literal, single_literal}
-use Rattle.starlark_literals.specs.Joints.Runs.{is_in_run}
+use Rattle.starlark_literals.specs.Inner.Literals.{IsPlainBody, IsPlainChunk, fstring_literal, single_literal}
+use Rattle.starlark_literals.specs.Inner.Runs.{is_in_run}
 use Rattle.starlark_literals.proofs.Literals.BodyRuns.{others, run_front}
 use Rattle.starlark_literals.proofs.Literals.BodySteps.{front_stops}
 use Rattle.starlark_literals.proofs.Literals.Found.{closes}

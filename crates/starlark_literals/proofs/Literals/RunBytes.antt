@@ -10,7 +10,7 @@ use Rattle.starlark_grammar.specs.declared.class.LiteralKind.TheVariants.{Text a
 use Rattle.starlark_grammar.specs.declared.class.Quote.{Quote}
 use Rattle.starlark_grammar.specs.declared.class.Quote.TheVariants.{Single as SingleQuote, Double as DoubleQuote}
 use Rattle.starlark_grammar.specs.Items.{Literal}
-use Rattle.starlark_literals.specs.Joints.Runs.{is_in_run, is_special}
+use Rattle.starlark_literals.specs.Inner.Runs.{is_in_run, is_special}
 
 -- two tests that agree on all bytes pass the same run
 pub same_run : (p q : ℕ → Bool) → ((b : ℕ) → p b ≡ q b) → (xs : List ℕ) → prefix_len p xs ≡ prefix_len q xs

@@ -8,7 +8,7 @@ use Rattle.starlark_grammar.specs.declared.class.Terminal.TheVariants as termina
 use Rattle.starlark_grammar.specs.Tokens.{Token, Opening, FStringExprStart, FStringExprEnd, Word}
 use Rattle.starlark_grammar.specs.Depths.{Shape, Round, Square, Curly, Mode, InText, AtTop, Deeper, is_opening, is_closing, is_any_opening, is_any_closing, expression_tokens, braces, braces_of, surplus, fronts, depth, inside}
 use Rattle.starlark_token.specs.TokenViews.{Whole}
-use Rattle.starlark_nesting.specs.Joints.Nesting.{change_by, opens, closes, brackets_of, expression_view, expression_of, FStringDepths, fstring_of}
+use Rattle.starlark_nesting.specs.Inner.Nesting.{change_by, opens, closes, brackets_of, expression_view, expression_of, FStringDepths, fstring_of}
 use Rattle.starlark_nesting.specs.declared.counts.Brackets.{Brackets}
 use Rattle.starlark_nesting.specs.declared.changes.Change.{Change}
 use Rattle.starlark_nesting.specs.declared.changes.Change.TheVariants as change

@@ -7,7 +7,7 @@ use Rattle.std.proofs.lemmas.List.{length-set, reverse-append, take_all, take_mo
 use Rattle.starlark_grammar.specs.declared.class.Terminal.TheVariants as terminal
 use Rattle.starlark_grammar.specs.Tokens.{Token, Opening, FStringStart, FStringEnd, FStringExprStart, FStringExprEnd, Word}
 use Rattle.starlark_grammar.specs.Depths.{Mode, Outside, is_any_opening, is_any_closing, inside, open_fstring, mode_by, mode_after}
-use Rattle.starlark_nesting.specs.Joints.Nesting.{IsUnchanged, Represents, brackets_of, change_by, closes, fstring_of, fstring_view, is_fstring_start, opens}
+use Rattle.starlark_nesting.specs.Inner.Nesting.{IsUnchanged, Represents, brackets_of, change_by, closes, fstring_of, fstring_view, is_fstring_start, opens}
 use Rattle.starlark_token.specs.TokenViews.{Whole}
 use Rattle.starlark_nesting.specs.declared.changes.Change.{Change}
 use Rattle.starlark_nesting.specs.declared.changes.Change.TheVariants as change

@@ -75,8 +75,8 @@ drop_take zero text = refl
 drop_take (suc n) [] = sym (take-none (suc n - 1))
 drop_take (suc n) (b ∷ bs) = let same : n ≡ suc n - 1 = omega arith in ap (λ k. take k bs) same
 
-pub read_behind : (text : Text) (len read : ℕ) → take (len + read - (len + 1)) (drop (len + 1) text) ≡ drop 1 (take read (drop len text))
-read_behind text len read =
+pub read_after : (text : Text) (len read : ℕ) → take (len + read - (len + 1)) (drop (len + 1) text) ≡ drop 1 (take read (drop len text))
+read_after text len read =
     let less : len + read - (len + 1) ≡ read - 1 = omega arith in
     rw (less, drop-sum len 1 text) (sym (drop_take read (drop len text)))
 

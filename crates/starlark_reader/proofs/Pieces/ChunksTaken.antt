@@ -6,10 +6,10 @@ use Rattle.starlark_grammar.specs.Tokens as grammar
 use Rattle.starlark_grammar.specs.Tokens.{Lexeme, moved}
 use Rattle.starlark_grammar.specs.Pieces.{chunk_text}
 use Rattle.starlark_grammar.specs.Reading.{tokens_onto}
-use Rattle.starlark_nesting.specs.Joints.Nesting.{Represents, change_by, is_fstring_start}
-use Rattle.starlark_layout.specs.Joints.TextEnds.{text_end_node}
+use Rattle.starlark_nesting.specs.Inner.Nesting.{Represents, change_by, is_fstring_start}
+use Rattle.starlark_layout.specs.Inner.TextEnds.{text_end_node}
 use Rattle.starlark_token.specs.Lexemes.{lexeme_view}
-use Rattle.starlark_layout.specs.Joints.Pending.{IsIdle, IsPending, pending_lexemes}
+use Rattle.starlark_layout.specs.Inner.Pending.{IsIdle, IsPending, pending_lexemes}
 use Rattle.starlark_token.specs.TokenViews.{Whole, token_view}
 use Rattle.starlark_layout.specs.declared.pending.Pending.{Pending}
 use Rattle.starlark_layout.specs.declared.text_end.TextEnd.{TextEnd}

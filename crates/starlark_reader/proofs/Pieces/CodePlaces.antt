@@ -10,25 +10,25 @@ use Rattle.starlark_grammar.specs.Words.{Text, class_in, language}
 use Rattle.starlark_grammar.specs.declared.class.Class.{Class}
 use Rattle.starlark_grammar.proofs.Order.WholeTexts.{word_edge}
 use Rattle.starlark_grammar.proofs.Words.Fronts.{front_sound}
-use Rattle.starlark_reader.specs.Joints.Pieces.{IsBehind, is_code}
+use Rattle.starlark_reader.specs.Inner.Pieces.{IsAfter, is_code}
 
 -- behind something that was read the place decides
-pub by_read : (follows_gap : Bool) (s : Situation) (text : Text) → IsBehind follows_gap s.before → step_at language s text ≡ by_place language s s.place text
+pub by_read : (follows_gap : Bool) (s : Situation) (text : Text) → IsAfter follows_gap s.before → step_at language s text ≡ by_place language s s.place text
 unfolding step_at
 by_read follows_gap s text behind = go s.before behind
   where
-    go : (before : Before) → IsBehind follows_gap before → by_before language s before text ≡ by_place language s s.place text
+    go : (before : Before) → IsAfter follows_gap before → by_before language s before text ≡ by_place language s s.place text
     go Nothing h = absurd h
     go Layout h = refl
     go Gap h = refl
     go Other h = refl
 
 -- in the text of an f-string
-pub in_text : (follows_gap : Bool) (s : Situation) (text : Text) (opening : Opening) → IsBehind follows_gap s.before → s.place ≡ InText opening → step_at language s text ≡ chunk opening text
+pub in_text : (follows_gap : Bool) (s : Situation) (text : Text) (opening : Opening) → IsAfter follows_gap s.before → s.place ≡ InText opening → step_at language s text ≡ chunk opening text
 in_text follows_gap s text opening behind here = by_read follows_gap s text behind ∙ ap (λ p. by_place language s p text) here
 
 -- at a place of code
-pub code_at : (follows_gap : Bool) (s : Situation) (text : Text) (at : Mode) → is_code at ≡ true → IsBehind follows_gap s.before → s.place ≡ at → step_at language s text ≡ in_code language s text
+pub code_at : (follows_gap : Bool) (s : Situation) (text : Text) (at : Mode) → is_code at ≡ true → IsAfter follows_gap s.before → s.place ≡ at → step_at language s text ≡ in_code language s text
 code_at follows_gap s text at code behind here = by_read follows_gap s text behind ∙ ap (λ p. by_place language s p text) here ∙ go at code
   where
     go : (at : Mode) → is_code at ≡ true → by_place language s at text ≡ in_code language s text
@@ -51,11 +51,11 @@ bang_in_code s [] bang = cc (both_false (takes_bang s.place s.before), bang)
 bang_in_code s (b ∷ bs) bang = rw bang refl
 
 -- a bang that may stand there is the piece
-pub bang_at : (follows_gap : Bool) (s : Situation) (text : Text) (at : Mode) → is_code at ≡ true → IsBehind follows_gap s.before → s.place ≡ at → (takes_bang at s.before && is_bang text) ≡ true → step_at language s text ≡ token 1 FStringBang
+pub bang_at : (follows_gap : Bool) (s : Situation) (text : Text) (at : Mode) → is_code at ≡ true → IsAfter follows_gap s.before → s.place ≡ at → (takes_bang at s.before && is_bang text) ≡ true → step_at language s text ≡ token 1 FStringBang
 bang_at follows_gap s text at code behind here bang = code_at follows_gap s text at code behind here ∙ bang_in_code s text (ap (λ p. takes_bang p s.before && is_bang text) here ∙ bang)
 
 -- the word there decides, where no bang stands
-pub word_at : (follows_gap : Bool) (s : Situation) (text : Text) (at : Mode) (class : Class) (len : ℕ) → is_code at ≡ true → IsBehind follows_gap s.before → s.place ≡ at → language_front text ≡ Some (class, len) → is_bang text ≡ false
+pub word_at : (follows_gap : Bool) (s : Situation) (text : Text) (at : Mode) (class : Class) (len : ℕ) → is_code at ≡ true → IsAfter follows_gap s.before → s.place ≡ at → language_front text ≡ Some (class, len) → is_bang text ≡ false
     → step_at language s text ≡ word_step s class (take len text) (drop len text)
 word_at follows_gap s text at class len code behind here front bang = code_at follows_gap s text at code behind here ∙ in_code_front s text class len front bang
 

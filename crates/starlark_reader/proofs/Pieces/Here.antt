@@ -4,13 +4,13 @@ use Rattle.std.proofs.lemmas.List.{length-drop}
 use Rattle.starlark_grammar.specs.Words.{Text, language}
 use Rattle.starlark_grammar.specs.Tokens as grammar
 use Rattle.starlark_grammar.specs.Tokens.{Fault, Spanned, moved}
-use Rattle.starlark_nesting.specs.Joints.Nesting.{is_fstring_start}
+use Rattle.starlark_nesting.specs.Inner.Nesting.{is_fstring_start}
 use Rattle.starlark_token.specs.Lexemes.{lexeme_view, shown, shown_lexeme}
 use Rattle.starlark_token.specs.TokenViews.{Whole, token_view}
 use Rattle.starlark_token.specs.declared.tokens.Token.{Token}
 use Rattle.starlark_grammar.specs.Pieces.{Before, Piece, Stands, Fails}
 use Rattle.starlark_grammar.specs.Reading.{History}
-use Rattle.starlark_reader.specs.Joints.Reader.{IsStateAfter, before_view, history_from, left_to_read, step_here}
+use Rattle.starlark_reader.specs.Inner.Reader.{IsStateAfter, before_view, history_from, left_to_read, step_here}
 use Rattle.starlark_reader.specs.declared.reader.Before as code
 use Rattle.starlark_reader.specs.declared.reader.Before.TheVariants as sort
 use Rattle.starlark_reader.specs.declared.reader.Stage.TheVariants as stage

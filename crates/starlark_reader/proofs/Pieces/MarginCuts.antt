@@ -31,10 +31,10 @@ use Rattle.starlark_grammar.proofs.Joining.Laws.{ends_behind}
 use Rattle.starlark_grammar.proofs.Joining.LineCuts.{kept_by, kept_parts, line_behind, line_clean, line_end_ends, line_lexeme, reading_reach, reads_more}
 use Rattle.starlark_grammar.proofs.Joining.Settled.{outside_none}
 use Rattle.starlark_grammar.proofs.Joining.FollowedMargins.{lines_sum}
-use Rattle.starlark_reader.specs.Joints.MarginCuts.{IsBehindLines, IsCutBefore, IsMarginAhead, lexemes_before}
-use Rattle.starlark_layout.specs.Joints.MarginLines.{IsOfMargin, IsPassedLine}
-use Rattle.starlark_layout.specs.Joints.Pending.{IsPending, lines_between, pending_lexemes}
-use Rattle.starlark_reader.specs.Joints.Reader.{IsReadTo, remaining_outcome}
+use Rattle.starlark_reader.specs.Inner.MarginCuts.{IsAfterLines, IsCutBefore, IsMarginAhead, lexemes_before}
+use Rattle.starlark_layout.specs.Inner.MarginLines.{IsOfMargin, IsPassedLine}
+use Rattle.starlark_layout.specs.Inner.Pending.{IsPending, lines_between, pending_lexemes}
+use Rattle.starlark_reader.specs.Inner.Reader.{IsReadTo, remaining_outcome}
 use Rattle.starlark_layout.specs.declared.pending.Pending.{Pending}
 use Rattle.starlark_layout.proofs.Indentation.Pending.{margin_lines}
 use Rattle.starlark_reader.proofs.Pieces.Onward.{first_stands, margin_first, onward_stands}
@@ -328,7 +328,7 @@ cut_of_first text piece stands x behind is least most =
 
 -- the lines of a margin are those of which the comments are still to be handed out
 lines_ahead_of : (text : Text) (x behind ahead : ℕ) (pieces : List Piece) (n line begin : ℕ) (levels : List ℕ) (pending : Pending) (found : HasPassed text x pieces n line) → IsOfMargin begin (margin_of (drop begin text)).at levels pending
-    → pieces_len pieces + n ≡ begin → behind + found.passed ≡ ahead → IsBehindLines text pending x behind ahead
+    → pieces_len pieces + n ≡ begin → behind + found.passed ≡ ahead → IsAfterLines text pending x behind ahead
 lines_ahead_of text x behind ahead pieces n line begin levels pending found of place count =
     let left : drop n (drop (pieces_len pieces) text) ≡ drop begin text = sym (drop-sum (pieces_len pieces) n text) ∙ ap (λ k. drop k text) place in
     let lines : lines_between text pending.from pending.to ≡ comment_lines (drop n (drop (pieces_len pieces) text)) =
@@ -345,7 +345,7 @@ module _ (text : Text) (history : History) (at len : ℕ) (piece : Piece) (read 
   -- One in the margin behind a line end that was taken: no width is open before it, and it lies behind some of its lines.
   pub line_cut : (levels : List ℕ) (given : Lexeme) (pending : Pending) → IsOfMargin (at + len) (margin_of (drop (at + len) text)).at levels pending → map (moved at) piece.lexemes ≡ given ∷ pending_lexemes text pending
       → (x behind : ℕ) → IsCutBefore text x behind → length (left_behind text history at piece).lexemes ≤ behind → behind < length piece.lexemes + length (left_behind text history at piece).lexemes
-      → (open_widths history.widths ≡ []) × IsBehindLines text pending x behind (length (pending_lexemes text pending) + length (left_behind text history at piece).lexemes)
+      → (open_widths history.widths ≡ []) × IsAfterLines text pending x behind (length (pending_lexemes text pending) + length (left_behind text history at piece).lexemes)
   line_cut levels given pending of lexemes x behind cut least most =
       let found = cut_of_piece text history at piece read begun stands x behind cut least most in
       let flat : open_widths history.widths ≡ [] = ap (λ (h : History). open_widths h.widths) (sym read.is_history) ∙ found.flat.no_width in
@@ -363,7 +363,7 @@ module _ (text : Text) (history : History) (at len : ℕ) (piece : Piece) (read 
           let count = cut.count in
           omega (arith, all, ap length goes.lexemes, whole, count, before, ap length lexemes)
 
-      by : open_widths history.widths ≡ [] → (n : ℕ) (margin : MarginAt text read.pieces n) → HasPassed text x read.pieces n (line_count margin) → IsBehindLines text pending x behind (length (pending_lexemes text pending) + length (left_behind text history at piece).lexemes)
+      by : open_widths history.widths ≡ [] → (n : ℕ) (margin : MarginAt text read.pieces n) → HasPassed text x read.pieces n (line_count margin) → IsAfterLines text pending x behind (length (pending_lexemes text pending) + length (left_behind text history at piece).lexemes)
       by flat n (First none zero_len) found = let both : true ≡ false = ap (λ (ps : List Piece). is_nothing (after_all nothing ps).before) (sym none) ∙ ap (λ (h : History). is_nothing h.before) read.is_history ∙ begun in cc
       by flat n (Behind started counted front) found =
           let here = front_here text history at len piece read begun stands is layout flat in
@@ -375,12 +375,12 @@ module _ (text : Text) (history : History) (at len : ℕ) (piece : Piece) (read 
 -- One in the text's first margin
 pub first_cut : (text : Text) (levels : List ℕ) (piece : Piece) (pending : Pending) → first_margin text ≡ Stands piece → IsOfMargin 0 (margin_of (drop 0 text)).at levels pending → map (moved 0) piece.lexemes ≡ pending_lexemes text pending
     → (x behind : ℕ) → IsCutBefore text x behind → length (left_behind text nothing 0 piece).lexemes ≤ behind → behind < length piece.lexemes + length (left_behind text nothing 0 piece).lexemes
-    → IsBehindLines text pending x behind (length (pending_lexemes text pending) + length (left_behind text nothing 0 piece).lexemes)
+    → IsAfterLines text pending x behind (length (pending_lexemes text pending) + length (left_behind text nothing 0 piece).lexemes)
 first_cut text levels piece pending stands of lexemes x behind cut least most =
     let found = cut_of_first text piece stands x behind cut least most in
     by found.n found.margin found.lines_passed
   where
-    by : (n : ℕ) (margin : MarginAt text [] n) → HasPassed text x [] n (line_count margin) → IsBehindLines text pending x behind (length (pending_lexemes text pending) + length (left_behind text nothing 0 piece).lexemes)
+    by : (n : ℕ) (margin : MarginAt text [] n) → HasPassed text x [] n (line_count margin) → IsAfterLines text pending x behind (length (pending_lexemes text pending) + length (left_behind text nothing 0 piece).lexemes)
     by n (First none zero_len) found =
         let goes = first_stands text piece stands in
         let whole = length-append (map (moved 0) piece.lexemes) (left_behind text nothing 0 piece).lexemes in

@@ -6,11 +6,11 @@ use Rattle.starlark_grammar.specs.Tokens.{Fault, Lexeme, Outcome, Spanned}
 use Rattle.starlark_grammar.specs.Pieces.{Piece, Step, Stands, Fails, Ends}
 use Rattle.starlark_grammar.specs.Reading.{History, lexemes_along, outcome, outcome_in, outcome_of, read, read_from}
 use Rattle.starlark_token.specs.Lexemes.{fault_view, shown_lexeme}
-use Rattle.starlark_reader.specs.Joints.MarginCuts.{IsBehindLines, IsCutBefore, IsMarginAhead}
-use Rattle.starlark_layout.specs.Joints.MarginLines.{IsLinePassed, IsPassedLine}
-use Rattle.starlark_nesting.specs.Joints.Nesting.{bracket_count}
-use Rattle.starlark_layout.specs.Joints.Pending.{IsFirst, IsIdle, lines_between, pending_lexemes}
-use Rattle.starlark_reader.specs.Joints.Reader.{begins_with_tab, has_read_none, IsAhead, IsAheadBehind, IsInFlatMargin, IsStateAfter, IsLeft, IsOver, IsReady, IsSomething, history_of, outcome_along, remaining_outcome}
+use Rattle.starlark_reader.specs.Inner.MarginCuts.{IsAfterLines, IsCutBefore, IsMarginAhead}
+use Rattle.starlark_layout.specs.Inner.MarginLines.{IsLinePassed, IsPassedLine}
+use Rattle.starlark_nesting.specs.Inner.Nesting.{bracket_count}
+use Rattle.starlark_layout.specs.Inner.Pending.{IsFirst, IsIdle, lines_between, pending_lexemes}
+use Rattle.starlark_reader.specs.Inner.Reader.{begins_with_tab, has_read_none, IsAhead, IsAheadAfter, IsInFlatMargin, IsStateAfter, IsLeft, IsOver, IsReady, IsSomething, history_of, outcome_along, remaining_outcome}
 use Rattle.starlark_token.specs.TokenViews.{TokenView}
 use Rattle.starlark_token.specs.declared.lexeme_error.LexemeError.{LexemeError}
 use Rattle.starlark_token.specs.declared.tokens.Token.{Token}
@@ -42,13 +42,13 @@ ahead_here text old new lexemes fault here same pending ahead = record {
   is_left = same_left text old new new.stage ahead.left here (subst (λ (s : Stage). IsLeft text old s ahead.left) (sym same) ahead.is_left);
   is_pending = rw pending ahead.is_pending;
   ahead = ahead.ahead ∙ ap (λ (p : Pending). map shown_lexeme (pending_lexemes text p) ++ map shown_lexeme ahead.left.lexemes) (sym pending);
-  behind_them = ahead.behind_them;
+  those_after = ahead.those_after;
   cut = λ on layout flat inside.
       subst (λ (p : Pending). IsMarginAhead text p (length lexemes)) (sym pending)
       (ahead.cut (sym same ∙ on) (sym here.before ∙ layout) (ap (λ (p : Pending). p.is_flat) (sym pending) ∙ flat) (subst (λ (p : Pending). p.from < length text) pending inside));
   cuts = λ x behind cut least most.
       let lies = ahead.cuts x behind cut least most in
-      (flat_here old new old.stage new.stage here pending same lies.0, subst (λ (p : Pending). IsBehindLines text p x behind (length lexemes)) (sym pending) lies.1);
+      (flat_here old new old.stage new.stage here pending same lies.0, subst (λ (p : Pending). IsAfterLines text p x behind (length lexemes)) (sym pending) lies.1);
 }
 
 -- where there are lines there are bytes
@@ -60,10 +60,10 @@ lines_some text from to some = go (nat_lt from to) refl
     go false e = absurd (omega (arith, some, ap length (no_lines_between text from to (ltb-false from to e))))
 
 -- behind one line fewer, where one was passed
-behind_passed : (text : Text) (old new : Pending) (at behind ahead : ℕ) → IsPassedLine text old new → IsBehindLines text old at behind (1 + ahead) → behind ≤ ahead → IsBehindLines text new at behind ahead
+behind_passed : (text : Text) (old new : Pending) (at behind ahead : ℕ) → IsPassedLine text old new → IsAfterLines text old at behind (1 + ahead) → behind ≤ ahead → IsAfterLines text new at behind ahead
 behind_passed text old new at behind ahead passed is few = go is.passed is.few is.place is.count
   where
-    go : (n : ℕ) → n ≤ length (lines_between text old.from old.to) → at ≡ old.from + sum_by (λ (line : Text). length line) (take n (lines_between text old.from old.to)) → behind + n ≡ 1 + ahead → IsBehindLines text new at behind ahead
+    go : (n : ℕ) → n ≤ length (lines_between text old.from old.to) → at ≡ old.from + sum_by (λ (line : Text). length line) (take n (lines_between text old.from old.to)) → behind + n ≡ 1 + ahead → IsAfterLines text new at behind ahead
     go zero inside place count = absurd (omega (arith, count, few))
     go (suc n) inside place count =
         let sum = ap (λ (ls : List Text). sum_by (λ (line : Text). length line) (take (suc n) ls)) passed.first ∙ sum_by-cons (λ (line : Text). length line) passed.line (take n (lines_between text new.from new.to)) in
@@ -76,7 +76,7 @@ behind_passed text old new at behind ahead passed is few = go is.passed is.few i
 
 -- the first lexeme that was read and is to be handed out
 pub lexeme_next : (text : Text) (old new : Reader) (x : ℕ × Token × ℕ) (lexemes : List (Spanned TokenView)) (fault : Option (Spanned Fault)) → IsHere old new → new.stage ≡ old.stage → IsFirst text old.pending new.pending (Some x) → IsLinePassed text old.pending new.pending (Some x)
-    → (old.pending.from < old.pending.to → new.pending.is_flat ≡ old.pending.is_flat) → IsAhead text old old.stage lexemes fault → IsAheadBehind text (Some x) new lexemes fault
+    → (old.pending.from < old.pending.to → new.pending.is_flat ≡ old.pending.is_flat) → IsAhead text old old.stage lexemes fault → IsAheadAfter text (Some x) new lexemes fault
 lexeme_next text old new x lexemes fault here same first lines stays ahead = (
   map shown_lexeme (pending_lexemes text new.pending) ++ map shown_lexeme ahead.left.lexemes,
   ahead.ahead ∙ ap (λ vs. vs ++ map shown_lexeme ahead.left.lexemes) first.1,
@@ -85,14 +85,14 @@ lexeme_next text old new x lexemes fault here same first lines stays ahead = (
     is_left = same_left text old new new.stage ahead.left here (subst (λ (s : Stage). IsLeft text old s ahead.left) (sym same) ahead.is_left);
     is_pending = first.0;
     ahead = refl;
-    behind_them = ahead.behind_them;
+    those_after = ahead.those_after;
     cut = λ on layout flat inside.
         let passed = lines flat in
         passed_cut text old.pending new.pending (length (map shown_lexeme (pending_lexemes text new.pending) ++ map shown_lexeme ahead.left.lexemes)) ahead.is_pending passed inside
         (subst (IsMarginAhead text old.pending) (ap length (ahead.ahead ∙ ap (λ vs. vs ++ map shown_lexeme ahead.left.lexemes) first.1)) (ahead.cut (sym same ∙ on) (sym here.before ∙ layout) passed.flat (omega (arith, passed.from, inside))));
-    cuts = λ at behind cut least most. behind_first at behind cut least (omega (arith, most));
+    cuts = λ at behind cut least most. after_first at behind cut least (omega (arith, most));
   },
-  λ at cut. reached_by text new at _ (behind_first at _ cut (omega (arith, length-append (map shown_lexeme (pending_lexemes text new.pending)) (map shown_lexeme ahead.left.lexemes), length-map ahead.left.lexemes shown_lexeme)) (omega arith)),
+  λ at cut. reached_by text new at _ (after_first at _ cut (omega (arith, length-append (map shown_lexeme (pending_lexemes text new.pending)) (map shown_lexeme ahead.left.lexemes), length-map ahead.left.lexemes shown_lexeme)) (omega arith)),
 )
   where
     more : List (Spanned TokenView)
@@ -101,26 +101,26 @@ lexeme_next text old new x lexemes fault here same first lines stays ahead = (
     all : length lexemes ≡ 1 + length more
     all = omega (arith, ap length (ahead.ahead ∙ ap (λ vs. vs ++ map shown_lexeme ahead.left.lexemes) first.1))
 
-    behind_first : (at behind : ℕ) → IsCutBefore text at behind → length ahead.left.lexemes ≤ behind → behind ≤ length more → IsInFlatMargin new new.stage × IsBehindLines text new.pending at behind (length more)
-    behind_first at behind cut least most =
+    after_first : (at behind : ℕ) → IsCutBefore text at behind → length ahead.left.lexemes ≤ behind → behind ≤ length more → IsInFlatMargin new new.stage × IsAfterLines text new.pending at behind (length more)
+    after_first at behind cut least most =
         let lies = ahead.cuts at behind cut least (omega (arith, most, all)) in
         let count = lies.1.count in
         let some : old.pending.from < old.pending.to = lines_some text old.pending.from old.pending.to (omega (arith, count, lies.1.few, most, all)) in
         let flat = stays some ∙ lies.0.2 in
         let passed = lines flat in (
           (same ∙ lies.0.0, here.before ∙ lies.0.1, flat),
-          behind_passed text old.pending new.pending at behind (length more) passed (subst (IsBehindLines text old.pending at behind) all lies.1) most,
+          behind_passed text old.pending new.pending at behind (length more) passed (subst (IsAfterLines text old.pending at behind) all lies.1) most,
         )
 
 -- the first comment, where one is to be handed out and memory is there for it
 pub comment_next : {E : Type 0} (result : Result (ℕ × Token × ℕ) E) (text : Text) (old new : Reader) → IsHere old new → new.stage ≡ old.stage → IfOk result (λ x. IsFirst text old.pending new.pending (Some x)) → IfOk result (λ x. IsLinePassed text old.pending new.pending (Some x))
-    → OnOk result (new.pending.is_flat ≡ old.pending.is_flat) → IfOk result (λ x. (lexemes : List (Spanned TokenView)) (fault : Option (Spanned Fault)) → IsAhead text old old.stage lexemes fault → IsAheadBehind text (Some x) new lexemes fault)
+    → OnOk result (new.pending.is_flat ≡ old.pending.is_flat) → IfOk result (λ x. (lexemes : List (Spanned TokenView)) (fault : Option (Spanned Fault)) → IsAhead text old old.stage lexemes fault → IsAheadAfter text (Some x) new lexemes fault)
 comment_next (Ok x) text old new here same first lines flat = λ lexemes fault ahead. lexeme_next text old new x lexemes fault here same first lines (λ some. flat) ahead
 comment_next (Err e) text old new here same first lines flat = tt
 
 -- what stands behind the comments, where none is to be handed out
 pub mark_next : (text : Text) (old new : Reader) (found : Option (ℕ × Token × ℕ)) (lexemes : List (Spanned TokenView)) (fault : Option (Spanned Fault)) → IsHere old new → new.stage ≡ old.stage → old.pending.to ≤ old.pending.from → IsFirst text old.pending new.pending found
-    → IsLinePassed text old.pending new.pending found → IsAhead text old old.stage lexemes fault → IsAheadBehind text found new lexemes fault
+    → IsLinePassed text old.pending new.pending found → IsAhead text old old.stage lexemes fault → IsAheadAfter text found new lexemes fault
 mark_next text old new None lexemes fault here same none first lines ahead = ahead_here text old new lexemes fault here same first.1 ahead
 mark_next text old new (Some x) lexemes fault here same none first lines ahead = lexeme_next text old new x lexemes fault here same first lines (λ some. absurd (omega (arith, none, some))) ahead
 
@@ -145,7 +145,7 @@ nothing_next text old new lexemes fault here idle same e e_now ahead =
         is_left = subst (λ (s : Stage). IsLeft text new s (record { lexemes = []; fault = None })) (sym e_now) (refl, kept);
         is_pending = rw same idle.0;
         ahead = ap (λ ls. map shown_lexeme ls ++ []) (sym (ap (pending_lexemes text) same ∙ idle.1));
-        behind_them = refl;
+        those_after = refl;
         cut = λ on. let over_now : stage.Closed ≡ stage.Onward = sym e_now ∙ on in cc;
         cuts = λ x behind cut least most. absurd (omega (arith, most));
       },

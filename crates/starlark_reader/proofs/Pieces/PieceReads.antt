@@ -1,7 +1,7 @@
 -- How often the bytes of a piece are read.
 use Rattle.std.proofs.Common.{◌≡◌, ◌≤◌, ◌<◌, ◌+◌, ◌-◌, ◌*◌, ℕ, arith}
-use Rattle.starlark_bytes.specs.Joints.Reads.{AreReads, more_reads}
-use Rattle.starlark_reader.specs.Joints.Reads.{ArePieceReads, AreReadsBehind, AreStepReads, AreWordReads, IsOfWord}
+use Rattle.starlark_bytes.specs.Inner.Reads.{AreReads, more_reads}
+use Rattle.starlark_reader.specs.Inner.Reads.{ArePieceReads, AreReadsAfter, AreStepReads, AreWordReads, IsOfWord}
 use Rattle.starlark_reader.specs.declared.literal.pieces.Step.{Step}
 use Rattle.starlark_reader.specs.declared.literal.pieces.Step.TheVariants as steps
 use Rattle.starlark_reader.specs.declared.reading.Piece.{Piece}
@@ -15,7 +15,7 @@ word_reads len rest (steps.Fault begin fault end) before after least most is = o
 
 -- a piece behind its word
 pub piece_reads : (passed behind rest : ℕ) (piece : Piece) (before between after : ℕ) → 0 < passed → rest ≡ passed + behind → AreReads passed ((5 * passed - 4) + 9) before between
-    → AreReadsBehind passed 9 behind 9 piece between after → ArePieceReads 14 rest 7 piece before after
+    → AreReadsAfter passed 9 behind 9 piece between after → ArePieceReads 14 rest 7 piece before after
 piece_reads passed behind rest (piece.Nothing len is_gap) before between after some whole word reads =
     ((omega (arith, word.0, reads.0, reads.1), omega (arith, some, word.1, reads.0, reads.1)), omega (arith, some, reads.0))
 piece_reads passed behind rest (piece.LineEnd len) before between after some whole word reads =

@@ -13,13 +13,13 @@ use Rattle.starlark_grammar.specs.declared.class.LiteralKind.TheVariants.{Text a
 use Rattle.starlark_grammar.specs.declared.class.Quote.{Quote}
 use Rattle.starlark_grammar.specs.declared.class.Terminal.{Terminal}
 use Rattle.starlark_grammar.specs.Depths.{InText, Mode}
-use Rattle.starlark_literals.specs.Joints.Literals.{IsPlainBody}
-use Rattle.starlark_grammar.specs.Joints.Openings.{opening_view}
+use Rattle.starlark_literals.specs.Inner.Literals.{IsPlainBody}
+use Rattle.starlark_grammar.specs.Inner.Openings.{opening_view}
 use Rattle.starlark_grammar.specs.declared.class.Opening.{Opening}
-use Rattle.starlark_scanner.specs.Joints.Words.{IsDigitAt}
+use Rattle.starlark_scanner.specs.Inner.Words.{IsDigitAt}
 use Rattle.starlark_reader.proofs.Literals.Pieces.{opener_plain}
-use Rattle.starlark_reader.specs.Joints.Steps.{IsPlainText, IsStep, text_step}
-use Rattle.starlark_nesting.specs.Joints.Nesting.{Represents, change_by, is_fstring_start, mode_view}
+use Rattle.starlark_reader.specs.Inner.Steps.{IsPlainText, IsStep, text_step}
+use Rattle.starlark_nesting.specs.Inner.Nesting.{Represents, change_by, is_fstring_start, mode_view}
 use Rattle.starlark_reader.specs.declared.literal.chunks.PlainText.{PlainText}
 use Rattle.starlark_reader.specs.declared.literal.pieces.Step.TheVariants as step
 use Rattle.starlark_reader.specs.declared.reader.Stage.{Stage}
@@ -29,11 +29,11 @@ use Rattle.starlark_grammar.specs.Margins.{open_widths}
 use Rattle.starlark_grammar.specs.Pieces as pieces
 use Rattle.starlark_grammar.specs.Pieces.{Piece, Situation, Stands, step_at}
 use Rattle.starlark_grammar.specs.Reading.{History, next_step, situation}
-use Rattle.starlark_layout.specs.Joints.Pending.{IsIdle}
+use Rattle.starlark_layout.specs.Inner.Pending.{IsIdle}
 use Rattle.starlark_token.specs.declared.tokens.Token.{Token}
 use Rattle.starlark_scanner.specs.declared.scanner.word.Word.{Word}
-use Rattle.starlark_reader.specs.Joints.Pieces.{IsBehind, IsPiece, is_code, nothing_of}
-use Rattle.starlark_reader.specs.Joints.Reader.{IsAhead, IsAheadBehind, IsBangHere, IsInCode, IsPlainTextHere, IsStateAfter, IsRead, IsWordHere, before_view, left_here, silent_sort, step_here}
+use Rattle.starlark_reader.specs.Inner.Pieces.{IsAfter, IsPiece, is_code, nothing_of}
+use Rattle.starlark_reader.specs.Inner.Reader.{IsAhead, IsAheadAfter, IsBangHere, IsInCode, IsPlainTextHere, IsStateAfter, IsRead, IsWordHere, before_view, left_here, silent_sort, step_here}
 use Rattle.starlark_token.specs.TokenViews.{TokenView, Whole, token_view}
 use Rattle.starlark_nesting.specs.declared.nesting.LexerMode.{LexerMode}
 use Rattle.starlark_nesting.specs.declared.nesting.LexerMode.TheVariants as mode
@@ -52,8 +52,8 @@ use Rattle.starlark_layout.proofs.Indentation.Waiting.{hands_none}
 pub piece_read : (text : Text) (history : History) (reader : Reader) (place : LexerMode) (balanced follows_gap : Bool) (rest : Text) (piece : code.Piece) → rest ≡ drop reader.at text → IsStateAfter text history reader
     → ((tokens : List Rattle.starlark_grammar.specs.Tokens.Token) → Represents tokens reader.nesting → mode_view place ≡ mode_after tokens)
     → ((tokens : List Rattle.starlark_grammar.specs.Tokens.Token) → Represents tokens reader.nesting → balanced ≡ is_balanced tokens)
-    → ((before : pieces.Before) → before_view reader.before ≡ before → IsBehind follows_gap before)
-    → ((s : Situation) → s.place ≡ mode_view place → s.is_balanced ≡ balanced → IsBehind follows_gap s.before → IsPiece s.levels rest (step_at language s rest) piece)
+    → ((before : pieces.Before) → before_view reader.before ≡ before → IsAfter follows_gap before)
+    → ((s : Situation) → s.place ≡ mode_view place → s.is_balanced ≡ balanced → IsAfter follows_gap s.before → IsPiece s.levels rest (step_at language s rest) piece)
     → IsPiece (open_widths history.widths) (drop reader.at text) (step_here text history reader) piece
 unfolding next_step situation
 piece_read text history reader place balanced follows_gap rest piece e kept here count gap is =
@@ -64,14 +64,14 @@ abbrev is_gap_sort : sort.Before → Bool
 is_gap_sort before.Gap = true
 is_gap_sort sort = false
 
-behind_sort : (sort : sort.Before) (before : pieces.Before) → before_view sort ≡ before → IsBehind (is_gap_sort sort) before
-behind_sort before.Layout before is = subst (IsBehind false) is refl
-behind_sort before.Gap before is = subst (IsBehind true) is refl
-behind_sort before.Other before is = subst (IsBehind false) is refl
+behind_sort : (sort : sort.Before) (before : pieces.Before) → before_view sort ≡ before → IsAfter (is_gap_sort sort) before
+behind_sort before.Layout before is = subst (IsAfter false) is refl
+behind_sort before.Gap before is = subst (IsAfter true) is refl
+behind_sort before.Other before is = subst (IsAfter false) is refl
 
 -- the same of a gap
 pub gap_read : (text : Text) (history : History) (reader : Reader) (rest : Text) (len : ℕ) → rest ≡ drop reader.at text → IsStateAfter text history reader → IsInCode reader
-    → ((s : Situation) (follows_gap : Bool) → is_code s.place ≡ true → IsBehind follows_gap s.before → step_at language s rest ≡ pieces.gap len)
+    → ((s : Situation) (follows_gap : Bool) → is_code s.place ≡ true → IsAfter follows_gap s.before → step_at language s rest ≡ pieces.gap len)
     → step_here text history reader ≡ pieces.gap len
 unfolding next_step situation
 gap_read text history reader rest len e kept code is =
@@ -164,8 +164,8 @@ digit_step text history reader digit found kept here at view = (
 -- a bang, by what was read of the place
 pub bang_read : (text : Text) (history : History) (reader : Reader) (place : LexerMode) (follows_gap : Bool) (rest : Text) → rest ≡ drop reader.at text → IsStateAfter text history reader → IsInCode reader
     → ((tokens : List Tokens.Token) → Represents tokens reader.nesting → mode_view place ≡ mode_after tokens)
-    → ((before : pieces.Before) → before_view reader.before ≡ before → IsBehind follows_gap before)
-    → ((before : pieces.Before) → IsBehind follows_gap before → true ≡ (pieces.takes_bang (mode_view place) before && pieces.is_bang rest))
+    → ((before : pieces.Before) → before_view reader.before ≡ before → IsAfter follows_gap before)
+    → ((before : pieces.Before) → IsAfter follows_gap before → true ≡ (pieces.takes_bang (mode_view place) before && pieces.is_bang rest))
     → step_here text history reader ≡ pieces.token 1 Tokens.FStringBang
 unfolding next_step situation
 bang_read text history reader place follows_gap rest e kept code here gap bang =
@@ -283,7 +283,7 @@ left_onward text reader lexemes fault on ahead = subst (λ (s : Stage). IsAhead 
 
 -- what is ahead stays ahead where what stands here is read, behind whichever history it is
 pub onward_ahead : (text : Text) (old : Reader) (given : Option (ℕ × Token × ℕ)) (new : Reader) (lexemes : List (Spanned TokenView)) (fault : Option (Spanned Fault)) → ((history : History) → IsStateAfter text history old → IsRead text (left_here text history old) given new)
-    → IsIdle text old.pending → IsAhead text old stage.Onward lexemes fault → IsAheadBehind text given new lexemes fault
+    → IsIdle text old.pending → IsAhead text old stage.Onward lexemes fault → IsAheadAfter text given new lexemes fault
 onward_ahead text old given new lexemes fault read idle ahead =
     let history = ahead.is_left.0 in
     let both = none_before text old stage.Onward lexemes fault (left_here text history old) idle ahead ahead.is_left.2 in

@@ -4,10 +4,10 @@ use Rattle.starlark_grammar.specs.Reading.{History}
 use Rattle.starlark_grammar.specs.Words.{Text}
 use Rattle.starlark_grammar.specs.Tokens.{Fault, Spanned}
 use Rattle.starlark_token.specs.TokenViews.{TokenView}
-use Rattle.starlark_reader.specs.Joints.Reader.{IsAhead, IsLeft, IsStateAfter, history_of}
-use Rattle.starlark_bytes.specs.Joints.Reads.{AreReads, more_reads}
-use Rattle.starlark_layout.specs.Joints.Pending.{owed}
-use Rattle.starlark_reader.specs.Joints.Reads.{AreStepReads, HasBegun, HasLooked, HasLookedHere, HasRead, HasReadAt, IsMarginRead, IsPassed, IsPassedBy}
+use Rattle.starlark_reader.specs.Inner.Reader.{IsAhead, IsLeft, IsStateAfter, history_of}
+use Rattle.starlark_bytes.specs.Inner.Reads.{AreReads, more_reads}
+use Rattle.starlark_layout.specs.Inner.Pending.{owed}
+use Rattle.starlark_reader.specs.Inner.Reads.{AreStepReads, HasStarted, HasLooked, HasLookedHere, HasRead, HasReadAt, IsMarginRead, IsPassed, IsPassedBy}
 use Rattle.starlark_reader.specs.declared.literal.pieces.Step.{Step}
 use Rattle.starlark_reader.specs.declared.literal.pieces.Step.TheVariants as steps
 use Rattle.starlark_reader.specs.declared.reader.Reader.{Reader}
@@ -95,7 +95,7 @@ here_taken_reads text beside least most len old mid new onward has looked enough
     (omega (arith, enough, looked.0, looked.3.0, on.0, passed.0.0, passed.0.1), omega (arith, few, looked.0, looked.2, looked.3.1, on.1, passed.0.0, passed.0.1, passed.0.2))
 
 -- and so is the start of an f-string, whose opener was looked at
-pub begun_reads : (text : Text) (beside : ℕ) (old mid new : Reader) → old.stage ≡ stages.Onward → HasRead text beside old → HasLookedHere 2 2 old mid → HasBegun mid new → HasRead text beside new
+pub begun_reads : (text : Text) (beside : ℕ) (old mid new : Reader) → old.stage ≡ stages.Onward → HasRead text beside old → HasLookedHere 2 2 old mid → HasStarted mid new → HasRead text beside new
 begun_reads text beside old mid new onward has looked begun =
     let on : HasReadAt text beside old stages.Onward = subst (HasReadAt text beside old) onward has in
     subst (HasReadAt text beside new) (sym begun.2)
@@ -118,7 +118,7 @@ state_reads text history reader reads state =
 pub reads_ahead : (text : Text) (reader : Reader) (reads : ℕ) (stage : Stage) (lexemes : List (Spanned TokenView)) (fault : Option (Spanned Fault)) → IsAhead text reader stage lexemes fault
     → IsAhead text (record reader { reads = reads }) stage lexemes fault
 reads_ahead text reader reads stage lexemes fault ahead =
-    record { left = ahead.left; is_left = by_stage stage ahead.is_left; is_pending = ahead.is_pending; ahead = ahead.ahead; behind_them = ahead.behind_them; cut = ahead.cut; cuts = ahead.cuts }
+    record { left = ahead.left; is_left = by_stage stage ahead.is_left; is_pending = ahead.is_pending; ahead = ahead.ahead; those_after = ahead.those_after; cut = ahead.cut; cuts = ahead.cuts }
   where
     by_stage : (stage : Stage) → IsLeft text reader stage ahead.left → IsLeft text (record reader { reads = reads }) stage ahead.left
     by_stage stages.Begin left = left

@@ -15,12 +15,12 @@ use Rattle.starlark_grammar.specs.Pieces.{Ends, Fails, Layout, Piece, Stands, fi
 use Rattle.starlark_grammar.specs.Cuts.{is_layout}
 use Rattle.starlark_grammar.specs.Reading.{History, IsReading, after, after_all, closing, next_step, pieces_len, nothing, outcome, tokens_onto}
 use Rattle.starlark_token.specs.Lexemes.{fault_view, lexeme_view, shown_lexeme}
-use Rattle.starlark_layout.specs.Joints.Layout.{IsRefused, IsTaken}
-use Rattle.starlark_layout.specs.Joints.Pending.{IsIdle, IsPending, lines_between, pending_lexemes}
-use Rattle.starlark_nesting.specs.Joints.Nesting.{Represents, bracket_count, change_by}
-use Rattle.starlark_reader.specs.Joints.MarginCuts.{IsBehindLines, IsCutBefore}
-use Rattle.starlark_layout.specs.Joints.MarginLines.{IsOfMargin}
-use Rattle.starlark_reader.specs.Joints.Reader.{begins_with_tab, has_read_none, IsAhead, IsAheadBehind, IsCutAhead, HoldsCuts, IsInFlatMargin, IsReached, IsReadTo, IsStateAfter, IsLeft, IsRead, before_view, history_from, history_of, left_here, left_to_read, remaining_outcome, step_here}
+use Rattle.starlark_layout.specs.Inner.Layout.{IsRefused, IsTaken}
+use Rattle.starlark_layout.specs.Inner.Pending.{IsIdle, IsPending, lines_between, pending_lexemes}
+use Rattle.starlark_nesting.specs.Inner.Nesting.{Represents, bracket_count, change_by}
+use Rattle.starlark_reader.specs.Inner.MarginCuts.{IsAfterLines, IsCutBefore}
+use Rattle.starlark_layout.specs.Inner.MarginLines.{IsOfMargin}
+use Rattle.starlark_reader.specs.Inner.Reader.{begins_with_tab, has_read_none, IsAhead, IsAheadAfter, IsCutAhead, HoldsCuts, IsInFlatMargin, IsReached, IsReadTo, IsStateAfter, IsLeft, IsRead, before_view, history_from, history_of, left_here, left_to_read, remaining_outcome, step_here}
 use Rattle.starlark_token.specs.TokenViews.{TokenView, Whole, token_view}
 use Rattle.starlark_token.specs.declared.lexeme_error.LexemeError.{LexemeError}
 use Rattle.starlark_nesting.specs.declared.nesting.Nesting.{Nesting}
@@ -177,7 +177,7 @@ read_piece text whole history at given new piece goes kept is_at is_onward hands
       parts = goes.lexemes;
       fault = goes.fault;
       is_pending = hands.0;
-      handed_out = hands.1;
+      yielded_count = hands.1;
       cut = subst (λ now. IsCutAhead text new now (length (pending_lexemes text new.pending) + length rest.lexemes)) (sym is_onward) cuts.cut;
       cuts = subst (λ now. HoldsCuts text new now (length rest.lexemes) (length (map (moved at) piece.lexemes) + length rest.lexemes) (length (pending_lexemes text new.pending) + length rest.lexemes)) (sym is_onward)
           (subst (λ n. HoldsCuts text new stage.Onward (length rest.lexemes) (n + length rest.lexemes) (length (pending_lexemes text new.pending) + length rest.lexemes)) (sym (length-map piece.lexemes (moved at))) cuts.cuts);
@@ -294,7 +294,7 @@ read_fault text whole at lexemes new fault error left view is hands place none =
   parts = ap (λ (o : Outcome). o.lexemes) left ∙ sym (append-nil lexemes);
   fault = ap (λ (o : Outcome). o.fault) left;
   is_pending = hands.0;
-  handed_out = hands.1;
+  yielded_count = hands.1;
   cut = λ on. let over : stage.Fault (at + fault.begin) error (at + fault.end) ≡ stage.Onward = sym is ∙ on in cc;
   cuts = λ x behind cut least most. absurd (none x behind cut (omega (arith, most)));
 }
@@ -325,7 +325,7 @@ closed text history old given new here kept ends hands is =
       parts = ap (λ (o : Outcome). o.lexemes) left ∙ sym (append-nil (closing old.at history));
       fault = ap (λ (o : Outcome). o.fault) left;
       is_pending = hands.0;
-      handed_out = hands.1;
+      yielded_count = hands.1;
       cut = λ on. let over : stage.Closed ≡ stage.Onward = sym is ∙ on in cc;
       cuts = λ x behind cut least most. absurd (none_at_end text history old.at kept.read (begun text history old kept) ends x behind cut (omega (arith, most, ap (λ (o : Outcome). length o.lexemes) left)));
     }
@@ -341,7 +341,7 @@ closing_hands text history at count levels pending found is open_now counted wai
 -- What is ahead, where something was read
 
 -- a cut behind none of the lines is reached
-pub reached_by : (text : Text) (reader : Reader) (at ahead : ℕ) → IsInFlatMargin reader reader.stage × IsBehindLines text reader.pending at ahead ahead → IsReached reader at
+pub reached_by : (text : Text) (reader : Reader) (at ahead : ℕ) → IsInFlatMargin reader reader.stage × IsAfterLines text reader.pending at ahead ahead → IsReached reader at
 reached_by text reader at ahead is =
     let none : is.1.passed ≡ 0 = omega (arith, is.1.count) in
     (is.0, omega (arith, is.1.place, ap (λ n. sum_by (λ (line : Text). length line) (take n (lines_between text reader.pending.from reader.pending.to))) none))
@@ -350,8 +350,8 @@ both_count : (one other : List Lexeme) → length one + length other ≡ length 
 both_count one other = omega (arith, length-append (map shown_lexeme one) (map shown_lexeme other), length-map one shown_lexeme, length-map other shown_lexeme)
 
 pub read_ahead : (text : Text) (whole : Outcome) (given : Option (ℕ × Token × ℕ)) (new : Reader) (lexemes : List (Spanned TokenView)) (fault : Option (Spanned grammar.Fault)) → IsRead text whole given new
-    → lexemes ≡ map shown_lexeme whole.lexemes → fault ≡ whole.fault → IsAheadBehind text given new lexemes fault
-read_ahead text whole given new lexemes fault read ahead behind = by given read.handed_out
+    → lexemes ≡ map shown_lexeme whole.lexemes → fault ≡ whole.fault → IsAheadAfter text given new lexemes fault
+read_ahead text whole given new lexemes fault read ahead behind = by given read.yielded_count
   where
     parts : lexemes ≡ map shown_lexeme read.lexemes ++ map shown_lexeme read.left.lexemes
     parts = ahead ∙ ap (λ ls. map shown_lexeme ls) read.parts ∙ map-append shown_lexeme read.lexemes read.left.lexemes
@@ -359,13 +359,13 @@ read_ahead text whole given new lexemes fault read ahead behind = by given read.
     one_first : (found : ℕ × Token × ℕ) → map shown_lexeme read.lexemes ≡ lexeme_view found ∷ map shown_lexeme (pending_lexemes text new.pending) → length read.lexemes ≡ 1 + length (pending_lexemes text new.pending)
     one_first found e = omega (arith, ap length e, length-map read.lexemes shown_lexeme, length-map (pending_lexemes text new.pending) shown_lexeme)
 
-    by : (given : Option (ℕ × Token × ℕ)) → map shown_lexeme read.lexemes ≡ map lexeme_view (option_to_list given) ++ map shown_lexeme (pending_lexemes text new.pending) → IsAheadBehind text given new lexemes fault
+    by : (given : Option (ℕ × Token × ℕ)) → map shown_lexeme read.lexemes ≡ map lexeme_view (option_to_list given) ++ map shown_lexeme (pending_lexemes text new.pending) → IsAheadAfter text given new lexemes fault
     by None e = record {
       left = read.left;
       is_left = read.is_left;
       is_pending = read.is_pending;
       ahead = parts ∙ ap (λ vs. vs ++ map shown_lexeme read.left.lexemes) e;
-      behind_them = behind ∙ read.fault;
+      those_after = behind ∙ read.fault;
       cut = subst (IsCutAhead text new new.stage) (both_count (pending_lexemes text new.pending) read.left.lexemes ∙ ap length (sym (parts ∙ ap (λ vs. vs ++ map shown_lexeme read.left.lexemes) e))) read.cut;
       cuts = subst (λ n. HoldsCuts text new new.stage (length read.left.lexemes) n n) (both_count (pending_lexemes text new.pending) read.left.lexemes ∙ ap length (sym (parts ∙ ap (λ vs. vs ++ map shown_lexeme read.left.lexemes) e)))
           (λ x behind cut least most. read.cuts x behind cut least (omega (arith, most, ap length e, length-map read.lexemes shown_lexeme, length-map (pending_lexemes text new.pending) shown_lexeme)));
@@ -378,7 +378,7 @@ read_ahead text whole given new lexemes fault read ahead behind = by given read.
         is_left = read.is_left;
         is_pending = read.is_pending;
         ahead = refl;
-        behind_them = behind ∙ read.fault;
+        those_after = behind ∙ read.fault;
         cut = subst (IsCutAhead text new new.stage) (both_count (pending_lexemes text new.pending) read.left.lexemes) read.cut;
         cuts = subst (λ n. HoldsCuts text new new.stage (length read.left.lexemes) n n) (both_count (pending_lexemes text new.pending) read.left.lexemes)
             (λ at behind cut least most. read.cuts at behind cut least (omega (arith, most, one_first x e)));
@@ -386,7 +386,7 @@ read_ahead text whole given new lexemes fault read ahead behind = by given read.
       λ at cut.
           let count = both_count (pending_lexemes text new.pending) read.left.lexemes in
           reached_by text new at (length (map shown_lexeme (pending_lexemes text new.pending) ++ map shown_lexeme read.left.lexemes))
-          (subst (λ n. IsInFlatMargin new new.stage × IsBehindLines text new.pending at (length (map shown_lexeme (pending_lexemes text new.pending) ++ map shown_lexeme read.left.lexemes)) n) count
+          (subst (λ n. IsInFlatMargin new new.stage × IsAfterLines text new.pending at (length (map shown_lexeme (pending_lexemes text new.pending) ++ map shown_lexeme read.left.lexemes)) n) count
           (read.cuts at _ cut (omega (arith, count)) (omega (arith, count, one_first x e)))),
     )
 
@@ -485,7 +485,7 @@ pub none_before : (text : Text) (reader : Reader) (now : Stage) (lexemes : List 
     → (lexemes ≡ map shown_lexeme left.lexemes) × (fault ≡ left.fault)
 none_before text reader now lexemes fault left idle ahead e = (
   ahead.ahead ∙ ap (λ ls. map shown_lexeme ls ++ map shown_lexeme ahead.left.lexemes) idle.1 ∙ ap (λ (o : Outcome). map shown_lexeme o.lexemes) e,
-  ahead.behind_them ∙ ap (λ (o : Outcome). o.fault) e,
+  ahead.those_after ∙ ap (λ (o : Outcome). o.fault) e,
 )
 
 -- what a text comes to is ahead, where something was read from its begin on

@@ -1,10 +1,10 @@
 //! Texts of f-strings, up to an expression or the closing quotes.
 
 ghost use Rattle.std.specs.Prelude.{◌<◌, ◌≤◌, ◌+◌, ◌*◌, IfErr, IfOk, length};
-ghost use Rattle.starlark_bytes.specs.Joints.Reads.{AreReads};
-ghost use Rattle.starlark_reader.specs.Joints.Reads.{AreStepReads};
-ghost use Rattle.starlark_reader.specs.Joints.Steps.{IsPlainText, IsStep};
-ghost use Rattle.starlark_grammar.specs.Joints.Openings.{opening_view};
+ghost use Rattle.starlark_bytes.specs.Inner.Reads.{AreReads};
+ghost use Rattle.starlark_reader.specs.Inner.Reads.{AreStepReads};
+ghost use Rattle.starlark_reader.specs.Inner.Steps.{IsPlainText, IsStep};
+ghost use Rattle.starlark_grammar.specs.Inner.Openings.{opening_view};
 ghost use Rattle.starlark_grammar.specs.Pieces as grammar;
 
 use super::pieces::Step;

@@ -3,8 +3,8 @@
 ghost use Rattle.std.specs.Prelude.{◌≡◌, ◌<◌, ◌≤◌, Bool, length, true};
 ghost use Rattle.starlark_grammar.specs.Pieces as grammar;
 ghost use Rattle.starlark_grammar.specs.Words.{language};
-ghost use Rattle.starlark_nesting.specs.Joints.Nesting.{mode_view};
-ghost use Rattle.starlark_reader.specs.Joints.Pieces.{IsBehind, is_code};
+ghost use Rattle.starlark_nesting.specs.Inner.Nesting.{mode_view};
+ghost use Rattle.starlark_reader.specs.Inner.Pieces.{IsAfter, is_code};
 
 use starlark_nesting::LexerMode;
 use starlark_scanner::scanner;
@@ -21,7 +21,7 @@ pub fn is_code(place: LexerMode) -> bool
 /// counted with those of the word behind it.
 #[inline(always)]
 pub fn gap_len(text: &str) -> usize
-    ensures gap { 0 < result → (s : grammar.Situation) (follows_gap : Bool) → is_code s.place ≡ true → IsBehind follows_gap s.before → grammar.step_at language s text.now ≡ grammar.gap result }
+    ensures gap { 0 < result → (s : grammar.Situation) (follows_gap : Bool) → is_code s.place ≡ true → IsAfter follows_gap s.before → grammar.step_at language s text.now ≡ grammar.gap result }
     ensures within { result ≤ length text.now }
 {
     scanner::gap_len(text)

@@ -2,7 +2,7 @@
 
 ghost use Rattle.std.specs.Prelude.{◌≡◌, List, false};
 ghost use Rattle.starlark_grammar.specs.Depths.{mode_after};
-ghost use Rattle.starlark_nesting.specs.Joints.Nesting.{Represents, is_fstring_start, mode_view};
+ghost use Rattle.starlark_nesting.specs.Inner.Nesting.{Represents, is_fstring_start, mode_view};
 ghost use Rattle.starlark_grammar.specs.Pieces as grammar;
 ghost use Rattle.starlark_token.specs.TokenViews.{Whole, token_view};
 ghost use Rattle.starlark_grammar.specs.Tokens as Tokens;

@@ -2,9 +2,9 @@
 
 ghost use Rattle.std.specs.Prelude.{◌≡◌, ◌≤◌, ◌<◌, ◌+◌, ◌∷◌, [], Some, drop, length, true, IfOk};
 ghost use Rattle.std.specs.Char.{is_digit};
-ghost use Rattle.starlark_bytes.specs.Joints.Reads.{more_reads};
-ghost use Rattle.starlark_reader.specs.Joints.Reads.{IsOfWord};
-ghost use Rattle.starlark_reader.specs.Joints.Steps.{IsStep};
+ghost use Rattle.starlark_bytes.specs.Inner.Reads.{more_reads};
+ghost use Rattle.starlark_reader.specs.Inner.Reads.{IsOfWord};
+ghost use Rattle.starlark_reader.specs.Inner.Steps.{IsStep};
 ghost use Rattle.starlark_grammar.specs.Numbers.{integer_of};
 ghost use Rattle.starlark_grammar.specs.Pieces as grammar;
 ghost use Rattle.starlark_grammar.specs.Tokens as tokens;

@@ -19,7 +19,7 @@ use Rattle.starlark_grammar.specs.EarlierLanguage.{is_rf_opener, earlier_languag
 use Rattle.starlark_grammar.proofs.Words.Classes.{all_more, all_fit, language_all_fit, row_fits, none_found}
 use Rattle.starlark_grammar.proofs.Words.EarlierTable.{class_agrees, front_agrees}
 use Rattle.starlark_grammar.proofs.Words.Fronts.{front_sound}
-use Rattle.starlark_scanner.specs.Joints.Words.{is_quote}
+use Rattle.starlark_scanner.specs.Inner.Words.{is_quote}
 use Rattle.starlark_scanner.specs.OneIdentifier.{FrontOf, ReadsBy, skipped, IsOneIdentifier, IsOneIdentifierBy}
 
 abbrev is_no_quote : ℕ → Bool

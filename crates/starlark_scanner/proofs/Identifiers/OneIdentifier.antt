@@ -5,7 +5,7 @@ use Rattle.starlark_grammar.specs.Words.{Text}
 use Rattle.starlark_grammar.specs.declared.class.Class.{Class}
 use Rattle.starlark_grammar.specs.declared.class.Class.TheVariants.{Skipped, Identifier}
 use Rattle.starlark_grammar.specs.Front.{language_front, longest_front}
-use Rattle.starlark_scanner.specs.OneIdentifier.{Reads, skipped, IsOneIdentifier, IsBehindSkipped, if_skipped, if_identifier}
+use Rattle.starlark_scanner.specs.OneIdentifier.{Reads, skipped, IsOneIdentifier, IsAfterSkipped, if_skipped, if_identifier}
 
 -- what the two tests say of a front
 pub skipped_front : (front : Option (Class × ℕ)) (len : ℕ) → if_skipped front ≡ Some len → front ≡ Some (Skipped, len)
@@ -66,7 +66,7 @@ map_skipped [] other = refl
 map_skipped (piece ∷ pieces) other = ap (λ words. skipped piece ∷ words) (map_skipped pieces other)
 
 -- one skipped piece more
-pub behind_more : (text rest : Text) (len : ℕ) → IsBehindSkipped text rest → if_skipped (language_front rest) ≡ Some len → len ≤ length rest → IsBehindSkipped text (drop len rest)
+pub behind_more : (text rest : Text) (len : ℕ) → IsAfterSkipped text rest → if_skipped (language_front rest) ≡ Some len → len ≤ length rest → IsAfterSkipped text (drop len rest)
 behind_more text rest len passed here inside =
     let one = reads_one Skipped len rest (skipped_front (language_front rest) len here) inside in (
       passed.0 ++ take len rest ∷ [],
@@ -99,7 +99,7 @@ nothing_left = refl
 
 -- The text that the code comes to: behind skipped pieces, and none stands there.
 pub record IsRest (text rest : Text) : Type 0 where
-  pub passed : IsBehindSkipped text rest
+  pub passed : IsAfterSkipped text rest
   pub all : if_skipped (language_front rest) ≡ None
 
 -- where an identifier stands there, and nothing but skipped pieces behind it
@@ -113,7 +113,7 @@ found_one text rest len begin here inside end =
 pub record IsThere (rest word : Text) : Type 0 where
   pub front : language_front rest ≡ Some (Identifier, length word)
   pub name : take (length word) rest ≡ word
-  pub end : IsBehindSkipped (drop (length word) rest) []
+  pub end : IsAfterSkipped (drop (length word) rest) []
 
 pub must_be : (text rest name : Text) → IsRest text rest → IsOneIdentifier text name → IsThere rest name
 must_be text rest name begin one =
@@ -134,7 +134,7 @@ pub only_one : (text rest behind name : Text) (len : ℕ) → IsRest text rest �
 only_one text rest behind name len begin here end one =
     let there = must_be text rest name begin one in
     let same : len ≡ length name = ap len_of (sym (identifier_front (language_front rest) len here) ∙ there.front) in
-    let left = subst (λ k. IsBehindSkipped (drop k rest) []) (sym same) there.end in
+    let left = subst (λ k. IsAfterSkipped (drop k rest) []) (sym same) there.end in
     (ap (λ k. take k rest) same ∙ there.name, one_rest (drop len rest) end.passed.0 left.0 behind [] end.passed.1 left.1 end.all nothing_left)
 
 -- the three answers of the code

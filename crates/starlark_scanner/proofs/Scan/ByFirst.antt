@@ -14,7 +14,7 @@ use Rattle.starlark_grammar.specs.declared.class.LiteralKind.TheVariants.{Text a
 use Rattle.starlark_grammar.specs.declared.class.Quote.TheVariants.{Single as SingleQuote, Double as DoubleQuote}
 use Rattle.starlark_grammar.specs.Pieces.{is_bang}
 use Rattle.starlark_grammar.specs.Front.{longer, longest_front, language_front}
-use Rattle.starlark_scanner.specs.Joints.Words.{begins_number, is_quote, marks}
+use Rattle.starlark_scanner.specs.Inner.Words.{begins_number, is_quote, marks}
 use Rattle.starlark_grammar.proofs.Words.Fronts.{front_single, front_run}
 use Rattle.starlark_scanner.proofs.Scan.Listed.{class_of_name, opener_of, all_pass, begins_otherwise, lookup_fails, lookup_elsewhere, each_byte, implied}
 use Rattle.starlark_scanner.proofs.Scan.Marks.{mark_is}

@@ -4,7 +4,7 @@ use Rattle.std.proofs.lemmas.Bool.Decides.{nat_tests}
 use Rattle.std.specs.Map.{lookup}
 use Rattle.std.specs.Option.{option_map, option_or}
 use Rattle.std.specs.Str.{bytes_eq}
-use Rattle.starlark_scanner.specs.Joints.Words.{marks}
+use Rattle.starlark_scanner.specs.Inner.Words.{marks}
 use Rattle.starlark_grammar.specs.Words.{Text, class_in, listed, line_ends, symbols}
 use Rattle.starlark_grammar.specs.declared.class.Class.{Class}
 use Rattle.starlark_grammar.specs.Front.{longer, longest_front}

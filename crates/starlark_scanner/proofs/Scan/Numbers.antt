@@ -5,12 +5,12 @@ use Rattle.std.proofs.lemmas.Bool.{eqb-true, not-true, and_parts, agree_below}
 use Rattle.std.specs.Char.{is_ascii_digit, is_ascii_hexdigit}
 use Rattle.std.specs.List.{prefix_len, list_all}
 use Rattle.std.specs.Option.{option_map, option_or}
-use Rattle.starlark_grammar.specs.Words.{Text, class_in, language, openers, line_ends, symbols, names, patterns, is_name_start, numbers, based, has_base, is_octal_digit, is_binary_digit, begins, is_run, sign_len, is_sign, unsigned, is_exponent_letter, is_exponent, behind_digits, ends_float, is_point, is_fraction, makes_float}
+use Rattle.starlark_grammar.specs.Words.{Text, class_in, language, openers, line_ends, symbols, names, patterns, is_name_start, numbers, based, has_base, is_octal_digit, is_binary_digit, begins, is_run, sign_len, is_sign, unsigned, is_exponent_letter, is_exponent, after_digits, ends_float, is_point, is_fraction, makes_float}
 use Rattle.starlark_grammar.specs.declared.class.Class.{Class}
 use Rattle.starlark_grammar.specs.declared.class.Class.TheVariants.{Decimal, Hexadecimal, Octal, Binary, Float}
 use Rattle.starlark_grammar.specs.Front.{longest_front, language_front}
 use Rattle.starlark_grammar.specs.Lengths.{longest_len}
-use Rattle.starlark_scanner.specs.Joints.Words.{begins_number, is_digit_alone, may_be_in_number, word_view}
+use Rattle.starlark_scanner.specs.Inner.Words.{begins_number, is_digit_alone, may_be_in_number, word_view}
 use Rattle.starlark_grammar.proofs.Words.Tables.{class_in-language}
 use Rattle.starlark_scanner.proofs.Scan.Listed.{all_pass, lookup_fails, begins_otherwise, lookup_elsewhere, each_byte, implied}
 use Rattle.starlark_scanner.proofs.Scan.Residuals.{front_next, front_some, longer_by, or_empty, if_some, if_passes, front_on, front_first, front_same, front_never, front_end, front_into, front_of_some, front_of_test, len_of_test, longer_by_none, front_run, front_on_longest}
@@ -78,34 +78,34 @@ exponent_some (b ∷ rest) h =
     go sign (suc digits) = ap plain (omega arith)
 
 -- what stands behind the digits begins with none
-no_more_digits : (text : Text) → begins is_ascii_digit (behind_digits text) ≡ false
+no_more_digits : (text : Text) → begins is_ascii_digit (after_digits text) ≡ false
 no_more_digits [] = refl
 no_more_digits (b ∷ rest) = go (is_ascii_digit b) refl (no_more_digits rest)
   where
-    go : (digit : Bool) → is_ascii_digit b ≡ digit → begins is_ascii_digit (behind_digits rest) ≡ false → begins is_ascii_digit (behind_digits (b ∷ rest)) ≡ false
+    go : (digit : Bool) → is_ascii_digit b ≡ digit → begins is_ascii_digit (after_digits rest) ≡ false → begins is_ascii_digit (after_digits (b ∷ rest)) ≡ false
     go true e more = rw (e, one-add) more
     go false e more = rw (e, e) refl
 
 -- passing a digit over
-pub behind_digit : (b : ℕ) (text : Text) → is_ascii_digit b ≡ true → behind_digits (b ∷ text) ≡ behind_digits text
+pub behind_digit : (b : ℕ) (text : Text) → is_ascii_digit b ≡ true → after_digits (b ∷ text) ≡ after_digits text
 behind_digit b text e = rw (e, one-add) refl
 
 -- Behind digits: a class for the digits alone, and one for digits and what follows them.
 module _ {C : Type 0} (alone with_end : C) (ends : Text → Bool) where
   digits_and_end : Text → Option C
-  digits_and_end word = cond (list_all is_ascii_digit word) (Some alone) (if_passes with_end ends (behind_digits word))
+  digits_and_end word = cond (list_all is_ascii_digit word) (Some alone) (if_passes with_end ends (after_digits word))
 
   -- the class of digits with an end of so many bytes, perhaps none
   abbrev pub ended : ℕ → Option (C × ℕ)
   ended zero = Some (alone, 0)
   ended (suc n) = Some (with_end, suc n)
 
-  pub front_behind_digits : (text : Text) → front_on (λ word. cond (list_all is_ascii_digit word) (Some alone) (if_passes with_end ends (behind_digits word))) text
-      ≡ longer_by (prefix_len is_ascii_digit text) (ended (longest_len ends (behind_digits text)))
+  pub front_behind_digits : (text : Text) → front_on (λ word. cond (list_all is_ascii_digit word) (Some alone) (if_passes with_end ends (after_digits word))) text
+      ≡ longer_by (prefix_len is_ascii_digit text) (ended (longest_len ends (after_digits text)))
   unfolding digits_and_end
   front_behind_digits text =
       front_run is_ascii_digit digits_and_end text (λ b word e. rw (e, one-add) refl)
-      ∙ ap (longer_by (prefix_len is_ascii_digit text)) (at_end (behind_digits text) (no_more_digits text))
+      ∙ ap (longer_by (prefix_len is_ascii_digit text)) (at_end (after_digits text) (no_more_digits text))
     where
       chosen : (n : ℕ) → option_or (if_some with_end n) (Some (alone, 0)) ≡ ended n
       chosen zero = refl
@@ -128,24 +128,24 @@ ended_plain zero = refl
 ended_plain (suc n) = refl
 
 pub fraction_some : (text : Text) → begins is_point text ≡ true
-    → longest_len is_fraction text ≡ suc (prefix_len is_ascii_digit (drop 1 text) + longest_len is_exponent (behind_digits (drop 1 text)))
+    → longest_len is_fraction text ≡ suc (prefix_len is_ascii_digit (drop 1 text) + longest_len is_exponent (after_digits (drop 1 text)))
 fraction_some [] h = cc
 fraction_some (b ∷ rest) h =
-    len_of_test {C = ℕ} 0 is_fraction (b ∷ rest) (suc (prefix_len is_ascii_digit rest + longest_len is_exponent (behind_digits rest)))
-    (rw (front_first (if_passes {C = ℕ} 0 is_fraction) b rest, front_same (λ word. if_passes {C = ℕ} 0 is_fraction (b ∷ word)) fraction rest same, front_behind_digits {C = ℕ} 0 0 is_exponent rest, ended_plain (longest_len is_exponent (behind_digits rest)))
+    len_of_test {C = ℕ} 0 is_fraction (b ∷ rest) (suc (prefix_len is_ascii_digit rest + longest_len is_exponent (after_digits rest)))
+    (rw (front_first (if_passes {C = ℕ} 0 is_fraction) b rest, front_same (λ word. if_passes {C = ℕ} 0 is_fraction (b ∷ word)) fraction rest same, front_behind_digits {C = ℕ} 0 0 is_exponent rest, ended_plain (longest_len is_exponent (after_digits rest)))
     (ap plain (omega arith)))
   where
     fraction : Text → Option ℕ
-    fraction word = cond (list_all is_ascii_digit word) (Some 0) (if_passes {C = ℕ} 0 is_exponent (behind_digits word))
+    fraction word = cond (list_all is_ascii_digit word) (Some 0) (if_passes {C = ℕ} 0 is_exponent (after_digits word))
 
     plain : ℕ → Option (ℕ × ℕ)
     plain n = Some (0, n)
 
-    all_digits : (word : Text) → cond (ends_float (behind_digits word)) (Some 0) None ≡ fraction word
+    all_digits : (word : Text) → cond (ends_float (after_digits word)) (Some 0) None ≡ fraction word
     all_digits [] = refl
     all_digits (c ∷ word) = go (is_ascii_digit c) refl (all_digits word)
       where
-        go : (digit : Bool) → is_ascii_digit c ≡ digit → cond (ends_float (behind_digits word)) (Some 0) None ≡ fraction word → cond (ends_float (behind_digits (c ∷ word))) (Some 0) None ≡ fraction (c ∷ word)
+        go : (digit : Bool) → is_ascii_digit c ≡ digit → cond (ends_float (after_digits word)) (Some 0) None ≡ fraction word → cond (ends_float (after_digits (c ∷ word))) (Some 0) None ≡ fraction (c ∷ word)
         go true e more = rw (e, one-add) more
         go false e more = rw e refl
 
@@ -177,7 +177,7 @@ float_end (b ∷ rest) = go (b == 46) refl
     go true e =
         let same_byte : b ≡ 46 = eqb-true b 46 e in
         let no_exponent : longest_len is_exponent (b ∷ rest) ≡ 0 = rw same_byte (exponent_none (46 ∷ rest) refl) in
-        let fraction : longest_len makes_float (b ∷ rest) ≡ longest_len is_fraction (b ∷ rest) = rw same_byte (len_alike makes_float is_fraction 46 rest (λ word. or_false (ends_float (behind_digits word)))) in
+        let fraction : longest_len makes_float (b ∷ rest) ≡ longest_len is_fraction (b ∷ rest) = rw same_byte (len_alike makes_float is_fraction 46 rest (λ word. or_false (ends_float (after_digits word)))) in
         rw (fraction, no_exponent) (same (longest_len is_fraction (b ∷ rest)))
     go false e = rw (fraction_none (b ∷ rest) e, len_alike makes_float is_exponent b rest (λ word. rw e refl)) refl
 
@@ -187,7 +187,7 @@ front_on_alike class_of other b rest h empty = rw (front_on_longest class_of (b 
 
 -- digits, perhaps with what makes them a float
 abbrev pub decimal_or_float : Text → Option Class
-decimal_or_float word = cond (list_all is_ascii_digit word) (Some Decimal) (if_passes Float makes_float (behind_digits word))
+decimal_or_float word = cond (list_all is_ascii_digit word) (Some Decimal) (if_passes Float makes_float (after_digits word))
 
 -- so many digits, and so many bytes that make them a float
 abbrev pub digits_front : ℕ → ℕ → Option (Class × ℕ)
@@ -204,7 +204,7 @@ digits_and_more digits (suc n) other = refl
 
 -- what the numbers that begin with a digit come to
 abbrev pub number_front : Text → Option (Class × ℕ)
-number_front text = option_or (longest_front (class_in based) text) (digits_front (prefix_len is_ascii_digit text) (longest_len makes_float (behind_digits text)))
+number_front text = option_or (longest_front (class_in based) text) (digits_front (prefix_len is_ascii_digit text) (longest_len makes_float (after_digits text)))
 
 longer_digits : (digits n : ℕ) → longer_by 1 (longer_by digits (ended Decimal Float makes_float n)) ≡ digits_front (suc digits) n
 longer_digits digits zero = ap (λ n. Some (Decimal, n)) (omega arith)
@@ -231,15 +231,15 @@ module _ (b : ℕ) (digit : is_ascii_digit b ≡ true) (no_point : (b == 46) ≡
   unfolding class_in IsPlain
   plain_based l word plain = rw (plain.0, plain.1, plain.2) refl
 
-  one_more : (text : Text) → digits_front (suc (prefix_len is_ascii_digit text)) (longest_len makes_float (behind_digits text))
-      ≡ digits_front (prefix_len is_ascii_digit (b ∷ text)) (longest_len makes_float (behind_digits (b ∷ text)))
+  one_more : (text : Text) → digits_front (suc (prefix_len is_ascii_digit text)) (longest_len makes_float (after_digits text))
+      ≡ digits_front (prefix_len is_ascii_digit (b ∷ text)) (longest_len makes_float (after_digits (b ∷ text)))
   one_more text = rw (digit, one-add) refl
 
   number_plain : (l : ℕ) (rest : Text) → ((word : Text) → IsPlain (b ∷ l ∷ word)) → longest_front (class_in numbers) (b ∷ l ∷ rest) ≡ number_front (b ∷ l ∷ rest)
   number_plain l rest plain =
       front_first (class_in numbers) b (l ∷ rest)
       ∙ ap (longer_by 1) (front_on_alike (λ word. class_in numbers (b ∷ word)) decimal_or_float l rest (λ word. plain_number l word (plain word)) digits_alone ∙ front_behind_digits Decimal Float makes_float (l ∷ rest))
-      ∙ longer_digits (prefix_len is_ascii_digit (l ∷ rest)) (longest_len makes_float (behind_digits (l ∷ rest)))
+      ∙ longer_digits (prefix_len is_ascii_digit (l ∷ rest)) (longest_len makes_float (after_digits (l ∷ rest)))
       ∙ one_more (l ∷ rest)
       ∙ rw no_base refl
     where

@@ -9,7 +9,7 @@ use Rattle.std.specs.Prelude.{IfSome}
 use Rattle.starlark_grammar.specs.Front.{language_front}
 use Rattle.starlark_grammar.specs.Pieces.{is_bang}
 use Rattle.starlark_grammar.specs.Words.{Text, openers, is_in_name}
-use Rattle.starlark_scanner.specs.Joints.Words.{is_quote, opener_view, plain_opener, quote_behind, quote_of, raw_opener, text_opener}
+use Rattle.starlark_scanner.specs.Inner.Words.{is_quote, opener_view, plain_opener, quote_after, quote_of, raw_opener, text_opener}
 use Rattle.starlark_grammar.specs.declared.class.Class.TheVariants.{Opener}
 use Rattle.starlark_grammar.specs.declared.class.LiteralKind.{LiteralKind}
 use Rattle.starlark_grammar.specs.declared.class.LiteralKind.TheVariants.{Bytes, FString}
@@ -167,28 +167,28 @@ quoted letter kind opens b rest quote small h = go (b == 39) (b == 34) refl refl
     go false true e f = let same : Some Double ≡ Some quote = rw (e, f) at h in subst (λ q. IsLettered kind q (letter ∷ b ∷ rest)) (ap (λ found. unwrap_or found Double) same) ((opens b rest small).1 (eqb-true b 34 f))
     go false false e f = let none = rw (e, f) at h in cc
 
-front_of_quoted : (letter : ℕ) (kind : LiteralKind) → IsLetterOf letter kind → (text : Text) (quote : Quote) → ((i : ℕ) → get_or text i 0 < 256) → quote_behind letter text ≡ Some quote → IsLettered kind quote text
+front_of_quoted : (letter : ℕ) (kind : LiteralKind) → IsLetterOf letter kind → (text : Text) (quote : Quote) → ((i : ℕ) → get_or text i 0 < 256) → quote_after letter text ≡ Some quote → IsLettered kind quote text
 front_of_quoted letter kind opens [] quote small h = cc
 front_of_quoted letter kind opens (b ∷ []) quote small h = cc
 front_of_quoted letter kind opens (b ∷ c ∷ rest) quote small h = go (b == letter) refl h
   where
-    go : (stands : Bool) → (b == letter) ≡ stands → quote_behind letter (b ∷ c ∷ rest) ≡ Some quote → IsLettered kind quote (b ∷ c ∷ rest)
+    go : (stands : Bool) → (b == letter) ≡ stands → quote_after letter (b ∷ c ∷ rest) ≡ Some quote → IsLettered kind quote (b ∷ c ∷ rest)
     go true e h =
         let byte : b ≡ letter = eqb-true b letter e in
         let same = rw e at h in
         subst (λ (n : ℕ). IsLettered kind quote (n ∷ c ∷ rest)) (sym byte) (quoted letter kind opens c rest quote (subst (λ (n : ℕ). (i : ℕ) → get_or (n ∷ c ∷ rest) i 0 < 256) byte small) same)
     go false e h = let none = rw e at h in cc
 
-found_by : (letter : ℕ) (kind : LiteralKind) → IsLetterOf letter kind → (text : Text) (found : Option Quote) → ((i : ℕ) → get_or text i 0 < 256) → found ≡ quote_behind letter text
+found_by : (letter : ℕ) (kind : LiteralKind) → IsLetterOf letter kind → (text : Text) (found : Option Quote) → ((i : ℕ) → get_or text i 0 < 256) → found ≡ quote_after letter text
     → IfSome found (λ quote. Some (Opener kind false quote, 2) ≡ language_front text) × IfSome found (λ quote. is_bang text ≡ false)
 unfolding IsLettered
 found_by letter kind opens text None small h = (tt, tt)
 found_by letter kind opens text (Some quote) small h = front_of_quoted letter kind opens text quote small (sym h)
 
-pub fstring_found : (text : Text) (found : Option Quote) → ((i : ℕ) → get_or text i 0 < 256) → found ≡ quote_behind 102 text
+pub fstring_found : (text : Text) (found : Option Quote) → ((i : ℕ) → get_or text i 0 < 256) → found ≡ quote_after 102 text
     → IfSome found (λ quote. Some (Opener FString false quote, 2) ≡ language_front text) × IfSome found (λ quote. is_bang text ≡ false)
 fstring_found = found_by 102 FString opens_fstrings
 
-pub bytes_found : (text : Text) (found : Option Quote) → ((i : ℕ) → get_or text i 0 < 256) → found ≡ quote_behind 98 text
+pub bytes_found : (text : Text) (found : Option Quote) → ((i : ℕ) → get_or text i 0 < 256) → found ≡ quote_after 98 text
     → IfSome found (λ quote. Some (Opener Bytes false quote, 2) ≡ language_front text) × IfSome found (λ quote. is_bang text ≡ false)
 bytes_found = found_by 98 Bytes opens_bytes

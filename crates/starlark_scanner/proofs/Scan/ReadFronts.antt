@@ -3,7 +3,7 @@ use Rattle.std.proofs.Common.{◌≡◌, ℕ, ◌+◌, ◌≤◌, Bool, true, []
 use Rattle.std.specs.List.{prefix_len, slice_get}
 use Rattle.starlark_grammar.specs.Front.{longest_front}
 use Rattle.starlark_grammar.specs.Words.{Text, begins, has_base, is_in_name, is_name_start, sign_len}
-use Rattle.starlark_scanner.specs.Joints.Words.{begins_number, is_digit_alone, is_mark_alone, mark_of_two, quote_behind, text_opener}
+use Rattle.starlark_scanner.specs.Inner.Words.{begins_number, is_digit_alone, is_mark_alone, mark_of_two, quote_after, text_opener}
 use Rattle.starlark_scanner.proofs.Scan.Marks.{front_three, mark_of}
 
 pub begins_by_one : (test : ℕ → Bool) (text : Text) → begins test (take 1 text) ≡ begins test text
@@ -34,7 +34,7 @@ opener_by_two [] = refl
 opener_by_two (a ∷ []) = refl
 opener_by_two (a ∷ b ∷ rest) = refl
 
-pub behind_by_two : (letter : ℕ) (text : Text) → quote_behind letter (take 2 text) ≡ quote_behind letter text
+pub behind_by_two : (letter : ℕ) (text : Text) → quote_after letter (take 2 text) ≡ quote_after letter text
 behind_by_two letter [] = refl
 behind_by_two letter (a ∷ []) = refl
 behind_by_two letter (a ∷ b ∷ rest) = refl

@@ -9,7 +9,7 @@ use Rattle.starlark_grammar.specs.Front.{longest_front, language_front}
 use Rattle.starlark_grammar.specs.Pieces.{is_bang}
 use Rattle.starlark_grammar.specs.Words.{Text, class_in, is_name_start, line_ends, symbols}
 use Rattle.starlark_grammar.proofs.Words.Fronts.{front_none}
-use Rattle.starlark_scanner.specs.Joints.Words.{begins_number, goes_on, is_lone_mark, is_mark_alone, is_symbol, mark_of_two, marks, word_view}
+use Rattle.starlark_scanner.specs.Inner.Words.{begins_number, goes_on, is_lone_mark, is_mark_alone, is_symbol, mark_of_two, marks, word_view}
 use Rattle.starlark_scanner.specs.declared.scanner.word.Word.{Word}
 use Rattle.starlark_grammar.specs.declared.class.Class.{Class}
 use Rattle.starlark_scanner.proofs.Scan.ByFirst.{front_mark}

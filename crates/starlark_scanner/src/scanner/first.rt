@@ -2,7 +2,7 @@
 
 ghost use Rattle.std.specs.Prelude.{◌≡◌};
 ghost use Rattle.starlark_grammar.specs.Words as grammar;
-ghost use Rattle.starlark_scanner.specs.Joints.Words.{goes_on, is_lone_mark, is_symbol};
+ghost use Rattle.starlark_scanner.specs.Inner.Words.{goes_on, is_lone_mark, is_symbol};
 
 // An `n` stands at each byte with which a name may begin, an `l` at a mark with which no longer mark begins, and an
 // `s` at a symbol with which longer ones may begin.

@@ -6,8 +6,8 @@ ghost use Rattle.std.specs.Map.{lookup};
 ghost use Rattle.std.specs.Option.{option_map};
 ghost use Rattle.std.specs.Str.{bytes_eq};
 ghost use Rattle.starlark_grammar.specs.Front.{language_front};
-ghost use Rattle.starlark_bytes.specs.Joints.Reads.{AreReads};
-ghost use Rattle.starlark_scanner.specs.Joints.Words.{begin_listed_name, class_by_length, is_other_length, is_quote, listing_view, may_be_listed, word_view};
+ghost use Rattle.starlark_bytes.specs.Inner.Reads.{AreReads};
+ghost use Rattle.starlark_scanner.specs.Inner.Words.{begin_listed_name, class_by_length, is_other_length, is_quote, listing_view, may_be_listed, word_view};
 ghost use Rattle.starlark_grammar.specs.Words as grammar;
 ghost use Rattle.starlark_grammar.specs.declared.class.Class.TheVariants as class;
 

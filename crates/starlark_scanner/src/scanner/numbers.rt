@@ -4,8 +4,8 @@ ghost use Rattle.std.specs.Prelude.{◌≡◌, ◌≤◌, ◌<◌, ◌+◌, ◌-
 ghost use Rattle.std.specs.Option.{option_map};
 ghost use Rattle.starlark_grammar.specs.Front.{language_front, longest_front};
 ghost use Rattle.starlark_grammar.specs.Lengths.{longest_len};
-ghost use Rattle.starlark_bytes.specs.Joints.Reads.{AreReads, more_reads};
-ghost use Rattle.starlark_scanner.specs.Joints.Words.{begins_number, is_digit_alone, may_be_in_number, word_len, word_view};
+ghost use Rattle.starlark_bytes.specs.Inner.Reads.{AreReads, more_reads};
+ghost use Rattle.starlark_scanner.specs.Inner.Words.{begins_number, is_digit_alone, may_be_in_number, word_len, word_view};
 ghost use Rattle.starlark_grammar.specs.Words as grammar;
 
 use super::first::is_name_start;

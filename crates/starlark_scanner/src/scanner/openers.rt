@@ -6,7 +6,7 @@ ghost use Rattle.std.specs.Option.{option_map};
 ghost use Rattle.std.specs.Str.{bytes_eq};
 ghost use Rattle.starlark_grammar.specs.Words as grammar;
 ghost use Rattle.starlark_grammar.specs.declared.class.Class.TheVariants as class;
-ghost use Rattle.starlark_scanner.specs.Joints.Words.{plain_opener, quote_behind, quote_of, raw_opener, text_opener};
+ghost use Rattle.starlark_scanner.specs.Inner.Words.{plain_opener, quote_after, quote_of, raw_opener, text_opener};
 
 use super::{Class, LiteralKind, Quote, TextOpener};
 
@@ -69,8 +69,8 @@ pub fn text_opener(text: &[u8]) -> Option<TextOpener>
 
 /// The quote behind a letter, where the first two bytes of a text are these.
 #[inline(always)]
-pub fn quote_behind(letter: u8, text: &[u8]) -> Option<Quote>
-    ensures { result ≡ quote_behind letter text.now }
+pub fn quote_after(letter: u8, text: &[u8]) -> Option<Quote>
+    ensures { result ≡ quote_after letter text.now }
 {
     match text {
         [first, second, ..] if *first == letter => quote_of(*second),

@@ -4,7 +4,7 @@ use Rattle.std.specs.Prelude.{slice_get, slice_index_or}
 use Rattle.std.specs.List.{AllByRecursion}
 use Rattle.std.proofs.lemmas.Option.{slice_get-get_or}
 use Rattle.starlark_grammar.specs.Words.{Text}
-use Rattle.starlark_syntax.specs.Joints.LexedTexts.{AreBeyond, AreCuts, IsBegin, IsCutOf, IsRising, IsUpTo}
+use Rattle.starlark_syntax.specs.Inner.LexedTexts.{AreBeyond, AreCuts, IsBegin, IsCutOf, IsRising, IsUpTo}
 use Rattle.starlark_syntax.specs.declared.cuts.Cut.{Cut}
 
 pub all_at : {A : Type 0} (P : A → Type 0) (xs : List A) (i : ℕ) (d : A) → AllByRecursion P xs → i < length xs → P (slice_index_or xs i d)

@@ -7,7 +7,7 @@ use Rattle.starlark_grammar.specs.Tokens.{Fault, Spanned}
 use Rattle.starlark_grammar.specs.Pieces.{Ends, Fails, Piece, Stands, Step}
 use Rattle.starlark_grammar.specs.Reading.{outcome, outcome_in, outcome_of, read}
 use Rattle.starlark_grammar.specs.Cuts.{is_clean_cut, is_clean_cut_in, is_faultless, is_settled}
-use Rattle.starlark_reader.specs.Joints.Reader.{history_of}
+use Rattle.starlark_reader.specs.Inner.Reader.{history_of}
 
 no_fault : (text : Text) (pieces : List Piece) (last : Step) → (outcome_of text pieces last).fault ≡ None → is_faultless last ≡ true
 no_fault text pieces (Stands piece) h = refl

@@ -12,8 +12,8 @@ use Rattle.starlark_grammar.specs.Cuts.{is_clean_cut, is_kept_cut, without_closi
 use Rattle.starlark_grammar.proofs.Joining.KeptPlaces.{cut_some}
 use Rattle.starlark_grammar.proofs.Joining.Laws.{kept_cuts_keep}
 use Rattle.starlark_grammar.proofs.Joining.LineCuts.{kept_parts}
-use Rattle.starlark_syntax.specs.Joints.LexedTexts.{AreCuts, IsCutOf, IsPart, IsPlacedFault, IsRising, cuts_at, end_cuts, holds_cut}
-use Rattle.starlark_reader.specs.Joints.MarginCuts.{IsCutBefore, lexemes_before}
+use Rattle.starlark_syntax.specs.Inner.LexedTexts.{AreCuts, IsCutOf, IsPart, IsPlacedFault, IsRising, cuts_at, end_cuts, holds_cut}
+use Rattle.starlark_reader.specs.Inner.MarginCuts.{IsCutBefore, lexemes_before}
 use Rattle.starlark_syntax.specs.declared.cuts.Cut.{Cut}
 use Rattle.starlark_syntax.specs.declared.parts.Part.{Part}
 use Rattle.starlark_syntax.proofs.LexedTexts.CleanCuts.{faulty_cut}
@@ -23,7 +23,7 @@ use Rattle.starlark_syntax.proofs.LexedTexts.Relexed.{all_both}
 use Rattle.starlark_syntax.proofs.LexedTexts.Joined.{begun}
 use Rattle.starlark_reader.proofs.Pieces.Onward.{margin_first}
 use Rattle.starlark_reader.proofs.Pieces.Taken.{no_tab}
-use Rattle.starlark_reader.specs.Joints.Reader.{begins_with_tab, IsAhead, IsAheadBehind}
+use Rattle.starlark_reader.specs.Inner.Reader.{begins_with_tab, IsAhead, IsAheadAfter}
 use Rattle.starlark_token.specs.TokenViews.{TokenView}
 use Rattle.starlark_reader.specs.declared.reader.Reader.{Reader}
 use Rattle.starlark_token.specs.declared.tokens.Token.{Token}
@@ -35,7 +35,7 @@ pub record IsCollected (text : Text) (reader : Reader) (found : List (ℕ × Tok
   pub ahead : IsAhead text reader reader.stage rest (outcome text).fault
 
 -- with one lexeme more
-pub one_more : (text : Text) (old new : Reader) (found : List (ℕ × Token × ℕ)) (lexeme : ℕ × Token × ℕ) → (old_is : IsCollected text old found) → IsAheadBehind text (Some lexeme) new old_is.rest (outcome text).fault
+pub one_more : (text : Text) (old new : Reader) (found : List (ℕ × Token × ℕ)) (lexeme : ℕ × Token × ℕ) → (old_is : IsCollected text old found) → IsAheadAfter text (Some lexeme) new old_is.rest (outcome text).fault
     → IsCollected text new (found ++ lexeme ∷ []) × (length found < length (outcome text).lexemes)
 one_more text old new found lexeme is next =
     let all : map shown_lexeme (outcome text).lexemes ≡ map lexeme_view found ++ lexeme_view lexeme ∷ next.0 = is.all ∙ ap (λ vs. map lexeme_view found ++ vs) next.1 in

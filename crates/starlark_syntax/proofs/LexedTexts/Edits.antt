@@ -21,7 +21,7 @@ use Rattle.starlark_grammar.proofs.Joining.LineCuts.{kept_parts}
 use Rattle.starlark_grammar.proofs.Joining.Tabs.{HasTab, behind_tab, first_margin_is, first_step, margin_tab, outcome_by, tab, tab_longest}
 use Rattle.starlark_grammar.proofs.Reading.Readings.{one_longest, read_is}
 use Rattle.starlark_token.specs.Lexemes.{lexeme_view, shown_lexeme}
-use Rattle.starlark_syntax.specs.Joints.LexedTexts.{AreBeyond, AreCuts, IsBegin, IsCutOf, IsPart, IsTakenBack, holds_cut, last_newline_of, later, later_cut}
+use Rattle.starlark_syntax.specs.Inner.LexedTexts.{AreBeyond, AreCuts, IsBegin, IsCutOf, IsPart, IsTakenBack, holds_cut, last_newline_of, later, later_cut}
 use Rattle.starlark_syntax.specs.declared.cuts.Begin.{Begin}
 use Rattle.starlark_syntax.specs.declared.cuts.Cut.{Cut}
 use Rattle.starlark_syntax.specs.declared.parts.Part.{Part}

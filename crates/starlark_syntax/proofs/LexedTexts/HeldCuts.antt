@@ -15,7 +15,7 @@ use Rattle.starlark_grammar.proofs.Joining.Laws.{cuts_of_joined}
 use Rattle.starlark_grammar.proofs.Joining.LaidCuts.{ends_some}
 use Rattle.starlark_grammar.proofs.Joining.LineCuts.{kept_by, kept_parts}
 use Rattle.starlark_grammar.proofs.Reading.Readings.{read_is, reading_fits}
-use Rattle.starlark_syntax.specs.Joints.LexedTexts.{AreBeyond, holds_cut, later_cut}
+use Rattle.starlark_syntax.specs.Inner.LexedTexts.{AreBeyond, holds_cut, later_cut}
 use Rattle.starlark_syntax.specs.declared.cuts.Cut.{Cut}
 use Rattle.starlark_syntax.proofs.LexedTexts.KeptCuts.{reach_joined, take_less}
 

@@ -19,7 +19,7 @@ use Rattle.starlark_syntax.specs.LexedTexts as texts
 use Rattle.starlark_syntax.specs.LexedTexts.{IsLexed, LexedView}
 use Rattle.starlark_syntax.specs.Exceptions.{IsFaultIn}
 use Rattle.starlark_token.specs.Lexemes.{lexeme_view, shown_lexeme}
-use Rattle.starlark_syntax.specs.Joints.LexedTexts.{later}
+use Rattle.starlark_syntax.specs.Inner.LexedTexts.{later}
 use Rattle.starlark_reader.proofs.Pieces.Onward.{first_fails}
 use Rattle.starlark_token.specs.declared.tokens.Token.{Token}
 

@@ -13,8 +13,8 @@ use Rattle.starlark_grammar.proofs.Joining.CleanCuts.{both, begun, cut, longest,
 use Rattle.starlark_grammar.proofs.Joining.Laws.{faults_join}
 use Rattle.starlark_grammar.proofs.Joining.LineCuts.{kept_by, kept_parts}
 use Rattle.starlark_grammar.proofs.Reading.Readings.{longest_onward, one_longest, read_is}
-use Rattle.starlark_syntax.specs.Joints.LexedTexts.{IsCutOf}
-use Rattle.starlark_reader.specs.Joints.MarginCuts.{lexemes_before}
+use Rattle.starlark_syntax.specs.Inner.LexedTexts.{IsCutOf}
+use Rattle.starlark_reader.specs.Inner.MarginCuts.{lexemes_before}
 use Rattle.starlark_syntax.specs.declared.cuts.Cut.{Cut}
 use Rattle.starlark_syntax.proofs.LexedTexts.Joined.{outcome_joined}
 use Rattle.std.proofs.lemmas.List.Sums.{sum_by-cons}

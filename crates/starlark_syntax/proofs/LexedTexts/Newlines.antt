@@ -5,7 +5,7 @@ use Rattle.starlark_grammar.specs.Tokens as grammar
 use Rattle.starlark_grammar.specs.Tokens.{Lexeme, Spanned}
 use Rattle.starlark_grammar.specs.Cuts.{before_newline, is_newline}
 use Rattle.starlark_token.specs.Lexemes.{lexeme_view, shown, shown_lexeme}
-use Rattle.starlark_syntax.specs.Joints.LexedTexts.{is_newline_view, last_newline_of}
+use Rattle.starlark_syntax.specs.Inner.LexedTexts.{is_newline_view, last_newline_of}
 use Rattle.starlark_token.specs.TokenViews.{Whole, token_view}
 use Rattle.starlark_token.specs.declared.tokens.Token.{Token}
 

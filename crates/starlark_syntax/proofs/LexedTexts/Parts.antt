@@ -11,7 +11,7 @@ use Rattle.starlark_grammar.specs.Reading.{outcome}
 use Rattle.starlark_syntax.specs.LexedTexts.{IsLexed}
 use Rattle.starlark_syntax.specs.Exceptions.{IsFaultIn}
 use Rattle.starlark_token.specs.Lexemes.{lexeme_view}
-use Rattle.starlark_syntax.specs.Joints.LexedTexts.{AllNear, IsPart, IsPlacedFault}
+use Rattle.starlark_syntax.specs.Inner.LexedTexts.{AllNear, IsPart, IsPlacedFault}
 use Rattle.starlark_syntax.specs.declared.parts.Part.{Part}
 use Rattle.starlark_syntax.proofs.LexedTexts.Within.{lexemes_near}
 use Rattle.starlark_grammar.proofs.Order.Inside.{fault_within}

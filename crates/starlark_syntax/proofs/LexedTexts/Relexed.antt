@@ -16,7 +16,7 @@ use Rattle.starlark_grammar.proofs.Joining.Followed.{ends_line}
 use Rattle.starlark_grammar.proofs.Joining.Laws.{cuts_of_joined}
 use Rattle.starlark_grammar.proofs.Joining.LineCuts.{kept_by, kept_parts}
 use Rattle.starlark_grammar.proofs.Indentation.Totals.{outcome_balances}
-use Rattle.starlark_syntax.specs.Joints.LexedTexts.{AllNearCuts, AreCuts, IsCutOf, IsRising, later_cut}
+use Rattle.starlark_syntax.specs.Inner.LexedTexts.{AllNearCuts, AreCuts, IsCutOf, IsRising, later_cut}
 use Rattle.starlark_syntax.specs.declared.cuts.Cut.{Cut}
 use Rattle.starlark_syntax.proofs.LexedTexts.HeldCuts.{held_joined}
 use Rattle.starlark_syntax.proofs.LexedTexts.KeptCuts.{clean_faultless, count_is, count_joined, reach_joined, take_all}

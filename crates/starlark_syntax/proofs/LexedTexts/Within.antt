@@ -6,7 +6,7 @@ use Rattle.starlark_grammar.specs.Tokens.{Lexeme, Spanned}
 use Rattle.starlark_grammar.specs.Reading.{outcome}
 use Rattle.starlark_token.specs.Lexemes.{lexeme_view, shown_lexeme}
 use Rattle.starlark_token.specs.Lexemes.{IsWithin}
-use Rattle.starlark_syntax.specs.Joints.LexedTexts.{AllNear}
+use Rattle.starlark_syntax.specs.Inner.LexedTexts.{AllNear}
 use Rattle.starlark_grammar.proofs.Order.Inside.{all_within}
 use Rattle.starlark_token.specs.TokenViews.{TokenView}
 use Rattle.starlark_token.specs.declared.tokens.Token.{Token}

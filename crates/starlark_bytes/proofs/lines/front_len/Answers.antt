@@ -2,7 +2,7 @@ use Rattle.std.proofs.Common.{◌≡◌, ◌+◌, ◌-◌, ◌≤◌, ◌∙◌,
 use Rattle.std.proofs.lemmas.List.{length-drop, length-take-le, drop-drop}
 use Rattle.std.proofs.lemmas.List.Sums.{prefix_len-le-length}
 use Rattle.std.specs.List.{prefix_len}
-use Rattle.starlark_bytes.specs.Joints.Lines.{is_in_front}
+use Rattle.starlark_bytes.specs.Inner.Lines.{is_in_front}
 use Rattle.starlark_bytes.proofs.LaneRuns.{run_ends, run_goes_on, run_within}
 use Rattle.starlark_bytes.proofs.lines.front_len.Goals as goal
 

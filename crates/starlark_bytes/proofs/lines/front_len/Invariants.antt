@@ -1,7 +1,7 @@
 use Rattle.std.proofs.Common.{length, ◌+◌, ◌-◌, ◌≡◌, ◌≤◌, drop}
 use Rattle.std.specs.List.{prefix_len}
-use Rattle.starlark_bytes.specs.Joints.Reads.{AreReads}
-use Rattle.starlark_bytes.specs.Joints.Lines.{is_in_front}
+use Rattle.starlark_bytes.specs.Inner.Reads.{AreReads}
+use Rattle.starlark_bytes.specs.Inner.Lines.{is_in_front}
 use Rattle.starlark_bytes.proofs.lines.front_len.Given as goal
 
 abbrev pub invariant-loop-at : goal.invariant-loop-at

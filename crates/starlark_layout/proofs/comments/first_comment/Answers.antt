@@ -12,8 +12,8 @@ use Rattle.starlark_layout.proofs.comments.first_comment.Goals.{After-comment_en
 first : (c : goal.After-comment_end) → IsMeasured c.args.text.now c.args.from c.args.to c.blanks_len.result c.comment_end.result c.line_len-len.result
 first c =
     let bytes = c.as_bytes.ensures.value in
-    measured c.args.text.now c.args.from c.args.to c.before_feed_len-feed.result c.line_len-len.result c.blanks_len.result c.comment_end.result c.requires.comments c.requires.some
-    (rw bytes at c.before_feed_len-feed.ensures.value) (rw bytes at c.line_len-len.ensures.line) (rw bytes at c.line_len-len.ensures.within) c.line_len-len.ensures.feed
+    measured c.args.text.now c.args.from c.args.to c.before_lf_len-feed.result c.line_len-len.result c.blanks_len.result c.comment_end.result c.requires.comments c.requires.some
+    (rw bytes at c.before_lf_len-feed.ensures.value) (rw bytes at c.line_len-len.ensures.line) (rw bytes at c.line_len-len.ensures.within) c.line_len-len.ensures.feed
     (rw bytes at c.blanks_len.ensures.value) (rw bytes at c.comment_end.ensures.value)
 
 pub overflow_add-end : goal.overflow_add-end
@@ -50,6 +50,6 @@ returns-clause-comment c =
 pub returns-clause-reads : goal.returns-clause-reads
 returns-clause-reads c =
     let line = first (goal.at.returns-clause-reads c).After-comment_end in (
-      omega (arith, c.blanks_len.ensures.reads, c.before_feed_len-feed.ensures.reads.0, c.comment_end.ensures.reads),
-      omega (arith, comment_inside (take c.line_len-len.result (drop c.args.from c.args.text.now)) line.passes, line.whole, line.blanks, c.blanks_len.ensures.reads, c.before_feed_len-feed.ensures.reads.1, c.comment_end.ensures.reads, c.line_len-len.ensures.feed),
+      omega (arith, c.blanks_len.ensures.reads, c.before_lf_len-feed.ensures.reads.0, c.comment_end.ensures.reads),
+      omega (arith, comment_inside (take c.line_len-len.result (drop c.args.from c.args.text.now)) line.passes, line.whole, line.blanks, c.blanks_len.ensures.reads, c.before_lf_len-feed.ensures.reads.1, c.comment_end.ensures.reads, c.line_len-len.ensures.feed),
     )

@@ -1,6 +1,6 @@
 use Rattle.std.proofs.Common.{add-one, arith, not}
 use Rattle.std.proofs.lemmas.List.Sums.{prefix_len-le-length}
-use Rattle.starlark_grammar.specs.Margins.{is_feed}
+use Rattle.starlark_grammar.specs.Margins.{is_lf}
 use Rattle.starlark_layout.proofs.Indentation.Margins.{line_to_feed, line_whole}
 use Rattle.starlark_layout.proofs.margins.line_len.Goals as goal
 
@@ -11,4 +11,4 @@ pub returns-else-feed-text-clause-line : goal.returns-else-feed-text-clause-line
 returns-else-feed-text-clause-line c = λ some. line_whole c.args.text.now c.args.feed c.requires some (omega arith)
 
 pub returns-else-feed-text-clause-within : goal.returns-else-feed-text-clause-within
-returns-else-feed-text-clause-within c = omega (arith, c.requires, prefix_len-le-length (λ b. not (is_feed b)) c.args.text.now)
+returns-else-feed-text-clause-within c = omega (arith, c.requires, prefix_len-le-length (λ b. not (is_lf b)) c.args.text.now)

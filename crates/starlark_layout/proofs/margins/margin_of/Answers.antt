@@ -18,12 +18,12 @@ loop-bytes-init c =
     let margin = (one_passed c.args.text.now _ _ 0 c.line_len.result c.blanks_of-blanks.result (none_passed c.args.text.now) c.as_bytes-bytes.ensures.value c.blanks_of-blanks.ensures.value (take_rest _ c.blanks_of-blanks.result.len)
     begins c.line_len.ensures.line c.line_len.ensures.within).1 in
     let some = comment_some behind begins in
-    let feed = c.before_feed_len.ensures.value in
+    let feed = c.before_lf_len.ensures.value in
     record {
       passed = rw zero-add at margin;
       reads = (
-        omega (arith, c.blanks_of-blanks.ensures.reads, c.before_feed_len.ensures.reads.0, c.line_len.ensures.few),
-        omega (arith, some, feed, c.blanks_of-blanks.ensures.reads, c.before_feed_len.ensures.reads.1, c.line_len.ensures.feed),
+        omega (arith, c.blanks_of-blanks.ensures.reads, c.before_lf_len.ensures.reads.0, c.line_len.ensures.few),
+        omega (arith, some, feed, c.blanks_of-blanks.ensures.reads, c.before_lf_len.ensures.reads.1, c.line_len.ensures.feed),
       );
     }
 
@@ -48,11 +48,11 @@ loop-bytes-preserved c =
     (take_rest c.as_bytes-bytes.result.now c.loop-bytes.at ∙ ap (drop c.loop-bytes.at) c.as_bytes-bytes.ensures.value) blanks.ensures.value (take_rest _ blanks.result.len)
     begins c.line_len-in-loop-bytes.ensures.line c.line_len-in-loop-bytes.ensures.within).1 in
     let some = comment_some behind begins in
-    let feed = c.before_feed_len-in-loop-bytes.ensures.value in
+    let feed = c.before_lf_len-in-loop-bytes.ensures.value in
     record {
       passed = margin;
       reads = (
-        omega (arith, c.loop-bytes.invariant.reads.0, blanks.ensures.reads, c.before_feed_len-in-loop-bytes.ensures.reads.0, c.line_len-in-loop-bytes.ensures.few),
-        omega (arith, some, feed, c.loop-bytes.invariant.reads.1, blanks.ensures.reads, c.before_feed_len-in-loop-bytes.ensures.reads.1, c.line_len-in-loop-bytes.ensures.feed),
+        omega (arith, c.loop-bytes.invariant.reads.0, blanks.ensures.reads, c.before_lf_len-in-loop-bytes.ensures.reads.0, c.line_len-in-loop-bytes.ensures.few),
+        omega (arith, some, feed, c.loop-bytes.invariant.reads.1, blanks.ensures.reads, c.before_lf_len-in-loop-bytes.ensures.reads.1, c.line_len-in-loop-bytes.ensures.feed),
       );
     }

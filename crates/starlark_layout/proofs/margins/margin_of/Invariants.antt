@@ -1,5 +1,5 @@
 use Rattle.std.proofs.Common.{◌-◌, ◌*◌, length}
-use Rattle.starlark_bytes.specs.Joints.Reads.{AreReads}
+use Rattle.starlark_bytes.specs.Inner.Reads.{AreReads}
 use Rattle.starlark_layout.proofs.Indentation.Margins.{ArePassed}
 use Rattle.starlark_layout.proofs.margins.margin_of.Given as goal
 

@@ -4,7 +4,7 @@ use Rattle.std.proofs.lemmas.Str.{IsCharBoundary-start, IsUtf8-drop}
 use Rattle.std.specs.Str.{IsCharBoundary}
 use Rattle.starlark_grammar.specs.Items as grammar
 use Rattle.starlark_grammar.specs.Words.{Text}
-use Rattle.starlark_literals.specs.Joints.Literals.{bytes_of, literal_view, stop_view, value_view}
+use Rattle.starlark_literals.specs.Inner.Literals.{bytes_of, literal_view, stop_view, value_view}
 use Rattle.starlark_literals.proofs.Literals.BodyRuns.{front_run}
 use Rattle.starlark_literals.proofs.Literals.BodyReads.{item_reads, short_reads}
 use Rattle.starlark_literals.proofs.Literals.BodySteps.{IsFront, front_none, front_more, front_stops, item_fits}

@@ -1,9 +1,9 @@
 use Rattle.std.proofs.Common.{◌≡◌, ◌-◌, ◌*◌, length, not}
 use Rattle.std.specs.Str.{IsCharBoundary}
 use Rattle.starlark_grammar.specs.Items as grammar
-use Rattle.starlark_literals.specs.Joints.Literals.{bytes_of, holds_text, literal_view}
+use Rattle.starlark_literals.specs.Inner.Literals.{bytes_of, holds_text, literal_view}
 use Rattle.starlark_literals.proofs.Literals.BodySteps.{IsFront}
-use Rattle.starlark_bytes.specs.Joints.Reads.{AreReads}
+use Rattle.starlark_bytes.specs.Inner.Reads.{AreReads}
 use Rattle.starlark_literals.proofs.body.read_body.Given as goal
 
 abbrev pub invariant-loop-character : goal.invariant-loop-character

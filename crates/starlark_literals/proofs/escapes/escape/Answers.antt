@@ -8,14 +8,14 @@ use Rattle.starlark_literals.proofs.escapes.escape.Goals as goal
 
 pub returns-in_default-clause-value : goal.returns-in_default-clause-value
 returns-in_default-clause-value c =
-    let behind = c.behind_first-behind.ensures in
+    let behind = c.after_first-behind.ensures in
     let bytes = c.as_bytes.ensures.value in
     let end : slice_get (drop 1 c.args.text.now) 0 ≡ None = first_of _ _ _ (bytes ∙ behind) c.in_default.ensures.byte in
     rw (c.broken.ensures.value, behind) (sym (escape_end _ (drop 1 c.args.text.now) end))
 
 pub returns-then-is_octal_digit-clause-value : goal.returns-then-is_octal_digit-clause-value
 returns-then-is_octal_digit-clause-value c =
-    let behind = c.behind_first-behind.ensures in
+    let behind = c.after_first-behind.ensures in
     let bytes = c.as_bytes.ensures.value in
     let first : slice_get (drop 1 c.args.text.now) 0 ≡ Some c.in-Some.first = first_of _ _ _ (bytes ∙ behind) c.in-Some.ensures.byte in
     let text = ap (escape c.args.kind) (with_first (drop 1 c.args.text.now) c.in-Some.first first) in
@@ -24,7 +24,7 @@ returns-then-is_octal_digit-clause-value c =
 
 pub returns-in-10-clause-value : goal.returns-in-10-clause-value
 returns-in-10-clause-value c =
-    let behind = c.behind_first-behind.ensures in
+    let behind = c.after_first-behind.ensures in
     let bytes = c.as_bytes.ensures.value in
     let first : slice_get (drop 1 c.args.text.now) 0 ≡ Some 10 = first_of _ _ _ (bytes ∙ behind) c.in-Some.ensures.byte ∙ ap Some c.in-10.is in
     let text = ap (escape c.args.kind) (with_first (drop 1 c.args.text.now) 10 first) in
@@ -32,39 +32,39 @@ returns-in-10-clause-value c =
 
 pub returns-in-13-clause-value : goal.returns-in-13-clause-value
 returns-in-13-clause-value c =
-    let behind = c.behind_first-behind.ensures in
+    let behind = c.after_first-behind.ensures in
     let bytes = c.as_bytes.ensures.value in
     let first : slice_get (drop 1 c.args.text.now) 0 ≡ Some 13 = first_of _ _ _ (bytes ∙ behind) c.in-Some.ensures.byte ∙ ap Some c.in-13.is in
     let text = ap (escape c.args.kind) (with_first (drop 1 c.args.text.now) 13 first) in
-    rw (c.escaped_feed.ensures.value, c.behind_first.ensures, behind) (sym (text ∙ escape_return _ _))
+    rw (c.escaped_newline.ensures.value, c.after_first.ensures, behind) (sym (text ∙ escape_return _ _))
 
 pub returns-in-120-clause-value : goal.returns-in-120-clause-value
 returns-in-120-clause-value c =
-    let behind = c.behind_first-behind.ensures in
+    let behind = c.after_first-behind.ensures in
     let bytes = c.as_bytes.ensures.value in
     let first : slice_get (drop 1 c.args.text.now) 0 ≡ Some 120 = first_of _ _ _ (bytes ∙ behind) c.in-Some.ensures.byte ∙ ap Some c.in-120.is in
     let text = ap (escape c.args.kind) (with_first (drop 1 c.args.text.now) 120 first) in
-    rw (c.hexadecimal.ensures.value, c.is_of_bytes-is_byte.ensures, c.behind_first-in-120.ensures, behind) (sym (text ∙ escape_x _ _))
+    rw (c.hexadecimal.ensures.value, c.is_of_bytes-is_byte.ensures, c.after_first-in-120.ensures, behind) (sym (text ∙ escape_x _ _))
 
 pub returns-in-117-clause-value : goal.returns-in-117-clause-value
 returns-in-117-clause-value c =
-    let behind = c.behind_first-behind.ensures in
+    let behind = c.after_first-behind.ensures in
     let bytes = c.as_bytes.ensures.value in
     let first : slice_get (drop 1 c.args.text.now) 0 ≡ Some 117 = first_of _ _ _ (bytes ∙ behind) c.in-Some.ensures.byte ∙ ap Some c.in-117.is in
     let text = ap (escape c.args.kind) (with_first (drop 1 c.args.text.now) 117 first) in
-    rw (c.hexadecimal-in-117.ensures.value, c.behind_first-in-117.ensures, behind) (sym (text ∙ escape_u _ _))
+    rw (c.hexadecimal-in-117.ensures.value, c.after_first-in-117.ensures, behind) (sym (text ∙ escape_u _ _))
 
 pub returns-in-85-clause-value : goal.returns-in-85-clause-value
 returns-in-85-clause-value c =
-    let behind = c.behind_first-behind.ensures in
+    let behind = c.after_first-behind.ensures in
     let bytes = c.as_bytes.ensures.value in
     let first : slice_get (drop 1 c.args.text.now) 0 ≡ Some 85 = first_of _ _ _ (bytes ∙ behind) c.in-Some.ensures.byte ∙ ap Some c.in-85.is in
     let text = ap (escape c.args.kind) (with_first (drop 1 c.args.text.now) 85 first) in
-    rw (c.hexadecimal-in-85.ensures.value, c.behind_first-in-85.ensures, behind) (sym (text ∙ escape_long _ _))
+    rw (c.hexadecimal-in-85.ensures.value, c.after_first-in-85.ensures, behind) (sym (text ∙ escape_long _ _))
 
 pub returns-in_default-first-clause-value : goal.returns-in_default-first-clause-value
 returns-in_default-first-clause-value c =
-    let behind = c.behind_first-behind.ensures in
+    let behind = c.after_first-behind.ensures in
     let bytes = c.as_bytes.ensures.value in
     let first : slice_get (drop 1 c.args.text.now) 0 ≡ Some c.in-Some.first = first_of _ _ _ (bytes ∙ behind) c.in-Some.ensures.byte in
     let other : is_octal_digit c.in-Some.first ≡ false = sym c.is_octal_digit.ensures ∙ c.if-is_octal_digit.false in

@@ -1,4 +1,4 @@
-use Rattle.starlark_literals.specs.Joints.Literals.{literal_view}
+use Rattle.starlark_literals.specs.Inner.Literals.{literal_view}
 use Rattle.starlark_literals.proofs.Literals.ReadFronts.{short_by_three}
 use Rattle.starlark_literals.proofs.escapes.simple_escape.Goals as goal
 

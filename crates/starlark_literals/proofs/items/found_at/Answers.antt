@@ -1,7 +1,7 @@
 use Rattle.std.proofs.Common.{◌≡◌, ◌∙◌, true, false, refl, sym, ap, Some, None}
 use Rattle.std.specs.List.{slice_get}
 use Rattle.starlark_grammar.specs.Items.{is_brace}
-use Rattle.starlark_literals.specs.Joints.Literals.{literal_view}
+use Rattle.starlark_literals.specs.Inner.Literals.{literal_view}
 use Rattle.starlark_literals.proofs.Literals.Found.{closes, ends_line, at_end, at_closing, at_line, at_return, at_raw, at_escape, at_brace, at_plain}
 use Rattle.starlark_bytes.proofs.Fronts.{at_front}
 use Rattle.starlark_literals.proofs.Literals.ReadFronts.{closes_by_three}

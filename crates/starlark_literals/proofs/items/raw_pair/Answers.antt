@@ -8,14 +8,14 @@ use Rattle.starlark_literals.proofs.items.raw_pair.Goals as goal
 
 pub returns-in_default-clause-value : goal.returns-in_default-clause-value
 returns-in_default-clause-value c =
-    let behind = c.behind_first-behind.ensures in
+    let behind = c.after_first-behind.ensures in
     let bytes = c.as_bytes.ensures.value in
     let end : slice_get (drop 1 c.args.text.now) 0 ≡ None = first_of _ _ _ (bytes ∙ behind) c.in_default.ensures.byte in
     sym (raw_end c.args.literal.kind c.args.literal.opening.quote (drop 1 c.args.text.now) end)
 
 pub returns-then-drops_backslash-clause-value : goal.returns-then-drops_backslash-clause-value
 returns-then-drops_backslash-clause-value c =
-    let behind = c.behind_first-behind.ensures in
+    let behind = c.after_first-behind.ensures in
     let bytes = c.as_bytes.ensures.value in
     let first : slice_get (drop 1 c.args.text.now) 0 ≡ Some c.in-Some.first = first_of _ _ _ (bytes ∙ behind) c.in-Some.ensures.byte in
     let drops : drops_backslash c.args.literal.kind c.args.literal.opening.quote c.in-Some.first ≡ true = sym c.drops_backslash.ensures ∙ c.if-drops_backslash.true in
@@ -23,7 +23,7 @@ returns-then-drops_backslash-clause-value c =
 
 pub returns-else-drops_backslash-clause-value : goal.returns-else-drops_backslash-clause-value
 returns-else-drops_backslash-clause-value c =
-    let behind = c.behind_first-behind.ensures in
+    let behind = c.after_first-behind.ensures in
     let bytes = c.as_bytes.ensures.value in
     let first : slice_get (drop 1 c.args.text.now) 0 ≡ Some c.in-Some.first = first_of _ _ _ (bytes ∙ behind) c.in-Some.ensures.byte in
     let keeps : drops_backslash c.args.literal.kind c.args.literal.opening.quote c.in-Some.first ≡ false = sym c.drops_backslash.ensures ∙ c.if-drops_backslash.false in

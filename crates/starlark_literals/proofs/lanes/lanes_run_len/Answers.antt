@@ -1,7 +1,7 @@
 use Rattle.std.proofs.Common.{length, ◌≡◌}
 use Rattle.std.proofs.lemmas.Simd.{length-chunk}
 use lib.Lanes.{chunk}
-use Rattle.starlark_literals.specs.Joints.Runs.{is_end}
+use Rattle.starlark_literals.specs.Inner.Runs.{is_end}
 use Rattle.starlark_bytes.proofs.LaneRuns.{lanes_counted}
 use Rattle.starlark_literals.proofs.Literals.EndLanes.{end_lanes}
 use Rattle.starlark_literals.proofs.lanes.lanes_run_len.Goals as goal

@@ -1,6 +1,6 @@
 use Rattle.std.proofs.Common.{◌∙◌, ap, drop, length, take}
 use Rattle.std.proofs.lemmas.List.{take_rest}
-use Rattle.starlark_grammar.specs.Joints.Openings.{opening_view}
+use Rattle.starlark_grammar.specs.Inner.Openings.{opening_view}
 use Rattle.starlark_literals.proofs.Literals.PlainBodies.{plain_chunk}
 use Rattle.starlark_literals.proofs.plain.plain_chunk_len.Goals as goal
 

@@ -1,5 +1,5 @@
 use Rattle.std.proofs.Common.{◌∙◌, sym}
-use Rattle.starlark_grammar.specs.Joints.Openings.{opening_view}
+use Rattle.starlark_grammar.specs.Inner.Openings.{opening_view}
 use Rattle.starlark_literals.proofs.Literals.PlainBodies.{closed_by_three, opened_by_three}
 use Rattle.starlark_literals.proofs.plain.stop_by.Goals as goal
 

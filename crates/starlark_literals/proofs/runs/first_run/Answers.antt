@@ -2,8 +2,8 @@ use Rattle.std.proofs.Common.{◌≡◌, ◌-◌, arith, ℕ, List, take, sym, a
 use Rattle.std.proofs.lemmas.List.Folds.{length-prefix_len}
 use Rattle.std.specs.List.{prefix_len}
 use Rattle.std.specs.Str.{IsCharBoundary}
-use Rattle.starlark_literals.specs.Joints.Literals.{literal_view}
-use Rattle.starlark_literals.specs.Joints.Runs.{is_in_run}
+use Rattle.starlark_literals.specs.Inner.Literals.{literal_view}
+use Rattle.starlark_literals.specs.Inner.Runs.{is_in_run}
 use Rattle.starlark_literals.proofs.Literals.RunBytes.{run_edge}
 use Rattle.starlark_literals.proofs.runs.first_run.Goals as goal
 

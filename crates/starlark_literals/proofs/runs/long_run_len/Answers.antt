@@ -2,9 +2,9 @@ use Rattle.std.proofs.Common.{not, ◌≡◌, ◌+◌, ◌-◌, ◌≤◌, ◌�
 use Rattle.std.proofs.lemmas.List.{length-drop, length-take-le, drop-drop}
 use Rattle.std.proofs.lemmas.List.Sums.{prefix_len-le-length}
 use Rattle.std.specs.List.{prefix_len}
-use Rattle.starlark_literals.specs.Joints.Runs.{is_end, is_in_run}
+use Rattle.starlark_literals.specs.Inner.Runs.{is_end, is_in_run}
 use Rattle.starlark_literals.proofs.Literals.RunBytes.{same_run}
-use Rattle.starlark_literals.specs.Joints.Literals.{literal_view}
+use Rattle.starlark_literals.specs.Inner.Literals.{literal_view}
 use Rattle.starlark_bytes.proofs.LaneRuns.{run_ends, run_goes_on, run_within}
 use Rattle.starlark_literals.proofs.runs.long_run_len.Goals as goal
 

@@ -1,8 +1,8 @@
 use Rattle.std.proofs.Common.{length, ◌+◌, ◌-◌, ◌≡◌, ◌≤◌, drop}
 use Rattle.std.specs.List.{prefix_len}
-use Rattle.starlark_literals.specs.Joints.Runs.{is_in_run}
-use Rattle.starlark_literals.specs.Joints.Literals.{literal_view}
-use Rattle.starlark_bytes.specs.Joints.Reads.{AreReads}
+use Rattle.starlark_literals.specs.Inner.Runs.{is_in_run}
+use Rattle.starlark_literals.specs.Inner.Literals.{literal_view}
+use Rattle.starlark_bytes.specs.Inner.Reads.{AreReads}
 use Rattle.starlark_literals.proofs.runs.long_run_len.Given as goal
 
 abbrev pub invariant-loop-at : goal.invariant-loop-at

@@ -2,8 +2,8 @@ use Rattle.std.proofs.Common.{◌≡◌, ◌+◌, ◌-◌, ◌≤◌, ◌∙◌,
 use Rattle.std.proofs.lemmas.List.{length-drop, length-take-le, take_all}
 use Rattle.std.proofs.lemmas.List.Sums.{prefix_len-le-length}
 use Rattle.std.specs.List.{prefix_len}
-use Rattle.starlark_literals.specs.Joints.Runs.{is_in_run}
-use Rattle.starlark_literals.specs.Joints.Literals.{literal_view}
+use Rattle.starlark_literals.specs.Inner.Runs.{is_in_run}
+use Rattle.starlark_literals.specs.Inner.Literals.{literal_view}
 use Rattle.starlark_bytes.proofs.LaneRuns.{run_ends, run_goes_on, run_within}
 use Rattle.starlark_literals.proofs.runs.run_len.Goals as goal
 

@@ -2,10 +2,10 @@ use Rattle.std.proofs.Common.{◌≡◌, ◌<◌, Bool, true, false, [], ◌∷�
 use Rattle.std.specs.Prelude.{◌&&◌, ◌==◌}
 use Rattle.starlark_grammar.specs.Depths.{Mode}
 use Rattle.starlark_grammar.specs.Front.{language_front}
-use Rattle.starlark_grammar.specs.Joints.Openings.{opening_view}
-use Rattle.starlark_nesting.specs.Joints.Nesting.{mode_view}
+use Rattle.starlark_grammar.specs.Inner.Openings.{opening_view}
+use Rattle.starlark_nesting.specs.Inner.Nesting.{mode_view}
 use Rattle.starlark_grammar.specs.Pieces.{Situation, Ends, token, front_step, takes_bang, is_bang, in_code, by_place, step_at}
-use Rattle.starlark_reader.specs.Joints.Pieces.{IsBehind}
+use Rattle.starlark_reader.specs.Inner.Pieces.{IsAfter}
 use Rattle.starlark_token.specs.TokenViews.{token_view}
 use Rattle.starlark_grammar.specs.Tokens.{FStringBang}
 use Rattle.starlark_grammar.specs.Words.{Text, language}
@@ -18,7 +18,7 @@ use Rattle.starlark_reader.proofs.Pieces.CodePlaces.{by_read, in_text}
 use Rattle.starlark_reader.proofs.reading.piece_at.Goals as goal
 
 -- elsewhere than in the text of an f-string
-elsewhere : (follows_gap : Bool) (s : Situation) (text : Text) (at : LexerMode) → ((opening : code.Opening) → at ≡ place.InText opening → ⊥) → IsBehind follows_gap s.before → s.place ≡ mode_view at → step_at language s text ≡ in_code language s text
+elsewhere : (follows_gap : Bool) (s : Situation) (text : Text) (at : LexerMode) → ((opening : code.Opening) → at ≡ place.InText opening → ⊥) → IsAfter follows_gap s.before → s.place ≡ mode_view at → step_at language s text ≡ in_code language s text
 elsewhere follows_gap s text at other behind here = by_read follows_gap s text behind ∙ ap (λ p. by_place language s p text) here ∙ go at other
   where
     go : (at : LexerMode) → ((opening : code.Opening) → at ≡ place.InText opening → ⊥) → by_place language s (mode_view at) text ≡ in_code language s text

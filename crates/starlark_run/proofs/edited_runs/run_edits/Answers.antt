@@ -6,7 +6,7 @@ use Rattle.std.specs.Str.{IsUtf8}
 use Rattle.starlark_run.proofs.Endings.{run_printed, read_told, write_told}
 use Rattle.starlark_run.proofs.Refusals.{run_refused}
 use Rattle.starlark_run.specs.Edits.{text_after}
-use Rattle.starlark_run.specs.Joints.Versions.{newest_text}
+use Rattle.starlark_run.specs.Inner.Versions.{newest_text}
 use Rattle.starlark_run.specs.declared.ends.RunFault.TheVariants.{Memory}
 use Rattle.starlark_run.proofs.edited_runs.run_edits.Goals as goal
 

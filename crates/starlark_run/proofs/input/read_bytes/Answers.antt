@@ -7,14 +7,14 @@ pub returns-in-Ok-eq0 : goal.returns-in-Ok-eq0
 returns-in-Ok-eq0 g c =
     let inv = c.loop-filled.invariant in
     let filled = c.loop-filled.filled in
-    let bytes = c.read_behind.new.bytes.items in
+    let bytes = c.read_after.new.bytes.items in
     let front : take filled bytes ≡ take filled c.loop-filled.bytes.items = c.in-Ok-eq0.ensures.front ∙ c.in_ok-make_room.ensures.front in
     let none = rw c.in-Ok-eq0.field-0-test at c.in-Ok-eq0.ensures.bytes.0 in
     let call = rw c.in-Ok-eq0.field-0-test at c.in-Ok-eq0.ensures.call in
     let room : 0 < length (drop filled bytes) = omega (arith, c.in_ok-make_room.ensures.room, c.in-Ok-eq0.ensures.len, length-drop filled bytes) in
     let came = came_end g.R.ReadDevice.calls _ _ _ _ (drop filled bytes) inv.came none (c.in-Ok-eq0.ensures.bytes.1 c.in-Ok-eq0.field-0-test room) call room in
-    let ended : c.read_behind.new.reader.ended ≡ true = c.in-Ok-eq0.ensures.ended ∙ rw inv.not_ended (is_nothing-none _ _ c.in-Ok-eq0.field-0-test room) in
-    let sound : c.read_behind.new.reader.failed ≡ false = c.in-Ok-eq0.ensures.failed ∙ rw inv.sound refl in (
+    let ended : c.read_after.new.reader.ended ≡ true = c.in-Ok-eq0.ensures.ended ∙ rw inv.not_ended (is_nothing-none _ _ c.in-Ok-eq0.field-0-test room) in
+    let sound : c.read_after.new.reader.failed ≡ false = c.in-Ok-eq0.ensures.failed ∙ rw inv.sound refl in (
       take filled bytes,
       came_told g.R.ReadDevice.calls _ _ _ _ _ _ _ ended sound (rw front came),
       (record { ended = ended; sound = sound; fits = omega (arith, length-take filled bytes) }, c.truncate.ensures.items),
@@ -24,7 +24,7 @@ pub loop-filled-preserved : goal.loop-filled-preserved
 loop-filled-preserved g c =
     let inv = c.loop-filled.invariant in
     let filled = c.loop-filled.filled in
-    let bytes = c.read_behind.new.bytes.items in
+    let bytes = c.read_after.new.bytes.items in
     let front : take filled bytes ≡ take filled c.loop-filled.bytes.items = c.in-Ok.ensures.front ∙ c.in_ok-make_room.ensures.front in
     let some = c.in-Ok.count-test.1 in
     record {
@@ -46,9 +46,9 @@ pub returns-in-Err : goal.returns-in-Err
 returns-in-Err g c =
     let inv = c.loop-filled.invariant in
     let filled = c.loop-filled.filled in
-    let came = came_failed g.R.ReadDevice.calls _ _ _ _ (drop filled c.read_behind.new.bytes.items) inv.came c.in-Err.ensures.bytes c.in-Err.ensures.call in
-    let not_ended : c.read_behind.new.reader.ended ≡ false = c.in-Err.ensures.ended ∙ rw inv.not_ended refl in
-    let failed : c.read_behind.new.reader.failed ≡ true = c.in-Err.ensures.failed ∙ rw inv.sound refl in (
+    let came = came_failed g.R.ReadDevice.calls _ _ _ _ (drop filled c.read_after.new.bytes.items) inv.came c.in-Err.ensures.bytes c.in-Err.ensures.call in
+    let not_ended : c.read_after.new.reader.ended ≡ false = c.in-Err.ensures.ended ∙ rw inv.not_ended refl in
+    let failed : c.read_after.new.reader.failed ≡ true = c.in-Err.ensures.failed ∙ rw inv.sound refl in (
       take filled c.loop-filled.bytes.items,
       came_told g.R.ReadDevice.calls _ _ _ _ _ _ _ not_ended failed came,
       record { not_ended = not_ended; failed = failed; fits = omega (arith, c.loop-filled-test.true, length-take filled c.loop-filled.bytes.items) },

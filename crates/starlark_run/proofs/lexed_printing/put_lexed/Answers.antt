@@ -4,7 +4,7 @@ use Rattle.starlark_token.specs.Lexemes.{lexeme_view, shown_lexeme}
 use Rattle.starlark_token.specs.TextItems.{Given, Refused, items}
 use Rattle.starlark_grammar.specs.Reading.{outcome}
 use Rattle.starlark_grammar.proofs.Order.Lexemes.{outcome_order}
-use Rattle.starlark_run.specs.Joints.Lines.{fault_items}
+use Rattle.starlark_run.specs.Inner.Lines.{fault_items}
 use Rattle.starlark_run.specs.Output.{item_line, lines_of, output}
 use Rattle.starlark_run.specs.declared.ends.RunStatus.TheVariants as RunStatus
 use Rattle.starlark_run.proofs.Items.{IsNextLexeme, lines_cons, lines_nil, listed_fault, next_edges, next_listed, next_order, unthrown}

@@ -23,7 +23,7 @@ loop-item-init g c =
     let name = c.args.name.now in
     let buffer = c.args.printer.now.buffer in
     let fresh = c.requires.fresh in
-    let handed : c.args.lexer.now.handed_out ≡ 0 = ap (λ (l : LexerView). l.handed_out) fresh in
+    let handed : c.args.lexer.now.yielded_count ≡ 0 = ap (λ (l : LexerView). l.yielded_count) fresh in
     let all = (outcome_order text).0 in
     let waiting = writes_waiting g.W.WriteDevice.calls c.args.writer.now (buffer ++ lines_of name text (items text)) (tt {0}) c.requires.sound in
     record {
@@ -41,25 +41,25 @@ lexeme-requires-clause-sound g c = writes_sound _ _ _ _ _ _ c.loop-item.invarian
 pub lexeme-requires-clause-onward : goal.lexeme-requires-clause-onward
 lexeme-requires-clause-onward g c =
     let inv = c.loop-item.invariant in
-    let next = next_lexeme c.loop-item.lexer.code_map c.args.text.now c.loop-item.lexer.handed_out c.in-Ok.lexeme (rw (c.in-Ok.is, inv.text) at (c.in-Some.ensures.item inv.going)) in
+    let next = next_lexeme c.loop-item.lexer.code_map c.args.text.now c.loop-item.lexer.yielded_count c.in-Ok.lexeme (rw (c.in-Ok.is, inv.text) at (c.in-Some.ensures.item inv.going)) in
     (next_order c.args.text.now _ _ c.in-Ok.lexeme _ inv.order.1 next).0
 
 pub lexeme-requires-clause-order : goal.lexeme-requires-clause-order
 lexeme-requires-clause-order g c =
     let inv = c.loop-item.invariant in
-    let next = next_lexeme c.loop-item.lexer.code_map c.args.text.now c.loop-item.lexer.handed_out c.in-Ok.lexeme (rw (c.in-Ok.is, inv.text) at (c.in-Some.ensures.item inv.going)) in
+    let next = next_lexeme c.loop-item.lexer.code_map c.args.text.now c.loop-item.lexer.yielded_count c.in-Ok.lexeme (rw (c.in-Ok.is, inv.text) at (c.in-Some.ensures.item inv.going)) in
     (next_order c.args.text.now _ _ c.in-Ok.lexeme _ inv.order.1 next).1
 
 pub lexeme-requires-clause-begin : goal.lexeme-requires-clause-begin
 lexeme-requires-clause-begin g c =
     let inv = c.loop-item.invariant in
-    let next = next_lexeme c.loop-item.lexer.code_map c.args.text.now c.loop-item.lexer.handed_out c.in-Ok.lexeme (rw (c.in-Ok.is, inv.text) at (c.in-Some.ensures.item inv.going)) in
+    let next = next_lexeme c.loop-item.lexer.code_map c.args.text.now c.loop-item.lexer.yielded_count c.in-Ok.lexeme (rw (c.in-Ok.is, inv.text) at (c.in-Some.ensures.item inv.going)) in
     (next_edges c.args.text.now _ c.in-Ok.lexeme c.utf8.text next).0
 
 pub lexeme-requires-clause-end : goal.lexeme-requires-clause-end
 lexeme-requires-clause-end g c =
     let inv = c.loop-item.invariant in
-    let next = next_lexeme c.loop-item.lexer.code_map c.args.text.now c.loop-item.lexer.handed_out c.in-Ok.lexeme (rw (c.in-Ok.is, inv.text) at (c.in-Some.ensures.item inv.going)) in
+    let next = next_lexeme c.loop-item.lexer.code_map c.args.text.now c.loop-item.lexer.yielded_count c.in-Ok.lexeme (rw (c.in-Ok.is, inv.text) at (c.in-Some.ensures.item inv.going)) in
     (next_edges c.args.text.now _ c.in-Ok.lexeme c.utf8.text next).1
 
 pub returns-in_err-place-in-Ok-clause-writes : goal.returns-in_err-place-in-Ok-clause-writes
@@ -67,7 +67,7 @@ returns-in_err-place-in-Ok-clause-writes g c =
     let p = err_from_is_err_and c.from_residual.result c.from_residual.ensures.1 in
     let inv = c.loop-item.invariant in
     let text = c.args.text.now in
-    let h = c.loop-item.lexer.handed_out in
+    let h = c.loop-item.lexer.yielded_count in
     let name = c.args.name.now in
     let next = next_lexeme c.loop-item.lexer.code_map text h c.in-Ok.lexeme (rw (c.in-Ok.is, inv.text) at (c.in-Some.ensures.item inv.going)) in
     let item = Given (lexeme_view c.in-Ok.lexeme) in
@@ -77,20 +77,20 @@ returns-in_err-place-in-Ok-clause-writes g c =
 pub loop-item-smaller : goal.loop-item-smaller
 loop-item-smaller g c =
     let inv = c.loop-item.invariant in
-    let h = c.loop-item.lexer.handed_out in
+    let h = c.loop-item.lexer.yielded_count in
     let next = next_lexeme c.loop-item.lexer.code_map c.args.text.now h c.in-Ok.lexeme (rw (c.in-Ok.is, inv.text) at (c.in-Some.ensures.item inv.going)) in
-    let handed : c.next.new.self.handed_out ≡ h + 1 = ap (λ (l : LexerView). l.handed_out) (rw c.in-Ok.is at c.in-Some.ensures.after) in
+    let handed : c.next.new.self.yielded_count ≡ h + 1 = ap (λ (l : LexerView). l.yielded_count) (rw c.in-Ok.is at c.in-Some.ensures.after) in
     omega (arith, handed, (next_few c.args.text.now h c.in-Ok.lexeme next).1)
 
 pub loop-item-preserved : goal.loop-item-preserved
 loop-item-preserved g c =
     let inv = c.loop-item.invariant in
     let text = c.args.text.now in
-    let h = c.loop-item.lexer.handed_out in
+    let h = c.loop-item.lexer.yielded_count in
     let name = c.args.name.now in
     let next = next_lexeme c.loop-item.lexer.code_map text h c.in-Ok.lexeme (rw (c.in-Ok.is, inv.text) at (c.in-Some.ensures.item inv.going)) in
     let after = rw c.in-Ok.is at c.in-Some.ensures.after in
-    let handed : c.next.new.self.handed_out ≡ h + 1 = ap (λ (l : LexerView). l.handed_out) after in
+    let handed : c.next.new.self.yielded_count ≡ h + 1 = ap (λ (l : LexerView). l.yielded_count) after in
     let ended : c.next.new.self.has_ended ≡ false = ap (λ (l : LexerView). l.has_ended) after ∙ rw inv.going refl in
     let item = Given (lexeme_view c.in-Ok.lexeme) in
     let rest = lines_of name text (drop (h + 1) (items text)) in
@@ -112,26 +112,26 @@ exception-requires-clause-sound g c = writes_sound _ _ _ _ _ _ c.loop-item.invar
 pub exception-requires-clause-thrown : goal.exception-requires-clause-thrown
 exception-requires-clause-thrown g c =
     let inv = c.loop-item.invariant in
-    let next = next_fault c.loop-item.lexer.code_map c.args.text.now c.loop-item.lexer.handed_out c.in-Err-Error.exception (rw (c.in-Err-Error.is, c.in-Err-Error.field-0-is, inv.text) at (c.in-Some.ensures.item inv.going)) in
+    let next = next_fault c.loop-item.lexer.code_map c.args.text.now c.loop-item.lexer.yielded_count c.in-Err-Error.exception (rw (c.in-Err-Error.is, c.in-Err-Error.field-0-is, inv.text) at (c.in-Some.ensures.item inv.going)) in
     (c.loop-item.lexer.code_map, next.thrown)
 
 pub returns-in-Err-Error-clause-writes : goal.returns-in-Err-Error-clause-writes
 returns-in-Err-Error-clause-writes g c =
     let inv = c.loop-item.invariant in
-    let next = next_fault c.loop-item.lexer.code_map c.args.text.now c.loop-item.lexer.handed_out c.in-Err-Error.exception (rw (c.in-Err-Error.is, c.in-Err-Error.field-0-is, inv.text) at (c.in-Some.ensures.item inv.going)) in
+    let next = next_fault c.loop-item.lexer.code_map c.args.text.now c.loop-item.lexer.yielded_count c.in-Err-Error.exception (rw (c.in-Err-Error.is, c.in-Err-Error.field-0-is, inv.text) at (c.in-Some.ensures.item inv.going)) in
     writes_then _ _ _ _ _ _ _ _ _ _ RunStatus.Fault (rw next.items at inv.written) c.in_ok-exception-in-Err-Error.ensures
 
 pub returns-in_err-exception-in-Err-Error-clause-writes : goal.returns-in_err-exception-in-Err-Error-clause-writes
 returns-in_err-exception-in-Err-Error-clause-writes g c =
     let p = err_from_is_err_and c.from_residual-in_err-exception-in-Err-Error.result c.from_residual-in_err-exception-in-Err-Error.ensures.1 in
     let inv = c.loop-item.invariant in
-    let next = next_fault c.loop-item.lexer.code_map c.args.text.now c.loop-item.lexer.handed_out c.in-Err-Error.exception (rw (c.in-Err-Error.is, c.in-Err-Error.field-0-is, inv.text) at (c.in-Some.ensures.item inv.going)) in
+    let next = next_fault c.loop-item.lexer.code_map c.args.text.now c.loop-item.lexer.yielded_count c.in-Err-Error.exception (rw (c.in-Err-Error.is, c.in-Err-Error.field-0-is, inv.text) at (c.in-Some.ensures.item inv.going)) in
     rw (p.1, p.2) (writes_then_stopped _ _ _ _ _ _ _ _ _ _ _ _ (rw next.items at inv.written) c.in_err-exception-in-Err-Error.ensures)
 
 pub returns-in-Err-Error-clause-status : goal.returns-in-Err-Error-clause-status
 returns-in-Err-Error-clause-status g c =
     let inv = c.loop-item.invariant in
-    let next = next_fault c.loop-item.lexer.code_map c.args.text.now c.loop-item.lexer.handed_out c.in-Err-Error.exception (rw (c.in-Err-Error.is, c.in-Err-Error.field-0-is, inv.text) at (c.in-Some.ensures.item inv.going)) in
+    let next = next_fault c.loop-item.lexer.code_map c.args.text.now c.loop-item.lexer.yielded_count c.in-Err-Error.exception (rw (c.in-Err-Error.is, c.in-Err-Error.field-0-is, inv.text) at (c.in-Some.ensures.item inv.going)) in
     thrown_status c.loop-item.lexer.code_map (outcome c.args.text.now).fault c.in-Err-Error.exception next.thrown
 
 pub returns-in-Err-Memory-clause-writes : goal.returns-in-Err-Memory-clause-writes
@@ -142,11 +142,11 @@ returns-clause-writes g c =
     let inv = c.loop-item.invariant in
     let text = c.args.text.now in
     let name = c.args.name.now in
-    let all = all_given c.loop-item.lexer.code_map text c.loop-item.lexer.handed_out (rw inv.text at (c.in_default.ensures.item inv.going)) inv.few in
+    let all = all_given c.loop-item.lexer.code_map text c.loop-item.lexer.yielded_count (rw inv.text at (c.in_default.ensures.item inv.going)) inv.few in
     writes_told _ _ _ _ _ _ _ _ (rw (all.0, lines_nil name text, append-nil c.loop-item.printer.buffer) at inv.written)
 
 pub returns-clause-status : goal.returns-clause-status
 returns-clause-status g c =
     let inv = c.loop-item.invariant in
-    let all = all_given c.loop-item.lexer.code_map c.args.text.now c.loop-item.lexer.handed_out (rw inv.text at (c.in_default.ensures.item inv.going)) inv.few in
+    let all = all_given c.loop-item.lexer.code_map c.args.text.now c.loop-item.lexer.yielded_count (rw inv.text at (c.in_default.ensures.item inv.going)) inv.few in
     sym (ap status_of all.1)

@@ -11,12 +11,12 @@ use Rattle.starlark_run.proofs.printing.put_items.Given as goal
 abbrev pub invariant-loop-item : goal.invariant-loop-item
 invariant-loop-item g l = record {
   place : IsPlace l.text l.place;
-  order : (to : ℕ) × InOrder l.text l.place.at (drop l.lexer.handed_out (outcome l.text).lexemes) to;
-  few : l.lexer.handed_out ≤ length (outcome l.text).lexemes;
+  order : (to : ℕ) × InOrder l.text l.place.at (drop l.lexer.yielded_count (outcome l.text).lexemes) to;
+  few : l.lexer.yielded_count ≤ length (outcome l.text).lexemes;
   going : l.lexer.has_ended ≡ false;
   text : l.lexer.text ≡ l.text;
-  written : Writes {T = Unit {0}} g.W.WriteDevice.calls l.fn.writer l.writer (l.fn.printer.buffer ++ output l.name l.text) (l.printer.buffer ++ lines_of l.name l.text (drop l.lexer.handed_out (items l.text))) (Ok tt);
+  written : Writes {T = Unit {0}} g.W.WriteDevice.calls l.fn.writer l.writer (l.fn.printer.buffer ++ output l.name l.text) (l.printer.buffer ++ lines_of l.name l.text (drop l.lexer.yielded_count (items l.text))) (Ok tt);
 }
 
 abbrev pub decreases-loop-item : goal.decreases-loop-item
-decreases-loop-item g l = length (items l.text) - l.lexer.handed_out
+decreases-loop-item g l = length (items l.text) - l.lexer.yielded_count

@@ -1,7 +1,7 @@
 use Rattle.std.proofs.Common.{◌≡◌, ◌+◌, ap, arith, length, refl, string_bytes, ◌∙◌}
 use Rattle.std.proofs.lemmas.Str.{IsUtf8-string_bytes}
 use Rattle.starlark_run.proofs.Edited.{edit_follows, edited_len}
-use Rattle.starlark_run.specs.Joints.Versions.{Fits}
+use Rattle.starlark_run.specs.Inner.Versions.{Fits}
 use Rattle.starlark_run.proofs.versions.next_version.Goals as goal
 
 pub returns-clause-follows : goal.returns-clause-follows

@@ -1,6 +1,6 @@
 use Rattle.std.proofs.Common.{◌≡◌, drop}
 use Rattle.starlark_base.specs.Sources.{SourceFile}
-use Rattle.starlark_run.specs.Joints.Versions.{AreVersions, WasLexed, WasRelexed, newest_text}
+use Rattle.starlark_run.specs.Inner.Versions.{AreVersions, WasLexed, WasRelexed, newest_text}
 use Rattle.starlark_syntax.specs.LexedTexts.{IsLexed, LexedView}
 use Rattle.starlark_run.proofs.versions.relexed.Given as goal
 

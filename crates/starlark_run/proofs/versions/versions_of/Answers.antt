@@ -1,7 +1,7 @@
 use Rattle.std.proofs.Common.{◌≡◌, ◌≤◌, ◌+◌, ◌++◌, ◌∷◌, [], ap, drop, length, string_bytes, subst, sym, true, is_ok, ◌∙◌}
 use Rattle.starlark_run.proofs.Edited.{newest_fits, newest_more, one_taken, versions_more}
 use Rattle.starlark_run.specs.Edits.{text_after}
-use Rattle.starlark_run.specs.Joints.Versions.{AreVersions, newest_text}
+use Rattle.starlark_run.specs.Inner.Versions.{AreVersions, newest_text}
 use Rattle.starlark_run.specs.declared.ends.TheConstants.{GREATEST_LEN}
 use Rattle.starlark_run.proofs.versions.versions_of.Goals as goal
 

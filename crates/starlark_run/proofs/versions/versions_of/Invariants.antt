@@ -1,6 +1,6 @@
 use Rattle.std.proofs.Common.{◌≡◌, drop}
 use Rattle.starlark_run.specs.Edits.{text_after}
-use Rattle.starlark_run.specs.Joints.Versions.{AreVersions, newest_text}
+use Rattle.starlark_run.specs.Inner.Versions.{AreVersions, newest_text}
 use Rattle.starlark_run.proofs.versions.versions_of.Given as goal
 
 -- what all edits leave is what those that are left leave of the newest version

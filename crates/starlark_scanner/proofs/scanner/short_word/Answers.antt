@@ -1,6 +1,6 @@
 use Rattle.std.proofs.Common.{Some, sym, ap, ◌∙◌, take, arith}
 use Rattle.starlark_grammar.specs.declared.class.Class.TheVariants as class
-use Rattle.starlark_scanner.specs.Joints.Words.{is_digit_alone, mark_of_two}
+use Rattle.starlark_scanner.specs.Inner.Words.{is_digit_alone, mark_of_two}
 use Rattle.starlark_scanner.proofs.Scan.Numbers.{front_of_digit}
 use Rattle.starlark_scanner.proofs.Scan.ReadFronts.{digit_by_three, two_by_three}
 use Rattle.starlark_scanner.proofs.Scan.ShortMarks.{front_of_two}

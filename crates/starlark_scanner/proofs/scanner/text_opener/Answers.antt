@@ -1,5 +1,5 @@
 use Rattle.std.proofs.Common.{ap, ◌∙◌, take, arith}
-use Rattle.starlark_scanner.specs.Joints.Words.{text_opener}
+use Rattle.starlark_scanner.specs.Inner.Words.{text_opener}
 use Rattle.starlark_scanner.proofs.Scan.Openers.{opener_found}
 use Rattle.starlark_scanner.proofs.Scan.ReadFronts.{opener_by_two}
 use Rattle.starlark_scanner.proofs.scanner.text_opener.Goals as goal

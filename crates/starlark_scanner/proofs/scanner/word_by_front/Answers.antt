@@ -1,6 +1,6 @@
 use Rattle.std.proofs.Common.{◌≡◌, List, ℕ, Some, refl, sym, ap, ◌∙◌, arith}
 use Rattle.std.specs.List.{slice_get}
-use Rattle.starlark_scanner.specs.Joints.Words.{is_mark_alone}
+use Rattle.starlark_scanner.specs.Inner.Words.{is_mark_alone}
 use Rattle.starlark_scanner.proofs.Scan.ByFirst.{front_double_quote, front_single_quote}
 use Rattle.starlark_scanner.proofs.Scan.ReadFronts.{alone_by_two, first_by_two}
 use Rattle.starlark_scanner.proofs.Scan.ShortMarks.{front_alone, single_word}

@@ -1,5 +1,5 @@
 use Rattle.std.proofs.Common.{◌≤◌, length}
-use Rattle.starlark_syntax.specs.Joints.LexedTexts.{AreBeyond}
+use Rattle.starlark_syntax.specs.Inner.LexedTexts.{AreBeyond}
 use Rattle.starlark_syntax.proofs.cuts.cuts_up_to.Given as goal
 
 abbrev pub invariant-loop-count : goal.invariant-loop-count

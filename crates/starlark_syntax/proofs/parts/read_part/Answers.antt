@@ -1,11 +1,11 @@
 use Rattle.std.proofs.Common.{◌≡◌, ◌≤◌, ◌+◌, ◌++◌, ◌∷◌, [], arith, ℕ, List, ap, length, length-append, refl, subst, sym, ◌∙◌}
-use Rattle.starlark_syntax.specs.Joints.LexedTexts.{cuts_at, end_cuts}
+use Rattle.starlark_syntax.specs.Inner.LexedTexts.{cuts_at, end_cuts}
 use Rattle.starlark_token.specs.declared.tokens.Token.{Token}
 use Rattle.starlark_grammar.specs.Cuts.{is_clean_cut}
 use Rattle.starlark_grammar.specs.Reading.{outcome}
-use Rattle.starlark_reader.specs.Joints.MarginCuts.{IsCutBefore}
-use Rattle.starlark_reader.specs.Joints.Reader.{IsNext}
-use Rattle.starlark_reader.specs.Joints.Reads.{HasReadNext}
+use Rattle.starlark_reader.specs.Inner.MarginCuts.{IsCutBefore}
+use Rattle.starlark_reader.specs.Inner.Reader.{IsNext}
+use Rattle.starlark_reader.specs.Inner.Reads.{HasReadNext}
 use Rattle.starlark_reader.specs.declared.reader.Next.{Next}
 use Rattle.starlark_reader.specs.declared.reader.Next.TheVariants as next
 use Rattle.starlark_syntax.proofs.LexedTexts.CleanCuts.{faultless_cut, open_cut, settled_cut}
@@ -64,7 +64,7 @@ returns-in-Nothing-clause-part c =
     let next : IsNext c.args.text.now is.rest (outcome c.args.text.now).fault next.Nothing c.next.new.self = subst (λ (n : Next). IsNext c.args.text.now is.rest (outcome c.args.text.now).fault n c.next.new.self) c.in-Nothing.is (c.in_ok-lexeme.ensures.next _ _ is.ahead) in
     let settled = c.is_settled.ensures c.args.text.now _ next.3 in
     let cut = faultless_cut c.args.text.now next.1 in
-    let is_cut : c.if-is_settled.is_cut ≡ is_clean_cut c.args.text.now = elim c.if-is_settled.branch [ then-is_settled w ↦ settled_cut (w.is_cut-is ∙ w.ends_with_feed-is_cut.ensures.value) (sym settled ∙ w.if-is_settled.true) cut | else-is_settled w ↦ open_cut _ (w.is_cut-is ∙ w.if-is_settled.false) (sym settled ∙ w.if-is_settled.false) cut ] in
+    let is_cut : c.if-is_settled.is_cut ≡ is_clean_cut c.args.text.now = elim c.if-is_settled.branch [ then-is_settled w ↦ settled_cut (w.is_cut-is ∙ w.ends_with_lf-is_cut.ensures.value) (sym settled ∙ w.if-is_settled.true) cut | else-is_settled w ↦ open_cut _ (w.is_cut-is ∙ w.if-is_settled.false) (sym settled ∙ w.if-is_settled.false) cut ] in
     all_given c.args.text.now c.loop-lexemes.reader _ c.loop-lexemes.cuts.items is next.0 next.1 refl c.loop-lexemes.invariant.cuts (c.in_ok-cuts-in-Nothing.ensures ∙ ap (λ (xs : List (ℕ × Token × ℕ)). c.loop-lexemes.cuts.items ++ end_cuts c.args.text.now (length xs) c.if-is_settled.is_cut) c.deref.ensures.value) is_cut refl
 
 pub returns-in-Fault-clause-most : goal.returns-in-Fault-clause-most
@@ -75,7 +75,7 @@ returns-in-Fault-clause-most c =
 pub returns-in-Nothing-clause-most : goal.returns-in-Nothing-clause-most
 returns-in-Nothing-clause-most c =
     let read = subst (λ (n : Next). HasReadNext c.args.text.now 0 n c.next.new.self) c.in-Nothing.is (c.in_ok-lexeme.ensures.reads 0 c.loop-lexemes.invariant.reads) in
-    let once : c.if-is_settled.reads ≤ 1 = elim c.if-is_settled.branch [ then-is_settled w ↦ omega (arith, w.reads-is, w.ends_with_feed-is_cut.ensures.reads, c.new-reads.ensures) | else-is_settled w ↦ omega (arith, w.reads-is, c.new-reads.ensures) ] in
+    let once : c.if-is_settled.reads ≤ 1 = elim c.if-is_settled.branch [ then-is_settled w ↦ omega (arith, w.reads-is, w.ends_with_lf-is_cut.ensures.reads, c.new-reads.ensures) | else-is_settled w ↦ omega (arith, w.reads-is, c.new-reads.ensures) ] in
     omega (arith, read.2, once, c.reads-in-Nothing.ensures, c.count.ensures)
 
 pub returns-in-Nothing-clause-least : goal.returns-in-Nothing-clause-least

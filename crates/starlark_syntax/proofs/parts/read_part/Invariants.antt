@@ -1,6 +1,6 @@
 use Rattle.std.proofs.Common.{◌-◌, length}
 use Rattle.starlark_grammar.specs.Reading.{outcome}
-use Rattle.starlark_reader.specs.Joints.Reads.{HasRead}
+use Rattle.starlark_reader.specs.Inner.Reads.{HasRead}
 use Rattle.starlark_syntax.proofs.LexedTexts.Collected.{AreCutsSoFar, IsCollected}
 use Rattle.starlark_syntax.proofs.parts.read_part.Given as goal
 

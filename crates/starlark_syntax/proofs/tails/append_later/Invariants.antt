@@ -1,7 +1,7 @@
 use Rattle.std.proofs.Common.{◌≡◌, ◌+◌, ◌≤◌, ◌++◌, length, map, vec_len}
 use Rattle.std.specs.Vec.{vec_capacity}
 use Rattle.std.specs.Vec.Iter.{into_iter_items, into_iter_len}
-use Rattle.starlark_syntax.specs.Joints.LexedTexts.{AllNear, later}
+use Rattle.starlark_syntax.specs.Inner.LexedTexts.{AllNear, later}
 use Rattle.starlark_syntax.proofs.tails.append_later.Given as goal
 
 abbrev pub invariant-loop-begin : goal.invariant-loop-begin

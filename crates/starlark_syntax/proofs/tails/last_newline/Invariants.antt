@@ -1,5 +1,5 @@
 use Rattle.std.proofs.Common.{◌≡◌, ◌≤◌, length, map, take}
-use Rattle.starlark_syntax.specs.Joints.LexedTexts.{last_newline_of}
+use Rattle.starlark_syntax.specs.Inner.LexedTexts.{last_newline_of}
 use Rattle.starlark_token.specs.Lexemes.{lexeme_view}
 use Rattle.starlark_syntax.proofs.tails.last_newline.Given as goal
 

@@ -1,12 +1,12 @@
 use Rattle.std.proofs.Common.{arith}
-use Rattle.starlark_text.proofs.Begun.{begun_on}
+use Rattle.starlark_text.proofs.CharacterStarts.{begun_on}
 use Rattle.starlark_text.proofs.Begins.{begin_on, begin_none}
 use Rattle.starlark_text.proofs.character_search.begin_of.Goals as goal
 
 pub loop-at-preserved : goal.loop-at-preserved
 loop-at-preserved c = record {
   within = c.loop-at-test.true;
-  counted = omega (arith, c.loop-at.invariant.counted, c.lanes_begun-begun.ensures, c.if-left-begun.false, begun_on c.args.bytes.now c.loop-at.at 32);
+  counted = omega (arith, c.loop-at.invariant.counted, c.lane_starts-begun.ensures, c.if-left-begun.false, begun_on c.args.bytes.now c.loop-at.at 32);
 }
 
 pub returns-in_err-short_begin_of : goal.returns-in_err-short_begin_of

@@ -15,4 +15,4 @@ returns c =
     let some : 0 < length counts = search rules in
     let inside : at / 256 < length counts = omega (arith, c.requires.counted.reach some) in
     let whole = from_step 256 text counts (at / 256) at c.requires.counted inside (omega arith) in
-    omega (arith, whole, c.count_begun.ensures, ap (λ bytes. begun (take (at - at / 256 * 256) (drop (at / 256 * 256) bytes))) c.as_bytes.ensures.value)
+    omega (arith, whole, c.count_starts.ensures, ap (λ bytes. begun (take (at - at / 256 * 256) (drop (at / 256 * 256) bytes))) c.as_bytes.ensures.value)

@@ -1,5 +1,5 @@
 use Rattle.std.proofs.Common.{◌∙◌, ap, arith, inl, inr, refl, Some, None}
-use Rattle.starlark_nesting.specs.Joints.Nesting.{fstring_view}
+use Rattle.starlark_nesting.specs.Inner.Nesting.{fstring_view}
 use Rattle.starlark_nesting.specs.declared.counts.Brackets.{Brackets}
 use Rattle.starlark_nesting.proofs.OpenBrackets.Counts.{fstring_onward, has_room, map_opened, map_closed}
 use Rattle.starlark_nesting.proofs.counts.OpenFString.pass.Goals as goal

@@ -1,5 +1,5 @@
 use Rattle.std.proofs.Common.{◌≡◌, ◌+◌, ◌-◌, arith, refl}
-use Rattle.starlark_nesting.specs.Joints.Nesting.{fstring_view}
+use Rattle.starlark_nesting.specs.Inner.Nesting.{fstring_view}
 use Rattle.starlark_nesting.proofs.OpenBrackets.Counts.{braces_in, in_text, at_top, deeper}
 use Rattle.starlark_nesting.proofs.counts.OpenFString.place.Goals as goal
 use Rattle.starlark_nesting.proofs.counts.OpenFString.place.Goals.{else-curly-2-via-then-curly-2+then-self-eq0+else-self-eq0-2, else-curly-2-via-then-curly-2+else-self-eq0, else-curly-2-via-else-curly-2}

@@ -1,7 +1,7 @@
 use Rattle.std.proofs.Common.{◌∷◌, List, subst, sym, ◌∙◌}
 use Rattle.std.specs.Prelude.{reverse}
 use Rattle.starlark_grammar.specs.Tokens.{FStringStart}
-use Rattle.starlark_grammar.specs.Joints.Openings.{opening_view}
+use Rattle.starlark_grammar.specs.Inner.Openings.{opening_view}
 use Rattle.starlark_nesting.specs.declared.counts.OpenFString.{OpenFString}
 use Rattle.starlark_nesting.proofs.OpenBrackets.FStrings.{AreOpen, begun, begun_opened, begun_closed, popped}
 use Rattle.starlark_nesting.proofs.nesting.Nesting.begin_fstring.Goals as goal

@@ -1,7 +1,7 @@
 use Rattle.std.proofs.Common.{◌≡◌, ◌<◌, ◌+◌, ◌-◌, ◌^◌, ◌∷◌, List, [], ap, length, refl, rules, subst, sym, take, ◌∙◌, arith}
 use Rattle.std.specs.Prelude.{reverse, vec_len}
 use Rattle.starlark_token.specs.TokenViews.{Whole}
-use Rattle.starlark_nesting.specs.Joints.Nesting.{brackets_of, change_by}
+use Rattle.starlark_nesting.specs.Inner.Nesting.{brackets_of, change_by}
 use Rattle.starlark_nesting.specs.contracts.changes.Change.{the_type}
 use Rattle.starlark_nesting.specs.declared.counts.OpenFString.{OpenFString}
 use Rattle.starlark_nesting.specs.declared.changes.Change.TheVariants as change

@@ -1,7 +1,7 @@
 use Rattle.std.proofs.Common.{◌≡◌, ◌-◌, List, None, Some, length, subst, take}
 use Rattle.std.specs.Prelude.{reverse}
 use Rattle.std.specs.List.{slice_get}
-use Rattle.starlark_nesting.specs.Joints.Nesting.{mode_view}
+use Rattle.starlark_nesting.specs.Inner.Nesting.{mode_view}
 use Rattle.starlark_nesting.specs.declared.counts.OpenFString.{OpenFString}
 use Rattle.starlark_nesting.proofs.OpenBrackets.FStrings.{AreOpen, last_none, last_some, outside_is, place_is}
 use Rattle.starlark_nesting.proofs.nesting.Nesting.place.Goals as goal

@@ -1,7 +1,7 @@
 use Rattle.std.proofs.Common.{◌∙◌, ap, sym, take}
 use Rattle.starlark_grammar.specs.Items as items
-use Rattle.starlark_literals.specs.Joints.Literals.{stop_view}
-use Rattle.starlark_grammar.specs.Joints.Openings.{opening_view}
+use Rattle.starlark_literals.specs.Inner.Literals.{stop_view}
+use Rattle.starlark_grammar.specs.Inner.Openings.{opening_view}
 use Rattle.starlark_reader.proofs.Literals.Chunks.{chunk_is}
 use Rattle.starlark_reader.proofs.literal.chunks.plain_text.Goals as goal
 

@@ -1,9 +1,9 @@
 use Rattle.std.proofs.Common.{◌≡◌, ◌≤◌, ◌+◌, ◌*◌, ◌∙◌, ap, arith, length, sym}
 use Rattle.starlark_reader.proofs.Literals.StepReads.{closing_some, fault_reads}
 use Rattle.starlark_grammar.specs.Items as grammar
-use Rattle.starlark_literals.specs.Joints.Literals.{literal_view, stop_view, stopped_len}
-use Rattle.starlark_grammar.specs.Joints.Openings.{opening_view}
-use Rattle.starlark_reader.proofs.Literals.Pieces.{bad_edges, bad_fits, bad_literal, closing_fits, if_ok, read_behind}
+use Rattle.starlark_literals.specs.Inner.Literals.{literal_view, stop_view, stopped_len}
+use Rattle.starlark_grammar.specs.Inner.Openings.{opening_view}
+use Rattle.starlark_reader.proofs.Literals.Pieces.{bad_edges, bad_fits, bad_literal, closing_fits, if_ok, read_after}
 use Rattle.starlark_reader.proofs.literal.pieces.literal_from.Goals as goal
 
 pub overflow_add-result-in-Closing : goal.overflow_add-result-in-Closing
@@ -43,7 +43,7 @@ escape_fault-requires c =
     omega (arith, fits.0, fits.1, c.range.ensures.len, c.requires)
 
 pub returns-in-BadEscape-clause-step : goal.returns-in-BadEscape-clause-step
-returns-in-BadEscape-clause-step c = if_ok _ _ c.escape_fault.result (λ step is place outside. rw (bad_literal place (literal_view c.args.literal) c.args.len c.in_ok-body.body.len c.in-BadEscape.read c.in-BadEscape.last c.args.behind.now c.in_ok-body.ensures.body.len (sym c.in_ok-body.ensures.body.stop ∙ ap stop_view c.in-BadEscape.is), ← read_behind c.args.behind.now c.in_ok-body.body.len c.in-BadEscape.read, ← c.range.ensures.value) is) c.escape_fault.ensures.step
+returns-in-BadEscape-clause-step c = if_ok _ _ c.escape_fault.result (λ step is place outside. rw (bad_literal place (literal_view c.args.literal) c.args.len c.in_ok-body.body.len c.in-BadEscape.read c.in-BadEscape.last c.args.behind.now c.in_ok-body.ensures.body.len (sym c.in_ok-body.ensures.body.stop ∙ ap stop_view c.in-BadEscape.is), ← read_after c.args.behind.now c.in_ok-body.body.len c.in-BadEscape.read, ← c.range.ensures.value) is) c.escape_fault.ensures.step
 
 pub returns-in-BadEscape-clause-reads : goal.returns-in-BadEscape-clause-reads
 returns-in-BadEscape-clause-reads c =

@@ -1,8 +1,8 @@
 use Rattle.std.proofs.Common.{◌≡◌, ℕ, ◌+◌, ◌≤◌, false, Some, add-zero, ap, append-nil, arith, refl, rules, sym, ◌∙◌}
 use Rattle.starlark_token.specs.Lexemes.{lexeme_view, shown_lexeme}
-use Rattle.starlark_grammar.specs.Joints.Openings.{opening_view}
+use Rattle.starlark_grammar.specs.Inner.Openings.{opening_view}
 use Rattle.starlark_grammar.specs.Margins.{open_widths}
-use Rattle.starlark_nesting.specs.Joints.Nesting.{bracket_count}
+use Rattle.starlark_nesting.specs.Inner.Nesting.{bracket_count}
 use Rattle.starlark_grammar.specs.Tokens.{FStringStart, Lexeme, Opening, moved}
 use Rattle.starlark_token.specs.TokenViews.{token_view}
 use Rattle.starlark_token.specs.TokenViews as views

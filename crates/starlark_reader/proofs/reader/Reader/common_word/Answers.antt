@@ -1,5 +1,5 @@
 use Rattle.std.proofs.Common.{subst, sym}
-use Rattle.starlark_reader.specs.Joints.Reader.{IsAhead}
+use Rattle.starlark_reader.specs.Inner.Reader.{IsAhead}
 use Rattle.starlark_reader.specs.declared.reader.Stage.{Stage}
 use Rattle.starlark_reader.proofs.Pieces.ReaderReads.{reads_ahead}
 use Rattle.starlark_reader.proofs.Pieces.PieceTaken.{left_onward}
@@ -14,5 +14,5 @@ range_from-requires c = λ some.
 pub returns-clause-ahead : goal.returns-clause-ahead
 returns-clause-ahead c = λ lexemes fault ahead.
     let on = c.pass_spaces-gap.ensures.ahead lexemes fault (left_onward c.args.text.now c.args.self.now lexemes fault c.requires.code.stage ahead) in
-    reads_ahead c.args.text.now c.pass_spaces-gap.new.self c.word_behind.new.reads c.pass_spaces-gap.new.self.stage lexemes fault
+    reads_ahead c.args.text.now c.pass_spaces-gap.new.self c.word_after.new.reads c.pass_spaces-gap.new.self.stage lexemes fault
     (subst (λ (s : Stage). IsAhead c.args.text.now c.pass_spaces-gap.new.self s lexemes fault) (sym c.pass_spaces-gap.ensures.same.2) on)

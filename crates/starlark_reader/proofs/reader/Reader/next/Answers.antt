@@ -1,10 +1,10 @@
 use Rattle.std.proofs.Common.{List, Option, refl, sym, subst}
 use Rattle.starlark_grammar.specs.Tokens.{Fault, Spanned}
 use Rattle.starlark_token.specs.TokenViews.{TokenView}
-use Rattle.starlark_layout.specs.Joints.MarginLines.{IsLinePassed}
-use Rattle.starlark_reader.specs.Joints.Reads.{HasReadAt}
-use Rattle.starlark_layout.specs.Joints.Pending.{IsFirst, IsIdle}
-use Rattle.starlark_reader.specs.Joints.Reader.{IsAhead, IsAheadBehind}
+use Rattle.starlark_layout.specs.Inner.MarginLines.{IsLinePassed}
+use Rattle.starlark_reader.specs.Inner.Reads.{HasReadAt}
+use Rattle.starlark_layout.specs.Inner.Pending.{IsFirst, IsIdle}
+use Rattle.starlark_reader.specs.Inner.Reader.{IsAhead, IsAheadAfter}
 use Rattle.starlark_reader.specs.declared.reader.Stage.TheVariants as stage
 use Rattle.starlark_reader.proofs.Pieces.NextLexeme.{ahead_now, begin_something, lexeme_next, none_left, onward_something, over, pending_something}
 use Rattle.starlark_reader.proofs.Pieces.ReaderReads.{pending_reads, reads_ahead}
@@ -32,7 +32,7 @@ returns-in_err-lexeme-in-Onward-clause-memory c = after_error c.from_residual-in
 pub returns-in-Some-2-clause-next : goal.returns-in-Some-2-clause-next
 returns-in-Some-2-clause-next c = λ lexemes fault ahead.
     let none = none_left c.args.text.now c.loop-lexeme.self c.next.new.self c.in_ok-lexeme.field-0 c.in_default.not-Some c.in_ok-lexeme.ensures.next c.loop-lexeme.invariant.ready in
-    subst (λ given. IsAheadBehind c.args.text.now given c.read_piece.new.self lexemes fault) c.in-Some-2.is
+    subst (λ given. IsAheadAfter c.args.text.now given c.read_piece.new.self lexemes fault) c.in-Some-2.is
     (c.in_ok-lexeme-in-Onward.ensures.ahead lexemes fault (reads_ahead c.args.text.now (record c.loop-lexeme.self { pending = c.next.new.self }) c.next.new.reads stage.Onward lexemes fault (ahead_now c.args.text.now c.loop-lexeme.self c.next.new.self stage.Onward lexemes fault none.1 c.in-Onward.is (c.loop-lexeme.invariant.ahead lexemes fault ahead))))
 
 pub returns-in-Fault-clause-next : goal.returns-in-Fault-clause-next
@@ -45,7 +45,7 @@ pub loop-lexeme-preserved : goal.loop-lexeme-preserved
 loop-lexeme-preserved c =
     let none = none_left c.args.text.now c.loop-lexeme.self c.next.new.self c.in_ok-lexeme.field-0 c.in_default.not-Some c.in_ok-lexeme.ensures.next c.loop-lexeme.invariant.ready in
     let on = λ (lexemes : List (Spanned TokenView)) (fault : Option (Spanned Fault)) (ahead : IsAhead c.args.text.now c.loop-lexeme.self c.loop-lexeme.self.stage lexemes fault).
-    subst (λ given. IsAheadBehind c.args.text.now given c.read_piece.new.self lexemes fault) c.in_default-2.is
+    subst (λ given. IsAheadAfter c.args.text.now given c.read_piece.new.self lexemes fault) c.in_default-2.is
     (c.in_ok-lexeme-in-Onward.ensures.ahead lexemes fault (reads_ahead c.args.text.now (record c.loop-lexeme.self { pending = c.next.new.self }) c.next.new.reads stage.Onward lexemes fault (ahead_now c.args.text.now c.loop-lexeme.self c.next.new.self stage.Onward lexemes fault none.1 c.in-Onward.is ahead))) in
     let ready = c.loop-lexeme.invariant.ready in
     record {

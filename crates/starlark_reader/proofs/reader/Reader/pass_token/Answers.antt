@@ -3,7 +3,7 @@ use Rattle.starlark_grammar.specs.Margins.{open_widths}
 use Rattle.starlark_grammar.specs.Pieces as grammar
 use Rattle.starlark_grammar.specs.Pieces.{Piece}
 use Rattle.starlark_grammar.specs.Tokens.{Token}
-use Rattle.starlark_layout.specs.Joints.Pending.{owed}
+use Rattle.starlark_layout.specs.Inner.Pending.{owed}
 use Rattle.starlark_reader.specs.declared.reader.Reader.{Reader}
 use Rattle.starlark_reader.proofs.Pieces.Here.{less_onward, piece_here, shown_here}
 use Rattle.starlark_reader.proofs.Pieces.Taken.{took}

@@ -1,14 +1,14 @@
 use Rattle.std.proofs.Common.{◌≡◌, ◌+◌, ap, arith, drop, length, subst, None, Some}
 use Rattle.std.proofs.lemmas.List.{length-drop}
 use Rattle.starlark_grammar.specs.Words.{Text}
-use Rattle.starlark_reader.specs.Joints.Reads.{ArePieceReads}
+use Rattle.starlark_reader.specs.Inner.Reads.{ArePieceReads}
 use Rattle.starlark_reader.specs.declared.reading.Piece.{Piece}
 use Rattle.starlark_reader.proofs.Pieces.ReaderReads.{end_reads, line_reads, onward_reads, state_reads, step_reads}
 use Rattle.std.proofs.lemmas.Result.{IfOk-weaker, on_ok_weaker}
 use Rattle.starlark_grammar.specs.Margins.{open_widths}
-use Rattle.starlark_layout.specs.Joints.Pending.{owed}
-use Rattle.starlark_reader.specs.Joints.Pieces.{IsPiece}
-use Rattle.starlark_reader.specs.Joints.Reader.{step_here}
+use Rattle.starlark_layout.specs.Inner.Pending.{owed}
+use Rattle.starlark_reader.specs.Inner.Pieces.{IsPiece}
+use Rattle.starlark_reader.specs.Inner.Reader.{step_here}
 use Rattle.starlark_reader.specs.declared.reader.Reader.{Reader}
 use Rattle.starlark_reader.specs.declared.reading.Piece.TheVariants as piece
 use Rattle.starlark_grammar.proofs.Order.Edges.{boundary_shift}

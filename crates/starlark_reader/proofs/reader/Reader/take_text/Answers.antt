@@ -1,6 +1,6 @@
 use Rattle.std.proofs.Common.{ap, sym, take, ◌∙◌, Some}
 use Rattle.std.proofs.Math.Nat.{sub-zero}
-use Rattle.starlark_reader.specs.Joints.Steps.{text_step}
+use Rattle.starlark_reader.specs.Inner.Steps.{text_step}
 use Rattle.starlark_reader.proofs.Pieces.NextLexeme.{onward_something}
 use Rattle.starlark_reader.proofs.Pieces.PieceTaken.{left_onward, onward_ahead}
 use Rattle.starlark_layout.proofs.Indentation.Waiting.{after_error}

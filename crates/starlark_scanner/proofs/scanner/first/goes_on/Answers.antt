@@ -1,7 +1,7 @@
 -- The table is compared with the definition byte by byte.
 use Rattle.std.proofs.Common.{nat_eq, get_or, refl}
 use Rattle.std.proofs.lemmas.Bool.{agree_below_at}
-use Rattle.starlark_scanner.specs.Joints.Words.{goes_on}
+use Rattle.starlark_scanner.specs.Inner.Words.{goes_on}
 use Rattle.starlark_scanner.specs.declared.scanner.first.TheConstants.{GOES_ON}
 use Rattle.starlark_scanner.proofs.scanner.first.goes_on.Goals as goal
 

@@ -1,7 +1,7 @@
 -- Each arm's word is looked up by computing; the last arm's is no word of this length.
 use Rattle.std.proofs.Common.{sym, ap, nat_eq}
 use Rattle.starlark_grammar.specs.Words.{names}
-use Rattle.starlark_scanner.specs.Joints.Words.{class_by_length}
+use Rattle.starlark_scanner.specs.Inner.Words.{class_by_length}
 use Rattle.starlark_scanner.proofs.Scan.Listed.{no_name_by_length}
 use Rattle.starlark_scanner.proofs.scanner.names.four_letters.Goals as goal
 

@@ -1,6 +1,6 @@
 -- A name is looked up among the words of its length, since no other is equal to it.
 use Rattle.std.proofs.Common.{ap, ◌∙◌, arith, nat_eq, length}
-use Rattle.starlark_scanner.specs.Joints.Words.{is_other_length}
+use Rattle.starlark_scanner.specs.Inner.Words.{is_other_length}
 use Rattle.starlark_scanner.proofs.Scan.Listed.{class_of_its_length, other_length}
 use Rattle.starlark_scanner.proofs.scanner.names.listing_of.Goals as goal
 

@@ -1,7 +1,7 @@
 -- A name that fails the test that each listed one passes is none.
 use Rattle.std.proofs.Common.{sym, ap, refl, ◌∙◌}
 use Rattle.starlark_grammar.specs.Words.{names}
-use Rattle.starlark_scanner.specs.Joints.Words.{may_be_listed}
+use Rattle.starlark_scanner.specs.Inner.Words.{may_be_listed}
 use Rattle.starlark_scanner.proofs.Scan.Listed.{lookup_fails}
 use Rattle.starlark_scanner.proofs.scanner.names.name_class.Goals as goal
 

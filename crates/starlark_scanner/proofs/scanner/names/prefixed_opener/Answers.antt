@@ -4,7 +4,7 @@ use Rattle.std.proofs.lemmas.Option.{unwrap_or-slice_get}
 use Rattle.std.proofs.lemmas.Str.{IsCharBoundary-after_ascii}
 use Rattle.std.specs.List.{slice_get}
 use Rattle.starlark_grammar.specs.Words.{Text}
-use Rattle.starlark_scanner.specs.Joints.Words.{is_quote}
+use Rattle.starlark_scanner.specs.Inner.Words.{is_quote}
 use Rattle.starlark_scanner.proofs.Scan.Openers.{long_name_is_no_prefix, unquoted_is_no_opener, quote_is_within, quote_is_ascii}
 use Rattle.starlark_scanner.proofs.scanner.names.prefixed_opener.Goals as goal
 

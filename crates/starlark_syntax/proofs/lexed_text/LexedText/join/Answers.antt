@@ -7,7 +7,7 @@ use Rattle.starlark_grammar.specs.Reading.{outcome}
 use Rattle.starlark_syntax.specs.LexedTexts as texts
 use Rattle.starlark_syntax.specs.LexedTexts.{IsLexed, LexedView}
 use Rattle.starlark_token.specs.Lexemes.{lexeme_view, shown_lexeme}
-use Rattle.starlark_syntax.specs.Joints.LexedTexts.{AreCuts, later, later_cut}
+use Rattle.starlark_syntax.specs.Inner.LexedTexts.{AreCuts, later, later_cut}
 use Rattle.starlark_syntax.proofs.LexedTexts.Joined.{begun, cut_joined, joined_lexed, list_joined, no_fault}
 use Rattle.starlark_syntax.proofs.LexedTexts.KeptCuts.{count_is}
 use Rattle.starlark_syntax.proofs.LexedTexts.Relexed.{count_near, cuts_joined, cuts_near}

@@ -7,7 +7,7 @@ use Rattle.starlark_grammar.specs.Reading.{outcome}
 use Rattle.starlark_syntax.specs.LexedTexts.{IsReadFrom, LexedView}
 use Rattle.starlark_syntax.specs.Exceptions.{IsFaultIn}
 use Rattle.starlark_token.specs.Lexemes.{lexeme_view, shown_lexeme}
-use Rattle.starlark_syntax.specs.Joints.LexedTexts.{AreCuts, IsBegin, IsPart, IsTakenBack, last_newline_of, later, later_cut}
+use Rattle.starlark_syntax.specs.Inner.LexedTexts.{AreCuts, IsBegin, IsPart, IsTakenBack, last_newline_of, later, later_cut}
 use Rattle.starlark_syntax.specs.declared.cuts.Cut.{Cut}
 use Rattle.starlark_token.specs.declared.tokens.Token.{Token}
 use Rattle.starlark_syntax.proofs.LexedTexts.Edits.{begin_boundary, begin_clean, begin_few, end_cut_is, read_from, relexed}
@@ -54,14 +54,14 @@ make_room-requires c =
     (subst (λ (xs : List Cut). IsTakenBack c.deref-2.result.now xs last c.kept_of-kept.result) c.deref-3.ensures.value
     (c.kept_of-kept.ensures.line h last (ap (λ (xs : List (ℕ × Token × ℕ)). last_newline_of (map lexeme_view (take c.begin_of-begin.result.lexemes xs))) c.deref-2.ensures.value ∙ e)))) in
     let few = count_near c.old.inside.text.now c.old.invariant.0 in
-    omega (arith, made.few, few, ap length c.old.invariant.3.1.lexemes, length-map c.old.inside.lexemes.items lexeme_view, length-map (outcome c.old.inside.text.now).lexemes shown_lexeme, c.len.ensures, c.given_behind-more.result.ok, c.given_behind-more.result.small)
+    omega (arith, made.few, few, ap length c.old.invariant.3.1.lexemes, length-map c.old.inside.lexemes.items lexeme_view, length-map (outcome c.old.inside.text.now).lexemes shown_lexeme, c.len.ensures, c.given_after-more.result.ok, c.given_after-more.result.small)
 
 pub append_later-requires-clause-near : goal.append_later-requires-clause-near
 append_later-requires-clause-near c =
     let begin : IsBegin c.old.inside.text.now c.old.inside.cuts.items c.args.from c.begin_of-begin.result = subst (λ (xs : List Cut). IsBegin c.old.inside.text.now xs c.args.from c.begin_of-begin.result) c.deref.ensures.value (c.begin_of-begin.ensures c.old.inside.text.now (subst (AreCuts c.old.inside.text.now) (sym c.deref.ensures.value) c.old.invariant.2)) in
     let part : IsPart (drop c.begin_of-begin.result.at c.args.edited.now) c.in-Ok.part = subst (λ (t : Text). IsPart t c.in-Ok.part) c.range_from-rest.ensures.value c.in-Ok.ensures.part in
     let short : c.begin_of-begin.result.at + length (drop c.begin_of-begin.result.at c.args.edited.now) < 2 ^ 32 = omega (arith, length-drop c.begin_of-begin.result.at c.args.edited.now, begin.before, c.requires.new.0, c.requires.fits) in
-    given_near (drop c.begin_of-begin.result.at c.args.edited.now) c.in-Ok.part c.kept_of-kept.result.gives_more c.given_behind-more.result.items part (omega (arith, short)) c.given_behind-more.ensures
+    given_near (drop c.begin_of-begin.result.at c.args.edited.now) c.in-Ok.part c.kept_of-kept.result.gives_more c.given_after-more.result.items part (omega (arith, short)) c.given_after-more.ensures
 
 pub append_cuts-requires-clause-near : goal.append_cuts-requires-clause-near
 append_cuts-requires-clause-near c =
@@ -89,13 +89,13 @@ invariant_of-result c =
     (subst (λ (xs : List Cut). IsTakenBack c.deref-2.result.now xs last c.kept_of-kept.result) c.deref-3.ensures.value
     (c.kept_of-kept.ensures.line h last (ap (λ (xs : List (ℕ × Token × ℕ)). last_newline_of (map lexeme_view (take c.begin_of-begin.result.lexemes xs))) c.deref-2.ensures.value ∙ e)))) in
     let lexemes : c.append_later.new.lexemes.items ≡ take c.kept_of-kept.result.lexemes c.old.inside.lexemes.items ++ map (later c.begin_of-begin.result.at) (if c.kept_of-kept.result.gives_more then c.in-Ok.part.lexemes.items else []) =
-    c.append_later.ensures ∙ ap (λ xs. take c.kept_of-kept.result.lexemes xs ++ map (later c.begin_of-begin.result.at) c.given_behind-more.result.items) c.make_room.ensures.same
-    ∙ ap (λ xs. take c.kept_of-kept.result.lexemes c.old.inside.lexemes.items ++ map (later c.begin_of-begin.result.at) xs) c.given_behind-more.ensures in
+    c.append_later.ensures ∙ ap (λ xs. take c.kept_of-kept.result.lexemes xs ++ map (later c.begin_of-begin.result.at) c.given_after-more.result.items) c.make_room.ensures.same
+    ∙ ap (λ xs. take c.kept_of-kept.result.lexemes c.old.inside.lexemes.items ++ map (later c.begin_of-begin.result.at) xs) c.given_after-more.ensures in
     let cuts : c.append_cuts.new.cuts.items ≡ take c.kept_of-kept.result.cuts c.old.inside.cuts.items ++ map (later_cut c.begin_of-begin.result.at c.begin_of-begin.result.lexemes) c.in-Ok.part.cuts.items =
     c.append_cuts.ensures ∙ ap (λ xs. take c.kept_of-kept.result.cuts xs ++ map (later_cut c.begin_of-begin.result.at c.begin_of-begin.result.lexemes) c.in-Ok.part.cuts.items) c.make_room-else-is_err.ensures.same in (
       c.requires.fits,
-      end_cut_is c.args.edited.now c.begin_of-begin.result.at c.in-Ok.part c.is_cut_behind-is_cut.result (omega (arith, begin.before, c.requires.new.0)) (begin_clean c.old.inside.text.now c.args.edited.now c.old.inside.cuts.items c.args.from c.begin_of-begin.result begin same) part
-          (c.is_cut_behind-is_cut.ensures ∙ ap (λ (t : Text). c.in-Ok.part.is_cut || (length t == 0 && nat_lt 0 c.begin_of-begin.result.at)) c.range_from-rest.ensures.value),
+      end_cut_is c.args.edited.now c.begin_of-begin.result.at c.in-Ok.part c.is_cut_after-is_cut.result (omega (arith, begin.before, c.requires.new.0)) (begin_clean c.old.inside.text.now c.args.edited.now c.old.inside.cuts.items c.args.from c.begin_of-begin.result begin same) part
+          (c.is_cut_after-is_cut.ensures ∙ ap (λ (t : Text). c.in-Ok.part.is_cut || (length t == 0 && nat_lt 0 c.begin_of-begin.result.at)) c.range_from-rest.ensures.value),
       subst (AreCuts c.args.edited.now) (sym cuts) made.are_cuts,
       (c.args.code_map.now, record { lexemes = ap (map lexeme_view) lexemes ∙ made.lexemes; fault = subst (λ f. IsFaultIn c.args.code_map.now f c.in-Ok-exception_of.fault) (sym made.fault) (c.in-Ok-exception_of.ensures.exception (outcome (drop c.begin_of-begin.result.at c.args.edited.now)).fault part.fault) }),
     )
@@ -113,19 +113,19 @@ returns-clause-lexed c =
     (subst (λ (xs : List Cut). IsTakenBack c.deref-2.result.now xs last c.kept_of-kept.result) c.deref-3.ensures.value
     (c.kept_of-kept.ensures.line h last (ap (λ (xs : List (ℕ × Token × ℕ)). last_newline_of (map lexeme_view (take c.begin_of-begin.result.lexemes xs))) c.deref-2.ensures.value ∙ e)))) in
     let lexemes : c.append_later.new.lexemes.items ≡ take c.kept_of-kept.result.lexemes c.old.inside.lexemes.items ++ map (later c.begin_of-begin.result.at) (if c.kept_of-kept.result.gives_more then c.in-Ok.part.lexemes.items else []) =
-    c.append_later.ensures ∙ ap (λ xs. take c.kept_of-kept.result.lexemes xs ++ map (later c.begin_of-begin.result.at) c.given_behind-more.result.items) c.make_room.ensures.same
-    ∙ ap (λ xs. take c.kept_of-kept.result.lexemes c.old.inside.lexemes.items ++ map (later c.begin_of-begin.result.at) xs) c.given_behind-more.ensures in
+    c.append_later.ensures ∙ ap (λ xs. take c.kept_of-kept.result.lexemes xs ++ map (later c.begin_of-begin.result.at) c.given_after-more.result.items) c.make_room.ensures.same
+    ∙ ap (λ xs. take c.kept_of-kept.result.lexemes c.old.inside.lexemes.items ++ map (later c.begin_of-begin.result.at) xs) c.given_after-more.ensures in
     record { lexemes = ap (map lexeme_view) lexemes ∙ made.lexemes; fault = subst (λ f. IsFaultIn c.args.code_map.now f c.in-Ok-exception_of.fault) (sym made.fault) (c.in-Ok-exception_of.ensures.exception (outcome (drop c.begin_of-begin.result.at c.args.edited.now)).fault part.fault) }
 
 pub returns-clause-reads : goal.returns-clause-reads
 returns-clause-reads c =
     let begin : IsBegin c.old.inside.text.now c.old.inside.cuts.items c.args.from c.begin_of-begin.result = subst (λ (xs : List Cut). IsBegin c.old.inside.text.now xs c.args.from c.begin_of-begin.result) c.deref.ensures.value (c.begin_of-begin.ensures c.old.inside.text.now (subst (AreCuts c.old.inside.text.now) (sym c.deref.ensures.value) c.old.invariant.2)) in
     let rest : length c.range_from-rest.result.now ≡ length c.args.edited.now - c.begin_of-begin.result.at = ap length c.range_from-rest.ensures.value ∙ length-drop c.begin_of-begin.result.at c.args.edited.now in
-    let lexemes : c.append_later.new.lexemes.items ≡ take c.kept_of-kept.result.lexemes c.old.inside.lexemes.items ++ map (later c.begin_of-begin.result.at) c.given_behind-more.result.items =
-    c.append_later.ensures ∙ ap (λ xs. take c.kept_of-kept.result.lexemes xs ++ map (later c.begin_of-begin.result.at) c.given_behind-more.result.items) c.make_room.ensures.same in
+    let lexemes : c.append_later.new.lexemes.items ≡ take c.kept_of-kept.result.lexemes c.old.inside.lexemes.items ++ map (later c.begin_of-begin.result.at) c.given_after-more.result.items =
+    c.append_later.ensures ∙ ap (λ xs. take c.kept_of-kept.result.lexemes xs ++ map (later c.begin_of-begin.result.at) c.given_after-more.result.items) c.make_room.ensures.same in
     let made : LexedView = record { text = c.args.edited.now; lexemes = map lexeme_view c.append_later.new.lexemes.items; fault = c.in-Ok-exception_of.fault; reads = c.in-Ok.part.reads } in
     subst (λ (v : LexedView). IsReadFrom v c.args.edited.now c.args.from made) c.old.view_is
-    (read_from (record { text = c.old.inside.text.now; lexemes = map lexeme_view c.old.inside.lexemes.items; fault = c.old.inside.fault; reads = c.old.inside.reads }) c.args.edited.now c.args.from c.old.inside.lexemes.items c.given_behind-more.result.items c.old.inside.cuts.items c.begin_of-begin.result made c.kept_of-kept.result.lexemes
+    (read_from (record { text = c.old.inside.text.now; lexemes = map lexeme_view c.old.inside.lexemes.items; fault = c.old.inside.fault; reads = c.old.inside.reads }) c.args.edited.now c.args.from c.old.inside.lexemes.items c.given_after-more.result.items c.old.inside.cuts.items c.begin_of-begin.result made c.kept_of-kept.result.lexemes
     refl c.old.invariant.2 begin (ap (map lexeme_view) lexemes)
     (omega (arith, rest, c.in-Ok.ensures.most))
     (λ none. omega (arith, rest, c.in-Ok.ensures.least (c.in-Ok-exception_of.ensures.none none))))

@@ -1,6 +1,6 @@
 use Rattle.std.proofs.Common.{◌∙◌, ◌+◌, ◌-◌, ◌*◌, ◌≤◌, ◌^◌, arith, map, refl, rules, sym}
 use Rattle.std.proofs.lemmas.List.{length-map}
-use Rattle.starlark_reader.specs.Joints.Reads.{HasLooked}
+use Rattle.starlark_reader.specs.Inner.Reads.{HasLooked}
 use Rattle.starlark_token.specs.Lexemes.{shown_lexeme}
 use Rattle.starlark_grammar.specs.Reading.{outcome}
 use Rattle.starlark_syntax.proofs.LexerItems.{lexeme_item, lexeme_within, one_more, some_item}
@@ -17,13 +17,13 @@ pub overflow_add-self-in-Ok : goal.overflow_add-self-in-Ok
 overflow_add-self-in-Ok c =
     let inv = c.self.invariant.1 (sym c.loop-self.invariant.3 ∙ (nothing_looked c.loop-self.self-inside.text.now c.loop-self.self-inside.reader c.loop-self.self-inside.looked_to c.loop-self.self-inside.has_ended c.loop-self.self-inside.looked (sym c.is_nothing.ensures ∙ c.if-not-is_nothing.false) c.loop-self.invariant.5 c.loop-self.invariant.6).0) in
     let few = lexemes_few c.self.inside.text.now c.self.invariant.0 in
-    let small : c.self.inside.handed_out + 1 ≤ 2 ^ 34 = omega (arith, inv.0, few) in
+    let small : c.self.inside.yielded_count + 1 ≤ 2 ^ 34 = omega (arith, inv.0, few) in
     rw c.loop-self.invariant.2 (search (rules, small))
 
 pub invariant_of-self-in-Ok : goal.invariant_of-self-in-Ok
 invariant_of-self-in-Ok c =
     let is = c.in-Ok.ensures.ahead _ _ (c.common_word.ensures.ahead _ _ (c.loop-self.invariant.4 (nothing_looked c.loop-self.self-inside.text.now c.loop-self.self-inside.reader c.loop-self.self-inside.looked_to c.loop-self.self-inside.has_ended c.loop-self.self-inside.looked (sym c.is_nothing.ensures ∙ c.if-not-is_nothing.false) c.loop-self.invariant.5 c.loop-self.invariant.6).0)) in
-    let further = one_more (map shown_lexeme (outcome c.loop-self.self-inside.text.now).lexemes) c.loop-self.self-inside.handed_out _ is.0 is.1 in
+    let further = one_more (map shown_lexeme (outcome c.loop-self.self-inside.text.now).lexemes) c.loop-self.self-inside.yielded_count _ is.0 is.1 in
     let quick = (nothing_looked c.loop-self.self-inside.text.now c.loop-self.self-inside.reader c.loop-self.self-inside.looked_to c.loop-self.self-inside.has_ended c.loop-self.self-inside.looked (sym c.is_nothing.ensures ∙ c.if-not-is_nothing.false) c.loop-self.invariant.5 c.loop-self.invariant.6) in
     let paid = quick.3 in
     let word = c.in-Some.ensures.looked in
@@ -34,24 +34,24 @@ invariant_of-self-in-Ok c =
 pub returns-in-Ok-clause-item : goal.returns-in-Ok-clause-item
 returns-in-Ok-clause-item c = λ on.
     let is = rw (c.loop-self.invariant.0, c.loop-self.invariant.2) at (c.in-Ok.ensures.ahead _ _ (c.common_word.ensures.ahead _ _ (c.loop-self.invariant.4 (nothing_looked c.loop-self.self-inside.text.now c.loop-self.self-inside.reader c.loop-self.self-inside.looked_to c.loop-self.self-inside.has_ended c.loop-self.self-inside.looked (sym c.is_nothing.ensures ∙ c.if-not-is_nothing.false) c.loop-self.invariant.5 c.loop-self.invariant.6).0))) in
-    rw (← c.self.view_is) (rw (lexeme_item c.self.inside.text.now c.self.inside.handed_out _ is.0 is.1) refl)
+    rw (← c.self.view_is) (rw (lexeme_item c.self.inside.text.now c.self.inside.yielded_count _ is.0 is.1) refl)
 
 pub returns-in-Ok-clause-within : goal.returns-in-Ok-clause-within
 returns-in-Ok-clause-within c =
     let is = rw (c.loop-self.invariant.0, c.loop-self.invariant.2) at (c.in-Ok.ensures.ahead _ _ (c.common_word.ensures.ahead _ _ (c.loop-self.invariant.4 (nothing_looked c.loop-self.self-inside.text.now c.loop-self.self-inside.reader c.loop-self.self-inside.looked_to c.loop-self.self-inside.has_ended c.loop-self.self-inside.looked (sym c.is_nothing.ensures ∙ c.if-not-is_nothing.false) c.loop-self.invariant.5 c.loop-self.invariant.6).0))) in
-    rw (← c.self.view_is) (lexeme_within c.self.inside.text.now c.self.inside.handed_out _ is.0 c.self.invariant.0 is.1)
+    rw (← c.self.view_is) (lexeme_within c.self.inside.text.now c.self.inside.yielded_count _ is.0 c.self.invariant.0 is.1)
 
 pub returns-in-Err-clause-item : goal.returns-in-Err-clause-item
 returns-in-Err-clause-item c = λ on.
     let inv = c.self.invariant.1 (sym c.loop-self.invariant.3 ∙ (nothing_looked c.loop-self.self-inside.text.now c.loop-self.self-inside.reader c.loop-self.self-inside.looked_to c.loop-self.self-inside.has_ended c.loop-self.self-inside.looked (sym c.is_nothing.ensures ∙ c.if-not-is_nothing.false) c.loop-self.invariant.5 c.loop-self.invariant.6).0) in
-    let item = some_item c.self.inside.text.now c.self.inside.handed_out inv.0 (rw (c.loop-self.invariant.0, c.loop-self.invariant.2) at (c.in-Err.ensures.memory _ _ (c.common_word.ensures.ahead _ _ (c.loop-self.invariant.4 (nothing_looked c.loop-self.self-inside.text.now c.loop-self.self-inside.reader c.loop-self.self-inside.looked_to c.loop-self.self-inside.has_ended c.loop-self.self-inside.looked (sym c.is_nothing.ensures ∙ c.if-not-is_nothing.false) c.loop-self.invariant.5 c.loop-self.invariant.6).0)))) in
+    let item = some_item c.self.inside.text.now c.self.inside.yielded_count inv.0 (rw (c.loop-self.invariant.0, c.loop-self.invariant.2) at (c.in-Err.ensures.memory _ _ (c.common_word.ensures.ahead _ _ (c.loop-self.invariant.4 (nothing_looked c.loop-self.self-inside.text.now c.loop-self.self-inside.reader c.loop-self.self-inside.looked_to c.loop-self.self-inside.has_ended c.loop-self.self-inside.looked (sym c.is_nothing.ensures ∙ c.if-not-is_nothing.false) c.loop-self.invariant.5 c.loop-self.invariant.6).0)))) in
     rw (← c.self.view_is) (rw item.1 tt)
 
 pub overflow_add-self-in-Fixed : goal.overflow_add-self-in-Fixed
 overflow_add-self-in-Fixed c =
     let inv = c.self.invariant.1 (sym c.loop-self.invariant.3 ∙ (nothing_looked c.loop-self.self-inside.text.now c.loop-self.self-inside.reader c.loop-self.self-inside.looked_to c.loop-self.self-inside.has_ended c.loop-self.self-inside.looked (sym c.is_nothing.ensures ∙ c.if-not-is_nothing.false) c.loop-self.invariant.5 c.loop-self.invariant.6).0) in
     let few = lexemes_few c.self.inside.text.now c.self.invariant.0 in
-    let small : c.self.inside.handed_out + 1 ≤ 2 ^ 34 = omega (arith, inv.0, few) in
+    let small : c.self.inside.yielded_count + 1 ≤ 2 ^ 34 = omega (arith, inv.0, few) in
     rw c.loop-self.invariant.2 (search (rules, small))
 
 pub take_terminal-lexeme-requires-clause-ready : goal.take_terminal-lexeme-requires-clause-ready
@@ -60,7 +60,7 @@ take_terminal-lexeme-requires-clause-ready c = (_, _, c.common_word.ensures.ahea
 pub invariant_of-self-in-Fixed : goal.invariant_of-self-in-Fixed
 invariant_of-self-in-Fixed c =
     let is = c.take_terminal-lexeme.ensures.ahead _ _ (c.common_word.ensures.ahead _ _ (c.loop-self.invariant.4 (nothing_looked c.loop-self.self-inside.text.now c.loop-self.self-inside.reader c.loop-self.self-inside.looked_to c.loop-self.self-inside.has_ended c.loop-self.self-inside.looked (sym c.is_nothing.ensures ∙ c.if-not-is_nothing.false) c.loop-self.invariant.5 c.loop-self.invariant.6).0)) in
-    let further = one_more (map shown_lexeme (outcome c.loop-self.self-inside.text.now).lexemes) c.loop-self.self-inside.handed_out _ is.0 is.1 in
+    let further = one_more (map shown_lexeme (outcome c.loop-self.self-inside.text.now).lexemes) c.loop-self.self-inside.yielded_count _ is.0 is.1 in
     let quick = (nothing_looked c.loop-self.self-inside.text.now c.loop-self.self-inside.reader c.loop-self.self-inside.looked_to c.loop-self.self-inside.has_ended c.loop-self.self-inside.looked (sym c.is_nothing.ensures ∙ c.if-not-is_nothing.false) c.loop-self.invariant.5 c.loop-self.invariant.6) in
     let paid = quick.3 in
     let word = c.in-Some.ensures.looked in
@@ -71,12 +71,12 @@ invariant_of-self-in-Fixed c =
 pub returns-in-Fixed-clause-item : goal.returns-in-Fixed-clause-item
 returns-in-Fixed-clause-item c = λ on.
     let is = rw (c.loop-self.invariant.0, c.loop-self.invariant.2) at (c.take_terminal-lexeme.ensures.ahead _ _ (c.common_word.ensures.ahead _ _ (c.loop-self.invariant.4 (nothing_looked c.loop-self.self-inside.text.now c.loop-self.self-inside.reader c.loop-self.self-inside.looked_to c.loop-self.self-inside.has_ended c.loop-self.self-inside.looked (sym c.is_nothing.ensures ∙ c.if-not-is_nothing.false) c.loop-self.invariant.5 c.loop-self.invariant.6).0))) in
-    rw (← c.self.view_is) (rw (lexeme_item c.self.inside.text.now c.self.inside.handed_out _ is.0 is.1) refl)
+    rw (← c.self.view_is) (rw (lexeme_item c.self.inside.text.now c.self.inside.yielded_count _ is.0 is.1) refl)
 
 pub returns-in-Fixed-clause-within : goal.returns-in-Fixed-clause-within
 returns-in-Fixed-clause-within c =
     let is = rw (c.loop-self.invariant.0, c.loop-self.invariant.2) at (c.take_terminal-lexeme.ensures.ahead _ _ (c.common_word.ensures.ahead _ _ (c.loop-self.invariant.4 (nothing_looked c.loop-self.self-inside.text.now c.loop-self.self-inside.reader c.loop-self.self-inside.looked_to c.loop-self.self-inside.has_ended c.loop-self.self-inside.looked (sym c.is_nothing.ensures ∙ c.if-not-is_nothing.false) c.loop-self.invariant.5 c.loop-self.invariant.6).0))) in
-    rw (← c.self.view_is) (lexeme_within c.self.inside.text.now c.self.inside.handed_out _ is.0 c.self.invariant.0 is.1)
+    rw (← c.self.view_is) (lexeme_within c.self.inside.text.now c.self.inside.yielded_count _ is.0 c.self.invariant.0 is.1)
 
 pub take_line_end-requires-clause-ready : goal.take_line_end-requires-clause-ready
 take_line_end-requires-clause-ready c = (_, _, c.common_word.ensures.ahead _ _ (c.loop-self.invariant.4 (nothing_looked c.loop-self.self-inside.text.now c.loop-self.self-inside.reader c.loop-self.self-inside.looked_to c.loop-self.self-inside.has_ended c.loop-self.self-inside.looked (sym c.is_nothing.ensures ∙ c.if-not-is_nothing.false) c.loop-self.invariant.5 c.loop-self.invariant.6).0))
@@ -85,36 +85,36 @@ pub overflow_add-self-in-Ok-Newline : goal.overflow_add-self-in-Ok-Newline
 overflow_add-self-in-Ok-Newline c =
     let inv = c.self.invariant.1 (sym c.loop-self.invariant.3 ∙ (nothing_looked c.loop-self.self-inside.text.now c.loop-self.self-inside.reader c.loop-self.self-inside.looked_to c.loop-self.self-inside.has_ended c.loop-self.self-inside.looked (sym c.is_nothing.ensures ∙ c.if-not-is_nothing.false) c.loop-self.invariant.5 c.loop-self.invariant.6).0) in
     let few = lexemes_few c.self.inside.text.now c.self.invariant.0 in
-    let small : c.self.inside.handed_out + 1 ≤ 2 ^ 34 = omega (arith, inv.0, few) in
+    let small : c.self.inside.yielded_count + 1 ≤ 2 ^ 34 = omega (arith, inv.0, few) in
     rw c.loop-self.invariant.2 (search (rules, small))
 
 pub overflow_add-result : goal.overflow_add-result
 overflow_add-result c =
     let is = rw c.in-Ok-Newline.field-0-is at (c.in-Ok-Newline.ensures.ahead _ _ (c.common_word.ensures.ahead _ _ (c.loop-self.invariant.4 (nothing_looked c.loop-self.self-inside.text.now c.loop-self.self-inside.reader c.loop-self.self-inside.looked_to c.loop-self.self-inside.has_ended c.loop-self.self-inside.looked (sym c.is_nothing.ensures ∙ c.if-not-is_nothing.false) c.loop-self.invariant.5 c.loop-self.invariant.6).0))) in
-    let within = lexeme_within c.loop-self.self-inside.text.now c.loop-self.self-inside.handed_out _ is.0 (rw c.loop-self.invariant.0 c.self.invariant.0) is.1 in
+    let within = lexeme_within c.loop-self.self-inside.text.now c.loop-self.self-inside.yielded_count _ is.0 (rw c.loop-self.invariant.0 c.self.invariant.0) is.1 in
     let small : c.common_word.new.self.at + c.in-Some.field-0.len ≤ 2 ^ 32 = omega (arith, within.1, within.2) in
     rw c.at-begin.ensures (search (rules, small))
 
 pub returns-in-Ok-Newline-clause-item : goal.returns-in-Ok-Newline-clause-item
 returns-in-Ok-Newline-clause-item c = λ on.
     let is = rw (c.loop-self.invariant.0, c.loop-self.invariant.2) at (rw c.in-Ok-Newline.field-0-is at (c.in-Ok-Newline.ensures.ahead _ _ (c.common_word.ensures.ahead _ _ (c.loop-self.invariant.4 (nothing_looked c.loop-self.self-inside.text.now c.loop-self.self-inside.reader c.loop-self.self-inside.looked_to c.loop-self.self-inside.has_ended c.loop-self.self-inside.looked (sym c.is_nothing.ensures ∙ c.if-not-is_nothing.false) c.loop-self.invariant.5 c.loop-self.invariant.6).0)))) in
-    rw c.at-begin.ensures (rw (← c.self.view_is) (rw (lexeme_item c.self.inside.text.now c.self.inside.handed_out _ is.0 is.1) refl))
+    rw c.at-begin.ensures (rw (← c.self.view_is) (rw (lexeme_item c.self.inside.text.now c.self.inside.yielded_count _ is.0 is.1) refl))
 
 pub returns-in-Ok-Newline-clause-within : goal.returns-in-Ok-Newline-clause-within
 returns-in-Ok-Newline-clause-within c =
     let is = rw (c.loop-self.invariant.0, c.loop-self.invariant.2) at (rw c.in-Ok-Newline.field-0-is at (c.in-Ok-Newline.ensures.ahead _ _ (c.common_word.ensures.ahead _ _ (c.loop-self.invariant.4 (nothing_looked c.loop-self.self-inside.text.now c.loop-self.self-inside.reader c.loop-self.self-inside.looked_to c.loop-self.self-inside.has_ended c.loop-self.self-inside.looked (sym c.is_nothing.ensures ∙ c.if-not-is_nothing.false) c.loop-self.invariant.5 c.loop-self.invariant.6).0)))) in
-    rw c.at-begin.ensures (rw (← c.self.view_is) (lexeme_within c.self.inside.text.now c.self.inside.handed_out _ is.0 c.self.invariant.0 is.1))
+    rw c.at-begin.ensures (rw (← c.self.view_is) (lexeme_within c.self.inside.text.now c.self.inside.yielded_count _ is.0 c.self.invariant.0 is.1))
 
 pub returns-in-Err-take_line_end-clause-item : goal.returns-in-Err-take_line_end-clause-item
 returns-in-Err-take_line_end-clause-item c = λ on.
     let inv = c.self.invariant.1 (sym c.loop-self.invariant.3 ∙ (nothing_looked c.loop-self.self-inside.text.now c.loop-self.self-inside.reader c.loop-self.self-inside.looked_to c.loop-self.self-inside.has_ended c.loop-self.self-inside.looked (sym c.is_nothing.ensures ∙ c.if-not-is_nothing.false) c.loop-self.invariant.5 c.loop-self.invariant.6).0) in
-    let item = some_item c.self.inside.text.now c.self.inside.handed_out inv.0 (rw (c.loop-self.invariant.0, c.loop-self.invariant.2) at (c.in-Err-take_line_end.ensures.memory _ _ (c.common_word.ensures.ahead _ _ (c.loop-self.invariant.4 (nothing_looked c.loop-self.self-inside.text.now c.loop-self.self-inside.reader c.loop-self.self-inside.looked_to c.loop-self.self-inside.has_ended c.loop-self.self-inside.looked (sym c.is_nothing.ensures ∙ c.if-not-is_nothing.false) c.loop-self.invariant.5 c.loop-self.invariant.6).0)))) in
+    let item = some_item c.self.inside.text.now c.self.inside.yielded_count inv.0 (rw (c.loop-self.invariant.0, c.loop-self.invariant.2) at (c.in-Err-take_line_end.ensures.memory _ _ (c.common_word.ensures.ahead _ _ (c.loop-self.invariant.4 (nothing_looked c.loop-self.self-inside.text.now c.loop-self.self-inside.reader c.loop-self.self-inside.looked_to c.loop-self.self-inside.has_ended c.loop-self.self-inside.looked (sym c.is_nothing.ensures ∙ c.if-not-is_nothing.false) c.loop-self.invariant.5 c.loop-self.invariant.6).0)))) in
     rw (← c.self.view_is) (rw item.1 tt)
 
 pub invariant_of-self-in-Ok-Newline : goal.invariant_of-self-in-Ok-Newline
 invariant_of-self-in-Ok-Newline c =
     let is = rw c.in-Ok-Newline.field-0-is at (c.in-Ok-Newline.ensures.ahead _ _ (c.common_word.ensures.ahead _ _ (c.loop-self.invariant.4 (nothing_looked c.loop-self.self-inside.text.now c.loop-self.self-inside.reader c.loop-self.self-inside.looked_to c.loop-self.self-inside.has_ended c.loop-self.self-inside.looked (sym c.is_nothing.ensures ∙ c.if-not-is_nothing.false) c.loop-self.invariant.5 c.loop-self.invariant.6).0))) in
-    let further = one_more (map shown_lexeme (outcome c.loop-self.self-inside.text.now).lexemes) c.loop-self.self-inside.handed_out _ is.0 is.1 in
+    let further = one_more (map shown_lexeme (outcome c.loop-self.self-inside.text.now).lexemes) c.loop-self.self-inside.yielded_count _ is.0 is.1 in
     let quick = (nothing_looked c.loop-self.self-inside.text.now c.loop-self.self-inside.reader c.loop-self.self-inside.looked_to c.loop-self.self-inside.has_ended c.loop-self.self-inside.looked (sym c.is_nothing.ensures ∙ c.if-not-is_nothing.false) c.loop-self.invariant.5 c.loop-self.invariant.6) in
     let paid = quick.3 in
     let ahead = c.common_word.ensures.ahead _ _ (c.loop-self.invariant.4 quick.0) in

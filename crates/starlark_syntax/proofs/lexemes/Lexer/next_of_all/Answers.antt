@@ -1,6 +1,6 @@
 use Rattle.std.proofs.Common.{sym, ◌∙◌, ◌*◌, ◌+◌, ◌≤◌, ◌^◌, Bool, ap, arith, map, refl, rules, subst}
 use Rattle.std.specs.Prelude.{if◌then◌else◌}
-use Rattle.starlark_reader.specs.Joints.Reads.{HasLookedHere}
+use Rattle.starlark_reader.specs.Inner.Reads.{HasLookedHere}
 use Rattle.std.proofs.lemmas.List.{length-map}
 use Rattle.starlark_token.specs.Lexemes.{shown_lexeme}
 use Rattle.starlark_syntax.specs.Lexer.{LexerView}
@@ -15,14 +15,14 @@ pub overflow_add-self : goal.overflow_add-self
 overflow_add-self c =
     let inv = c.self.invariant.1 (ap (λ (lexer : LexerView). lexer.has_ended) c.self.view_is ∙ c.requires) in
     let few = lexemes_few c.self.inside.text.now c.self.invariant.0 in
-    let small : c.self.inside.handed_out + 1 ≤ 2 ^ 34 = omega (arith, inv.0, few) in
+    let small : c.self.inside.yielded_count + 1 ≤ 2 ^ 34 = omega (arith, inv.0, few) in
     search (rules, small)
 
 pub invariant_of-self : goal.invariant_of-self
 invariant_of-self c =
     let inv = c.self.invariant.1 (ap (λ (lexer : LexerView). lexer.has_ended) c.self.view_is ∙ c.requires) in
     let is = c.take_terminal-lexeme.ensures.ahead _ _ (c.short_word.ensures.ahead _ _ inv.1) in
-    let further = one_more (map shown_lexeme (outcome c.self.inside.text.now).lexemes) c.self.inside.handed_out _ is.0 is.1 in
+    let further = one_more (map shown_lexeme (outcome c.self.inside.text.now).lexemes) c.self.inside.yielded_count _ is.0 is.1 in
     let looked = front_looked c.self.inside.text.now c.self.inside.reader c.self.inside.looked_to c.self.inside.looked (sym c.is_front.ensures ∙ c.if-not-is_front.false) (c.self.invariant.3 (ap (λ (lexer : LexerView). lexer.has_ended) c.self.view_is ∙ c.requires)) in
     let paid = looked.2 in
     let read = here_taken_reads c.self.inside.text.now paid.0 3 3 2 c.self.inside.reader c.short_word.new.self c.take_terminal-lexeme.new.self looked.0.stage paid.2 c.short_word.ensures.looked (omega (arith)) (omega (arith)) (c.take_terminal-lexeme.ensures.taken.1, c.take_terminal-lexeme.ensures.taken.2) in (
@@ -37,26 +37,26 @@ pub returns-in-Some-Symbol-clause-item : goal.returns-in-Some-Symbol-clause-item
 returns-in-Some-Symbol-clause-item c =
     let inv = c.self.invariant.1 (ap (λ (lexer : LexerView). lexer.has_ended) c.self.view_is ∙ c.requires) in
     let is = c.take_terminal-lexeme.ensures.ahead _ _ (c.short_word.ensures.ahead _ _ inv.1) in
-    rw (← c.self.view_is) (rw (lexeme_item c.self.inside.text.now c.self.inside.handed_out _ is.0 is.1) refl)
+    rw (← c.self.view_is) (rw (lexeme_item c.self.inside.text.now c.self.inside.yielded_count _ is.0 is.1) refl)
 
 pub returns-in-Some-Symbol-clause-within : goal.returns-in-Some-Symbol-clause-within
 returns-in-Some-Symbol-clause-within c =
     let inv = c.self.invariant.1 (ap (λ (lexer : LexerView). lexer.has_ended) c.self.view_is ∙ c.requires) in
     let is = c.take_terminal-lexeme.ensures.ahead _ _ (c.short_word.ensures.ahead _ _ inv.1) in
-    rw (← c.self.view_is) (lexeme_within c.self.inside.text.now c.self.inside.handed_out _ is.0 c.self.invariant.0 is.1)
+    rw (← c.self.view_is) (lexeme_within c.self.inside.text.now c.self.inside.yielded_count _ is.0 c.self.invariant.0 is.1)
 
 pub overflow_add-self-in-Some-Digit : goal.overflow_add-self-in-Some-Digit
 overflow_add-self-in-Some-Digit c =
     let inv = c.self.invariant.1 (ap (λ (lexer : LexerView). lexer.has_ended) c.self.view_is ∙ c.requires) in
     let few = lexemes_few c.self.inside.text.now c.self.invariant.0 in
-    let small : c.self.inside.handed_out + 1 ≤ 2 ^ 34 = omega (arith, inv.0, few) in
+    let small : c.self.inside.yielded_count + 1 ≤ 2 ^ 34 = omega (arith, inv.0, few) in
     search (rules, small)
 
 pub invariant_of-self-in-Some-Digit : goal.invariant_of-self-in-Some-Digit
 invariant_of-self-in-Some-Digit c =
     let inv = c.self.invariant.1 (ap (λ (lexer : LexerView). lexer.has_ended) c.self.view_is ∙ c.requires) in
     let is = c.take_digit-lexeme.ensures.ahead _ _ (c.short_word.ensures.ahead _ _ inv.1) in
-    let further = one_more (map shown_lexeme (outcome c.self.inside.text.now).lexemes) c.self.inside.handed_out _ is.0 is.1 in
+    let further = one_more (map shown_lexeme (outcome c.self.inside.text.now).lexemes) c.self.inside.yielded_count _ is.0 is.1 in
     let looked = front_looked c.self.inside.text.now c.self.inside.reader c.self.inside.looked_to c.self.inside.looked (sym c.is_front.ensures ∙ c.if-not-is_front.false) (c.self.invariant.3 (ap (λ (lexer : LexerView). lexer.has_ended) c.self.view_is ∙ c.requires)) in
     let paid = looked.2 in
     let read = here_taken_reads c.self.inside.text.now paid.0 3 3 1 c.self.inside.reader c.short_word.new.self c.take_digit-lexeme.new.self looked.0.stage paid.2 c.short_word.ensures.looked (omega (arith)) (omega (arith)) (c.take_digit-lexeme.ensures.taken.1, c.take_digit-lexeme.ensures.taken.2) in (
@@ -71,26 +71,26 @@ pub returns-in-Some-Digit-clause-item : goal.returns-in-Some-Digit-clause-item
 returns-in-Some-Digit-clause-item c =
     let inv = c.self.invariant.1 (ap (λ (lexer : LexerView). lexer.has_ended) c.self.view_is ∙ c.requires) in
     let is = c.take_digit-lexeme.ensures.ahead _ _ (c.short_word.ensures.ahead _ _ inv.1) in
-    rw (← c.self.view_is) (rw (lexeme_item c.self.inside.text.now c.self.inside.handed_out _ is.0 is.1) refl)
+    rw (← c.self.view_is) (rw (lexeme_item c.self.inside.text.now c.self.inside.yielded_count _ is.0 is.1) refl)
 
 pub returns-in-Some-Digit-clause-within : goal.returns-in-Some-Digit-clause-within
 returns-in-Some-Digit-clause-within c =
     let inv = c.self.invariant.1 (ap (λ (lexer : LexerView). lexer.has_ended) c.self.view_is ∙ c.requires) in
     let is = c.take_digit-lexeme.ensures.ahead _ _ (c.short_word.ensures.ahead _ _ inv.1) in
-    rw (← c.self.view_is) (lexeme_within c.self.inside.text.now c.self.inside.handed_out _ is.0 c.self.invariant.0 is.1)
+    rw (← c.self.view_is) (lexeme_within c.self.inside.text.now c.self.inside.yielded_count _ is.0 c.self.invariant.0 is.1)
 
 pub overflow_add-self-in-Ok : goal.overflow_add-self-in-Ok
 overflow_add-self-in-Ok c =
     let inv = c.self.invariant.1 (ap (λ (lexer : LexerView). lexer.has_ended) c.self.view_is ∙ c.requires) in
     let few = lexemes_few c.self.inside.text.now c.self.invariant.0 in
-    let small : c.self.inside.handed_out + 1 ≤ 2 ^ 34 = omega (arith, inv.0, few) in
+    let small : c.self.inside.yielded_count + 1 ≤ 2 ^ 34 = omega (arith, inv.0, few) in
     search (rules, small)
 
 pub invariant_of-self-in-Ok : goal.invariant_of-self-in-Ok
 invariant_of-self-in-Ok c =
     let inv = c.self.invariant.1 (ap (λ (lexer : LexerView). lexer.has_ended) c.self.view_is ∙ c.requires) in
     let is = c.in-Ok.ensures.ahead _ _ (c.fstring_opener.ensures.ahead _ _ (c.short_word.ensures.ahead _ _ inv.1)) in
-    let further = one_more (map shown_lexeme (outcome c.self.inside.text.now).lexemes) c.self.inside.handed_out _ is.0 is.1 in
+    let further = one_more (map shown_lexeme (outcome c.self.inside.text.now).lexemes) c.self.inside.yielded_count _ is.0 is.1 in
     let looked = front_looked c.self.inside.text.now c.self.inside.reader c.self.inside.looked_to c.self.inside.looked (sym c.is_front.ensures ∙ c.if-not-is_front.false) (c.self.invariant.3 (ap (λ (lexer : LexerView). lexer.has_ended) c.self.view_is ∙ c.requires)) in
     let paid = looked.2 in
     let short = here_reads c.self.inside.text.now paid.0 3 3 c.self.inside.reader c.short_word.new.self paid.2 c.short_word.ensures.looked in
@@ -106,25 +106,25 @@ pub returns-in-Ok-clause-item : goal.returns-in-Ok-clause-item
 returns-in-Ok-clause-item c =
     let inv = c.self.invariant.1 (ap (λ (lexer : LexerView). lexer.has_ended) c.self.view_is ∙ c.requires) in
     let is = c.in-Ok.ensures.ahead _ _ (c.fstring_opener.ensures.ahead _ _ (c.short_word.ensures.ahead _ _ inv.1)) in
-    rw (← c.self.view_is) (rw (lexeme_item c.self.inside.text.now c.self.inside.handed_out _ is.0 is.1) refl)
+    rw (← c.self.view_is) (rw (lexeme_item c.self.inside.text.now c.self.inside.yielded_count _ is.0 is.1) refl)
 
 pub returns-in-Ok-clause-within : goal.returns-in-Ok-clause-within
 returns-in-Ok-clause-within c =
     let inv = c.self.invariant.1 (ap (λ (lexer : LexerView). lexer.has_ended) c.self.view_is ∙ c.requires) in
     let is = c.in-Ok.ensures.ahead _ _ (c.fstring_opener.ensures.ahead _ _ (c.short_word.ensures.ahead _ _ inv.1)) in
-    rw (← c.self.view_is) (lexeme_within c.self.inside.text.now c.self.inside.handed_out _ is.0 c.self.invariant.0 is.1)
+    rw (← c.self.view_is) (lexeme_within c.self.inside.text.now c.self.inside.yielded_count _ is.0 c.self.invariant.0 is.1)
 
 pub returns-in-Err-clause-item : goal.returns-in-Err-clause-item
 returns-in-Err-clause-item c =
     let inv = c.self.invariant.1 (ap (λ (lexer : LexerView). lexer.has_ended) c.self.view_is ∙ c.requires) in
-    let item = some_item c.self.inside.text.now c.self.inside.handed_out inv.0 (c.in-Err.ensures.memory _ _ (c.fstring_opener.ensures.ahead _ _ (c.short_word.ensures.ahead _ _ inv.1))) in
+    let item = some_item c.self.inside.text.now c.self.inside.yielded_count inv.0 (c.in-Err.ensures.memory _ _ (c.fstring_opener.ensures.ahead _ _ (c.short_word.ensures.ahead _ _ inv.1))) in
     rw (← c.self.view_is) (rw item.1 tt)
 
 pub overflow_add-self-in-Ok-take_plain_bytes : goal.overflow_add-self-in-Ok-take_plain_bytes
 overflow_add-self-in-Ok-take_plain_bytes c =
     let inv = c.self.invariant.1 (ap (λ (lexer : LexerView). lexer.has_ended) c.self.view_is ∙ c.requires) in
     let few = lexemes_few c.self.inside.text.now c.self.invariant.0 in
-    let small : c.self.inside.handed_out + 1 ≤ 2 ^ 34 = omega (arith, inv.0, few) in
+    let small : c.self.inside.yielded_count + 1 ≤ 2 ^ 34 = omega (arith, inv.0, few) in
     search (rules, small)
 
 pub invariant_of-self-in-Err-plain_body_len : goal.invariant_of-self-in-Err-plain_body_len
@@ -148,7 +148,7 @@ pub invariant_of-self-in-Ok-take_plain_bytes : goal.invariant_of-self-in-Ok-take
 invariant_of-self-in-Ok-take_plain_bytes c =
     let inv = c.self.invariant.1 (ap (λ (lexer : LexerView). lexer.has_ended) c.self.view_is ∙ c.requires) in
     let is = c.in-Ok-take_plain_bytes.ensures.ahead _ _ (c.plain_body_len.ensures.ahead _ _ (c.bytes_opener.ensures.ahead _ _ (c.fstring_opener.ensures.ahead _ _ (c.short_word.ensures.ahead _ _ inv.1)))) in
-    let further = one_more (map shown_lexeme (outcome c.self.inside.text.now).lexemes) c.self.inside.handed_out _ is.0 is.1 in
+    let further = one_more (map shown_lexeme (outcome c.self.inside.text.now).lexemes) c.self.inside.yielded_count _ is.0 is.1 in
     let front = front_looked c.self.inside.text.now c.self.inside.reader c.self.inside.looked_to c.self.inside.looked (sym c.is_front.ensures ∙ c.if-not-is_front.false) (c.self.invariant.3 (ap (λ (lexer : LexerView). lexer.has_ended) c.self.view_is ∙ c.requires)) in
     let paid = front.2 in
     let short = here_reads c.self.inside.text.now paid.0 3 3 c.self.inside.reader c.short_word.new.self paid.2 c.short_word.ensures.looked in
@@ -166,32 +166,32 @@ pub returns-in-Ok-take_plain_bytes-clause-item : goal.returns-in-Ok-take_plain_b
 returns-in-Ok-take_plain_bytes-clause-item c =
     let inv = c.self.invariant.1 (ap (λ (lexer : LexerView). lexer.has_ended) c.self.view_is ∙ c.requires) in
     let is = c.in-Ok-take_plain_bytes.ensures.ahead _ _ (c.plain_body_len.ensures.ahead _ _ (c.bytes_opener.ensures.ahead _ _ (c.fstring_opener.ensures.ahead _ _ (c.short_word.ensures.ahead _ _ inv.1)))) in
-    rw (← c.self.view_is) (rw (lexeme_item c.self.inside.text.now c.self.inside.handed_out _ is.0 is.1) refl)
+    rw (← c.self.view_is) (rw (lexeme_item c.self.inside.text.now c.self.inside.yielded_count _ is.0 is.1) refl)
 
 pub returns-in-Ok-take_plain_bytes-clause-within : goal.returns-in-Ok-take_plain_bytes-clause-within
 returns-in-Ok-take_plain_bytes-clause-within c =
     let inv = c.self.invariant.1 (ap (λ (lexer : LexerView). lexer.has_ended) c.self.view_is ∙ c.requires) in
     let is = c.in-Ok-take_plain_bytes.ensures.ahead _ _ (c.plain_body_len.ensures.ahead _ _ (c.bytes_opener.ensures.ahead _ _ (c.fstring_opener.ensures.ahead _ _ (c.short_word.ensures.ahead _ _ inv.1)))) in
-    rw (← c.self.view_is) (lexeme_within c.self.inside.text.now c.self.inside.handed_out _ is.0 c.self.invariant.0 is.1)
+    rw (← c.self.view_is) (lexeme_within c.self.inside.text.now c.self.inside.yielded_count _ is.0 c.self.invariant.0 is.1)
 
 pub returns-in-Err-take_plain_bytes-clause-item : goal.returns-in-Err-take_plain_bytes-clause-item
 returns-in-Err-take_plain_bytes-clause-item c =
     let inv = c.self.invariant.1 (ap (λ (lexer : LexerView). lexer.has_ended) c.self.view_is ∙ c.requires) in
-    let item = some_item c.self.inside.text.now c.self.inside.handed_out inv.0 (c.in-Err-take_plain_bytes.ensures.memory _ _ (c.plain_body_len.ensures.ahead _ _ (c.bytes_opener.ensures.ahead _ _ (c.fstring_opener.ensures.ahead _ _ (c.short_word.ensures.ahead _ _ inv.1))))) in
+    let item = some_item c.self.inside.text.now c.self.inside.yielded_count inv.0 (c.in-Err-take_plain_bytes.ensures.memory _ _ (c.plain_body_len.ensures.ahead _ _ (c.bytes_opener.ensures.ahead _ _ (c.fstring_opener.ensures.ahead _ _ (c.short_word.ensures.ahead _ _ inv.1))))) in
     rw (← c.self.view_is) (rw item.1 tt)
 
 pub overflow_add-self-then-bang_stands : goal.overflow_add-self-then-bang_stands
 overflow_add-self-then-bang_stands c =
     let inv = c.self.invariant.1 (ap (λ (lexer : LexerView). lexer.has_ended) c.self.view_is ∙ c.requires) in
     let few = lexemes_few c.self.inside.text.now c.self.invariant.0 in
-    let small : c.self.inside.handed_out + 1 ≤ 2 ^ 34 = omega (arith, inv.0, few) in
+    let small : c.self.inside.yielded_count + 1 ≤ 2 ^ 34 = omega (arith, inv.0, few) in
     search (rules, small)
 
 pub invariant_of-self-then-bang_stands : goal.invariant_of-self-then-bang_stands
 invariant_of-self-then-bang_stands c =
     let inv = c.self.invariant.1 (ap (λ (lexer : LexerView). lexer.has_ended) c.self.view_is ∙ c.requires) in
     let is = c.take_bang-lexeme.ensures.ahead _ _ (c.bang_stands.ensures.ahead _ _ (c.bytes_opener.ensures.ahead _ _ (c.fstring_opener.ensures.ahead _ _ (c.short_word.ensures.ahead _ _ inv.1)))) in
-    let further = one_more (map shown_lexeme (outcome c.self.inside.text.now).lexemes) c.self.inside.handed_out _ is.0 is.1 in
+    let further = one_more (map shown_lexeme (outcome c.self.inside.text.now).lexemes) c.self.inside.yielded_count _ is.0 is.1 in
     let looked = front_looked c.self.inside.text.now c.self.inside.reader c.self.inside.looked_to c.self.inside.looked (sym c.is_front.ensures ∙ c.if-not-is_front.false) (c.self.invariant.3 (ap (λ (lexer : LexerView). lexer.has_ended) c.self.view_is ∙ c.requires)) in
     let paid = looked.2 in
     let short = here_reads c.self.inside.text.now paid.0 3 3 c.self.inside.reader c.short_word.new.self paid.2 c.short_word.ensures.looked in
@@ -210,26 +210,26 @@ pub returns-then-bang_stands-clause-item : goal.returns-then-bang_stands-clause-
 returns-then-bang_stands-clause-item c =
     let inv = c.self.invariant.1 (ap (λ (lexer : LexerView). lexer.has_ended) c.self.view_is ∙ c.requires) in
     let is = c.take_bang-lexeme.ensures.ahead _ _ (c.bang_stands.ensures.ahead _ _ (c.bytes_opener.ensures.ahead _ _ (c.fstring_opener.ensures.ahead _ _ (c.short_word.ensures.ahead _ _ inv.1)))) in
-    rw (← c.self.view_is) (rw (lexeme_item c.self.inside.text.now c.self.inside.handed_out _ is.0 is.1) refl)
+    rw (← c.self.view_is) (rw (lexeme_item c.self.inside.text.now c.self.inside.yielded_count _ is.0 is.1) refl)
 
 pub returns-then-bang_stands-clause-within : goal.returns-then-bang_stands-clause-within
 returns-then-bang_stands-clause-within c =
     let inv = c.self.invariant.1 (ap (λ (lexer : LexerView). lexer.has_ended) c.self.view_is ∙ c.requires) in
     let is = c.take_bang-lexeme.ensures.ahead _ _ (c.bang_stands.ensures.ahead _ _ (c.bytes_opener.ensures.ahead _ _ (c.fstring_opener.ensures.ahead _ _ (c.short_word.ensures.ahead _ _ inv.1)))) in
-    rw (← c.self.view_is) (lexeme_within c.self.inside.text.now c.self.inside.handed_out _ is.0 c.self.invariant.0 is.1)
+    rw (← c.self.view_is) (lexeme_within c.self.inside.text.now c.self.inside.yielded_count _ is.0 c.self.invariant.0 is.1)
 
 pub overflow_add-self-in-Ok-take_comment : goal.overflow_add-self-in-Ok-take_comment
 overflow_add-self-in-Ok-take_comment c =
     let inv = c.self.invariant.1 (ap (λ (lexer : LexerView). lexer.has_ended) c.self.view_is ∙ c.requires) in
     let few = lexemes_few c.self.inside.text.now c.self.invariant.0 in
-    let small : c.self.inside.handed_out + 1 ≤ 2 ^ 34 = omega (arith, inv.0, few) in
+    let small : c.self.inside.yielded_count + 1 ≤ 2 ^ 34 = omega (arith, inv.0, few) in
     search (rules, small)
 
 pub invariant_of-self-in-Ok-take_comment : goal.invariant_of-self-in-Ok-take_comment
 invariant_of-self-in-Ok-take_comment c =
     let inv = c.self.invariant.1 (ap (λ (lexer : LexerView). lexer.has_ended) c.self.view_is ∙ c.requires) in
     let is = c.in-Ok-take_comment.ensures.ahead _ _ (c.comment_len.ensures.ahead _ _ (c.bang_stands.ensures.ahead _ _ (c.bytes_opener.ensures.ahead _ _ (c.fstring_opener.ensures.ahead _ _ (c.short_word.ensures.ahead _ _ inv.1))))) in
-    let further = one_more (map shown_lexeme (outcome c.self.inside.text.now).lexemes) c.self.inside.handed_out _ is.0 is.1 in
+    let further = one_more (map shown_lexeme (outcome c.self.inside.text.now).lexemes) c.self.inside.yielded_count _ is.0 is.1 in
     let looked = front_looked c.self.inside.text.now c.self.inside.reader c.self.inside.looked_to c.self.inside.looked (sym c.is_front.ensures ∙ c.if-not-is_front.false) (c.self.invariant.3 (ap (λ (lexer : LexerView). lexer.has_ended) c.self.view_is ∙ c.requires)) in
     let paid = looked.2 in
     let short = here_reads c.self.inside.text.now paid.0 3 3 c.self.inside.reader c.short_word.new.self paid.2 c.short_word.ensures.looked in
@@ -250,18 +250,18 @@ pub returns-in-Ok-take_comment-clause-item : goal.returns-in-Ok-take_comment-cla
 returns-in-Ok-take_comment-clause-item c =
     let inv = c.self.invariant.1 (ap (λ (lexer : LexerView). lexer.has_ended) c.self.view_is ∙ c.requires) in
     let is = c.in-Ok-take_comment.ensures.ahead _ _ (c.comment_len.ensures.ahead _ _ (c.bang_stands.ensures.ahead _ _ (c.bytes_opener.ensures.ahead _ _ (c.fstring_opener.ensures.ahead _ _ (c.short_word.ensures.ahead _ _ inv.1))))) in
-    rw (← c.self.view_is) (rw (lexeme_item c.self.inside.text.now c.self.inside.handed_out _ is.0 is.1) refl)
+    rw (← c.self.view_is) (rw (lexeme_item c.self.inside.text.now c.self.inside.yielded_count _ is.0 is.1) refl)
 
 pub returns-in-Ok-take_comment-clause-within : goal.returns-in-Ok-take_comment-clause-within
 returns-in-Ok-take_comment-clause-within c =
     let inv = c.self.invariant.1 (ap (λ (lexer : LexerView). lexer.has_ended) c.self.view_is ∙ c.requires) in
     let is = c.in-Ok-take_comment.ensures.ahead _ _ (c.comment_len.ensures.ahead _ _ (c.bang_stands.ensures.ahead _ _ (c.bytes_opener.ensures.ahead _ _ (c.fstring_opener.ensures.ahead _ _ (c.short_word.ensures.ahead _ _ inv.1))))) in
-    rw (← c.self.view_is) (lexeme_within c.self.inside.text.now c.self.inside.handed_out _ is.0 c.self.invariant.0 is.1)
+    rw (← c.self.view_is) (lexeme_within c.self.inside.text.now c.self.inside.yielded_count _ is.0 c.self.invariant.0 is.1)
 
 pub returns-in-Err-take_comment-clause-item : goal.returns-in-Err-take_comment-clause-item
 returns-in-Err-take_comment-clause-item c =
     let inv = c.self.invariant.1 (ap (λ (lexer : LexerView). lexer.has_ended) c.self.view_is ∙ c.requires) in
-    let item = some_item c.self.inside.text.now c.self.inside.handed_out inv.0 (c.in-Err-take_comment.ensures.memory _ _ (c.comment_len.ensures.ahead _ _ (c.bang_stands.ensures.ahead _ _ (c.bytes_opener.ensures.ahead _ _ (c.fstring_opener.ensures.ahead _ _ (c.short_word.ensures.ahead _ _ inv.1)))))) in
+    let item = some_item c.self.inside.text.now c.self.inside.yielded_count inv.0 (c.in-Err-take_comment.ensures.memory _ _ (c.comment_len.ensures.ahead _ _ (c.bang_stands.ensures.ahead _ _ (c.bytes_opener.ensures.ahead _ _ (c.fstring_opener.ensures.ahead _ _ (c.short_word.ensures.ahead _ _ inv.1)))))) in
     rw (← c.self.view_is) (rw item.1 tt)
 
 pub invariant_of-self-in_default-comment_len : goal.invariant_of-self-in_default-comment_len

@@ -23,14 +23,14 @@ pub overflow_add-self-in-Ok-take_plain_text : goal.overflow_add-self-in-Ok-take_
 overflow_add-self-in-Ok-take_plain_text c =
     let inv = c.self.invariant.1 (ap (λ (lexer : LexerView). lexer.has_ended) c.self.view_is ∙ c.requires) in
     let few = lexemes_few c.self.inside.text.now c.self.invariant.0 in
-    let small : c.self.inside.handed_out + 1 ≤ 2 ^ 34 = omega (arith, inv.0, few) in
+    let small : c.self.inside.yielded_count + 1 ≤ 2 ^ 34 = omega (arith, inv.0, few) in
     search (rules, small)
 
 pub invariant_of-self-in-Ok-take_plain_text : goal.invariant_of-self-in-Ok-take_plain_text
 invariant_of-self-in-Ok-take_plain_text c =
     let inv = c.self.invariant.1 (ap (λ (lexer : LexerView). lexer.has_ended) c.self.view_is ∙ c.requires) in
     let is = c.in-Ok-take_plain_text.ensures.ahead _ _ (c.plain_body_len.ensures.ahead _ _ (c.text_opener.ensures.ahead _ _ inv.1)) in
-    let further = one_more (map shown_lexeme (outcome c.self.inside.text.now).lexemes) c.self.inside.handed_out _ is.0 is.1 in
+    let further = one_more (map shown_lexeme (outcome c.self.inside.text.now).lexemes) c.self.inside.yielded_count _ is.0 is.1 in
     let front = front_looked c.self.inside.text.now c.self.inside.reader c.self.inside.looked_to c.self.inside.looked (sym c.is_front.ensures ∙ c.if-not-is_front.false) (c.self.invariant.3 (ap (λ (lexer : LexerView). lexer.has_ended) c.self.view_is ∙ c.requires)) in
     let paid = front.2 in
     let opener = text_opener_len (drop c.text_opener.new.self.at c.self.inside.text.now) c.in-Some.field-0.is_raw c.in-Some.field-0.quote c.in-Some.field-0.len c.in-Some.ensures.stands.front in
@@ -47,18 +47,18 @@ pub returns-in-Ok-take_plain_text-clause-item : goal.returns-in-Ok-take_plain_te
 returns-in-Ok-take_plain_text-clause-item c =
     let inv = c.self.invariant.1 (ap (λ (lexer : LexerView). lexer.has_ended) c.self.view_is ∙ c.requires) in
     let is = c.in-Ok-take_plain_text.ensures.ahead _ _ (c.plain_body_len.ensures.ahead _ _ (c.text_opener.ensures.ahead _ _ inv.1)) in
-    rw (← c.self.view_is) (rw (lexeme_item c.self.inside.text.now c.self.inside.handed_out _ is.0 is.1) refl)
+    rw (← c.self.view_is) (rw (lexeme_item c.self.inside.text.now c.self.inside.yielded_count _ is.0 is.1) refl)
 
 pub returns-in-Ok-take_plain_text-clause-within : goal.returns-in-Ok-take_plain_text-clause-within
 returns-in-Ok-take_plain_text-clause-within c =
     let inv = c.self.invariant.1 (ap (λ (lexer : LexerView). lexer.has_ended) c.self.view_is ∙ c.requires) in
     let is = c.in-Ok-take_plain_text.ensures.ahead _ _ (c.plain_body_len.ensures.ahead _ _ (c.text_opener.ensures.ahead _ _ inv.1)) in
-    rw (← c.self.view_is) (lexeme_within c.self.inside.text.now c.self.inside.handed_out _ is.0 c.self.invariant.0 is.1)
+    rw (← c.self.view_is) (lexeme_within c.self.inside.text.now c.self.inside.yielded_count _ is.0 c.self.invariant.0 is.1)
 
 pub returns-in-Err-take_plain_text-clause-item : goal.returns-in-Err-take_plain_text-clause-item
 returns-in-Err-take_plain_text-clause-item c =
     let inv = c.self.invariant.1 (ap (λ (lexer : LexerView). lexer.has_ended) c.self.view_is ∙ c.requires) in
-    let item = some_item c.self.inside.text.now c.self.inside.handed_out inv.0 (c.in-Err-take_plain_text.ensures.memory _ _ (c.plain_body_len.ensures.ahead _ _ (c.text_opener.ensures.ahead _ _ inv.1))) in
+    let item = some_item c.self.inside.text.now c.self.inside.yielded_count inv.0 (c.in-Err-take_plain_text.ensures.memory _ _ (c.plain_body_len.ensures.ahead _ _ (c.text_opener.ensures.ahead _ _ inv.1))) in
     rw (← c.self.view_is) (rw item.1 tt)
 
 pub overflow_add-self : goal.overflow_add-self

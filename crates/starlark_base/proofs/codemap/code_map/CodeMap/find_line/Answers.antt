@@ -3,16 +3,16 @@ use Rattle.std.proofs.lemmas.List.Sorted.{IsPartitionPoint-from_clause}
 use Rattle.std.specs.List.Sorted.{IsPartitionedBy, IsPartitionPoint}
 use Rattle.starlark_base.specs.Places.{place_after}
 use Rattle.starlark_base.specs.Starts.{line_starts}
-use Rattle.starlark_base.proofs.LineFeeds.{feeds, feeds_count, feeds_within, found_line, starts_partitioned}
+use Rattle.starlark_base.proofs.LineFeeds.{lf_search, feeds_count, feeds_within, found_line, starts_partitioned}
 use Rattle.starlark_base.proofs.codemap.code_map.CodeMap.find_line.Goals as goal
 
-found : (text xs : List ℕ) (at n : ℕ) → xs ≡ line_starts text → at ≤ length text → n ≤ length xs → IsPartitionPoint (λ start. leb start at ≡ true) (λ start. leb start at ≡ false) xs n → n ≡ suc (feeds (take at text))
+found : (text xs : List ℕ) (at n : ℕ) → xs ≡ line_starts text → at ≤ length text → n ≤ length xs → IsPartitionPoint (λ start. leb start at ≡ true) (λ start. leb start at ≡ false) xs n → n ≡ suc (lf_search (take at text))
 found text xs at n e within bound parts = found_line text at n within (rw e at bound) (rw e at parts)
 
 partitioned : (text xs : List ℕ) (at : ℕ) → xs ≡ line_starts text → IsPartitionedBy (λ start. leb start at) xs
 partitioned text xs at e = rw e (starts_partitioned text at)
 
-result : (c : goal.After-partition_point) → c.partition_point.result ≡ suc (feeds (take c.args.pos c.args.self.now.source))
+result : (c : goal.After-partition_point) → c.partition_point.result ≡ suc (lf_search (take c.args.pos c.args.self.now.source))
 result c =
     let s = c.args.self.now.source in
     let at = c.args.pos in

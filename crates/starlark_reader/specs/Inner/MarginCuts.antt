@@ -1,0 +1,36 @@
+-- Places where a text may be cut, in margins of which the lexemes are still to be handed out.
+use Rattle.std.specs.Prelude.{◌≡◌, ◌≤◌, ◌<◌, true, ℕ, ◌+◌, List, ◌++◌, length, drop, sum_by, take, ◌⊎◌}
+use Rattle.starlark_grammar.specs.Words.{Text, language}
+use Rattle.starlark_grammar.specs.Margins.{lines}
+use Rattle.starlark_grammar.specs.Reading.{outcome, pieces_len, read}
+use Rattle.starlark_grammar.specs.Cuts.{is_clean_cut, is_kept_cut, without_closing}
+use Rattle.starlark_layout.specs.Inner.Pending.{lines_between}
+use Rattle.starlark_layout.specs.declared.pending.Pending.{Pending}
+
+-- how many lexemes of a text stand before a kept cut
+abbrev pub lexemes_before : Text → ℕ → ℕ
+lexemes_before text at = length (without_closing (outcome (take at text)).lexemes)
+
+-- A kept cut of a text, which lies before its end, behind all lexemes but so many.
+pub record IsCutBefore (text : Text) (at ahead : ℕ) : Type 0 where
+  pub inside : at < length text
+  pub is_kept : is_kept_cut text at ≡ true
+  pub count : lexemes_before text at + ahead ≡ length (outcome text).lexemes
+
+-- A place lies behind so many of the lines of which the comments are still to be handed out: behind all lexemes of the text
+-- but so many.
+pub record IsAfterLines (text : Text) (pending : Pending) (at behind ahead : ℕ) : Type 0 where
+  pub passed : ℕ
+  pub few : passed ≤ length (lines_between text pending.from pending.to)
+  pub place : at ≡ pending.from + sum_by (λ (line : Text). length line) (take passed (lines_between text pending.from pending.to))
+  pub count : behind + passed ≡ ahead
+
+-- In a margin before which nothing is open, all lexemes before a place were handed out, and so many of the text are ahead.
+-- The place is the margin's begin, or behind a line of it.
+pub record IsMarginAhead (text : Text) (pending : Pending) (ahead : ℕ) : Type 0 where
+  pub before : ℕ
+  pub more : List Text
+  pub lines_left : lines (drop pending.from text) ≡ lines_between text pending.from pending.to ++ more
+  pub reach : pending.to ≤ pieces_len (read language text).pieces
+  pub known : ((pending.from ≡ 0) × (before ≡ 0)) ⊎ ((is_clean_cut (take pending.from text) ≡ true) × (lexemes_before text pending.from ≡ before))
+  pub count : before + ahead ≡ length (outcome text).lexemes

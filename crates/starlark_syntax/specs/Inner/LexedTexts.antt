@@ -1,0 +1,122 @@
+-- The lexemes and cuts of a lexed text, as the code stores them.
+use Rattle.std.specs.Prelude.{◌≡◌, Bool, true, false, ℕ, suc, ◌+◌, ◌-◌, ◌<◌, ◌≤◌, ◌^◌, List, [], ◌∷◌, map, length, drop, take, slice_get, ◌==◌, Option, Some, None, ⊤, ◌⊎◌}
+use Rattle.std.specs.List.{AllByRecursion, list_any}
+use Rattle.starlark_token.specs.declared.lexeme_error.LexemeError.{LexemeError}
+use Rattle.starlark_grammar.specs.Words.{Text}
+use Rattle.starlark_grammar.specs.Tokens as grammar
+use Rattle.starlark_grammar.specs.Reading.{outcome}
+use Rattle.starlark_grammar.specs.Cuts.{is_clean_cut, is_kept_cut}
+use Rattle.starlark_token.specs.TokenViews.{TokenView, Whole}
+use Rattle.starlark_token.specs.declared.tokens.Token.{Token}
+use Rattle.starlark_token.specs.Lexemes.{fault_view, lexeme_view, shown_lexeme}
+use Rattle.starlark_reader.specs.Inner.MarginCuts.{lexemes_before}
+use Rattle.starlark_reader.specs.Inner.Reader.{begins_with_tab}
+use Rattle.starlark_syntax.specs.declared.cuts.Begin.{Begin}
+use Rattle.starlark_syntax.specs.declared.cuts.Cut.{Cut}
+use Rattle.starlark_syntax.specs.declared.parts.Part.{Part}
+use Rattle.starlark_syntax.specs.declared.tails.Kept.{Kept}
+
+-- a lexeme, moved by `len` bytes
+abbrev pub later : ℕ → ℕ × Token × ℕ → ℕ × Token × ℕ
+later len lexeme = (len + lexeme.0, lexeme.1, len + lexeme.2)
+
+-- the lexemes' begins and ends are less than 2^32
+abbrev pub AllNear : List (ℕ × Token × ℕ) → Type 0
+AllNear lexemes = AllByRecursion (λ (lexeme : ℕ × Token × ℕ). (lexeme.0 < 2 ^ 32) × (lexeme.2 < 2 ^ 32)) lexemes
+
+-- a cut, moved by `len` bytes and `count` lexemes
+abbrev pub later_cut : ℕ → ℕ → Cut → Cut
+later_cut len count cut = record { at = len + cut.at; lexemes = count + cut.lexemes }
+
+-- the cuts' offsets are less than 2^32, and their numbers of lexemes less than 2^34
+abbrev pub AllNearCuts : List Cut → Type 0
+AllNearCuts cuts = AllByRecursion (λ (cut : Cut). (cut.at < 2 ^ 32) × (cut.lexemes < 2 ^ 34)) cuts
+
+-- the cut is a kept cut of the text, with the number of lexemes before it
+pub record IsCutOf (text : Text) (cut : Cut) : Type 0 where
+  pub inside : cut.at ≤ length text
+  pub is_kept : is_kept_cut text cut.at ≡ true
+  pub lexemes : cut.lexemes ≡ lexemes_before text cut.at
+
+-- the cuts' offsets rise
+abbrev pub IsRising : List Cut → Type 0
+IsRising [] = ⊤
+IsRising (cut ∷ cuts) = AllByRecursion (λ (behind : Cut). cut.at < behind.at) cuts × IsRising cuts
+
+-- whether one of the cuts has the offset `at`
+abbrev pub holds_cut : ℕ → List Cut → Bool
+holds_cut at cuts = list_any (λ (cut : Cut). cut.at == at) cuts
+
+-- the cuts are all kept cuts of the text, in order
+pub record AreCuts (text : Text) (cuts : List Cut) : Type 0 where
+  pub each : AllByRecursion (IsCutOf text) cuts
+  pub order : IsRising cuts
+  pub all : (at : ℕ) → is_kept_cut text at ≡ true → holds_cut at cuts ≡ true
+
+-- all cuts but the first `count` are after byte `from`
+abbrev pub AreBeyond : List Cut → ℕ → ℕ → Type 0
+AreBeyond cuts from count = AllByRecursion (λ (cut : Cut). from < cut.at) (drop count cuts)
+
+-- the last of the first `count` cuts is at or before byte `from`
+abbrev pub IsUpTo : List Cut → ℕ → ℕ → Type 0
+IsUpTo cuts from count = 0 < count → (cut : Cut) → slice_get cuts (count - 1) ≡ Some cut → cut.at ≤ from
+
+-- the start of the text, or one of its kept cuts, at or before byte `from`; and the number of cuts
+-- up to it, if all others are after byte `from`
+pub record IsBegin (text : Text) (cuts : List Cut) (from : ℕ) (begin : Begin) : Type 0 where
+  pub before : begin.at ≤ from
+  pub stands : ((begin.at ≡ 0) × (begin.lexemes ≡ 0)) ⊎ IsCutOf text (record { at = begin.at; lexemes = begin.lexemes })
+  pub few : begin.cuts ≤ length cuts
+  pub up_to : AllByRecursion (λ (cut : Cut). cut.at ≤ begin.at) (take begin.cuts cuts)
+  pub beyond : AreBeyond cuts from begin.cuts
+
+-- the cut at an offset, if there is one
+abbrev pub cuts_at : Option ℕ → ℕ → List Cut
+cuts_at None count = []
+cuts_at (Some at) count = record { at = at; lexemes = count } ∷ []
+
+-- the cut at the end of a text that is a clean cut
+abbrev pub end_cuts : Text → ℕ → Bool → List Cut
+end_cuts text count true = record { at = length text; lexemes = count - 1 } ∷ []
+end_cuts text count false = []
+
+-- the lexemes before a `Newline` are kept, and the cuts at or before it; the fault begins there
+pub record IsTakenBack (lexemes : List (ℕ × Token × ℕ)) (cuts : List Cut) (last : ℕ) (kept : Kept) : Type 0 where
+  pub count : kept.lexemes ≡ last
+  pub gives_none : kept.gives_more ≡ false
+  pub place : (lexeme : ℕ × Token × ℕ) → slice_get lexemes last ≡ Some lexeme → kept.fault_at ≡ lexeme.0
+  pub few : kept.cuts ≤ length cuts
+  pub up_to : IsUpTo cuts kept.fault_at kept.cuts
+  pub beyond : AreBeyond cuts kept.fault_at kept.cuts
+
+-- a fault of the code with its begin and end is that of the grammar
+abbrev pub IsPlacedFault : Option (grammar.Spanned grammar.Fault) → Option (ℕ × LexemeError × ℕ) → Type 0
+IsPlacedFault None None = ⊤
+IsPlacedFault (Some fault) (Some placed) = (fault_view placed.1 ≡ Some fault.node) × (placed.0 ≡ fault.begin) × (placed.2 ≡ fault.end)
+IsPlacedFault fault placed = ⊥
+
+-- the part has the lexemes, the fault and the cuts of the text
+pub record IsPart (text : Text) (part : Part) : Type 0 where
+  pub lexemes : map lexeme_view part.lexemes.items ≡ map shown_lexeme (outcome text).lexemes
+  pub fault : IsPlacedFault (outcome text).fault part.fault
+  pub cuts : AreCuts text part.cuts.items
+  pub is_cut : part.is_cut ≡ is_clean_cut text
+  pub tab : part.has_tab ≡ begins_with_tab text
+
+-- the token is `Newline`
+abbrev pub is_newline_view : TokenView → Bool
+is_newline_view (Whole grammar.Newline) = true
+is_newline_view view = false
+
+-- the index of the last `Newline` in a list
+abbrev pub last_newline_of : List (grammar.Spanned TokenView) → Option ℕ
+last_newline_of [] = None
+last_newline_of (lexeme ∷ lexemes) = by (last_newline_of lexemes)
+  where
+    by : Option ℕ → Option ℕ
+    by (Some at) = Some (suc at)
+    by None = one (is_newline_view lexeme.node)
+      where
+        one : Bool → Option ℕ
+        one true = Some 0
+        one false = None
