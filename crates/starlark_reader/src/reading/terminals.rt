@@ -12,8 +12,8 @@ use starlark_nesting::{LexerMode, Nesting};
 use starlark_scanner::scanner::Terminal;
 use starlark_token::tokens::Token;
 
-#[tactic(auto, unfolding(starlark_token::specs::TokenViews::token_view))]
 /// The token of a word that is one of its own.
+#[tactic(auto, unfolding(starlark_token::specs::TokenViews::token_view))]
 #[inline(always)]
 fn own_token(terminal: Terminal) -> Token
     ensures { token_view result ≡ Whole (Word terminal) }
@@ -80,8 +80,8 @@ fn own_token(terminal: Terminal) -> Token
     }
 }
 
-#[tactic(auto, unfolding(starlark_token::specs::TokenViews::token_view))]
 /// The token of such a word at a place. At the top of an expression of an f-string a closing brace ends the expression.
+#[tactic(auto, unfolding(starlark_token::specs::TokenViews::token_view))]
 #[inline(always)]
 pub fn terminal_token(place: LexerMode, terminal: Terminal) -> Token
     ensures token { token_view result ≡ Whole (grammar.terminal_token (mode_view place) terminal) }

@@ -26,8 +26,8 @@ pub fn is_mark_alone(text: &[u8]) -> bool
     }
 }
 
-#[tactic(auto, unfolding(starlark_grammar::specs::Words::class_in, starlark_grammar::specs::Words::line_ends, starlark_grammar::specs::Words::symbols))]
 /// The class of a mark of one byte.
+#[tactic(auto, unfolding(starlark_grammar::specs::Words::class_in, starlark_grammar::specs::Words::line_ends, starlark_grammar::specs::Words::symbols))]
 #[inline(always)]
 fn single(byte: u8) -> Option<Class>
     ensures { result ≡ class_in marks (byte ∷ []) }
@@ -60,8 +60,8 @@ fn single(byte: u8) -> Option<Class>
     }
 }
 
-#[tactic(auto, unfolding(starlark_grammar::specs::Words::class_in, starlark_grammar::specs::Words::line_ends, starlark_grammar::specs::Words::symbols))]
 /// The class of a mark of two bytes.
+#[tactic(auto, unfolding(starlark_grammar::specs::Words::class_in, starlark_grammar::specs::Words::line_ends, starlark_grammar::specs::Words::symbols))]
 #[inline(always)]
 fn double(first: u8, second: u8) -> Option<Class>
     ensures { result ≡ class_in marks (first ∷ second ∷ []) }
@@ -90,8 +90,8 @@ fn double(first: u8, second: u8) -> Option<Class>
     }
 }
 
-#[tactic(auto, unfolding(starlark_grammar::specs::Words::class_in, starlark_grammar::specs::Words::line_ends, starlark_grammar::specs::Words::symbols))]
 /// The class of a mark of three bytes.
+#[tactic(auto, unfolding(starlark_grammar::specs::Words::class_in, starlark_grammar::specs::Words::line_ends, starlark_grammar::specs::Words::symbols))]
 fn triple(first: u8, second: u8, third: u8) -> Option<Class>
     ensures { result ≡ class_in marks (first ∷ second ∷ third ∷ []) }
 {

@@ -27,8 +27,8 @@ enum Listing {
 /// The greatest length of a literal's prefix.
 const PREFIX_LEN: usize = 2;
 
-#[tactic(auto, unfolding(starlark_grammar::specs::Words::names))]
 /// Whether a keyword or a reserved word of a length begins with two bytes.
+#[tactic(auto, unfolding(starlark_grammar::specs::Words::names))]
 #[inline(always)]
 fn begin_listed_name(first: u8, second: u8, len: usize) -> bool
     ensures { result ≡ begin_listed_name first second len }

@@ -89,8 +89,8 @@ fn opener(kind: LiteralKind, is_raw: bool, quote: Quote) -> Class
     }
 }
 
-#[tactic(auto, unfolding(starlark_grammar::specs::Words::openers))]
 /// The opener that a quote is without a prefix.
+#[tactic(auto, unfolding(starlark_grammar::specs::Words::openers))]
 fn without_prefix(quote: u8) -> Option<Class>
     ensures { result ≡ lookup (bytes_eq (quote ∷ [])) grammar.openers }
 {
@@ -101,8 +101,8 @@ fn without_prefix(quote: u8) -> Option<Class>
     }
 }
 
-#[tactic(auto, unfolding(starlark_grammar::specs::Words::openers))]
 /// The opener of a prefix of one letter and a quote.
+#[tactic(auto, unfolding(starlark_grammar::specs::Words::openers))]
 fn with_letter(prefix: u8, quote: u8) -> Option<Class>
     ensures { result ≡ lookup (bytes_eq (prefix ∷ quote ∷ [])) grammar.openers }
 {
@@ -117,8 +117,8 @@ fn with_letter(prefix: u8, quote: u8) -> Option<Class>
     }
 }
 
-#[tactic(auto, unfolding(starlark_grammar::specs::Words::openers))]
 /// The opener of a prefix of two letters and a quote.
+#[tactic(auto, unfolding(starlark_grammar::specs::Words::openers))]
 fn with_letters(first: u8, second: u8, quote: u8) -> Option<Class>
     ensures { result ≡ lookup (bytes_eq (first ∷ second ∷ quote ∷ [])) grammar.openers }
 {
