@@ -1,7 +1,9 @@
 //! Reads a text piece by piece, and keeps what later pieces depend on.
 
-ghost use Rattle.std.specs.Prelude.{◌≡◌, ◌≢◌, if◌then◌else◌, true, false, ◌<◌, ◌≤◌, ◌+◌, ◌-◌, ◌*◌, ◌^◌, [], ℕ, None, Some, List, Option, drop, length, map, nat_lt, OnErr, OnOk, IfErr, IfOk, IfSome};
+ghost use Rattle.std.specs.Prelude.{◌≡◌, ◌≢◌, if◌then◌else◌, true, false, ◌<◌, ◌≤◌, ◌+◌, ◌-◌, ◌*◌, ◌^◌, [], ℕ, None, Some, List, Option, codes, drop, length, map, nat_eq, nat_lt, OnErr, OnOk, IfErr, IfOk, IfSome};
+ghost use Rattle.std.specs.List.{ends_with};
 ghost use Rattle.std.specs.Str.{IsCharBoundary};
+ghost use Rattle.starlark_bytes.specs.Inner.Reads.{more_reads};
 ghost use Rattle.starlark_reader.specs.Inner.Steps.{IsStep};
 ghost use Rattle.starlark_token.specs.Lexemes.{shown_lexeme};
 ghost use Rattle.starlark_literals.specs.Inner.Literals.{IsPlainBody};
@@ -364,6 +366,15 @@ impl Reader {
             && is_outside(self.nesting.place())
             && self.nesting.is_balanced()
             && self.levels.len() == 0
+    }
+
+    /// Whether the text ends with an LF. The look at its last byte is counted.
+    pub fn ends_with_lf(&mut self, text: &str) -> bool
+        ensures value { result ≡ ends_with nat_eq text.now (codes "\n") }
+        ensures reads { self.new ≡ record self.old { reads = more_reads self.old.reads 1 } }
+    {
+        self.reads.count_run(0);
+        text.as_bytes().ends_with(b"\n")
     }
 
     /// Whether no piece of the text was read. Where the text has a fault, that is its first margin's, which has a tab.

@@ -6,9 +6,13 @@ ghost use Rattle.std.specs.Str.{IsCharBoundary};
 ghost use Rattle.starlark_base.specs.Refusals.{IsRefused};
 ghost use Rattle.starlark_base.specs.Sources.{SourceFile};
 ghost use Rattle.starlark_grammar.specs.Cuts.{is_clean_cut};
+ghost use Rattle.starlark_grammar.specs.Reading.{outcome};
+ghost use Rattle.starlark_grammar.specs.Words.{Text};
+ghost use Rattle.starlark_reader.specs.Inner.Reader.{IsAhead};
+ghost use Rattle.starlark_reader.specs.Inner.Reads.{HasRead};
 ghost use Rattle.starlark_syntax.specs.LexedTexts.{IsLexed, IsReadFrom};
 ghost use Rattle.starlark_syntax.specs.LexedTexts as texts;
-ghost use Rattle.starlark_token.specs.Lexemes.{lexeme_view};
+ghost use Rattle.starlark_token.specs.Lexemes.{lexeme_view, shown_lexeme};
 ghost use Rattle.starlark_token.specs.Lexemes.{IsWithin};
 
 use crate::cuts::{Cut, append_cuts, begin_of, is_cut_after};
@@ -18,8 +22,9 @@ use crate::tails::{append_later, given_after, kept_of, make_room};
 use starlark_base::codemap::{CodeMap, OrMemory, SourceTooLong};
 use starlark_base::dialect::Dialect;
 use starlark_reader::PlacedToken;
+use starlark_reader::reader::Reader;
 use starlark_token::tokens::Token;
-use std::alloc::Global;
+use std::alloc::{AllocError, Global};
 use std::marker::Model;
 
 /// A text with all its lexemes, and with its fault if it has one.
@@ -75,15 +80,35 @@ impl<'a> LexedText<'a> {
         if input.len() > u32::MAX as usize {
             return Err(OrMemory::Error(SourceTooLong));
         }
-        let part = read_part(alloc, input)?;
-        let fault = exception_of(alloc, part.fault, 0, &code_map)?;
+        let mut reader = Reader::new(alloc);
+        Ok(LexedText::lex_with(alloc, &mut reader, input, &code_map)?)
+    }
+
+    /// Lexes a text with a new reader, whose count of reads is that of the lexed text.
+    fn lex_with(
+        alloc: Global,
+        reader: &mut Reader,
+        input: &'a str,
+        code_map: &CodeMap,
+    ) -> Result<LexedText<'a>, AllocError>
+        requires fits { length input.now < 2 ^ 32 }
+        requires ahead { IsAhead input.now reader.old reader.old.stage (map shown_lexeme (outcome input.now).lexemes) (outcome input.now).fault }
+        requires unread { HasRead input.now 0 reader.old }
+        ensures text { IfOk result (λ lexed. lexed.text ≡ input.now) }
+        ensures lexed { IfOk result (λ lexed. IsLexed code_map.now lexed) }
+        ensures counted { IfOk result (λ lexed. lexed.reads ≡ reader.new.reads) }
+        ensures most_reads { IfOk result (λ lexed. lexed.reads ≤ 16 * (length input.now + 1)) }
+        ensures least_reads { IfOk result (λ lexed. lexed.fault ≡ None → length input.now ≤ lexed.reads) }
+    {
+        let part = read_part(alloc, reader, input)?;
+        let fault = exception_of(alloc, part.fault, 0, code_map)?;
         Ok(LexedText {
             text: input,
             lexemes: part.lexemes,
             fault,
             cuts: part.cuts,
             is_cut: part.is_cut,
-            reads: part.reads,
+            reads: reader.reads(),
         })
     }
 
@@ -216,11 +241,36 @@ impl<'a> LexedText<'a> {
         ensures reads { IfOk result (IsReadFrom self.entry edited.now from) }
         ensures refused { IfErr result (λ lexed. lexed ≡ self.entry) }
     {
+        let mut reader = Reader::new(*self.lexemes.allocator());
+        self.relex_with(&mut reader, from, edited, code_map)
+    }
+
+    /// Lexes the text again after an edit, with a new reader, whose count of reads is that of the
+    /// lexed text. It does what `relex` says.
+    fn relex_with(
+        self,
+        reader: &mut Reader,
+        from: usize,
+        edited: &'a str,
+        code_map: &CodeMap,
+    ) -> Result<LexedText<'a>, LexedText<'a>>
+        requires old { IsCharBoundary self.text from }
+        requires new { IsCharBoundary edited.now from }
+        requires same { take from self.text ≡ take from edited.now }
+        requires fits { length edited.now < 2 ^ 32 }
+        requires ahead { (text : Text) → IsAhead text reader.old reader.old.stage (map shown_lexeme (outcome text).lexemes) (outcome text).fault }
+        requires unread { (text : Text) → HasRead text 0 reader.old }
+        ensures text { IfOk result (λ lexed. lexed.text ≡ edited.now) }
+        ensures lexed { IfOk result (λ lexed. IsLexed code_map.now lexed) }
+        ensures counted { IfOk result (λ lexed. lexed.reads ≡ reader.new.reads) }
+        ensures reads { IfOk result (IsReadFrom self.entry edited.now from) }
+        ensures refused { IfErr result (λ lexed. lexed ≡ self.entry) }
+    {
         let mut old = self;
         let alloc = *old.lexemes.allocator();
         let begin = begin_of(&old.cuts, from);
         let rest = &edited[begin.at..];
-        let Ok(part) = read_part(alloc, rest) else {
+        let Ok(part) = read_part(alloc, reader, rest) else {
             return Err(old);
         };
         let kept = kept_of(&old.lexemes, &old.cuts, begin, part.has_tab);

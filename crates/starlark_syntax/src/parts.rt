@@ -1,9 +1,11 @@
 //! Lexes a whole text, or the rest of one.
 
-ghost use Rattle.std.specs.Prelude.{◌≡◌, ◌<◌, ◌≤◌, ◌+◌, ◌*◌, ◌^◌, ◌++◌, Option, None, IfOk, IfSome, OnOk, codes, length, nat_eq, option_map};
-ghost use Rattle.std.specs.List.{ends_with};
-ghost use Rattle.starlark_bytes.specs.Inner.Reads.{more_reads};
+ghost use Rattle.std.specs.Prelude.{◌≡◌, ◌<◌, ◌≤◌, ◌+◌, ◌*◌, ◌^◌, ◌++◌, Option, None, IfOk, IfSome, OnOk, length, map, option_map};
+ghost use Rattle.starlark_grammar.specs.Reading.{outcome};
 ghost use Rattle.starlark_grammar.specs.Tokens.{Fault, Spanned, moved};
+ghost use Rattle.starlark_reader.specs.Inner.Reader.{IsAhead};
+ghost use Rattle.starlark_reader.specs.Inner.Reads.{HasRead};
+ghost use Rattle.starlark_token.specs.Lexemes.{shown_lexeme};
 ghost use Rattle.starlark_syntax.specs.Inner.LexedTexts.{IsPart, IsPlacedFault, cuts_at, end_cuts};
 ghost use Rattle.starlark_syntax.specs.Exceptions.{IsFaultIn};
 
@@ -11,7 +13,6 @@ use crate::cuts::Cut;
 use crate::eval_exception::EvalException;
 use crate::fault_exception::exception;
 use starlark_base::codemap::CodeMap;
-use starlark_bytes::reads::Reads;
 use starlark_reader::PlacedToken;
 use starlark_reader::reader::{Next, Reader};
 use starlark_token::lexeme_error::LexemeError;
@@ -37,15 +38,6 @@ pub struct Part {
     pub has_tab: bool,
     /// Number of reads of bytes.
     pub reads: u64,
-}
-
-/// Whether the last byte of a text is an LF.
-fn ends_with_lf(reads: &mut Reads, text: &str) -> bool
-    ensures value { result ≡ ends_with nat_eq text.now (codes "\n") }
-    ensures reads { reads.new ≡ more_reads reads.old 1 }
-{
-    reads.count_run(0);
-    text.as_bytes().ends_with(b"\n")
 }
 
 /// Appends a cut at an offset after `lexemes` lexemes, if there is an offset.
@@ -78,14 +70,20 @@ fn with_end_cut(
     Ok(all)
 }
 
-/// Lexes a text up to its end or its first fault. Offsets count from the start of that text.
-pub fn read_part(alloc: Global, text: &str) -> Result<Part, AllocError>
+/// Lexes a text up to its end or its first fault, with a new reader. Offsets count from the start of
+/// that text.
+///
+/// The reads of the part are those that the reader has counted. After an error the reader isn't to be
+/// used again.
+pub fn read_part(alloc: Global, reader: &mut Reader, text: &str) -> Result<Part, AllocError>
     requires fits { length text.now < 2 ^ 32 }
+    requires ahead { IsAhead text.now reader.old reader.old.stage (map shown_lexeme (outcome text.now).lexemes) (outcome text.now).fault }
+    requires unread { HasRead text.now 0 reader.old }
     ensures part { IfOk result (IsPart text.now) }
+    ensures counted { IfOk result (λ part. part.reads ≡ reader.new.reads) }
     ensures most { IfOk result (λ part. part.reads ≤ 16 * (length text.now + 1)) }
     ensures least { IfOk result (λ part. part.fault ≡ None → length text.now ≤ part.reads) }
 {
-    let mut reader = Reader::new(alloc);
     let mut cuts = Vec::new(alloc);
     let mut lexemes = Vec::new(alloc);
     loop {
@@ -105,16 +103,16 @@ pub fn read_part(alloc: Global, text: &str) -> Result<Part, AllocError>
                 });
             }
             Next::Nothing => {
-                let mut reads = Reads::new();
-                let is_cut = reader.is_settled() && ends_with_lf(&mut reads, text);
+                let is_cut = reader.is_settled() && reader.ends_with_lf(text);
                 let cuts = with_end_cut(cuts, text, &lexemes, is_cut)?;
+                let reads = reader.reads();
                 return Ok(Part {
                     lexemes,
                     fault: None,
                     cuts,
                     is_cut,
                     has_tab: false,
-                    reads: reader.reads().saturating_add(reads.count()),
+                    reads,
                 });
             }
         }

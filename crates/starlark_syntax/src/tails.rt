@@ -80,6 +80,7 @@ pub fn kept_of(lexemes: &[PlacedToken], cuts: &[Cut], begin: Begin, has_tab: boo
     requires { begin.lexemes ≤ length lexemes.now }
     ensures plain { has_tab ≡ false → result ≡ record { lexemes = begin.lexemes; cuts = begin.cuts; fault_at = begin.at; gives_more = true } }
     ensures comments { has_tab ≡ true → last_newline_of (map lexeme_view (take begin.lexemes lexemes.now)) ≡ None → result ≡ record { lexemes = begin.lexemes; cuts = 0; fault_at = 0; gives_more = true } }
+    ensures few { begin.cuts ≤ length cuts.now → result.cuts ≤ length cuts.now }
     ensures line { has_tab ≡ true → (last : ℕ) → last_newline_of (map lexeme_view (take begin.lexemes lexemes.now)) ≡ Some last → IsTakenBack lexemes.now cuts.now last result }
 {
     if !has_tab {

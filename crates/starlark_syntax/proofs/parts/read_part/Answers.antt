@@ -1,4 +1,4 @@
-use Rattle.std.proofs.Common.{◌≡◌, ◌≤◌, ◌+◌, ◌++◌, ◌∷◌, [], arith, ℕ, List, ap, length, length-append, refl, subst, sym, ◌∙◌}
+use Rattle.std.proofs.Common.{◌≡◌, ◌≤◌, ◌<◌, ◌*◌, ◌+◌, ◌++◌, ◌∷◌, [], arith, ℕ, List, ap, length, length-append, refl, subst, sym, ◌∙◌}
 use Rattle.starlark_syntax.specs.Inner.LexedTexts.{cuts_at, end_cuts}
 use Rattle.starlark_token.specs.declared.tokens.Token.{Token}
 use Rattle.starlark_grammar.specs.Cuts.{is_clean_cut}
@@ -7,6 +7,7 @@ use Rattle.starlark_reader.specs.Inner.MarginCuts.{IsCutBefore}
 use Rattle.starlark_reader.specs.Inner.Reader.{IsNext}
 use Rattle.starlark_reader.specs.Inner.Reads.{HasReadNext}
 use Rattle.starlark_reader.specs.declared.reader.Next.{Next}
+use Rattle.starlark_reader.specs.declared.reader.Reader.{Reader}
 use Rattle.starlark_reader.specs.declared.reader.Next.TheVariants as next
 use Rattle.starlark_syntax.proofs.LexedTexts.CleanCuts.{faultless_cut, open_cut, settled_cut}
 use Rattle.starlark_syntax.proofs.LexedTexts.Collected.{AreCutsSoFar, IsCollected, all_counted, all_given, collected_none, cuts_more, fault_given, less_left, no_cuts_yet, one_more, some_given, some_weaker}
@@ -16,9 +17,9 @@ use Rattle.starlark_syntax.proofs.parts.read_part.Goals.{then-is_settled, else-i
 
 pub loop-lexemes-init : goal.loop-lexemes-init
 loop-lexemes-init c = record {
-  collected = collected_none c.args.text.now c.new-reader.result c.new-lexemes.result.items c.new-lexemes.ensures.items (c.new-reader.ensures.ahead c.args.text.now);
+  collected = collected_none c.args.text.now c.args.reader.now c.new-lexemes.result.items c.new-lexemes.ensures.items (c.requires.ahead);
   cuts = subst (λ n. AreCutsSoFar c.args.text.now n c.new-cuts.result.items) (sym (ap length c.new-lexemes.ensures.items)) (no_cuts_yet c.args.text.now c.new-cuts.result.items c.new-cuts.ensures.items);
-  reads = c.new-reader.ensures.reads c.args.text.now;
+  reads = c.requires.unread;
 }
 
 pub loop-lexemes-smaller : goal.loop-lexemes-smaller
@@ -75,10 +76,11 @@ returns-in-Fault-clause-most c =
 pub returns-in-Nothing-clause-most : goal.returns-in-Nothing-clause-most
 returns-in-Nothing-clause-most c =
     let read = subst (λ (n : Next). HasReadNext c.args.text.now 0 n c.next.new.self) c.in-Nothing.is (c.in_ok-lexeme.ensures.reads 0 c.loop-lexemes.invariant.reads) in
-    let once : c.if-is_settled.reads ≤ 1 = elim c.if-is_settled.branch [ then-is_settled w ↦ omega (arith, w.reads-is, w.ends_with_lf-is_cut.ensures.reads, c.new-reads.ensures) | else-is_settled w ↦ omega (arith, w.reads-is, c.new-reads.ensures) ] in
-    omega (arith, read.2, once, c.reads-in-Nothing.ensures, c.count.ensures)
+    let once : c.if-is_settled.reader.reads ≤ c.next.new.self.reads + 1 = elim c.if-is_settled.branch [ then-is_settled w ↦ omega (arith, ap (λ (reader : Reader). reader.reads) w.reader-is, ap (λ (reader : Reader). reader.reads) w.ends_with_lf-is_cut.ensures.reads) | else-is_settled w ↦ omega (arith, ap (λ (reader : Reader). reader.reads) w.reader-is) ] in
+    omega (arith, read.2, once, c.reads-reads.ensures)
 
 pub returns-in-Nothing-clause-least : goal.returns-in-Nothing-clause-least
 returns-in-Nothing-clause-least c = λ none.
     let read = subst (λ (n : Next). HasReadNext c.args.text.now 0 n c.next.new.self) c.in-Nothing.is (c.in_ok-lexeme.ensures.reads 0 c.loop-lexemes.invariant.reads) in
-    omega (arith, read.1, c.requires, c.reads-in-Nothing.ensures)
+    let more : (c.next.new.self.reads < 16 * (length c.args.text.now + 1)) → c.next.new.self.reads ≤ c.if-is_settled.reader.reads = λ few. elim c.if-is_settled.branch [ then-is_settled w ↦ omega (arith, few, c.requires.fits, ap (λ (reader : Reader). reader.reads) w.reader-is, ap (λ (reader : Reader). reader.reads) w.ends_with_lf-is_cut.ensures.reads) | else-is_settled w ↦ omega (arith, ap (λ (reader : Reader). reader.reads) w.reader-is) ] in
+    omega (arith, read.1, more (omega (arith, read.2)), c.requires.fits, c.reads-reads.ensures)

@@ -1,4 +1,4 @@
-use Rattle.std.proofs.Common.{◌≡◌, refl, ℕ, ◌+◌, ◌-◌, ◌<◌, ◌^◌, ◌++◌, List, [], map, take, drop, length, ap, arith, subst, sym, ◌∙◌}
+use Rattle.std.proofs.Common.{◌≡◌, refl, ℕ, ◌+◌, ◌-◌, ◌<◌, ◌≤◌, ◌^◌, ◌++◌, List, [], map, take, drop, length, ap, arith, subst, sym, ◌∙◌}
 use Rattle.std.specs.Prelude.{◌&&◌, ◌||◌, ◌==◌, if◌then◌else◌, nat_lt}
 use Rattle.std.proofs.lemmas.List.{length-drop, length-map}
 use Rattle.starlark_grammar.specs.Words.{Text}
@@ -13,13 +13,16 @@ use Rattle.starlark_token.specs.declared.tokens.Token.{Token}
 use Rattle.starlark_syntax.proofs.LexedTexts.Edits.{begin_boundary, begin_clean, begin_few, end_cut_is, read_from, relexed}
 use Rattle.starlark_syntax.proofs.LexedTexts.Parts.{fault_near, given_near}
 use Rattle.starlark_syntax.proofs.LexedTexts.Relexed.{count_near, cuts_near}
-use Rattle.starlark_syntax.proofs.lexed_text.LexedText.relex.Goals as goal
+use Rattle.starlark_syntax.proofs.lexed_text.LexedText.relex_with.Goals as goal
 
 pub range_from-rest-requires : goal.range_from-rest-requires
 range_from-rest-requires c = λ some.
     let begin : IsBegin c.old.inside.text.now c.old.inside.cuts.items c.args.from c.begin_of-begin.result = subst (λ (xs : List Cut). IsBegin c.old.inside.text.now xs c.args.from c.begin_of-begin.result) c.deref.ensures.value (c.begin_of-begin.ensures c.old.inside.text.now (subst (AreCuts c.old.inside.text.now) (sym c.deref.ensures.value) c.old.invariant.2)) in
     let same : take c.args.from c.old.inside.text.now ≡ take c.args.from c.args.edited.now = ap (λ (v : LexedView). take c.args.from v.text) c.old.view_is ∙ c.requires.same in
     begin_boundary c.old.inside.text.now c.args.edited.now c.old.inside.cuts.items c.args.from c.begin_of-begin.result begin same c.requires.new.0 c.utf8.edited
+
+pub read_part-requires-clause-unread : goal.read_part-requires-clause-unread
+read_part-requires-clause-unread c = c.requires.unread c.range_from-rest.result.now
 
 pub kept_of-kept-requires : goal.kept_of-kept-requires
 kept_of-kept-requires c =
@@ -55,6 +58,13 @@ make_room-requires c =
     (c.kept_of-kept.ensures.line h last (ap (λ (xs : List (ℕ × Token × ℕ)). last_newline_of (map lexeme_view (take c.begin_of-begin.result.lexemes xs))) c.deref-2.ensures.value ∙ e)))) in
     let few = count_near c.old.inside.text.now c.old.invariant.0 in
     omega (arith, made.few, few, ap length c.old.invariant.3.1.lexemes, length-map c.old.inside.lexemes.items lexeme_view, length-map (outcome c.old.inside.text.now).lexemes shown_lexeme, c.len.ensures, c.given_after-more.result.ok, c.given_after-more.result.small)
+
+pub make_room-requires-else-is_err : goal.make_room-requires-else-is_err
+make_room-requires-else-is_err c =
+    let begin : IsBegin c.old.inside.text.now c.old.inside.cuts.items c.args.from c.begin_of-begin.result = subst (λ (xs : List Cut). IsBegin c.old.inside.text.now xs c.args.from c.begin_of-begin.result) c.deref.ensures.value (c.begin_of-begin.ensures c.old.inside.text.now (subst (AreCuts c.old.inside.text.now) (sym c.deref.ensures.value) c.old.invariant.2)) in
+    let few : c.begin_of-begin.result.cuts ≤ length c.deref-3.result.now = rw c.deref-3.ensures.value begin.few in
+    let kept : c.kept_of-kept.result.cuts ≤ length c.old.inside.cuts.items = subst (λ (xs : List Cut). c.kept_of-kept.result.cuts ≤ length xs) c.deref-3.ensures.value (c.kept_of-kept.ensures.few few) in
+    omega (arith, kept, c.old.inside.cuts.ok, c.old.inside.cuts.small, c.in-Ok.part.cuts.ok, c.in-Ok.part.cuts.small, c.len-else-is_err.ensures)
 
 pub append_later-requires-clause-near : goal.append_later-requires-clause-near
 append_later-requires-clause-near c =
