@@ -28,12 +28,11 @@ is_tab fault = false
 abbrev pub is_margin_tab : Text → Spanned Fault → Bool
 is_margin_tab text fault = is_tab fault.node && (fault.begin == 0 || begins_with_line_end (drop fault.begin text))
 
--- An offset in the line where the reading of a text stopped by a fault. That line has the fault's last byte, or its
--- offset if the fault is empty. Only the fault of a tab in a margin is before its line.
+-- An offset in the line where the reading of a text stopped by a fault: that of the fault's last byte, or the fault's
+-- own if it is empty. Only the fault of a tab in a margin is before its line.
 unfoldable pub stopped_at : Text → Spanned Fault → ℕ
 stopped_at text fault =
-    if is_margin_tab text fault then margin_line text (fault.begin + line_end_len (drop fault.begin text))
-    else max fault.begin (fault.end - 1)
+    max (fault.end - 1) (if is_margin_tab text fault then margin_line text (fault.begin + line_end_len (drop fault.begin text)) else fault.begin)
 
 -- Where lexing begins again after a fault: at the next line.
 unfoldable pub restart : Text → Spanned Fault → ℕ

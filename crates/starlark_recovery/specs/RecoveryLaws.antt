@@ -1,7 +1,8 @@
 -- What the laws of lexing on after faults say.
-use Rattle.std.specs.Prelude.{◌≡◌, ◌≤◌, ◌<◌, ℕ, List, [], ◌∷◌, map, length, drop, Some, None}
+use Rattle.std.specs.Prelude.{◌≡◌, ◌≤◌, ◌<◌, ℕ, List, [], ◌∷◌, ◌++◌, map, length, drop, Some, None}
+use Rattle.std.specs.List.{AllByRecursion}
 use Rattle.starlark_grammar.specs.Words.{Text}
-use Rattle.starlark_grammar.specs.Tokens.{Spanned, Fault}
+use Rattle.starlark_grammar.specs.Tokens.{Lexeme, Spanned, Fault}
 use Rattle.starlark_grammar.specs.Reading.{outcome}
 use Rattle.starlark_recovery.specs.Recovery.{moved_outcome, outcomes, recovered, restart}
 
@@ -22,3 +23,25 @@ LexesOn = (text : Text) (fault : Spanned Fault) → (outcome text).fault ≡ Som
 abbrev pub RestartsLater : Type 0
 RestartsLater = (text : Text) (fault : Spanned Fault) → (outcome text).fault ≡ Some fault
     → (0 < restart text fault) × (fault.end ≤ restart text fault) × (restart text fault ≤ length text)
+
+-- both ends of something lie in the text, in order
+abbrev pub IsInside : {A : Type 0} → Text → Spanned A → Type 0
+IsInside text x = (x.begin ≤ x.end) × (x.end ≤ length text)
+
+-- All lexemes of a text lie in it, …
+abbrev pub LexemesInside : Type 0
+LexemesInside = (text : Text) → AllByRecursion (IsInside text) (recovered text).lexemes
+
+-- spans from an offset to another, none of which begins before the one before it ends
+abbrev pub AreInOrder : {A : Type 0} → ℕ → List (Spanned A) → ℕ → Type 0
+AreInOrder from [] to = from ≤ to
+AreInOrder from (x ∷ xs) to = (from ≤ x.begin) × (x.begin ≤ x.end) × AreInOrder x.end xs to
+
+-- … and all its faults, in order.
+abbrev pub FaultsInOrder : Type 0
+FaultsInOrder = (text : Text) → AreInOrder 0 (recovered text).faults (length text)
+
+-- No lexeme after a fault begins before lexing begins again.
+abbrev pub LexemesAfterFaults : Type 0
+LexemesAfterFaults = (text : Text) (fault : Spanned Fault) → (outcome text).fault ≡ Some fault
+    → (more : List Lexeme) × ((recovered text).lexemes ≡ (outcome text).lexemes ++ more) × AllByRecursion (λ (lexeme : Lexeme). restart text fault ≤ lexeme.begin) more

@@ -64,11 +64,12 @@ fn stopped_at(text: &str, place: FaultPlace) -> usize
 {
     let FaultPlace { begin, end, is_tab } = place;
     let rest = &text.as_bytes()[begin..];
-    if is_tab && (begin == 0 || line_end_len(rest) > 0) {
+    let line = if is_tab && (begin == 0 || line_end_len(rest) > 0) {
         margin_line(text, begin)
     } else {
-        begin.max(end.saturating_sub(1))
-    }
+        begin
+    };
+    line.max(end.saturating_sub(1))
 }
 
 /// Where lexing begins again after a fault of a text: at the start of a line, or at the end of the
