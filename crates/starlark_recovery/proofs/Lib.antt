@@ -1,6 +1,6 @@
 pub mod Recovery
 pub mod Items
 pub mod Order
-pub mod Restarts
+pub mod NextLines
 pub mod Lefts
 mod Rows
