@@ -31,7 +31,6 @@ unfolding next_line
 next_line_boundary text at utf8 inside = by (cases_lt (prefix_len is_other (drop at text)) (length (drop at text)))
   where
     by : (prefix_len is_other (drop at text) < length (drop at text)) ⊎ (length (drop at text) ≤ prefix_len is_other (drop at text)) → IsCharBoundary text (next_line text at)
-    unfolding next_line
     by (inl less) =
         let len = length-drop at text in
         let feed = is_feed _ (prefix_len_stops is_other (drop at text) 0 less) in
@@ -43,4 +42,3 @@ next_line_boundary text at utf8 inside = by (cases_lt (prefix_len is_other (drop
         let len = length-drop at text in
         let same : next_line text at ≡ length text = omega (arith, whole, len) in
         rw same (end_boundary text)
-

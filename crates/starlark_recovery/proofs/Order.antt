@@ -64,9 +64,10 @@ abbrev IsGood : Text → List Outcome → Type 0
 IsGood text found = AllByRecursion (IsInside text) (lexemes_of found) × AreInOrder 0 (faults_of found) (length text)
 
 good_alone : (text : Text) → (outcome text).fault ≡ None → IsGood text (outcome text ∷ [])
-good_alone text none =
-    (all_append (IsInside text) (outcome text).lexemes [] (all_within text) tt,
-     subst (λ (f : Option (Spanned Fault)). AreInOrder 0 (option_to_list f ++ []) (length text)) (sym none) (omega arith))
+good_alone text none = (
+  all_append (IsInside text) (outcome text).lexemes [] (all_within text) tt,
+  subst (λ (f : Option (Spanned Fault)). AreInOrder 0 (option_to_list f ++ []) (length text)) (sym none) (omega arith),
+)
 
 good_on : (text : Text) (fault : Spanned Fault) → (outcome text).fault ≡ Some fault → 0 < length text → IsGood (drop (restart text fault) text) (outcomes (drop (restart text fault) text))
     → IsGood text (outcome text ∷ map (moved_outcome (restart text fault)) (outcomes (drop (restart text fault) text)))
@@ -80,16 +81,17 @@ good_on text fault has some good =
     let inside = bounds.1 in
     let total : at + length rest ≡ length text = omega (arith, inside, length-drop at text) in
     let lexemes : AllByRecursion (IsInside text) (lexemes_of (map (moved_outcome at) (outcomes rest))) =
-        subst (λ (l : List Lexeme). AllByRecursion (IsInside text) l) (sym (lexemes_moved at (outcomes rest))) (inside_moved at text rest (lexemes_of (outcomes rest)) total good.0) in
+    subst (λ (l : List Lexeme). AllByRecursion (IsInside text) l) (sym (lexemes_moved at (outcomes rest))) (inside_moved at text rest (lexemes_of (outcomes rest)) total good.0) in
     let start : at + 0 ≡ at = omega arith in
     let later : AreInOrder at (map (moved at) (faults_of (outcomes rest))) (length text) =
-        subst (λ n. AreInOrder n (map (moved at) (faults_of (outcomes rest))) (length text)) start
-        (subst (λ n. AreInOrder (at + 0) (map (moved at) (faults_of (outcomes rest))) n) total (order_moved at 0 (length rest) (faults_of (outcomes rest)) good.1)) in
+    subst (λ n. AreInOrder n (map (moved at) (faults_of (outcomes rest))) (length text)) start
+    (subst (λ n. AreInOrder (at + 0) (map (moved at) (faults_of (outcomes rest))) n) total (order_moved at 0 (length rest) (faults_of (outcomes rest)) good.1)) in
     let behind : AreInOrder fault.end (faults_of (map (moved_outcome at) (outcomes rest))) (length text) =
-        subst (λ (l : List (Spanned Fault)). AreInOrder fault.end l (length text)) (sym (faults_moved at (outcomes rest))) (order_sooner fault.end at (length text) (map (moved at) (faults_of (outcomes rest))) before later) in
-    let faults : AreInOrder 0 (fault ∷ faults_of (map (moved_outcome at) (outcomes rest))) (length text) = (omega arith, order, behind) in
-    (all_append (IsInside text) (outcome text).lexemes (lexemes_of (map (moved_outcome at) (outcomes rest))) (all_within text) lexemes,
-     subst (λ (f : Option (Spanned Fault)). AreInOrder 0 (option_to_list f ++ faults_of (map (moved_outcome at) (outcomes rest))) (length text)) (sym has) faults)
+    subst (λ (l : List (Spanned Fault)). AreInOrder fault.end l (length text)) (sym (faults_moved at (outcomes rest))) (order_sooner fault.end at (length text) (map (moved at) (faults_of (outcomes rest))) before later) in
+    let faults : AreInOrder 0 (fault ∷ faults_of (map (moved_outcome at) (outcomes rest))) (length text) = (omega arith, order, behind) in (
+      all_append (IsInside text) (outcome text).lexemes (lexemes_of (map (moved_outcome at) (outcomes rest))) (all_within text) lexemes,
+      subst (λ (f : Option (Spanned Fault)). AreInOrder 0 (option_to_list f ++ faults_of (map (moved_outcome at) (outcomes rest))) (length text)) (sym has) faults,
+    )
 
 good_step : (b : ℕ) (bs : Text) → ((n : ℕ) → IsGood (drop n bs) (outcomes (drop n bs))) → IsGood (b ∷ bs) (outcomes (b ∷ bs))
 good_step b bs again = by (outcome (b ∷ bs)).fault refl
