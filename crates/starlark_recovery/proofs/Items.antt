@@ -9,8 +9,8 @@ use Rattle.starlark_recovery.proofs.Recovery.{faultless, lexes_on}
 use Rattle.starlark_recovery.specs.Inner.Rests.{moved_item}
 use Rattle.starlark_recovery.specs.Recovery.{moved_outcome, outcomes, restart}
 use Rattle.starlark_recovery.specs.RecoveringLexer.{all_items, items_of, items_of_all}
-use Rattle.starlark_syntax.specs.Lexer.{Given, LexerItem, Refused, items}
 use Rattle.starlark_token.specs.Lexemes.{shown_lexeme}
+use Rattle.starlark_token.specs.TextItems.{Given, LexerItem, Refused, items}
 use Rattle.starlark_token.specs.TokenViews.{TokenView}
 
 abbrev given : Lexeme → LexerItem

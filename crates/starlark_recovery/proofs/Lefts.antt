@@ -92,7 +92,7 @@ pub rest_after_lexeme : (text : Text) (begin : ℕ) (rest : LexerView) (x : Span
     → IsRest text begin (record rest { yielded_count = rest.yielded_count + 1; has_ended = false })
 rest_after_lexeme text begin rest x inside is = record {
   boundary = inside.boundary;
-  text = inside.text;
+  same = inside.same;
   fits = inside.fits;
   yielded = λ goes. given_counts rest.text rest.yielded_count x is;
 }

@@ -1,10 +1,11 @@
 -- The place where lexing begins again, as the code finds it.
-use Rattle.std.proofs.Common.{◌≡◌, ℕ, zero, suc, ◌+◌, ◌-◌, ◌<◌, ◌≤◌, Bool, true, false, not, ◌==◌, ◌||◌, List, [], ◌∷◌, length, drop, get_or, refl, ap, sym, ◌∙◌, arith, ◌⊎◌, inl, inr, cond}
-use Rattle.std.proofs.lemmas.Bool.{cases_lt, eqb-eq}
+use Rattle.std.proofs.Common.{◌≡◌, ℕ, zero, suc, ◌+◌, ◌-◌, ◌<◌, ◌≤◌, Bool, true, false, not, ◌==◌, ◌||◌, nat_eq, nat_lt, List, [], ◌∷◌, length, drop, get_or, refl, ap, sym, ◌∙◌, arith, ◌⊎◌, inl, inr}
+use Rattle.std.proofs.lemmas.Bool.{cases_lt, eqb-true}
 use Rattle.std.proofs.lemmas.List.{get_or-drop, length-drop}
 use Rattle.std.proofs.lemmas.List.Sums.{prefix_len-le-length, prefix_len_stops}
 use Rattle.std.proofs.lemmas.Str.{IsCharBoundary-after_ascii}
-use Rattle.std.specs.List.{prefix_len}
+use Rattle.std.specs.List.{prefix_len, starts_with}
+use Rattle.std.specs.Prelude.{codes, if◌then◌else◌}
 use Rattle.std.specs.Str.{IsCharBoundary, IsUtf8}
 use Rattle.starlark_grammar.specs.Gaps.{begins_with_line_end}
 use Rattle.starlark_grammar.specs.Margins.{is_lf}
@@ -15,7 +16,7 @@ abbrev is_other : ℕ → Bool
 is_other b = not (is_lf b)
 
 is_feed : (b : ℕ) → is_other b ≡ false → b ≡ 10
-is_feed b other = eqb-eq b 10 (by (b == 10) refl other)
+is_feed b other = eqb-true b 10 (by (b == 10) refl other)
   where
     by : (test : Bool) → (b == 10) ≡ test → not test ≡ false → (b == 10) ≡ true
     by true is other = is
@@ -42,3 +43,27 @@ next_line_boundary text at utf8 inside = by (cases_lt (prefix_len is_other (drop
         let len = length-drop at text in
         let same : next_line text at ≡ length text = omega (arith, whole, len) in
         rw same (end_boundary text)
+
+-- behind a line end is a character boundary
+pub after_line_end : (text rest : Text) (at n : ℕ) → IsUtf8 text → IsCharBoundary text at → rest ≡ drop at text → n ≤ length rest → (0 < n → get_or rest (n - 1) 0 ≡ 10) → IsCharBoundary text (at + n)
+after_line_end text rest at n utf8 boundary is inside feed = by (cases_lt 0 n)
+  where
+    by : (0 < n) ⊎ (n ≤ 0) → IsCharBoundary text (at + n)
+    by (inl some) =
+        let len : length rest ≡ length text - at = ap length is ∙ length-drop at text in
+        let byte : get_or text (at + (n - 1)) 0 ≡ 10 = sym (get_or-drop at text (n - 1) 0) ∙ sym (ap (λ t. get_or t (n - 1) 0) is) ∙ feed some in
+        let here = IsCharBoundary-after_ascii text (at + (n - 1)) utf8 (omega (arith, some, inside, len, boundary.0)) (omega (arith, byte)) in
+        let same : at + n ≡ at + (n - 1) + 1 = omega (arith, some) in
+        rw same here
+    by (inr none) =
+        let same : at + n ≡ at = omega (arith, none) in
+        rw same boundary
+
+-- a line end is at the front of a text where it has bytes
+pub line_end_begins : (text : Text) → begins_with_line_end text ≡ nat_lt 0 (line_end_len text)
+line_end_begins text = by (starts_with nat_eq text (codes "\n")) (starts_with nat_eq text (codes "\r\n"))
+  where
+    by : (one two : Bool) → (one || two) ≡ nat_lt 0 (if one then 1 else (if two then 2 else 0))
+    by true two = refl
+    by false true = refl
+    by false false = refl

@@ -22,13 +22,13 @@ lexemes_moved n (one ∷ more) = ap (λ l. map (moved n) one.lexemes ++ l) (lexe
     map-append n [] ys = refl
     map-append n (x ∷ xs) ys = ap (λ l. moved n x ∷ l) (map-append n xs ys)
 
+fault_moved : (n : ℕ) (fault : Option (Spanned Fault)) (more later : List (Spanned Fault)) → more ≡ map (moved n) later → option_to_list (option_map (moved n) fault) ++ more ≡ map (moved n) (option_to_list fault ++ later)
+fault_moved n None more later is = is
+fault_moved n (Some fault) more later is = ap (λ l. moved n fault ∷ l) is
+
 faults_moved : (n : ℕ) (found : List Outcome) → faults_of (map (moved_outcome n) found) ≡ map (moved n) (faults_of found)
 faults_moved n [] = refl
-faults_moved n (one ∷ more) = by one.fault
-  where
-    by : (fault : Option (Spanned Fault)) → option_to_list (option_map (moved n) fault) ++ faults_of (map (moved_outcome n) more) ≡ map (moved n) (option_to_list fault ++ faults_of more)
-    by None = faults_moved n more
-    by (Some fault) = ap (λ l. moved n fault ∷ l) (faults_moved n more)
+faults_moved n (one ∷ more) = fault_moved n one.fault (faults_of (map (moved_outcome n) more)) (faults_of more) (faults_moved n more)
 
 -- moved spans
 

@@ -52,7 +52,7 @@ faultless_recovers text none =
     no_faults found none = rw none refl
 
 -- lexing begins again after the first byte, if there is one
-restart_later : (text : Text) (fault : Spanned Fault) → 0 < length text → 1 ≤ restart text fault
+pub restart_later : (text : Text) (fault : Spanned Fault) → 0 < length text → 1 ≤ restart text fault
 unfolding restart next_line
 restart_later text fault some = omega arith
 

@@ -1,7 +1,9 @@
 //! Where lexing begins again after a fault.
 
-ghost use Rattle.std.specs.Prelude.{◌≡◌, ◌≤◌, ◌<◌, ℕ, drop, length};
+ghost use Rattle.std.specs.Prelude.{◌≡◌, ◌≤◌, ◌<◌, ◌+◌, ◌-◌, drop, length, not, slice_index};
+ghost use Rattle.std.specs.List.{prefix_len};
 ghost use Rattle.std.specs.Str.{IsCharBoundary};
+ghost use Rattle.starlark_grammar.specs.Margins.{is_lf};
 ghost use Rattle.starlark_grammar.specs.Tokens.{Fault, Spanned};
 ghost use Rattle.starlark_recovery.specs.Recovery as spec;
 ghost use Rattle.starlark_recovery.specs.Inner.Passed.{IsPlaceOf};
@@ -20,14 +22,21 @@ pub struct FaultPlace {
     pub is_tab: bool,
 }
 
+/// Number of bytes before the first LF of a text, or all if it has none.
+fn before_lf_len(text: &[u8]) -> usize
+    ensures value { result ≡ prefix_len (λ b. not (is_lf b)) text.now }
+    ensures within { result ≤ length text.now }
+{
+    text.iter().take_while(|byte| **byte != b'\n').count()
+}
+
 /// The start of the line after the one that holds byte `at`, or the end of the text.
 fn next_line(text: &str, at: usize) -> usize
     requires { at ≤ length text.now }
     ensures value { result ≡ spec.next_line text.now at }
     ensures boundary { IsCharBoundary text.now result }
 {
-    let rest = &text.as_bytes()[at..];
-    let len = rest.iter().take_while(|byte| **byte != b'\n').count();
+    let len = before_lf_len(&text.as_bytes()[at..]);
     text.len().min(at + len + 1)
 }
 
@@ -35,6 +44,7 @@ fn next_line(text: &str, at: usize) -> usize
 fn line_end_len(text: &[u8]) -> usize
     ensures value { result ≡ spec.line_end_len text.now }
     ensures within { result ≤ length text.now }
+    ensures feed { 0 < result → slice_index text.now (result - 1) ≡ 10 }
 {
     match text {
         [b'\n', ..] => 1,
@@ -54,6 +64,15 @@ fn margin_line(text: &str, at: usize) -> usize
     margin + margin_of(&mut Reads::new(), &text[margin..]).at
 }
 
+/// Whether a fault is that of a tab in a margin.
+fn is_margin_tab(text: &str, place: FaultPlace) -> bool
+    requires { place.begin ≤ length text.now }
+    ensures { (fault : Spanned Fault) → IsPlaceOf fault place → result ≡ spec.is_margin_tab text.now fault }
+{
+    let line_end = line_end_len(&text.as_bytes()[place.begin..]);
+    place.is_tab && (place.begin == 0 || line_end > 0)
+}
+
 /// An offset in the line where a fault stopped the reading of a text.
 fn stopped_at(text: &str, place: FaultPlace) -> usize
     requires boundary { IsCharBoundary text.now place.begin }
@@ -62,14 +81,12 @@ fn stopped_at(text: &str, place: FaultPlace) -> usize
     ensures value { (fault : Spanned Fault) → IsPlaceOf fault place → result ≡ spec.stopped_at text.now fault }
     ensures within { result ≤ length text.now }
 {
-    let FaultPlace { begin, end, is_tab } = place;
-    let rest = &text.as_bytes()[begin..];
-    let line = if is_tab && (begin == 0 || line_end_len(rest) > 0) {
-        margin_line(text, begin)
+    let line = if is_margin_tab(text, place) {
+        margin_line(text, place.begin)
     } else {
-        begin
+        place.begin
     };
-    line.max(end.saturating_sub(1))
+    line.max(place.end.saturating_sub(1))
 }
 
 /// Where lexing begins again after a fault of a text: at the start of a line, or at the end of the

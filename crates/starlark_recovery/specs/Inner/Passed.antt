@@ -27,6 +27,6 @@ pub record IsPlaceOf (fault : Spanned Fault) (place : FaultPlace) : Type 0 where
 -- a fault of a text's part from byte `begin` on was passed: its exception is moved, and the lexer goes on after its line
 pub record HasPassed (file : SourceFile) (text : Text) (begin : ℕ) (fault : Spanned Fault) (passed : Passed) : Type 0 where
   pub exception : IsException file (moved begin fault) passed.fault
-  pub begin : passed.begin ≡ begin + restart (drop begin text) fault
+  pub from : passed.begin ≡ begin + restart (drop begin text) fault
   pub boundary : IsCharBoundary text passed.begin
   pub rest : passed.rest ≡ record { text = drop passed.begin text; code_map = file; yielded_count = 0; has_ended = false }

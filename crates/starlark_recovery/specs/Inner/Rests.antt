@@ -19,6 +19,6 @@ left_of begin rest = if rest.has_ended then [] else map (moved_item begin) (drop
 -- a lexer of a text from a character boundary on, which has yielded no fault unless it has ended
 pub record IsRest (text : Text) (begin : ℕ) (rest : LexerView) : Type 0 where
   pub boundary : IsCharBoundary text begin
-  pub text : rest.text ≡ drop begin text
+  pub same : rest.text ≡ drop begin text
   pub fits : length text < 2 ^ 32
   pub yielded : rest.has_ended ≡ false → rest.yielded_count ≤ length (outcome rest.text).lexemes
