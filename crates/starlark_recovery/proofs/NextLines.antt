@@ -5,12 +5,15 @@ use Rattle.std.proofs.lemmas.List.{get_or-drop, length-drop}
 use Rattle.std.proofs.lemmas.List.Sums.{prefix_len-le-length, prefix_len_stops}
 use Rattle.std.proofs.lemmas.Str.{IsCharBoundary-after_ascii}
 use Rattle.std.specs.List.{prefix_len, starts_with}
-use Rattle.std.specs.Prelude.{codes, if◌then◌else◌}
+use Rattle.std.specs.Prelude.{codes, if◌then◌else◌, max}
 use Rattle.std.specs.Str.{IsCharBoundary, IsUtf8}
 use Rattle.starlark_grammar.specs.Gaps.{begins_with_line_end}
 use Rattle.starlark_grammar.specs.Margins.{is_lf}
 use Rattle.starlark_grammar.specs.Words.{Text}
-use Rattle.starlark_recovery.specs.Recovery.{line_end_len, next_line}
+use Rattle.starlark_grammar.specs.Tokens.{Fault, Spanned}
+use Rattle.starlark_recovery.specs.Inner.Passed.{IsPlaceOf}
+use Rattle.starlark_recovery.specs.Recovery.{is_margin_tab, line_end_len, margin_line, next_line, stopped_at}
+use Rattle.starlark_recovery.specs.declared.restarts.FaultPlace.{FaultPlace}
 
 abbrev is_other : ℕ → Bool
 is_other b = not (is_lf b)
@@ -67,3 +70,18 @@ line_end_begins text = by (starts_with nat_eq text (codes "\n")) (starts_with na
     by true two = refl
     by false true = refl
     by false false = refl
+
+-- where a reading stopped, by whether the fault is that of a tab in a margin
+pub stopped_is : (text : Text) (fault : Spanned Fault) (place : FaultPlace) (tab : Bool) (line at : ℕ) → IsPlaceOf fault place → is_margin_tab text fault ≡ tab
+    → line ≡ (if tab then margin_line text (place.begin + line_end_len (drop place.begin text)) else place.begin)
+    → at ≡ max line (place.end - 1) → at ≡ stopped_at text fault
+unfolding stopped_at
+stopped_is text fault place tab line at is test which max_is =
+    let begin : place.begin ≡ fault.begin = is.begin in
+    let end : place.end ≡ fault.end = is.end in
+    let here : line ≡ (if is_margin_tab text fault then margin_line text (fault.begin + line_end_len (drop fault.begin text)) else fault.begin) =
+    rw test (which ∙ ap (λ b. if tab then margin_line text (b + line_end_len (drop b text)) else b) begin) in
+    max_is ∙ max_sym line (place.end - 1) ∙ ap (λ l. max (place.end - 1) l) here ∙ ap (λ e. max (e - 1) (if is_margin_tab text fault then margin_line text (fault.begin + line_end_len (drop fault.begin text)) else fault.begin)) end
+  where
+    max_sym : (a b : ℕ) → max a b ≡ max b a
+    max_sym a b = omega arith

@@ -72,17 +72,21 @@ impl<'a> RecoveringLexer<'a> {
         ensures between { AnswersBetween self.old.text result }
         ensures after { self.new ≡ record self.old { left = left_after result self.old.left } }
     {
-        match self.rest.next()? {
-            Ok((begin, token, end)) => Some(Ok((self.begin + begin, token, self.begin + end))),
-            Err(OrMemory::Memory) => Some(Err(OrMemory::Memory)),
-            Err(OrMemory::Error(exception)) => {
-                let Ok(passed) = pass(self.alloc, self.text, self.begin, exception) else {
-                    return Some(Err(OrMemory::Memory));
-                };
-                self.begin = passed.begin;
-                self.rest = passed.rest;
-                Some(Err(OrMemory::Error(passed.fault)))
-            }
+        let begin = self.begin;
+        let answer = self.rest.next()?;
+        match answer {
+            Ok(lexeme) => Some(Ok((begin + lexeme.0, lexeme.1, begin + lexeme.2))),
+            Err(refused) => match refused {
+                OrMemory::Memory => Some(Err(OrMemory::Memory)),
+                OrMemory::Error(exception) => {
+                    let Ok(passed) = pass(self.alloc, self.text, begin, exception) else {
+                        return Some(Err(OrMemory::Memory));
+                    };
+                    self.begin = passed.begin;
+                    self.rest = passed.rest;
+                    Some(Err(OrMemory::Error(passed.fault)))
+                }
+            },
         }
     }
 }
