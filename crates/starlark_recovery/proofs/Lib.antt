@@ -3,4 +3,5 @@ pub mod Items
 pub mod Order
 pub mod NextLines
 pub mod Lefts
+pub mod Passes
 mod Rows

@@ -39,6 +39,33 @@ fn is_tab(kind: &ErrorKind) -> bool
     )
 }
 
+/// Where the fault of an exception is.
+fn place_of(exception: &EvalException) -> FaultPlace
+    requires { IsSome exception.now.span }
+    ensures place { IfSome exception.now.span (λ it. (result.begin ≡ it.span.begin) × (result.end ≡ it.span.end)) }
+    ensures tab { result.is_tab ≡ is_tab_kind exception.now.value }
+{
+    let Some(FileSpan { span, .. }) = exception.error().span() else {
+        unreachable!()
+    };
+    FaultPlace {
+        begin: span.begin().get() as usize,
+        end: span.end().get() as usize,
+        is_tab: is_tab(exception.error().kind()),
+    }
+}
+
+/// A copy of the code map of an exception's span. `AllocError` where memory runs out.
+fn file_of(exception: &EvalException) -> Result<CodeMap, AllocError>
+    requires { IsSome exception.now.span }
+    ensures { IfOk result (λ copy. IfSome exception.now.span (λ it. copy ≡ it.file)) }
+{
+    let Some(FileSpan { file, .. }) = exception.error().span() else {
+        unreachable!()
+    };
+    file.dupe()
+}
+
 /// The exception with another span, in a code map.
 fn placed(
     alloc: Global,
@@ -70,15 +97,8 @@ pub fn pass<'a>(
     requires between { IfSome exception.span (λ place. IsCharBoundary (drop begin text.now) place.span.begin) }
     ensures { IfOk result (λ passed. (file : SourceFile) (fault : Spanned Fault) → IsException file fault exception → HasPassed file text.now begin fault passed) }
 {
-    let Some(FileSpan { file, span }) = exception.error().span() else {
-        unreachable!()
-    };
-    let code_map = file.dupe()?;
-    let place = FaultPlace {
-        begin: span.begin().get() as usize,
-        end: span.end().get() as usize,
-        is_tab: is_tab(exception.error().kind()),
-    };
+    let place = place_of(&exception);
+    let code_map = file_of(&exception)?;
     let from = begin + restart(&text[begin..], place);
     let Ok(rest) = Lexer::new(alloc, &text[from..], &Dialect::Standard, code_map.dupe()?) else {
         unreachable!()

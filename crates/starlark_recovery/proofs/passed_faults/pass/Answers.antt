@@ -1,22 +1,11 @@
+use Rattle.std.proofs.Common.{◌≡◌, ◌+◌, ◌∙◌, ap}
+use Rattle.starlark_base.specs.Spans.{ByteSpan}
+use Rattle.starlark_recovery.proofs.Passes.{passes}
 use Rattle.starlark_recovery.proofs.passed_faults.pass.Goals as goal
 
 pub returns : goal.returns
 returns c file fault is =
-    let a = c.in-Some in
-    let b = c.error in
-    let b1 = c.exception in
-    let d = c.begin in
-    let e = c.get in
-    let f = c.kind in
-    let g = c.is_tab in
-    let h = c.error-2 in
-    let i = c.range_from in
-    let i2 = c.range_from-2 in
-    let j = c.new-span in
-    let k = c.new-2 in
-    let l = c.restart in
-    let m = c.in-Ok in
-    let n = c.in_ok-fault in
-    let o = c.in_ok-code_map in
-    let p = c.in_ok-dupe in
-    ?
+    let span : c.new-span.result ≡ record { begin = c.args.begin + c.place_of-place.result.begin; end = c.args.begin + c.place_of-place.result.end } = cc in
+    passes file c.args.text.now c.args.begin c.restart.result fault c.args.exception c.in_ok-fault.fault c.place_of-place.result c.in_ok-code_map.code_map c.in_ok-dupe.field-0 c.new-span.result c.in-Ok.rest c.range_from.result.now c.range_from-2.result.now
+    is c.place_of-place.ensures.place c.place_of-place.ensures.tab c.in_ok-code_map.ensures c.in_ok-dupe.ensures
+    c.range_from.ensures.value c.restart.ensures.value c.restart.ensures.boundary c.requires.boundary c.range_from-2.ensures.value c.in-Ok.ensures.ok span c.in_ok-fault.ensures
