@@ -1,5 +1,5 @@
 -- What is left to a recovering lexer before and after each answer of the lexer in it.
-use Rattle.std.proofs.Common.{◌≡◌, ℕ, zero, suc, ◌+◌, ◌-◌, ◌<◌, ◌≤◌, ◌^◌, Bool, true, false, List, [], ◌∷◌, ◌++◌, map, length, drop, refl, ap, sym, subst, ◌∙◌, arith, Ok, Err, None, Some, IfSome, slice_get, ◌⊎◌, inl, inr, ◌||◌}
+use Rattle.std.proofs.Common.{◌≡◌, ℕ, ◌+◌, ◌-◌, ◌<◌, ◌≤◌, ◌^◌, Bool, true, false, List, [], ◌∷◌, map, length, drop, refl, ap, sym, subst, ◌∙◌, arith, Ok, Err, None, Some, IfSome, slice_get, ◌⊎◌, inl, inr, ◌||◌}
 use Rattle.std.proofs.lemmas.Bool.{cases_lt}
 use Rattle.std.proofs.lemmas.List.{length-drop}
 use Rattle.std.proofs.lemmas.Str.{IsCharBoundary-from_rest, IsCharBoundary-start}
@@ -8,7 +8,6 @@ use Rattle.std.specs.Str.{IsCharBoundary, IsUtf8}
 use Rattle.starlark_base.specs.Diagnostics.{Diagnosed}
 use Rattle.starlark_base.specs.Sources.{SourceFile}
 use Rattle.starlark_grammar.proofs.Lists.{drop-sum}
-use Rattle.starlark_grammar.specs.Reading.{outcome}
 use Rattle.starlark_grammar.specs.Tokens.{Fault, Spanned, moved}
 use Rattle.starlark_grammar.specs.Words.{Text}
 use Rattle.starlark_recovery.proofs.Items.{all_moved_by_none, all_moved_twice, given_counts, next_left, none_left, refused_counts}
@@ -18,7 +17,7 @@ use Rattle.starlark_recovery.specs.Recovery.{restart}
 use Rattle.starlark_recovery.specs.RecoveringLexer.{RecoveringView, all_items}
 use Rattle.starlark_recovery.specs.declared.passed_faults.Passed.{Passed}
 use Rattle.starlark_syntax.specs.Exceptions.{IsException}
-use Rattle.starlark_syntax.specs.Lexer.{AnswersBetween, AnswersNext, AnswersWithin, LexerView, is_ended_by, yielded_by}
+use Rattle.starlark_syntax.specs.Lexer.{AnswersNext, LexerView, is_ended_by, yielded_by}
 use Rattle.starlark_token.specs.TextItems.{Given, LexerItem, Refused, items}
 use Rattle.starlark_syntax.specs.declared.error.kinds.ErrorKind.{ErrorKind}
 use Rattle.starlark_text.specs.declared.or_memory.OrMemory.{OrMemory}

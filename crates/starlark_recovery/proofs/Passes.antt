@@ -1,5 +1,5 @@
 -- A fault that was passed.
-use Rattle.std.proofs.Common.{◌≡◌, ℕ, ◌+◌, ◌≤◌, [], drop, refl, ap, sym, subst, ◌∙◌, false, None, Some, IfSome}
+use Rattle.std.proofs.Common.{◌≡◌, ℕ, ◌+◌, [], drop, ap, subst, ◌∙◌, false, None, Some, IfSome}
 use Rattle.std.specs.Prelude.{Option}
 use Rattle.std.proofs.lemmas.Str.{IsCharBoundary-from_rest}
 use Rattle.std.specs.Str.{IsCharBoundary}

@@ -1,8 +1,8 @@
 -- Where lexing begins again, and the outcomes of a text by its own.
-use Rattle.std.proofs.Common.{◌≡◌, ℕ, zero, suc, ◌+◌, ◌-◌, ◌<◌, ◌≤◌, List, [], ◌∷◌, ◌++◌, map, length, drop, refl, ap, sym, ◌∙◌, arith, None, Some}
+use Rattle.std.proofs.Common.{◌≡◌, ℕ, zero, suc, ◌-◌, ◌<◌, ◌≤◌, List, [], ◌∷◌, map, length, drop, refl, ap, sym, ◌∙◌, arith, None, Some}
 use Rattle.std.proofs.lemmas.List.{append-nil}
 use Rattle.std.specs.Prelude.{Option}
-use Rattle.starlark_grammar.proofs.Lists.{drop-nil, drop-behind}
+use Rattle.starlark_grammar.proofs.Lists.{drop-behind}
 use Rattle.starlark_grammar.proofs.Reading.Faults.{outcome_fault}
 use Rattle.starlark_grammar.proofs.Rows.Shapes.{all_definitions}
 use Rattle.starlark_grammar.specs.Reading.{outcome}

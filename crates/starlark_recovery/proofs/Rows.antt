@@ -2,7 +2,7 @@
 use Rattle.std.proofs.Common.{◌≡◌, List, refl}
 use Rattle.std.specs.Prelude.{⊤, [], ◌∷◌, codes, false}
 use Rattle.starlark_grammar.proofs.Rows.Shapes.{all_definitions, at, single, utf8}
-use Rattle.starlark_grammar.specs.Tokens.{Fault, Lexeme, Spanned, Newline, Identifier, Indent, Dedent, Word, Comment, FStringStart, InvalidInput, InvalidTab, Indentation, UnfinishedStringLiteral, ReservedKeyword}
+use Rattle.starlark_grammar.specs.Tokens.{Fault, Lexeme, Spanned, Newline, Identifier, Indent, Word, Comment, FStringStart, InvalidInput, InvalidTab, Indentation, UnfinishedStringLiteral, ReservedKeyword}
 use Rattle.starlark_grammar.specs.Words.{Text}
 use Rattle.starlark_grammar.specs.declared.class.Terminal.TheVariants as terminal
 use Rattle.starlark_recovery.specs.Recovery.{next_line, outcomes, outcomes_from, recovered, restart, stopped_at}

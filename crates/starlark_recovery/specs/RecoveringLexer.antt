@@ -1,5 +1,5 @@
 -- Lexers that go on after faults, as their users see them, and the items that they yield.
-use Rattle.std.specs.Prelude.{◌≡◌, ℕ, List, [], ◌∷◌, ◌++◌, map, length, drop, Option, Some, None, option_to_list, Result, Err}
+use Rattle.std.specs.Prelude.{◌≡◌, ℕ, List, [], ◌∷◌, ◌++◌, map, length, drop, Option, Some, option_to_list, Result, Err}
 use Rattle.std.specs.Iterator.{Count, at_most}
 use Rattle.std.specs.List.{slice_get}
 use Rattle.starlark_base.specs.Diagnostics.{Diagnosed}

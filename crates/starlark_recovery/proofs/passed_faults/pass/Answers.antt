@@ -1,5 +1,4 @@
-use Rattle.std.proofs.Common.{◌≡◌, ◌+◌, ◌∙◌, ap}
-use Rattle.starlark_base.specs.Spans.{ByteSpan}
+use Rattle.std.proofs.Common.{◌≡◌, ◌+◌}
 use Rattle.starlark_recovery.proofs.Passes.{passes}
 use Rattle.starlark_recovery.proofs.passed_faults.pass.Goals as goal
 

@@ -1,4 +1,4 @@
-use Rattle.std.proofs.Common.{◌≡◌, ◌≤◌, ◌-◌, ◌∙◌, ap, arith, drop, length, get_or}
+use Rattle.std.proofs.Common.{◌∙◌, ap, drop}
 use Rattle.std.proofs.lemmas.List.{take_rest}
 use Rattle.starlark_recovery.proofs.NextLines.{after_line_end}
 use Rattle.starlark_recovery.proofs.restarts.margin_line.Goals as goal

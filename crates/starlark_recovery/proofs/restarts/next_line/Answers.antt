@@ -1,4 +1,4 @@
-use Rattle.std.proofs.Common.{◌≡◌, ◌∙◌, ap, arith, drop, not, subst, sym}
+use Rattle.std.proofs.Common.{◌∙◌, ap, arith, drop, not, subst, sym}
 use Rattle.std.proofs.lemmas.List.{take_rest}
 use Rattle.std.specs.List.{prefix_len}
 use Rattle.std.specs.Str.{IsCharBoundary}
