@@ -92,7 +92,8 @@ impl Linter {
     /// Stores a fault. No block is open after it.
     fn keep_fault(&mut self, fault: EvalException) -> Result<(), AllocError> {
         self.widths.clear();
-        self.faults.push(fault)
+        self.faults.push(fault)?;
+        Ok(())
     }
 }
 
