@@ -107,7 +107,7 @@ pub struct Report {
 }
 
 /// All findings and all faults in a file.
-pub fn report(alloc: Global, file: &CodeMap) -> Result<Report, SourceError> {
+pub fn lint(alloc: Global, file: &CodeMap) -> Result<Report, SourceError> {
     let lexer = RecoveringLexer::new(alloc, file.source(), &Dialect::Standard, file.dupe()?)?;
     let mut linter = Linter {
         found: Vec::new(alloc),

@@ -32,7 +32,7 @@ fn file_of(alloc: Global, name: &str, text: &str) -> Result<CodeMap, SourceError
 /// The linter's output: a line for each finding, and then one for each fault.
 fn linted(alloc: Global, text: &str) -> Result<String, SourceError> {
     let file = file_of(alloc, "BUILD", text)?;
-    let report = linter::report(alloc, &file)?;
+    let report = linter::lint(alloc, &file)?;
     Ok(report_lines(alloc, &file, &report)?)
 }
 
