@@ -1,8 +1,10 @@
-//! A linter: one rule about the layout of a file, and one about its strings.
+//! A linter: all faults of a file, one rule about its layout, and one about its strings.
 
-use starlark_syntax::codemap::{CodeMap, FileSpanRef, Pos, Span};
+use starlark_recovery::RecoveringLexer;
+use starlark_syntax::codemap::{CodeMap, FileSpanRef, OrMemory, Pos, Span};
 use starlark_syntax::dialect::Dialect;
-use starlark_syntax::lexer::{Lexer, SourceError, Token};
+use starlark_syntax::eval_exception::EvalException;
+use starlark_syntax::lexer::{SourceError, Token};
 use std::alloc::{AllocError, Global};
 use std::fmt;
 
@@ -59,10 +61,11 @@ fn broken_rule(token: &Token, width: usize, outer: usize) -> Option<Rule> {
     }
 }
 
-/// A linter: its findings so far, and the widths of the open blocks.
+/// A linter: its findings and faults so far, and the widths of the open blocks.
 #[derive(Drop)]
 struct Linter {
     found: Vec<Finding>,
+    faults: Vec<EvalException>,
     widths: Vec<usize>,
 }
 
@@ -85,18 +88,43 @@ impl Linter {
         }
         self.keep_width(&token, width)
     }
+
+    /// Stores a fault. No block is open after it.
+    fn keep_fault(&mut self, fault: EvalException) -> Result<(), AllocError> {
+        self.widths.clear();
+        self.faults.push(fault)?;
+        Ok(())
+    }
 }
 
-/// All findings in a file, in order.
-pub fn findings(alloc: Global, file: &CodeMap) -> Result<Vec<Finding>, SourceError> {
-    let lexer = Lexer::new(alloc, file.source(), &Dialect::Standard, file.dupe()?)?;
+/// What is wrong with a file.
+#[derive(Drop)]
+pub struct Report {
+    /// All findings, in order.
+    pub findings: Vec<Finding>,
+    /// All faults, in order.
+    pub faults: Vec<EvalException>,
+}
+
+/// All findings and all faults in a file.
+pub fn lint(alloc: Global, file: &CodeMap) -> Result<Report, SourceError> {
+    let lexer = RecoveringLexer::new(alloc, file.source(), &Dialect::Standard, file.dupe()?)?;
     let mut linter = Linter {
         found: Vec::new(alloc),
+        faults: Vec::new(alloc),
         widths: Vec::new(alloc),
     };
     for lexeme in lexer {
-        let (begin, token, end) = lexeme?;
-        linter.look_at(token, end - begin, Pos::new(begin as u32))?;
+        match lexeme {
+            Ok((begin, token, end)) => {
+                linter.look_at(token, end - begin, Pos::new(begin as u32))?;
+            }
+            Err(OrMemory::Error(fault)) => linter.keep_fault(fault)?,
+            Err(OrMemory::Memory) => return Err(SourceError::Memory),
+        }
     }
-    Ok(linter.found)
+    Ok(Report {
+        findings: linter.found,
+        faults: linter.faults,
+    })
 }

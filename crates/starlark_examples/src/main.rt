@@ -13,7 +13,7 @@ mod linter;
 mod loads;
 mod parser;
 
-use crate::linter::Finding;
+use crate::linter::Report;
 use crate::parser::Expression;
 use starlark_syntax::codemap::{CodeMap, CodeMapId};
 use starlark_syntax::eval_exception::EvalException;
@@ -29,23 +29,22 @@ fn file_of(alloc: Global, name: &str, text: &str) -> Result<CodeMap, SourceError
     Ok(CodeMap::new(alloc, CodeMapId::new(1), name, source)?)
 }
 
-/// The linter's output: a line for each finding.
+/// The linter's output: a line for each finding, and then one for each fault.
 fn linted(alloc: Global, text: &str) -> Result<String, SourceError> {
     let file = file_of(alloc, "BUILD", text)?;
-    let findings = linter::findings(alloc, &file)?;
-    Ok(finding_lines(alloc, &file, &findings)?)
+    let report = linter::lint(alloc, &file)?;
+    Ok(report_lines(alloc, &file, &report)?)
 }
 
-/// A line for each finding in a file.
-fn finding_lines(
-    alloc: Global,
-    file: &CodeMap,
-    findings: &[Finding],
-) -> Result<String, AllocError> {
+/// A line for each finding in a file, and one for each fault.
+fn report_lines(alloc: Global, file: &CodeMap, report: &Report) -> Result<String, AllocError> {
     let mut lines = String::new(alloc);
-    for finding in findings {
+    for finding in &report.findings {
         let line = linter::line_of(alloc, file, *finding)?;
         write!(lines, "{line}\n")?;
+    }
+    for fault in &report.faults {
+        write!(lines, "{fault}\n")?;
     }
     Ok(lines)
 }

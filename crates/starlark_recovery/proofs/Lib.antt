@@ -1,0 +1,7 @@
+pub mod Recovery
+pub mod Items
+pub mod Order
+pub mod NextLines
+pub mod Lefts
+pub mod Passes
+mod Rows

@@ -1,0 +1,43 @@
+-- Worked texts that are lexed on after their faults, closed by computing.
+use Rattle.std.proofs.Common.{◌≡◌, List, refl}
+use Rattle.std.specs.Prelude.{⊤, [], ◌∷◌, codes, false}
+use Rattle.starlark_grammar.proofs.Rows.Shapes.{all_definitions, at, single, utf8}
+use Rattle.starlark_grammar.specs.Tokens.{Fault, Lexeme, Spanned, Newline, Identifier, Indent, Word, Comment, FStringStart, InvalidInput, InvalidTab, Indentation, UnfinishedStringLiteral, ReservedKeyword}
+use Rattle.starlark_grammar.specs.Words.{Text}
+use Rattle.starlark_grammar.specs.declared.class.Terminal.TheVariants as terminal
+use Rattle.starlark_recovery.specs.Recovery.{next_line, outcomes, outcomes_from, recovered, restart, stopped_at}
+
+-- the text has these lexemes and these faults
+abbrev Recovers : Text → List Lexeme → List (Spanned Fault) → Type 0
+Recovers text lexemes faults = recovered text ≡ record { lexemes = lexemes; faults = faults }
+
+-- to unfold this is to unfold all that a row computes with
+unfoldable all_recovery : Type 0
+unfolding all_definitions next_line stopped_at restart outcomes_from outcomes recovered
+all_recovery = ⊤
+
+-- no fault, and faults of which the line's rest is left
+rows_1 :
+    Recovers [] (at 0 Newline 0 ∷ []) []
+    × Recovers (codes "x\n") (at 0 (Identifier (codes "x")) 1 ∷ at 1 Newline 2 ∷ at 2 Newline 2 ∷ []) []
+    × Recovers (codes "'a\nx") (at 3 (Identifier (codes "x")) 4 ∷ at 4 Newline 4 ∷ []) (at 0 UnfinishedStringLiteral 2 ∷ [])
+    × Recovers (codes "x $ y\nz") (at 0 (Identifier (codes "x")) 1 ∷ at 6 (Identifier (codes "z")) 7 ∷ at 7 Newline 7 ∷ []) (at 2 (InvalidInput (codes "$")) 3 ∷ [])
+    × Recovers (codes "$") (at 1 Newline 1 ∷ []) (at 0 (InvalidInput (codes "$")) 1 ∷ [])
+    × Recovers (codes "$\n") (at 2 Newline 2 ∷ []) (at 0 (InvalidInput (codes "$")) 1 ∷ [])
+    × Recovers (codes "$\nis\nx") (at 5 (Identifier (codes "x")) 6 ∷ at 6 Newline 6 ∷ []) (at 0 (InvalidInput (codes "$")) 1 ∷ at 2 (ReservedKeyword (codes "is")) 4 ∷ [])
+    × Recovers (codes "(\n$\nx\n") (at 0 (Word terminal.OpeningRound) 1 ∷ at 4 (Identifier (codes "x")) 5 ∷ at 5 Newline 6 ∷ at 6 Newline 6 ∷ []) (at 2 (InvalidInput (codes "$")) 3 ∷ [])
+unfolding all_recovery
+rows_1 = (refl, refl, refl, refl, refl, refl, refl, refl)
+
+-- a literal that takes the rest of the text, an f-string that ends with its line, and tabs
+rows_2 :
+    Recovers (codes "'''a\nx\n") (at 7 Newline 7 ∷ []) (at 0 UnfinishedStringLiteral 7 ∷ [])
+    × Recovers (codes "f'\nx") (at 0 (FStringStart (record { is_raw = false; quote = single; is_triple = false })) 2 ∷ at 3 (Identifier (codes "x")) 4 ∷ at 4 Newline 4 ∷ []) (at 2 UnfinishedStringLiteral 3 ∷ [])
+    × Recovers (codes "x \ty\nz") (at 0 (Identifier (codes "x")) 1 ∷ at 5 (Identifier (codes "z")) 6 ∷ at 6 Newline 6 ∷ []) (at 2 InvalidTab 2 ∷ [])
+    × Recovers (codes "\tx\ny") (at 3 (Identifier (codes "y")) 4 ∷ at 4 Newline 4 ∷ []) (at 0 InvalidTab 0 ∷ [])
+    × Recovers (codes "x\n# c\n\ty\nz") (at 0 (Identifier (codes "x")) 1 ∷ at 9 (Identifier (codes "z")) 10 ∷ at 10 Newline 10 ∷ []) (at 1 InvalidTab 1 ∷ [])
+    × Recovers (codes "# c\n\ty\nz") (at 0 (Comment (codes " c")) 3 ∷ at 7 (Identifier (codes "z")) 8 ∷ at 8 Newline 8 ∷ []) (at 0 InvalidTab 0 ∷ [])
+    × Recovers (codes "a\n  b\n c\nd") (at 0 (Identifier (codes "a")) 1 ∷ at 1 Newline 2 ∷ at 2 Indent 4 ∷ at 4 (Identifier (codes "b")) 5 ∷ at 9 (Identifier (codes "d")) 10 ∷ at 10 Newline 10 ∷ []) (at 5 Indentation 7 ∷ [])
+    × Recovers (utf8 "é\nx") (at 3 (Identifier (codes "x")) 4 ∷ at 4 Newline 4 ∷ []) (at 0 (InvalidInput (utf8 "é")) 2 ∷ [])
+unfolding all_recovery
+rows_2 = (refl, refl, refl, refl, refl, refl, refl, refl)

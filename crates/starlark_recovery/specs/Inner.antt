@@ -1,0 +1,3 @@
+-- What only contracts of inner functions, and proofs, speak of.
+pub mod Passed
+pub mod Rests

@@ -1,0 +1,4 @@
+pub mod Recovery
+pub mod RecoveryLaws
+pub mod RecoveringLexer
+pub mod Inner

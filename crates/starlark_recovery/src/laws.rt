@@ -1,0 +1,26 @@
+//! Laws of lexing on after faults, for all texts.
+//!
+//! Each law is the contract of a function with an empty body. Programs don't call them.
+
+ghost use Rattle.starlark_recovery.specs.RecoveryLaws.{FaultlessIsOutcome, FaultlessRecovers, FaultsInOrder, LexemesAfterFaults, LexemesInside, LexesOn, RestartsLater};
+
+/// A text without fault has its outcome alone: its own lexemes, and no faults.
+pub fn faultless_texts_stay()
+    ensures outcome { FaultlessIsOutcome }
+    ensures recovered { FaultlessRecovers }
+{}
+
+/// The first fault and all before it are those of the text's outcome. What comes after is what the
+/// text from the next line on has by itself, moved there.
+pub fn faults_end_lines()
+    ensures outcomes { LexesOn }
+    ensures restart { RestartsLater }
+{}
+
+/// All lexemes and all faults lie in the text. Faults are in order, and so no two of them overlap.
+/// Lexemes after a fault begin at the line where lexing begins again, or later.
+pub fn found_inside()
+    ensures lexemes { LexemesInside }
+    ensures later { LexemesAfterFaults }
+    ensures faults { FaultsInOrder }
+{}

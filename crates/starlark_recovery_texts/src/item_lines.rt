@@ -1,0 +1,69 @@
+//! The lines of lexemes and faults, as `starlark_lex` prints them.
+
+use starlark_syntax::codemap::{CodeMap, Pos, Span};
+use starlark_syntax::eval_exception::EvalException;
+use starlark_syntax::lexer::Token;
+use std::alloc::AllocError;
+use std::fmt::Write;
+
+/// Appends a space and the bytes of a literal's value, as hexadecimal digits.
+fn add_bytes(lines: &mut String, value: &[u8]) -> Result<(), AllocError> {
+    lines.push(' ')?;
+    for byte in value {
+        write!(lines, "{byte:02x}")?;
+    }
+    Ok(())
+}
+
+/// Appends a space and the value of a token, if it has one.
+fn add_value(lines: &mut String, token: &Token) -> Result<(), AllocError> {
+    match token {
+        Token::String(text) | Token::FStringText(text) => add_bytes(lines, text.as_bytes()),
+        Token::Bytes(bytes) => add_bytes(lines, bytes.as_slice()),
+        Token::FStringStart(quote) => write!(lines, " {quote:?}"),
+        Token::Int(number) => write!(lines, " {number}"),
+        Token::Comment(text) | Token::Identifier(text) | Token::Float(text) => {
+            write!(lines, " {text}")
+        }
+        _ => Ok(()),
+    }
+}
+
+/// The span from one offset to another, if they are in order and fit in 32 bits, and the file holds
+/// it.
+fn held_span(file: &CodeMap, begin: usize, end: usize) -> Option<Span> {
+    let (begin, end) = (u32::try_from(begin).ok()?, u32::try_from(end).ok()?);
+    if begin > end {
+        return None;
+    }
+    let span = Span::new(Pos::new(begin), Pos::new(end));
+    file.holds(span).then_some(span)
+}
+
+/// Appends the line of a lexeme of a file.
+pub fn add_lexeme(
+    lines: &mut String,
+    file: &CodeMap,
+    begin: usize,
+    token: &Token,
+    end: usize,
+) -> Result<(), AllocError> {
+    write!(lines, "{begin}-{end}")?;
+    match held_span(file, begin, end) {
+        Some(span) => write!(lines, " {}", file.resolve_span(span))?,
+        None => lines.push_str(" outside of the file")?,
+    }
+    write!(lines, " {}", token.kind())?;
+    add_value(lines, token)?;
+    lines.push('\n')
+}
+
+/// Appends the line of a fault.
+pub fn add_fault(lines: &mut String, fault: &EvalException) -> Result<(), AllocError> {
+    let Some(place) = fault.error().span() else {
+        return lines.push_str("fault without a place\n");
+    };
+    let (begin, end) = (place.span.begin().get(), place.span.end().get());
+    write!(lines, "fault {begin}-{end} {place} ")?;
+    writeln!(lines, "{}", fault.error().kind())
+}

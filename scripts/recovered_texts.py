@@ -1,0 +1,188 @@
+#!/usr/bin/env python3
+"""Checks texts that are lexed on after their faults against the plain lexer of fuzz.py.
+
+usage: recovered_texts.py [--write] [--count N] [--seed N] [--stored] [--reference FOLDER]
+
+Without options it compares the stored output of crates/starlark_recovery_texts with what the plain lexer finds.
+
+--write             store what the plain lexer finds
+--count N           also compare the built program on N random texts (0)
+--seed N            another seed gives other texts (1)
+--stored            also compare the built program on the texts of crates/starlark_texts
+--reference FOLDER  also compare the plain lexer with that of a folder: its recovery.py has `recovered(text)`, all lexemes and
+                    all faults, each with its begin and end
+
+It prints the first text for which two of them differ, and exits with 1; else it says how many were compared.
+"""
+
+import argparse
+import random
+import re
+import subprocess
+import sys
+from pathlib import Path
+
+from fuzz import INSERTIONS, NAMES, fault_line, lexeme_line, outcome, random_text, several
+from stored_texts import CRATE as TEXTS
+from stored_texts import is_utf8, records_of
+
+CRATE = Path(__file__).resolve().parent.parent / "crates/starlark_recovery_texts"
+PROGRAM = CRATE / "out/starlark_recovery_texts"
+LONGEST = 4096
+LAYOUT = ["a", "if x:\n", "\n", "\n", "\n ", "\n  ", "\n   ", "\n\t", " ", "\t", "# c\n", "\t# c", "#", "\r\n", "\r", "\r\n  ", "x \t"]
+
+# Where lexing begins again
+
+LINE_END = re.compile(rb"\r?\n")
+COMMENT_LINES = re.compile(rb"([ \t\r]*#[^\n]*(\n|\Z))*")
+
+
+def next_line(text, place):
+    """The start of the line after the one that holds a place, or the end of the text."""
+    return text.find(b"\n", place) + 1 or len(text)
+
+
+def restart(text, fault):
+    """Where lexing begins again after a fault."""
+    line_end = LINE_END.match(text, fault.begin)
+    if fault.message.endswith("tabs are not allowed") and (line_end or fault.begin == 0):
+        margin = line_end.end() if line_end else fault.begin
+        return next_line(text, COMMENT_LINES.match(text, margin).end())
+    return next_line(text, max(fault.begin, fault.end - 1))
+
+
+# What is found in a text
+
+
+def moved_lexeme(lexeme, base):
+    """A lexeme so many bytes later."""
+    return lexeme._replace(begin=base + lexeme.begin, end=base + lexeme.end)
+
+
+def items_of(text):
+    """All lexemes and all faults of a text, in order, each with what it is."""
+    base = 0
+    while True:
+        lexemes, fault = outcome(text[base:])
+        yield from (("lexeme", moved_lexeme(lexeme, base)) for lexeme in lexemes)
+        if not fault:
+            return
+        later = restart(text[base:], fault)
+        fault.begin, fault.end = base + fault.begin, base + fault.end
+        yield "fault", fault
+        base += later
+
+
+def lines_of(text):
+    """The lines of all that is found in a text."""
+    lines = {"lexeme": lexeme_line, "fault": fault_line}
+    return "".join(lines[what](text, item) for what, item in items_of(text)).encode()
+
+
+# What is compared
+
+
+def random_texts(count, seed):
+    """Random texts that are UTF-8: programs with a change or two, and rows of parts."""
+    dice = random.Random(seed)
+    while count:
+        match dice.randrange(4):
+            case 0:
+                text = several(dice, 16, lambda: dice.choice(LAYOUT)).encode()
+            case 1:
+                parts = [dice.choice(INSERTIONS), dice.choice(NAMES), " ", "\n", "\n"]
+                text = several(dice, 30, lambda: dice.choice(parts + [dice.choice(INSERTIONS)])).encode()
+            case _:
+                text = b"".join(random_text(dice) for _ in range(dice.randrange(1, 4)))
+        if is_utf8(text) and len(text) <= LONGEST:
+            count -= 1
+            yield text
+
+
+def stored_texts():
+    """The texts of the other program that are UTF-8 and not long."""
+    for _, text in records_of((TEXTS / "stdin").read_bytes()):
+        if is_utf8(text) and len(text) <= LONGEST:
+            yield text
+
+
+def written(runs):
+    """What the program has to print."""
+    return b"".join(f"text {number}\n".encode() + run for number, run in enumerate(runs, 1))
+
+
+def cut(printed):
+    """What was printed for each text."""
+    return re.split(rb"(?m)^text [0-9]+\n", printed)[1:]
+
+
+def printed_for(texts):
+    """What the built program prints for each text."""
+    stored = b"".join(f"{len(text)}\n".encode() + text + b"\n" for text in texts)
+    return subprocess.run([PROGRAM], input=stored, capture_output=True, check=True).stdout
+
+
+def compare(what, texts, runs, printed):
+    """Says the first text whose lines differ, if there is one."""
+    if printed == written(runs):
+        print(f"{len(texts)} {what} texts, no difference")
+        return True
+    for text, run, found in zip(texts, runs, cut(printed) + [b""] * len(texts)):
+        if run != found:
+            print(f"text {text!r}\nwanted {run.decode()}\nfound {found.decode()}")
+            return False
+    print("the number of texts differs")
+    return False
+
+
+def spans(items):
+    """The begin and end of each."""
+    return [(item.begin, item.end) for item in items]
+
+
+def agrees_with(folder, texts):
+    """Whether another plain lexer finds the same lexemes and faults, by their kinds and places."""
+    sys.path.insert(0, folder)
+    import recovery
+
+    for text in texts:
+        lexemes, faults = recovery.recovered(text)
+        found = list(items_of(text))
+        own_lexemes = [item for what, item in found if what == "lexeme"]
+        own_faults = [item for what, item in found if what == "fault"]
+        kinds = [lexeme.kind for lexeme in lexemes] == [lexeme.kind for lexeme in own_lexemes]
+        if not kinds or spans(lexemes) != spans(own_lexemes) or spans(faults) != spans(own_faults):
+            print(f"text {text!r}: the two plain lexers differ")
+            return False
+    print(f"{len(texts)} texts, the two plain lexers agree")
+    return True
+
+
+def main():
+    parser = argparse.ArgumentParser()
+    parser.add_argument("--write", action="store_true")
+    parser.add_argument("--count", type=int, default=0, metavar="N")
+    parser.add_argument("--seed", type=int, default=1, metavar="N")
+    parser.add_argument("--stored", action="store_true")
+    parser.add_argument("--reference", metavar="FOLDER")
+    options = parser.parse_args()
+    rows = [text for _, text in records_of((CRATE / "stdin").read_bytes())]
+    if options.write:
+        (CRATE / "stdout").write_bytes(written([lines_of(text) for text in rows]))
+    groups = [("stored", rows, (CRATE / "stdout").read_bytes())]
+    if options.count:
+        texts = list(random_texts(options.count, options.seed))
+        groups.append(("random", texts, printed_for(texts)))
+    if options.stored:
+        texts = list(stored_texts())
+        groups.append(("other stored", texts, printed_for(texts)))
+    for what, texts, printed in groups:
+        if not compare(what, texts, [lines_of(text) for text in texts], printed):
+            return 1
+        if options.reference and not agrees_with(options.reference, texts):
+            return 1
+    return 0
+
+
+if __name__ == "__main__":
+    sys.exit(main())
