@@ -1,0 +1,4 @@
+pub mod Items
+pub mod Filling
+pub mod Pieces
+pub mod Stops

@@ -1,0 +1,6 @@
+pub mod Kinds
+pub mod Records
+pub mod Endings
+pub mod Outcomes
+pub mod Written
+pub mod Inner
