@@ -13,6 +13,7 @@
 #ifndef STARLARK_LEX_H
 #define STARLARK_LEX_H
 
+#include <stdbool.h>
 #include <stddef.h>
 #include <stdint.h>
 
@@ -188,6 +189,18 @@ uint32_t starlark_lex(const uint8_t *text, size_t text_len,
                       starlark_lexeme *lexemes, size_t lexemes_cap,
                       uint8_t *values, size_t values_cap,
                       starlark_outcome *outcome);
+
+/* The line and columns of an offset in a text. Each counts from 0. */
+typedef struct starlark_text_place {
+    size_t line;         /* how many LF are before the offset */
+    size_t column;       /* how many characters are on the line before the offset */
+    size_t utf16_column; /* how many units of UTF-16 these take */
+} starlark_text_place;
+
+/* Tells the line and columns of an offset in *place, and returns true. Where the offset is past the
+ * end of the text, or the text up to it is not UTF-8, as inside a character, it returns false, and
+ * *place is as it was. It reads the text up to the offset. */
+bool starlark_place(const uint8_t *text, size_t text_len, size_t at, starlark_text_place *place);
 
 /* Writes the name of a kind, such as "Identifier", if there is room for it, without a terminating
  * zero. Returns its length in bytes, which is 0 for a number that no kind has. */

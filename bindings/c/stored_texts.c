@@ -95,30 +95,18 @@ static void add_hex(text *line, const uint8_t *from, size_t len)
     }
 }
 
-typedef struct place {
-    size_t at;
-    size_t line;
-    size_t column;
-} place;
-
-/* The place of an offset that is not before that of another place. */
-static place moved(place from, const uint8_t *source, size_t at)
+static starlark_text_place place_of(bytes source, size_t at)
 {
-    for (; from.at < at; from.at++) {
-        if (source[from.at] == '\n') {
-            from.line++;
-            from.column = 0;
-        } else if ((source[from.at] & 0xC0) != 0x80) {
-            from.column++;
-        }
-    }
-    return from;
+    starlark_text_place place;
+    if (!starlark_place(source.at, source.len, at, &place))
+        stop("an offset without a place");
+    return place;
 }
 
-static void add_place(text *line, const uint8_t *source, size_t begin, size_t end)
+static void add_place(text *line, bytes source, size_t begin, size_t end)
 {
-    place from = moved((place){0, 0, 0}, source, begin);
-    place to = moved(from, source, end);
+    starlark_text_place from = place_of(source, begin);
+    starlark_text_place to = place_of(source, end);
     add_number(line, from.line + 1);
     add_word(line, ":");
     add_number(line, from.column + 1);
@@ -172,7 +160,7 @@ static void add_value(text *line, const starlark_lexeme *lexeme, const uint8_t *
     }
 }
 
-static void add_lexeme(text *line, const uint8_t *source, const starlark_lexeme *lexeme, const uint8_t *values)
+static void add_lexeme(text *line, bytes source, const starlark_lexeme *lexeme, const uint8_t *values)
 {
     uint8_t name[32];
     size_t len = starlark_kind_name(lexeme->kind, name, sizeof name);
@@ -189,7 +177,7 @@ static void add_lexeme(text *line, const uint8_t *source, const starlark_lexeme 
     add_word(line, "\n");
 }
 
-static void add_fault(text *line, const uint8_t *source, const starlark_outcome *outcome, const uint8_t *values)
+static void add_fault(text *line, bytes source, const starlark_outcome *outcome, const uint8_t *values)
 {
     const uint8_t *named = values + outcome->fault_value_begin;
     size_t len = starlark_fault_message(outcome->fault_kind, named, outcome->fault_value_len, (uint8_t *)line->at, 0);
@@ -218,9 +206,9 @@ static void add_lines(text *line, size_t number, bytes source, const starlark_ou
     add_word(line, said[outcome->status]);
     add_word(line, "\n");
     for (size_t at = 0; at < outcome->lexemes; at++)
-        add_lexeme(line, source.at, &lexemes[at], values);
+        add_lexeme(line, source, &lexemes[at], values);
     if (outcome->status == STARLARK_FAULT)
-        add_fault(line, source.at, outcome, values);
+        add_fault(line, source, outcome, values);
 }
 
 static bool is_untouched(const void *from, size_t len)

@@ -3,10 +3,10 @@
 from __future__ import annotations
 
 import os
-from ctypes import CDLL, POINTER, Structure, byref, c_char, c_int32, c_size_t, c_uint16, c_uint32
+from ctypes import CDLL, POINTER, Structure, byref, c_bool, c_char, c_int32, c_size_t, c_uint16, c_uint32
 from enum import IntEnum
 from pathlib import Path
-from typing import Any
+from typing import Any, Optional, Tuple
 
 NAME = "libstarlark_lex.so"
 PLACE = "STARLARK_LEX_LIBRARY"
@@ -55,6 +55,12 @@ class Outcome(Structure):
     ]
 
 
+class Place(Structure):
+    """A `starlark_text_place`."""
+
+    _fields_ = [("line", c_size_t), ("column", c_size_t), ("utf16_column", c_size_t)]
+
+
 def _loaded() -> Any:
     """The shared object: the one that the environment names, or the one beside this file."""
     library = CDLL(os.environ.get(PLACE) or str(Path(__file__).with_name(NAME)))
@@ -72,6 +78,8 @@ def _loaded() -> Any:
     library.starlark_fault_message.argtypes = [c_uint32, POINTER(c_char), c_size_t, POINTER(c_char), c_size_t]
     library.starlark_kind_name.restype = c_size_t
     library.starlark_kind_name.argtypes = [c_uint32, POINTER(c_char), c_size_t]
+    library.starlark_place.restype = c_bool
+    library.starlark_place.argtypes = [POINTER(c_char), c_size_t, c_size_t, POINTER(Place)]
     return library
 
 
@@ -125,3 +133,14 @@ def fault_message(kind: int, named: bytes) -> str:
     message = (c_char * max(length, 1))()
     _LIBRARY.starlark_fault_message(kind, text, len(named), message, length)
     return message[:length].decode()
+
+
+def place_of(source: bytes, at: int) -> Optional[Tuple[int, int, int]]:
+    """Line, column in characters and column in units of UTF-16 of an offset, each from 0.
+
+    None where the offset is past the end of the text, or inside a character.
+    """
+    place = Place()
+    if not _LIBRARY.starlark_place(_text(source), len(source), at, byref(place)):
+        return None
+    return place.line, place.column, place.utf16_column

@@ -9,11 +9,11 @@ import unittest
 from contextlib import redirect_stderr, redirect_stdout
 from pathlib import Path
 from tempfile import TemporaryDirectory
-from typing import Iterator, Tuple
+from typing import Iterator, Optional, Tuple
 
 from starlark_lexer import FaultKind, Kind, Quotes, StarlarkFault, Token, faults, lex, tokenize
 from starlark_lexer.__main__ import main
-from starlark_lexer.library import kind_name
+from starlark_lexer.library import kind_name, place_of
 
 TOP = Path(__file__).resolve().parents[3]
 STORED = TOP / "crates/starlark_texts"
@@ -151,6 +151,27 @@ class Tokens(unittest.TestCase):
         for kind in Kind:
             self.assertEqual(kind_name(kind).upper(), kind.name.replace("_", ""))
         self.assertEqual([kind_name(0), kind_name(max(Kind) + 1), kind_name(2**32 - 1)], ["", "", ""])
+
+
+class Places(unittest.TestCase):
+    """Lines and columns of offsets, against Python's own."""
+
+    def test_each_offset(self) -> None:
+        for text in ("", "a\nb\n\nc", "é\n汉🔬x\r\n🔬", "\U0010ffff\ud7ff\uffff\n"):
+            source = text.encode()
+            for at in range(len(source) + 2):
+                self.assertEqual(place_of(source, at), self.place(source, at), (text, at))
+
+    @staticmethod
+    def place(source: bytes, at: int) -> Optional[Tuple[int, int, int]]:
+        """The place of an offset, by Python's strings."""
+        try:
+            front = source[:at].decode()
+        except UnicodeDecodeError:
+            return None
+        line = front.rpartition("\n")[2]
+        place = front.count("\n"), len(line), len(line.encode("utf-16-le")) // 2
+        return place if at <= len(source) else None
 
 
 class Faults(unittest.TestCase):

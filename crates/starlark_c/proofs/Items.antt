@@ -1,5 +1,5 @@
 -- What a lexer yields, by the lexemes and the fault of its text.
-use Rattle.std.proofs.Common.{◌≡◌, ℕ, zero, suc, ◌+◌, ◌≤◌, List, [], ◌∷◌, ◌++◌, map, length, take, refl, ap, sym, ◌∙◌, arith, None, Some, Ok, Err, slice_get, option_to_list}
+use Rattle.std.proofs.Common.{◌≡◌, ℕ, zero, suc, ◌+◌, ◌≤◌, List, [], ◌∷◌, ◌++◌, map, length, take, refl, ap, subst, sym, ◌∙◌, arith, None, Some, Ok, Err, slice_get, option_to_list}
 use Rattle.std.specs.Prelude.{Option}
 use Rattle.std.proofs.lemmas.List.{length-map}
 use Rattle.starlark_base.specs.Diagnostics.{Diagnosed}
@@ -8,7 +8,7 @@ use Rattle.starlark_c.specs.Endings.{lexemes_of}
 use Rattle.starlark_grammar.specs.Reading.{outcome}
 use Rattle.starlark_grammar.specs.Tokens.{Fault, Lexeme, Spanned}
 use Rattle.starlark_grammar.specs.Words.{Text}
-use Rattle.starlark_syntax.specs.Exceptions.{IsException}
+use Rattle.starlark_syntax.specs.Exceptions.{IsException, IsFaultIn}
 use Rattle.starlark_syntax.specs.Lexer.{AnswersNext}
 use Rattle.starlark_syntax.specs.declared.error.kinds.ErrorKind.{ErrorKind}
 use Rattle.starlark_text.specs.declared.or_memory.OrMemory.TheVariants as refusal
@@ -64,6 +64,7 @@ take_next (y ∷ ys) (suc h) x e =
 pub record IsNext (text : Text) (h : ℕ) (x : Spanned TokenView) : Type 0 where
   pub is : slice_get (lexemes_of text) h ≡ Some x
   pub few : h + 1 ≤ length (lexemes_of text)
+  pub some : h + 1 ≤ length (items text)
   pub more : take (h + 1) (lexemes_of text) ≡ take h (lexemes_of text) ++ x ∷ []
 
 pub next_lexeme : (file : SourceFile) (text : Text) (h : ℕ) (found : ℕ × Token × ℕ) → AnswersNext file (slice_get (items text) h) (Some (Ok found)) → IsNext text h (lexeme_view found)
@@ -77,7 +78,7 @@ next_lexeme file text h found answers = by_item (slice_get (items text) h) refl 
         let here : slice_get (items text) h ≡ Some (Given (lexeme_view found)) = is ∙ ap (λ v. Some (Given v)) (sym answers) in
         let at = lexeme_at (outcome text).lexemes (option_to_list (outcome text).fault) h (lexeme_view found) here in
         let step = take_next (lexemes_of text) h (lexeme_view found) at in
-        record { is = at; few = step.0; more = step.1 }
+        record { is = at; few = step.0; some = (take_next (items text) h (Given (lexeme_view found)) here).0; more = step.1 }
 
 -- the fault of a text, after all its lexemes
 pub record IsLast (file : SourceFile) (text : Text) (h : ℕ) (exception : Diagnosed ErrorKind) : Type 0 where
@@ -85,6 +86,7 @@ pub record IsLast (file : SourceFile) (text : Text) (h : ℕ) (exception : Diagn
   pub is : (outcome text).fault ≡ Some fault
   pub all : h ≡ length (lexemes_of text)
   pub thrown : IsException file fault exception
+  pub within : IsFaultIn file (outcome text).fault (Some exception)
 
 pub next_fault : (file : SourceFile) (text : Text) (h : ℕ) (exception : Diagnosed ErrorKind) → AnswersNext file (slice_get (items text) h) (Some (Err (refusal.Error exception))) → IsLast file text h exception
 unfolding items
@@ -95,7 +97,7 @@ next_fault file text h exception answers = by_item (slice_get (items text) h) re
     by_item (Some (Given x)) is answers = absurd answers
     by_item (Some (Refused fault)) is answers =
         let at = fault_at (outcome text).lexemes (outcome text).fault h fault is in
-        record { fault = fault; is = at.0; all = at.1 ∙ sym (length-map (outcome text).lexemes shown_lexeme); thrown = answers }
+        record { fault = fault; is = at.0; all = at.1 ∙ sym (length-map (outcome text).lexemes shown_lexeme); thrown = answers; within = subst (λ (f : Option (Spanned Fault)). IsFaultIn file f (Some exception)) (sym at.0) answers }
 
 pub next_none : (file : SourceFile) (text : Text) (h : ℕ) → AnswersNext file (slice_get (items text) h) None → h ≤ length (lexemes_of text) → ((outcome text).fault ≡ None) × (h ≡ length (lexemes_of text))
 unfolding items

@@ -1,4 +1,7 @@
 pub mod Items
-pub mod Filling
-pub mod Pieces
+pub mod Filled
+pub mod CutTexts
 pub mod Stops
+pub mod Ends
+pub mod Wanted
+pub mod Lines

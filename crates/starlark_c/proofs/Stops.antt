@@ -3,14 +3,14 @@ use Rattle.std.proofs.Common.{◌≡◌, ℕ, ◌+◌, ◌-◌, ◌≤◌, ◌<�
 use Rattle.std.specs.Str.{IsCharBoundary}
 use Rattle.std.proofs.lemmas.List.{length-take-le, take-take, take_all}
 use Rattle.starlark_c.specs.Endings.{Buffers, Ends, Hold, IsCut, IsFull, IsPiece, IsText, lexemes_of}
-use Rattle.starlark_c.specs.Inner.Filling.{HasNoRoom, IsAllBut, IsNewlineStop, IsNextStop, IsOverflow, IsStop}
+use Rattle.starlark_c.specs.Inner.Filling.{HasNoRoom, IsNewlineStop, IsNextStop, IsOverflow, IsStop}
 use Rattle.starlark_c.specs.Records.{records, value_bytes, values}
 use Rattle.starlark_c.specs.declared.endings.Ending.{Ending}
 use Rattle.starlark_c.specs.declared.endings.Ending.TheVariants as ending
 use Rattle.starlark_c.specs.declared.endings.Filled.{Filled}
 use Rattle.starlark_c.specs.declared.progress.Progress.{Progress}
 use Rattle.starlark_c.specs.declared.progress.Stop.{Stop}
-use Rattle.starlark_c.proofs.Filling.{filled_by, front_lexemes, front_values, same_sizes, values_more}
+use Rattle.starlark_c.proofs.Filled.{filled_by, front_lexemes, front_values, same_sizes, values_more}
 use Rattle.starlark_c.proofs.Items.{IsNext}
 use Rattle.starlark_grammar.specs.Tokens.{Spanned}
 use Rattle.starlark_grammar.specs.Words.{Text}
@@ -31,7 +31,7 @@ stop_more text n found more old new before (inr here) next counted boundary =
     let count : more.lexemes ≡ n + 1 = ap (λ (f : Filled). f.lexemes) counted ∙ length-take-le (n + 1) (lexemes_of text) next.few in
     let index : more.lexemes - 1 ≡ n = omega (arith, count) in
     let bytes : more.values ≡ length (values (take more.lexemes (lexemes_of text))) =
-        ap (λ (f : Filled). f.values) counted ∙ ap (λ k. length (values (take k (lexemes_of text)))) (sym count) in
+    ap (λ (f : Filled). f.values) counted ∙ ap (λ k. length (values (take k (lexemes_of text)))) (sym count) in
     rw here.0 (inr (record {
       lexeme = lexeme_view found;
       some = omega (arith, count);
@@ -47,21 +47,21 @@ pub no_stop : (text : Text) (n : ℕ) (stop : Stop) → IsStop text n stop → 0
 no_stop text n stop (inl none) some = absurd (omega (arith, none, some))
 no_stop text n stop (inr is) some = is
 
--- All but the last of the lexemes fill the buffers.
-pub all_but : (text : Text) (n : ℕ) (found : ℕ × Token × ℕ) (filled : Filled) → IsNext text n (lexeme_view found) → n ≤ length (lexemes_of text) → filled ≡ filled_by (take n (lexemes_of text)) → IsAllBut text (n + 1) filled (token_view found.1)
+-- What fills the buffers, with one lexeme more.
+pub all_but : (text : Text) (n : ℕ) (found : ℕ × Token × ℕ) (filled : Filled) → IsNext text n (lexeme_view found) → n ≤ length (lexemes_of text) → filled ≡ filled_by (take n (lexemes_of text))
+    → (filled.lexemes + 1 ≡ n + 1) × (filled.values + length (value_bytes (token_view found.1)) ≡ length (values (take (n + 1) (lexemes_of text))))
 all_but text n found filled next few counted =
     let count : filled.lexemes ≡ n = ap (λ (f : Filled). f.lexemes) counted ∙ length-take-le n (lexemes_of text) few in
-    let bytes : filled.values ≡ length (values (take n (lexemes_of text))) = ap (λ (f : Filled). f.values) counted in
-    record {
-      lexemes = omega (arith, count);
-      values = omega (arith, bytes, ap (λ xs. length (values xs)) next.more, ap length (values_more (take n (lexemes_of text)) (lexeme_view found)), length-append (values (take n (lexemes_of text))) (value_bytes (token_view found.1)));
-    }
+    let bytes : filled.values ≡ length (values (take n (lexemes_of text))) = ap (λ (f : Filled). f.values) counted in (
+      omega (arith, count),
+      omega (arith, bytes, ap (λ xs. length (values xs)) next.more, ap length (values_more (take n (lexemes_of text)) (lexeme_view found)), length-append (values (take n (lexemes_of text))) (value_bytes (token_view found.1))),
+    )
 
 -- How lexing ends where a lexeme has no room.
-pub overflows : (text : Text) (before now after : Buffers) (n : ℕ) (found : ℕ × Token × ℕ) (progress : Progress) (end : Ending) → IsText text → n ≤ length (lexemes_of text)
+pub overflows : (text : Text) (before now after : Buffers) (n : ℕ) (found : ℕ × Token × ℕ) (progress : Progress) (end : Ending) → IsText text → IsNext text n (lexeme_view found) → n ≤ length (lexemes_of text)
     → Hold (records (take n (lexemes_of text))) (values (take n (lexemes_of text))) before now → progress.filled ≡ filled_by (take n (lexemes_of text)) → IsStop text n progress.stop
-    → HasNoRoom (lexeme_view found) progress.filled now after → IsOverflow text progress (token_view found.1) end → Ends text before after end
-overflows text before now after n found progress (ending.Piece filled next) is few held counted stop none over =
+    → HasNoRoom (lexeme_view found) progress.filled now after → IsOverflow text (n + 1) progress end → Ends text before after end
+overflows text before now after n found progress (ending.Piece filled next) is one few held counted stop none over =
     let here = no_stop text n progress.stop stop over.2 in
     let all = lexemes_of text in
     let count = progress.stop.filled.lexemes in
@@ -70,17 +70,16 @@ overflows text before now after n found progress (ending.Piece filled next) is f
     let lexemes : take count after.lexemes ≡ records (take count (take n all)) = ap (take count) none.lexemes ∙ front_lexemes before now (take n all) count held less in
     let bytes : take (length (values (take count (take n all)))) after.values ≡ values (take count (take n all)) = ap (take (length (values (take count (take n all))))) none.values ∙ front_values before now (take n all) count held in
     let same : filled ≡ record { lexemes = count; values = length (values (take count all)) } = over.1 ∙ ap (λ v. record { lexemes = count; values = v }) here.values in
-    (is, record { count = count; piece = over.0; lexemes = rw front at lexemes; values = rw front at bytes; filled = same })
-overflows text before now after n found progress (ending.Full wanted) is few held counted stop none over =
-    let sizes = same_sizes before now (take n (lexemes_of text)) held in
-    (is, record { lexemes = over.all_lexemes; bytes = over.all_bytes; first = over.first; lacks = lacking none.lacks; wanted = over.wanted })
+    (is, record { count = count; piece = over.0; all_lexemes = rw front at lexemes; all_values = rw front at bytes; counts = same })
+overflows text before now after n found progress (ending.Full wanted) is one few held counted stop none over =
+    (is, record { lexemes = over.all_lexemes; bytes = over.all_bytes; first = over.first; lacks = lacking none.lacks; needs = over.needs })
   where
     lacking : (length now.lexemes < progress.filled.lexemes + 1) ⊎ (length now.values < progress.filled.values + length (value_bytes (token_view found.1))) → (length before.lexemes < over.all_lexemes) ⊎ (length before.values < over.all_bytes)
-    lacking (inl short) = inl (omega (arith, short, (same_sizes before now (take n (lexemes_of text)) held).0, over.more_lexemes))
-    lacking (inr short) = inr (omega (arith, short, (same_sizes before now (take n (lexemes_of text)) held).1, over.more_bytes))
-overflows text before now after n found progress (ending.Memory told) is few held counted stop none over =
-    (is, record { count = n; few = few; hold = rw (none.lexemes, none.values) held; filled = over ∙ counted ∙ ap (λ k. record { lexemes = k; values = length (values (take n (lexemes_of text))) }) (length-take-le n (lexemes_of text) few) })
-overflows text before now after n found progress (ending.Whole filled) is few held counted stop none over = absurd over
-overflows text before now after n found progress (ending.Fault filled fault) is few held counted stop none over = absurd over
-overflows text before now after n found progress (ending.NotUtf8 valid) is few held counted stop none over = absurd over
-overflows text before now after n found progress ending.TooLong is few held counted stop none over = absurd over
+    lacking (inl short) = inl (omega (arith, short, (all_but text n found progress.filled one few counted).0, (same_sizes before now (take n (lexemes_of text)) held).0, over.more_lexemes))
+    lacking (inr short) = inr (omega (arith, short, (all_but text n found progress.filled one few counted).1, (same_sizes before now (take n (lexemes_of text)) held).1, over.more_bytes))
+overflows text before now after n found progress (ending.Memory told) is one few held counted stop none over =
+    (is, record { count = n; few = few; hold = rw (none.lexemes, none.values) held; counts = over ∙ counted ∙ ap (λ k. record { lexemes = k; values = length (values (take n (lexemes_of text))) }) (length-take-le n (lexemes_of text) few) })
+overflows text before now after n found progress (ending.Whole filled) is one few held counted stop none over = absurd over
+overflows text before now after n found progress (ending.Fault filled fault) is one few held counted stop none over = absurd over
+overflows text before now after n found progress (ending.NotUtf8 valid) is one few held counted stop none over = absurd over
+overflows text before now after n found progress ending.TooLong is one few held counted stop none over = absurd over

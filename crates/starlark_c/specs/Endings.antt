@@ -21,10 +21,10 @@ pub record Buffers : Type 0 where
   pub values : Text
 
 -- the buffers begin with these records and values, and are as they were after them
-pub record Hold (lexemes : List LexemeRecord) (bytes : Text) (before after : Buffers) : Type 0 where
-  pub lexemes_fit : length lexemes ≤ length before.lexemes
+pub record Hold (list : List LexemeRecord) (bytes : Text) (before after : Buffers) : Type 0 where
+  pub lexemes_fit : length list ≤ length before.lexemes
   pub values_fit : length bytes ≤ length before.values
-  pub lexemes : after.lexemes ≡ lexemes ++ drop (length lexemes) before.lexemes
+  pub lexemes : after.lexemes ≡ list ++ drop (length list) before.lexemes
   pub values : after.values ≡ bytes ++ drop (length bytes) before.values
 
 -- the lexemes of a text, or those before its fault
@@ -49,15 +49,15 @@ pub record IsText (text : Text) : Type 0 where
 pub record IsWhole (text : Text) (before after : Buffers) (filled : Filled) : Type 0 where
   pub faultless : (outcome text).fault ≡ None
   pub hold : Hold (records (lexemes_of text)) (values (lexemes_of text)) before after
-  pub filled : filled ≡ record { lexemes = length (lexemes_of text); values = length (values (lexemes_of text)) }
+  pub counts : filled ≡ record { lexemes = length (lexemes_of text); values = length (values (lexemes_of text)) }
 
 -- the text has the fault, and the buffers have all lexemes before it and the text that it names
 pub record IsFaulty (text : Text) (before after : Buffers) (filled : Filled) (told : FaultRecord) : Type 0 where
   pub fault : grammar.Spanned grammar.Fault
   pub is : (outcome text).fault ≡ Some fault
   pub hold : Hold (records (lexemes_of text)) (all_values text) before after
-  pub told : told ≡ fault_record (length (values (lexemes_of text))) fault
-  pub filled : filled ≡ record { lexemes = length (lexemes_of text); values = length (all_values text) }
+  pub tells : told ≡ fault_record (length (values (lexemes_of text))) fault
+  pub counts : filled ≡ record { lexemes = length (lexemes_of text); values = length (all_values text) }
 
 -- the text can be cut after `at` bytes: it is a clean cut up to there, its first `count` lexemes are those of that part
 -- without the closing `Newline`, and all its lexemes are the joined list of both parts
@@ -72,9 +72,9 @@ pub record IsPiece (text : Text) (at count : ℕ) : Type 0 where
 pub record IsCut (text : Text) (after : Buffers) (filled : Filled) (next : ℕ) : Type 0 where
   pub count : ℕ
   pub piece : IsPiece text next count
-  pub lexemes : take count after.lexemes ≡ records (take count (lexemes_of text))
-  pub values : take (length (values (take count (lexemes_of text)))) after.values ≡ values (take count (lexemes_of text))
-  pub filled : filled ≡ record { lexemes = count; values = length (values (take count (lexemes_of text))) }
+  pub all_lexemes : take count after.lexemes ≡ records (take count (lexemes_of text))
+  pub all_values : take (length (values (take count (lexemes_of text)))) after.values ≡ values (take count (lexemes_of text))
+  pub counts : filled ≡ record { lexemes = count; values = length (values (take count (lexemes_of text))) }
 
 -- so many lexemes and bytes of values are the first of the text, or all with the text that its fault names
 abbrev pub AreFirst : Text → (lexemes bytes : ℕ) → Type 0
@@ -92,14 +92,14 @@ pub record IsFull (text : Text) (before : Buffers) (wanted : Filled) : Type 0 wh
   pub bytes : ℕ
   pub first : AreFirst text lexemes bytes
   pub lacks : (length before.lexemes < lexemes) ⊎ (length before.values < bytes)
-  pub wanted : wanted ≡ record { lexemes = capped lexemes; values = capped bytes }
+  pub needs : wanted ≡ record { lexemes = capped lexemes; values = capped bytes }
 
 -- the buffers have the first lexemes of the text, or all
 pub record IsBegun (text : Text) (before after : Buffers) (filled : Filled) : Type 0 where
   pub count : ℕ
   pub few : count ≤ length (lexemes_of text)
   pub hold : Hold (records (take count (lexemes_of text))) (values (take count (lexemes_of text))) before after
-  pub filled : filled ≡ record { lexemes = count; values = length (values (take count (lexemes_of text))) }
+  pub counts : filled ≡ record { lexemes = count; values = length (values (take count (lexemes_of text))) }
 
 -- how lexing some bytes into buffers ends
 abbrev pub Ends : Text → Buffers → Buffers → Ending → Type 0

@@ -3,4 +3,5 @@ pub mod Records
 pub mod Endings
 pub mod Outcomes
 pub mod Written
+pub mod Places
 pub mod Inner

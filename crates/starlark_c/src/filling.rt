@@ -1,18 +1,19 @@
 //! Fills the caller's buffers with the lexemes of a text, as the lexer yields them.
 
-ghost use Rattle.std.specs.Prelude.{◌≡◌, ◌<◌, ◌≤◌, ◌+◌, ◌^◌, Some, IfSome, IfNone, false, length, take};
+ghost use Rattle.std.specs.Prelude.{◌≡◌, ◌<◌, ◌≤◌, ◌+◌, ◌^◌, ℕ, Some, IfSome, IfNone, false, length, take};
 ghost use Rattle.starlark_base.specs.Sources.{SourceFile};
 ghost use Rattle.starlark_c.specs.Endings.{Ends, IsText, lexemes_of};
-ghost use Rattle.starlark_c.specs.Inner.Filling.{EndsByFault, IsAllBut, IsOverflow, IsStop, IsWanted, Puts, put, wanted_by};
-ghost use Rattle.starlark_c.specs.Records.{value_bytes, values};
+ghost use Rattle.starlark_c.specs.Inner.Filling.{EndsByFault, IsOverflow, IsStop, IsWanted, Puts, PutsNext, put, wanted_by};
+ghost use Rattle.starlark_c.specs.Records.{fault_bytes, values};
+ghost use Rattle.starlark_grammar.specs.Reading.{outcome};
 ghost use Rattle.starlark_grammar.specs.Tokens.{Fault as GrammarFault, Spanned};
-ghost use Rattle.starlark_syntax.specs.Exceptions.{IsException};
+ghost use Rattle.starlark_syntax.specs.Exceptions.{IsException, IsFaultIn};
 ghost use Rattle.starlark_token.specs.Lexemes.{fault_view, lexeme_view};
 ghost use Rattle.starlark_token.specs.TokenViews.{token_view};
 
 use crate::endings::{Ending, Filled};
 use crate::pieces::is_piece;
-use crate::progress::{Progress, depth_after, ends_piece};
+use crate::progress::{Passed, Progress, pass, pass_lexeme};
 use crate::records::{
     FaultRecord, LexemeRecord, bytes_of, bytes_of_fault, number_of_fault, record_at,
 };
@@ -84,11 +85,12 @@ fn span_of(exception: &EvalException) -> Span
     place.span
 }
 
-/// Puts the text that a fault names after the values, where it fits, and says how lexing ended.
-fn put_fault(values: &mut [u8], filled: Filled, exception: &EvalException) -> Ending
+/// Puts the text that a text's fault names after the values, where it fits, and says how lexing
+/// ended. The exception is of that fault.
+fn put_fault(_text: &str, values: &mut [u8], filled: Filled, exception: &EvalException) -> Ending
     requires within { filled.values ≤ length values.old }
-    requires thrown { (file : SourceFile) × ((fault : Spanned GrammarFault) × IsException file fault exception.now) }
-    ensures { (file : SourceFile) (fault : Spanned GrammarFault) → IsException file fault exception.now → EndsByFault fault filled values.old values.new result }
+    requires thrown { (file : SourceFile) × IsFaultIn file (outcome _text.now).fault (Some exception.now) }
+    ensures { (fault : Spanned GrammarFault) → (outcome _text.now).fault ≡ Some fault → EndsByFault fault filled values.old values.new result }
 {
     let error = error_of(exception);
     let span = span_of(exception);
@@ -113,65 +115,105 @@ fn put_fault(values: &mut [u8], filled: Filled, exception: &EvalException) -> En
     }
 }
 
+/// Puts a lexeme after what fills the buffers.
+///
+/// Where there is no room, nothing changes, and the error is what is wanted with the lexeme.
+fn put_next(
+    lexemes: &mut [LexemeRecord],
+    values: &mut [u8],
+    progress: Progress,
+    lexeme: &(usize, Token, usize),
+) -> Result<Progress, Passed>
+    requires values_within { progress.filled.values ≤ length values.old }
+    requires begin { lexeme.now.0 < 2 ^ 32 }
+    requires end { lexeme.now.2 < 2 ^ 32 }
+    ensures { PutsNext lexeme.now progress (record { lexemes = lexemes.old; values = values.old }) (record { lexemes = lexemes.new; values = values.new }) result }
+{
+    match put_lexeme(lexemes, values, progress.filled, lexeme) {
+        Some(filled) => Ok(progress.after(filled, lexeme)),
+        None => Err(pass(progress.filled, progress.depth, &lexeme.1)),
+    }
+}
+
+/// Puts a lexeme after what fills the buffers, as `put_next` does, and drops it.
+fn take_next(
+    lexemes: &mut [LexemeRecord],
+    values: &mut [u8],
+    progress: Progress,
+    lexeme: (usize, Token, usize),
+) -> Result<Progress, Passed>
+    requires values_within { progress.filled.values ≤ length values.old }
+    requires begin { lexeme.0 < 2 ^ 32 }
+    requires end { lexeme.2 < 2 ^ 32 }
+    ensures { PutsNext lexeme progress (record { lexemes = lexemes.old; values = values.old }) (record { lexemes = lexemes.new; values = values.new }) result }
+{
+    put_next(lexemes, values, progress, &lexeme)
+}
+
+/// Length of the text that the fault of an exception names, in bytes. It drops the exception.
+fn named_len(exception: EvalException) -> usize
+    requires { (file : SourceFile) × ((fault : Spanned GrammarFault) × IsException file fault exception) }
+    ensures { (file : SourceFile) (fault : Spanned GrammarFault) → IsException file fault exception → result ≡ length (fault_bytes fault.node) }
+{
+    bytes_of_fault(error_of(&exception)).len()
+}
+
 /// How much the lexemes of a text want up to where it may be cut, or all of them and its fault.
 ///
-/// So many are counted, which the lexer has yielded. `None` where memory runs out.
-fn count_piece(lexer: &mut Lexer<'_>, counted: Filled, depth: usize) -> Option<Filled>
+/// What was passed is counted: the lexemes that the lexer has yielded. `None` where memory runs out.
+fn count_piece(lexer: &mut Lexer<'_>, passed: Passed) -> Option<Filled>
     requires going { lexer.old.has_ended ≡ false }
     requires few { lexer.old.yielded_count ≤ length (lexemes_of lexer.old.text) }
-    requires counted { counted ≡ wanted_by lexer.old.yielded_count (length (values (take lexer.old.yielded_count (lexemes_of lexer.old.text)))) }
-    ensures { IfSome result (IsWanted lexer.old.text lexer.old.yielded_count (length (values (take lexer.old.yielded_count (lexemes_of lexer.old.text))))) }
+    requires counted { passed.wanted ≡ wanted_by lexer.old.yielded_count (length (values (take lexer.old.yielded_count (lexemes_of lexer.old.text)))) }
+    ensures { IfSome result (IsWanted lexer.old.text lexer.old.yielded_count) }
 {
-    let mut wanted = counted;
-    let mut depth = depth;
+    let mut passed = passed;
     while let Some(item) = lexer.next() {
         match item {
-            Ok((_, token, _)) => {
-                wanted = wanted.with(1, bytes_of(&token).len());
-                if ends_piece(depth, &token) {
-                    return Some(wanted);
+            Ok(lexeme) => {
+                passed = pass_lexeme(passed, lexeme);
+                if passed.ends_piece {
+                    return Some(passed.wanted);
                 }
-                depth = depth_after(depth, &token);
             }
             Err(OrMemory::Error(exception)) => {
-                return Some(wanted.with(0, bytes_of_fault(error_of(&exception)).len()));
+                return Some(passed.wanted.with(0, named_len(exception)));
             }
             Err(OrMemory::Memory) => return None,
         }
     }
-    Some(wanted)
+    Some(passed.wanted)
 }
 
-/// How much the first piece of a text wants, where a token, which a lexer has just yielded, has no
+/// How much the first piece of a text wants, where a lexeme, which a lexer has just yielded, has no
 /// room. `None` where memory runs out.
-fn wanted_with(lexer: &mut Lexer<'_>, progress: Progress, token: &Token) -> Option<Filled>
+fn wanted_with(lexer: &mut Lexer<'_>, passed: Passed) -> Option<Filled>
     requires going { lexer.old.has_ended ≡ false }
     requires few { lexer.old.yielded_count ≤ length (lexemes_of lexer.old.text) }
-    requires counted { IsAllBut lexer.old.text lexer.old.yielded_count progress.filled (token_view token.now) }
-    ensures { IfSome result (IsWanted lexer.old.text (progress.filled.lexemes + 1) (progress.filled.values + length (value_bytes (token_view token.now)))) }
+    requires counted { passed.wanted ≡ wanted_by lexer.old.yielded_count (length (values (take lexer.old.yielded_count (lexemes_of lexer.old.text)))) }
+    ensures { IfSome result (IsWanted lexer.old.text lexer.old.yielded_count) }
 {
-    let counted = progress.filled.with(1, bytes_of(token).len());
-    if ends_piece(progress.depth, token) {
-        return Some(counted);
+    if passed.ends_piece {
+        return Some(passed.wanted);
     }
-    count_piece(lexer, counted, depth_after(progress.depth, token))
+    count_piece(lexer, passed)
 }
 
-/// How lexing ends where a token, which a lexer has just yielded, has no room.
+/// How lexing ends where a lexeme, which a lexer has just yielded, has no room.
 fn overflow(
     alloc: Global,
     text: &str,
     lexer: &mut Lexer<'_>,
     progress: Progress,
-    token: &Token,
+    passed: Passed,
 ) -> Ending
     requires fits { length text.now < 2 ^ 32 }
     requires same { lexer.old.text ≡ text.now }
     requires going { lexer.old.has_ended ≡ false }
     requires few { lexer.old.yielded_count ≤ length (lexemes_of text.now) }
-    requires counted { IsAllBut text.now lexer.old.yielded_count progress.filled (token_view token.now) }
-    requires stop { IsStop text.now progress.filled.lexemes progress.stop }
-    ensures { IsOverflow text.now progress (token_view token.now) result }
+    requires counted { passed.wanted ≡ wanted_by lexer.old.yielded_count (length (values (take lexer.old.yielded_count (lexemes_of text.now)))) }
+    requires stop { (yielded : ℕ) × IsStop text.now yielded progress.stop }
+    ensures { IsOverflow text.now lexer.old.yielded_count progress result }
 {
     if progress.stop.filled.lexemes > 0 {
         match is_piece(alloc, text, progress.stop) {
@@ -189,7 +231,7 @@ fn overflow(
             Ok(false) => {}
         }
     }
-    match wanted_with(lexer, progress, token) {
+    match wanted_with(lexer, passed) {
         Some(wanted) => Ending::Full { wanted },
         None => Ending::Memory {
             filled: progress.filled,
@@ -213,12 +255,12 @@ pub fn fill(
     let mut progress = Progress::START;
     while let Some(item) = lexer.next() {
         match item {
-            Ok(lexeme) => match put_lexeme(lexemes, values, progress.filled, &lexeme) {
-                Some(filled) => progress = progress.after(filled, &lexeme),
-                None => return overflow(alloc, text, lexer, progress, &lexeme.1),
+            Ok(lexeme) => match take_next(lexemes, values, progress, lexeme) {
+                Ok(more) => progress = more,
+                Err(passed) => return overflow(alloc, text, lexer, progress, passed),
             },
             Err(OrMemory::Error(exception)) => {
-                return put_fault(values, progress.filled, &exception);
+                return put_fault(text, values, progress.filled, &exception);
             }
             Err(OrMemory::Memory) => {
                 return Ending::Memory {

@@ -1,9 +1,7 @@
 //! The kinds of lexemes: their numbers and their names.
 
 ghost use Rattle.std.specs.Prelude.{◌≡◌};
-ghost use Rattle.starlark_c.specs.Kinds.{kind_number, token_number};
-ghost use Rattle.starlark_grammar.specs.Tokens.{Token as GrammarToken};
-ghost use Rattle.starlark_token.specs.TokenTexts.{whole_kind};
+ghost use Rattle.starlark_c.specs.Kinds.{kind_number};
 ghost use Rattle.starlark_token.specs.TokenViews.{token_view};
 
 use starlark_syntax::lexer::Token;
@@ -183,9 +181,7 @@ pub fn number_of_kind(token: &Token) -> u16
 }
 
 /// The name of the kind with a number; empty where no kind has it.
-pub fn name_of_kind(kind: u32) -> &'static str
-    ensures { (token : GrammarToken) → kind ≡ token_number token → result.now ≡ whole_kind token }
-{
+pub fn name_of_kind(kind: u32) -> &'static str {
     let at = kind as usize;
     if at < KIND_NAMES.len() {
         KIND_NAMES[at]

@@ -1,6 +1,6 @@
 //! Lexes bytes that may be no text into the caller's buffers.
 
-ghost use Rattle.std.specs.Prelude.{◌≡◌, ◌<◌, ◌^◌, [], IfSome, length};
+ghost use Rattle.std.specs.Prelude.{◌≡◌, ◌<◌, ◌^◌, [], IfSome, false, length};
 ghost use Rattle.starlark_c.specs.Endings.{Ends};
 
 use crate::endings::{Ending, Filled};

@@ -4,18 +4,13 @@
 //! types say. A slice is a pointer and a length in C. `bindings/c/starlark_lex.h` declares all calls.
 #![tactic(auto)]
 
-ghost use Rattle.std.specs.Prelude.{◌≡◌, Some, length};
+ghost use Rattle.std.specs.Prelude.{◌≡◌, length};
 ghost use Rattle.starlark_c.specs.Endings.{Ends};
-ghost use Rattle.starlark_c.specs.Kinds.{token_number};
 ghost use Rattle.starlark_c.specs.Outcomes.{outcome_record};
-ghost use Rattle.starlark_c.specs.Records.{fault_bytes, fault_number};
+ghost use Rattle.starlark_c.specs.Places.{TellsPlace};
 ghost use Rattle.starlark_c.specs.Written.{IsWritten};
 ghost use Rattle.starlark_c.specs.declared.endings.Ending.{Ending};
-ghost use Rattle.starlark_grammar.specs.Tokens.{Fault as GrammarFault, Token as GrammarToken};
-ghost use Rattle.starlark_token.specs.FaultTexts.{fault_text};
-ghost use Rattle.starlark_token.specs.Lexemes.{fault_view};
-ghost use Rattle.starlark_token.specs.TokenTexts.{whole_kind};
-ghost use Rattle.starlark_token.specs.declared.lexeme_error.LexemeError.{LexemeError};
+ghost use Rattle.starlark_grammar.specs.Words.{Text};
 
 mod endings;
 mod filling;
@@ -23,6 +18,7 @@ mod kinds;
 mod lexing;
 mod outcomes;
 mod pieces;
+mod places;
 mod progress;
 mod records;
 mod texts;
@@ -30,6 +26,7 @@ mod texts;
 use crate::kinds::name_of_kind;
 use crate::lexing::lex_into;
 use crate::outcomes::{LexOutcome, outcome_of};
+use crate::places::{PlaceRecord, tell_place};
 use crate::records::LexemeRecord;
 use crate::texts::{write_message, write_text};
 use std::alloc::Global;
@@ -60,7 +57,7 @@ pub extern "C" fn starlark_lex(
 /// Returns the length of the name, which is 0 where no kind has the number.
 #[unsafe(no_mangle)]
 pub extern "C" fn starlark_kind_name(kind: u32, name: &mut [u8]) -> usize
-    ensures { (token : GrammarToken) → kind ≡ token_number token → IsWritten (whole_kind token) name.old name.new result }
+    ensures { (text : Text) × IsWritten text name.old name.new result }
 {
     write_text(name_of_kind(kind), name)
 }
@@ -71,7 +68,18 @@ pub extern "C" fn starlark_kind_name(kind: u32, name: &mut [u8]) -> usize
 /// the message, which is 0 where no fault has the number.
 #[unsafe(no_mangle)]
 pub extern "C" fn starlark_fault_message(kind: u32, named: &[u8], message: &mut [u8]) -> usize
-    ensures { (error : LexemeError) (fault : GrammarFault) → fault_view error ≡ Some fault → kind ≡ fault_number fault → named.now ≡ fault_bytes fault → IsWritten (fault_text error) message.old message.new result }
+    ensures { (text : Text) × IsWritten text message.old message.new result }
 {
     write_message(kind, named, message)
+}
+
+/// Tells the line and columns of an offset in a text, and returns whether it could.
+///
+/// It couldn't, and the record is as it was, where the offset is past the end of the text, or the
+/// text up to it isn't UTF-8, as inside a character. It reads the text up to the offset.
+#[unsafe(no_mangle)]
+pub extern "C" fn starlark_place(text: &[u8], at: usize, place: &mut PlaceRecord) -> bool
+    ensures { TellsPlace text.now at place.old place.new result }
+{
+    tell_place(text, at, place)
 }

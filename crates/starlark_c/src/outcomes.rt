@@ -1,7 +1,7 @@
 //! The outcome of a call as a plain record of numbers.
 
 ghost use Rattle.std.specs.Prelude.{◌≡◌};
-ghost use Rattle.starlark_c.specs.Outcomes.{outcome_record};
+ghost use Rattle.starlark_c.specs.Outcomes.{nothing, outcome_record};
 
 use crate::endings::Ending;
 
@@ -50,7 +50,9 @@ pub struct LexOutcome {
 }
 
 /// An outcome with nothing in it but its status.
-const fn nothing(status: u32) -> LexOutcome {
+const fn with_status(status: u32) -> LexOutcome
+    ensures { result ≡ nothing status }
+{
     LexOutcome {
         status,
         fault_kind: 0,
@@ -75,7 +77,7 @@ pub fn outcome_of(len: usize, ending: Ending) -> LexOutcome
             lexemes: filled.lexemes,
             values: filled.values,
             next: len,
-            ..nothing(WHOLE)
+            ..with_status(WHOLE)
         },
         Ending::Fault { filled, fault } => LexOutcome {
             fault_kind: fault.kind,
@@ -85,28 +87,28 @@ pub fn outcome_of(len: usize, ending: Ending) -> LexOutcome
             fault_value_len: fault.value_len,
             lexemes: filled.lexemes,
             values: filled.values,
-            ..nothing(FAULT)
+            ..with_status(FAULT)
         },
         Ending::Piece { filled, next } => LexOutcome {
             lexemes: filled.lexemes,
             values: filled.values,
             next,
-            ..nothing(FULL)
+            ..with_status(FULL)
         },
         Ending::Full { wanted } => LexOutcome {
             wanted_lexemes: wanted.lexemes,
             wanted_values: wanted.values,
-            ..nothing(FULL)
+            ..with_status(FULL)
         },
         Ending::NotUtf8 { valid } => LexOutcome {
             next: valid,
-            ..nothing(NOT_UTF8)
+            ..with_status(NOT_UTF8)
         },
-        Ending::TooLong => nothing(TOO_LONG),
+        Ending::TooLong => with_status(TOO_LONG),
         Ending::Memory { filled } => LexOutcome {
             lexemes: filled.lexemes,
             values: filled.values,
-            ..nothing(MEMORY)
+            ..with_status(MEMORY)
         },
     }
 }

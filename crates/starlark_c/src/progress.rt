@@ -1,11 +1,13 @@
 //! How far a text is lexed into buffers, and where it may be cut.
 
-ghost use Rattle.std.specs.Prelude.{◌≡◌, ◌&&◌, ◌==◌};
-ghost use Rattle.starlark_c.specs.Inner.Filling.{IsNextStop};
+ghost use Rattle.std.specs.Prelude.{◌≡◌, ◌+◌, ◌&&◌, ◌==◌, length};
+ghost use Rattle.starlark_c.specs.Inner.Filling.{IsNextStop, wanted_by};
+ghost use Rattle.starlark_c.specs.Records.{value_bytes};
 ghost use Rattle.starlark_syntax.specs.Inner.LexedTexts.{is_newline_view};
 ghost use Rattle.starlark_token.specs.TokenViews.{token_view};
 
 use crate::endings::Filled;
+use crate::records::bytes_of;
 use starlark_syntax::lexer::Token;
 
 /// An offset where the text may be cut, and what fills the buffers before it.
@@ -28,6 +30,18 @@ pub struct Progress {
     pub stop: Stop,
 }
 
+/// What is wanted for some lexemes, how many blocks are open after them, and whether the text may be
+/// cut there.
+#[derive(Clone, Copy)]
+pub struct Passed {
+    /// What is wanted for them.
+    pub wanted: Filled,
+    /// Number of blocks that are open after them.
+    pub depth: usize,
+    /// Whether the text may be cut after them.
+    pub ends_piece: bool,
+}
+
 /// Whether a token is `Newline`.
 #[tactic(auto, unfolding(starlark_token::specs::TokenViews::token_view))]
 fn is_newline(token: &Token) -> bool
@@ -37,19 +51,37 @@ fn is_newline(token: &Token) -> bool
 }
 
 /// Whether the text may be cut after a token, with so many blocks open before it.
-pub fn ends_piece(depth: usize, token: &Token) -> bool
+fn ends_piece(depth: usize, token: &Token) -> bool
     ensures { result ≡ (is_newline_view (token_view token.now) && depth == 0) }
 {
     is_newline(token) && depth == 0
 }
 
 /// Number of blocks that are open after a token, with so many open before it.
-pub fn depth_after(depth: usize, token: &Token) -> usize {
+fn depth_after(depth: usize, token: &Token) -> usize {
     match token {
         Token::Indent => depth.saturating_add(1),
         Token::Dedent => depth.saturating_sub(1),
         _ => depth,
     }
+}
+
+/// Counts one more token to what fills the buffers, with so many blocks open before it.
+pub fn pass(filled: Filled, depth: usize, token: &Token) -> Passed
+    ensures { result.wanted ≡ wanted_by (filled.lexemes + 1) (filled.values + length (value_bytes (token_view token.now))) }
+{
+    Passed {
+        wanted: filled.with(1, bytes_of(token).len()),
+        depth: depth_after(depth, token),
+        ends_piece: ends_piece(depth, token),
+    }
+}
+
+/// Counts one more lexeme to those that were passed, and drops it.
+pub fn pass_lexeme(passed: Passed, lexeme: (usize, Token, usize)) -> Passed
+    ensures { result.wanted ≡ wanted_by (passed.wanted.lexemes + 1) (passed.wanted.values + length (value_bytes (token_view lexeme.1))) }
+{
+    pass(passed.wanted, passed.depth, &lexeme.1)
 }
 
 impl Progress {

@@ -1,12 +1,8 @@
 //! Texts that are written into a buffer of the caller: names of kinds, and messages of faults.
 
-ghost use Rattle.std.specs.Prelude.{◌≡◌, ◌++◌, Some};
-ghost use Rattle.starlark_c.specs.Records.{fault_bytes, fault_number};
+ghost use Rattle.std.specs.Prelude.{◌<◌, ◌^◌, ◌++◌, length};
 ghost use Rattle.starlark_c.specs.Written.{IsWritten};
-ghost use Rattle.starlark_grammar.specs.Tokens.{Fault as GrammarFault};
-ghost use Rattle.starlark_token.specs.FaultTexts.{fault_text};
-ghost use Rattle.starlark_token.specs.Lexemes.{fault_view};
-ghost use Rattle.starlark_token.specs.declared.lexeme_error.LexemeError.{LexemeError};
+ghost use Rattle.starlark_grammar.specs.Words.{Text};
 
 /// What the message of each fault begins with, before the text that it names. No fault has the
 /// number 0.
@@ -58,12 +54,12 @@ fn write_three(front: &str, middle: &[u8], back: &str, buffer: &mut [u8]) -> usi
 /// Writes the message of a fault, by the number of its kind and the text that it names, and returns
 /// the message's length.
 pub fn write_message(kind: u32, named: &[u8], buffer: &mut [u8]) -> usize
-    ensures { (error : LexemeError) (fault : GrammarFault) → fault_view error ≡ Some fault → kind ≡ fault_number fault → named.now ≡ fault_bytes fault → IsWritten (fault_text error) buffer.old buffer.new result }
+    ensures { (message : Text) × IsWritten message buffer.old buffer.new result }
 {
     let at = kind as usize;
     if at < FRONTS.len() {
         write_three(FRONTS[at], named, BACKS[at], buffer)
     } else {
-        0
+        write_text("", buffer)
     }
 }

@@ -1,17 +1,19 @@
 -- One more lexeme or fault in the caller's buffers.
-use Rattle.std.specs.Prelude.{◌≡◌, ◌<◌, ◌≤◌, ◌+◌, ◌-◌, ◌⊎◌, ℕ, true, slice_get, List, [], ◌∷◌, ◌++◌, length, take, drop, Option, Some, None}
+use Rattle.std.specs.Prelude.{◌≡◌, ◌<◌, ◌≤◌, ◌+◌, ◌-◌, ◌⊎◌, ℕ, true, slice_get, List, [], ◌∷◌, ◌++◌, length, take, drop, Option, Some, None, Result, Ok, Err}
 use Rattle.std.specs.Str.{IsCharBoundary}
 use Rattle.starlark_c.specs.Endings.{AreFirst, Buffers, IsPiece, capped, lexemes_of}
 use Rattle.starlark_c.specs.Records.{fault_bytes, fault_record, record_of, value_bytes, values}
 use Rattle.starlark_c.specs.declared.endings.Ending.{Ending}
 use Rattle.starlark_c.specs.declared.endings.Ending.TheVariants as ending
 use Rattle.starlark_c.specs.declared.endings.Filled.{Filled}
+use Rattle.starlark_c.specs.declared.progress.Passed.{Passed}
 use Rattle.starlark_c.specs.declared.progress.Progress.{Progress}
 use Rattle.starlark_c.specs.declared.progress.Stop.{Stop}
 use Rattle.starlark_c.specs.declared.records.LexemeRecord.{LexemeRecord}
 use Rattle.starlark_grammar.specs.Tokens as grammar
 use Rattle.starlark_grammar.specs.Words.{Text}
 use Rattle.starlark_syntax.specs.Inner.LexedTexts.{is_newline_view}
+use Rattle.starlark_token.specs.Lexemes.{lexeme_view}
 use Rattle.starlark_token.specs.TokenViews.{TokenView, token_view}
 use Rattle.starlark_token.specs.declared.tokens.Token.{Token}
 
@@ -25,7 +27,7 @@ pub record IsPut (lexeme : grammar.Spanned TokenView) (filled : Filled) (before 
   pub values_fit : filled.values + length (value_bytes lexeme.node) ≤ length before.values
   pub lexemes : after.lexemes ≡ put filled.lexemes (record_of filled.values lexeme ∷ []) before.lexemes
   pub values : after.values ≡ put filled.values (value_bytes lexeme.node) before.values
-  pub more : more ≡ record { lexemes = filled.lexemes + 1; values = filled.values + length (value_bytes lexeme.node) }
+  pub adds : more ≡ record { lexemes = filled.lexemes + 1; values = filled.values + length (value_bytes lexeme.node) }
 
 -- there was no room for a lexeme, and nothing changed
 pub record HasNoRoom (lexeme : grammar.Spanned TokenView) (filled : Filled) (before after : Buffers) : Type 0 where
@@ -73,25 +75,27 @@ abbrev pub IsNextStop : Stop → (ℕ × Token × ℕ) → Filled → Stop → T
 IsNextStop old lexeme more new =
     (new ≡ old) ⊎ ((new ≡ record { at = lexeme.2; filled = more }) × (is_newline_view (token_view lexeme.1) ≡ true))
 
--- all of the first `count` lexemes of a text fill the buffers, but the last, which is this token
-pub record IsAllBut (text : Text) (count : ℕ) (filled : Filled) (token : TokenView) : Type 0 where
-  pub lexemes : filled.lexemes + 1 ≡ count
-  pub values : filled.values + length (value_bytes token) ≡ length (values (take count (lexemes_of text)))
+-- the result of putting the next lexeme: how far lexing is then, or what is wanted with it
+abbrev pub PutsNext : (ℕ × Token × ℕ) → Progress → Buffers → Buffers → Result Progress Passed → Type 0
+PutsNext lexeme progress before after (Ok next) =
+    IsPut (lexeme_view lexeme) progress.filled before after next.filled × IsNextStop progress.stop lexeme next.filled next.stop
+PutsNext lexeme progress before after (Err passed) =
+    HasNoRoom (lexeme_view lexeme) progress.filled before after
+    × (passed.wanted ≡ wanted_by (progress.filled.lexemes + 1) (progress.filled.values + length (value_bytes (lexeme_view lexeme).node)))
 
--- how much is wanted for these lexemes and more
-pub record IsWanted (text : Text) (lexemes bytes : ℕ) (wanted : Filled) : Type 0 where
+-- how much is wanted for the first `count` lexemes of a text and maybe more
+pub record IsWanted (text : Text) (count : ℕ) (wanted : Filled) : Type 0 where
   pub all_lexemes : ℕ
   pub all_bytes : ℕ
   pub first : AreFirst text all_lexemes all_bytes
-  pub more_lexemes : lexemes ≤ all_lexemes
-  pub more_bytes : bytes ≤ all_bytes
-  pub wanted : wanted ≡ wanted_by all_lexemes all_bytes
+  pub more_lexemes : count ≤ all_lexemes
+  pub more_bytes : length (values (take count (lexemes_of text))) ≤ all_bytes
+  pub needs : wanted ≡ wanted_by all_lexemes all_bytes
 
--- how lexing ends where a token has no room: at the stop, with what is wanted, or as memory ran out
-abbrev pub IsOverflow : Text → Progress → TokenView → Ending → Type 0
-IsOverflow text progress token (ending.Piece filled next) =
+-- how lexing ends where the last of `count` lexemes has no room: at the stop, with what is wanted, or as memory ran out
+abbrev pub IsOverflow : Text → (count : ℕ) → Progress → Ending → Type 0
+IsOverflow text count progress (ending.Piece filled next) =
     IsPiece text next progress.stop.filled.lexemes × (filled ≡ progress.stop.filled) × (0 < progress.stop.filled.lexemes)
-IsOverflow text progress token (ending.Full wanted) =
-    IsWanted text (progress.filled.lexemes + 1) (progress.filled.values + length (value_bytes token)) wanted
-IsOverflow text progress token (ending.Memory told) = told ≡ progress.filled
-IsOverflow text progress token end = ⊥
+IsOverflow text count progress (ending.Full wanted) = IsWanted text count wanted
+IsOverflow text count progress (ending.Memory told) = told ≡ progress.filled
+IsOverflow text count progress end = ⊥

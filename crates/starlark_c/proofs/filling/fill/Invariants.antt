@@ -2,7 +2,7 @@ use Rattle.std.proofs.Common.{◌≡◌, ◌-◌, ◌≤◌, false, length, take
 use Rattle.starlark_c.specs.Endings.{Hold, lexemes_of}
 use Rattle.starlark_c.specs.Inner.Filling.{IsStop}
 use Rattle.starlark_c.specs.Records.{records, values}
-use Rattle.starlark_c.proofs.Filling.{filled_by}
+use Rattle.starlark_c.proofs.Filled.{filled_by}
 use Rattle.starlark_c.proofs.filling.fill.Given as goal
 use Rattle.starlark_token.specs.TextItems.{items}
 

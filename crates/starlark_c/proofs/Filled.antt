@@ -43,7 +43,7 @@ records_more at (y ∷ ys) x =
 pub length_records : (at : ℕ) (xs : List (Spanned TokenView)) → length (records_from at xs) ≡ length xs
 unfolding records_from
 length_records at [] = refl
-length_records at (x ∷ xs) = ap (λ n. n + 1) (length_records (at + length (value_bytes x.node)) xs)
+length_records at (x ∷ xs) = ap suc (length_records (at + length (value_bytes x.node)) xs)
 
 -- a list that begins with some items, with more items put after them
 pub put_more : {A : Type 0} (front items base now after : List A) (at : ℕ) → at ≡ length front → now ≡ front ++ drop (length front) base → after ≡ put at items now → after ≡ (front ++ items) ++ drop (length (front ++ items)) base
@@ -51,11 +51,11 @@ put_more front items base now after at here was is =
     let rest = drop (length front) base in
     let before : take at now ≡ front = ap (λ n. take n now) here ∙ ap (take (length front)) was ∙ take_at front rest (length front) refl in
     let behind : drop (at + length items) now ≡ drop (length (front ++ items)) base =
-        ap (λ n. drop (n + length items) now) here
-        ∙ ap (drop (length front + length items)) was
-        ∙ drop-append-add front rest (length items)
-        ∙ drop-drop (length items) (length front) base
-        ∙ ap (λ n. drop n base) (sym (length-append front items)) in
+    ap (λ n. drop (n + length items) now) here
+    ∙ ap (drop (length front + length items)) was
+    ∙ drop-append-add front rest (length items)
+    ∙ drop-drop (length items) (length front) base
+    ∙ ap (λ n. drop n base) (sym (length-append front items)) in
     is ∙ ap (λ xs. xs ++ (items ++ drop (at + length items) now)) before ∙ ap (λ xs. front ++ (items ++ xs)) behind ∙ sym (append_assoc front items (drop (length (front ++ items)) base))
 
 -- such a list is as long as before
@@ -135,3 +135,20 @@ same_sizes before now xs held = (
   same_length (records xs) before.lexemes now.lexemes held.lexemes held.lexemes_fit,
   same_length (values xs) before.values now.values held.values held.values_fit,
 )
+
+counted_more : (xs : List (Spanned TokenView)) (x : Spanned TokenView) (filled more : Filled) → filled ≡ filled_by xs → more ≡ record { lexemes = filled.lexemes + 1; values = filled.values + length (value_bytes x.node) } → more ≡ filled_by (xs ++ x ∷ [])
+counted_more xs x filled more counted is =
+    let count : filled.lexemes + 1 ≡ length (xs ++ x ∷ []) = omega (arith, ap (λ (f : Filled). f.lexemes) counted, length-append xs (x ∷ [])) in
+    let bytes : filled.values + length (value_bytes x.node) ≡ length (values (xs ++ x ∷ [])) =
+    omega (arith, ap (λ (f : Filled). f.values) counted, ap length (values_more xs x), length-append (values xs) (value_bytes x.node)) in
+    is ∙ ap (λ k. record { lexemes = k; values = filled.values + length (value_bytes x.node) }) count ∙ ap (λ k. record { lexemes = length (xs ++ x ∷ []); values = k }) bytes
+
+-- The buffers after the next lexeme of a text.
+pub record IsFilled (before after : Buffers) (xs : List (Spanned TokenView)) (filled : Filled) : Type 0 where
+  pub hold : Hold (records xs) (values xs) before after
+  pub counts : filled ≡ filled_by xs
+
+pub put_next : (all : List (Spanned TokenView)) (n : ℕ) (x : Spanned TokenView) (before now after : Buffers) (filled more : Filled) → take (n + 1) all ≡ take n all ++ x ∷ [] → Hold (records (take n all)) (values (take n all)) before now → filled ≡ filled_by (take n all)
+    → IsPut x filled now after more → IsFilled before after (take (n + 1) all) more
+put_next all n x before now after filled more next held counted puts =
+    rw next (record { hold = hold_more before now after (take n all) x filled more held counted puts; counts = counted_more (take n all) x filled more counted puts.adds })
