@@ -102,8 +102,8 @@ class StoredTexts(unittest.TestCase):
                 self.assertEqual(printed[begin:at], f"text {number}: input is not UTF-8\n")
                 continue
             self.assertEqual(printed[at : at + len(lines)], lines, f"text {number}: {source!r}")
-            rest = printed[at + len(lines) :]
-            self.assertTrue(not rest or rest.startswith("text "), f"text {number} has more lines")
+            end = at + len(lines)
+            self.assertTrue(end == len(printed) or printed.startswith("text ", end), f"text {number} has more lines")
 
 
 class Program(unittest.TestCase):
@@ -186,7 +186,7 @@ class Faults(unittest.TestCase):
         "'\\": FaultKind.EMPTY_ESCAPE_SEQUENCE,
         "class": FaultKind.RESERVED_KEYWORD,
         "01": FaultKind.STARTS_ZERO,
-        'f"{x': FaultKind.UNFINISHED_FSTRING_EXPRESSION,
+        "f'{\"a": FaultKind.UNFINISHED_FSTRING_EXPRESSION,
     }
 
     def test_kinds(self) -> None:
