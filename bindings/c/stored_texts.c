@@ -322,7 +322,7 @@ static bool are_pieces(const lexed *whole, size_t lexemes, size_t values, size_t
             return is_right;
         }
         bool has_room = outcome.wanted_lexemes <= into.lexemes_cap && outcome.wanted_values <= into.values_cap;
-        is_right = is_right && (outcome.next == 0) == !has_room
+        is_right = is_right && (outcome.next == 0) == !has_room && !(is_larger && outcome.next == 0)
             && (outcome.next == 0 || whole->source.at[from + outcome.next - 1] == '\n');
         is_larger = outcome.next == 0;
         from += outcome.next;

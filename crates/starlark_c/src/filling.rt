@@ -3,7 +3,7 @@
 ghost use Rattle.std.specs.Prelude.{◌≡◌, ◌<◌, ◌≤◌, ◌+◌, ◌^◌, ℕ, Some, IfSome, IfNone, false, length, take};
 ghost use Rattle.starlark_base.specs.Sources.{SourceFile};
 ghost use Rattle.starlark_c.specs.Endings.{Ends, IsText, lexemes_of};
-ghost use Rattle.starlark_c.specs.Inner.Filling.{EndsByFault, IsOverflow, IsStop, IsWanted, Puts, PutsNext, put, wanted_by};
+ghost use Rattle.starlark_c.specs.Inner.Filling.{EndsAtFault, EndsByFault, IsOverflow, IsStop, IsStopped, IsWanted, Puts, PutsNext, put, wanted_by};
 ghost use Rattle.starlark_c.specs.Records.{fault_bytes, values};
 ghost use Rattle.starlark_grammar.specs.Reading.{outcome};
 ghost use Rattle.starlark_grammar.specs.Tokens.{Fault as GrammarFault, Spanned};
@@ -199,6 +199,33 @@ fn wanted_with(lexer: &mut Lexer<'_>, passed: Passed) -> Option<Filled>
     count_piece(lexer, passed)
 }
 
+/// How lexing ends where there is no room for more and the text can be cut at the last stop.
+///
+/// `None` where there is no stop, or the text can't be cut there.
+fn end_at_stop(alloc: Global, text: &str, progress: Progress) -> Option<Ending>
+    requires fits { length text.now < 2 ^ 32 }
+    requires stop { (yielded : ℕ) × IsStop text.now yielded progress.stop }
+    ensures { IfSome result (IsStopped text.now progress) }
+{
+    if progress.stop.filled.lexemes == 0 {
+        return None;
+    }
+    match is_piece(alloc, text, progress.stop) {
+        Err(_) => {
+            Some(Ending::Memory {
+                filled: progress.filled,
+            })
+        }
+        Ok(true) => {
+            Some(Ending::Piece {
+                filled: progress.stop.filled,
+                next: progress.stop.at,
+            })
+        }
+        Ok(false) => None,
+    }
+}
+
 /// How lexing ends where a lexeme, which a lexer has just yielded, has no room.
 fn overflow(
     alloc: Global,
@@ -215,21 +242,8 @@ fn overflow(
     requires stop { (yielded : ℕ) × IsStop text.now yielded progress.stop }
     ensures { IsOverflow text.now lexer.old.yielded_count progress result }
 {
-    if progress.stop.filled.lexemes > 0 {
-        match is_piece(alloc, text, progress.stop) {
-            Err(_) => {
-                return Ending::Memory {
-                    filled: progress.filled,
-                };
-            }
-            Ok(true) => {
-                return Ending::Piece {
-                    filled: progress.stop.filled,
-                    next: progress.stop.at,
-                };
-            }
-            Ok(false) => {}
-        }
+    if let Some(ending) = end_at_stop(alloc, text, progress) {
+        return ending;
     }
     match wanted_with(lexer, passed) {
         Some(wanted) => Ending::Full { wanted },
@@ -237,6 +251,27 @@ fn overflow(
             filled: progress.filled,
         },
     }
+}
+
+/// How lexing ends after all lexemes before a text's fault. The exception is of that fault.
+fn end_at_fault(
+    alloc: Global,
+    text: &str,
+    values: &mut [u8],
+    progress: Progress,
+    exception: &EvalException,
+) -> Ending
+    requires fits { length text.now < 2 ^ 32 }
+    requires within { progress.filled.values ≤ length values.old }
+    requires stop { (yielded : ℕ) × IsStop text.now yielded progress.stop }
+    requires thrown { (file : SourceFile) × IsFaultIn file (outcome text.now).fault (Some exception.now) }
+    ensures { (fault : Spanned GrammarFault) → (outcome text.now).fault ≡ Some fault → EndsAtFault text.now fault progress values.old values.new result }
+{
+    let ending = put_fault(text, values, progress.filled, exception);
+    if !matches!(ending, Ending::Full { .. }) {
+        return ending;
+    }
+    end_at_stop(alloc, text, progress).unwrap_or(ending)
 }
 
 /// Fills the buffers with the lexemes that a new lexer of a text yields, in order, up to the end of
@@ -260,7 +295,7 @@ pub fn fill(
                 Err(passed) => return overflow(alloc, text, lexer, progress, passed),
             },
             Err(OrMemory::Error(exception)) => {
-                return put_fault(text, values, progress.filled, &exception);
+                return end_at_fault(alloc, text, values, progress, &exception);
             }
             Err(OrMemory::Memory) => {
                 return Ending::Memory {

@@ -52,7 +52,7 @@ EndsByFault fault filled before after (ending.Fault more told) =
     × (more ≡ record { lexemes = filled.lexemes; values = filled.values + length (fault_bytes fault.node) })
     × (told ≡ fault_record filled.values fault)
 EndsByFault fault filled before after (ending.Full wanted) =
-    (length before < filled.values + length (fault_bytes fault.node))
+    (length before < filled.values + length (fault_bytes fault.node)) × (after ≡ before)
     × (wanted ≡ wanted_by filled.lexemes (filled.values + length (fault_bytes fault.node)))
 EndsByFault fault filled before after end = ⊥
 
@@ -92,10 +92,20 @@ pub record IsWanted (text : Text) (count : ℕ) (wanted : Filled) : Type 0 where
   pub more_bytes : length (values (take count (lexemes_of text))) ≤ all_bytes
   pub needs : wanted ≡ wanted_by all_lexemes all_bytes
 
--- how lexing ends where the last of `count` lexemes has no room: at the stop, with what is wanted, or as memory ran out
-abbrev pub IsOverflow : Text → (count : ℕ) → Progress → Ending → Type 0
-IsOverflow text count progress (ending.Piece filled next) =
+-- how lexing ends at a stop, as there is no room for more: with the piece before it, or as memory ran out
+abbrev pub IsStopped : Text → Progress → Ending → Type 0
+IsStopped text progress (ending.Piece filled next) =
     IsPiece text next progress.stop.filled.lexemes × (filled ≡ progress.stop.filled) × (0 < progress.stop.filled.lexemes)
+IsStopped text progress (ending.Memory told) = told ≡ progress.filled
+IsStopped text progress end = ⊥
+
+-- how lexing ends where the last of `count` lexemes has no room: at the stop, or with what is wanted
+abbrev pub IsOverflow : Text → (count : ℕ) → Progress → Ending → Type 0
 IsOverflow text count progress (ending.Full wanted) = IsWanted text count wanted
-IsOverflow text count progress (ending.Memory told) = told ≡ progress.filled
-IsOverflow text count progress end = ⊥
+IsOverflow text count progress end = IsStopped text progress end
+
+-- how lexing ends at a fault: with it, or where the text that it names has no room at the stop, or with what is wanted
+abbrev pub EndsAtFault : Text → grammar.Spanned grammar.Fault → Progress → Text → Text → Ending → Type 0
+EndsAtFault text fault progress before after (ending.Fault more told) = EndsByFault fault progress.filled before after (ending.Fault more told)
+EndsAtFault text fault progress before after (ending.Full wanted) = EndsByFault fault progress.filled before after (ending.Full wanted)
+EndsAtFault text fault progress before after end = IsStopped text progress end × (after ≡ before)

@@ -3,10 +3,10 @@ use Rattle.std.specs.Str.{IsCharBoundary}
 use Rattle.starlark_c.specs.Endings.{lexemes_of}
 use Rattle.starlark_c.specs.Inner.Filling.{wanted_by}
 use Rattle.starlark_c.specs.Records.{value_bytes}
-use Rattle.starlark_c.proofs.Ends.{ends_fault, ends_whole}
+use Rattle.starlark_c.proofs.Ends.{ends_whole}
 use Rattle.starlark_c.proofs.Filled.{hold_none, put_next, values_nil}
 use Rattle.starlark_c.proofs.Items.{next_fault, next_lexeme, next_none}
-use Rattle.starlark_c.proofs.Stops.{all_but, overflows, stop_more}
+use Rattle.starlark_c.proofs.Stops.{all_but, ends_at_fault, overflows, stop_more}
 use Rattle.starlark_syntax.specs.Lexer.{LexerView}
 use Rattle.starlark_token.specs.Lexemes.{lexeme_view}
 use Rattle.starlark_token.specs.TokenViews.{token_view}
@@ -89,7 +89,7 @@ returns-in-Err-Error c =
     let text = c.args.text.now in
     let n = c.loop-item.lexer.yielded_count in
     let last = next_fault c.loop-item.lexer.code_map text n c.in-Err-Error.exception (rw (c.in-Err-Error.is, c.in-Err-Error.field-0-is, inv.text) at (c.in-Some.ensures.item inv.going)) in
-    ends_fault text _ _ _ n last.fault c.loop-item.progress.filled c.put_fault.result c.requires.text last.is last.all inv.hold inv.filled (c.put_fault.ensures last.fault last.is)
+    ends_at_fault text _ _ _ n last.fault c.loop-item.progress c.end_at_fault.result c.requires.text last.is last.all inv.hold inv.filled inv.stop (c.end_at_fault.ensures last.fault last.is)
 
 pub returns : goal.returns
 returns c =
@@ -99,10 +99,10 @@ returns c =
     let none = next_none c.loop-item.lexer.code_map text n (rw inv.text at (c.in_default.ensures.item inv.going)) inv.few in
     ends_whole text _ _ n c.loop-item.progress.filled c.requires.text none.0 none.1 inv.hold inv.filled
 
-pub put_fault-requires-clause-thrown : goal.put_fault-requires-clause-thrown
-put_fault-requires-clause-thrown c =
+pub end_at_fault-requires-clause-thrown : goal.end_at_fault-requires-clause-thrown
+end_at_fault-requires-clause-thrown c =
     let inv = c.loop-item.invariant in
     let text = c.args.text.now in
     let file = c.loop-item.lexer.code_map in
     let last = next_fault file text c.loop-item.lexer.yielded_count c.in-Err-Error.exception (rw (c.in-Err-Error.is, c.in-Err-Error.field-0-is, inv.text) at (c.in-Some.ensures.item inv.going)) in
-    (file, rw c.in-Err-Error.field-0-is last.within)
+    (file, last.within)

@@ -17,7 +17,8 @@ returns-in_default c fault has =
     let lexemes = c.args.filled.lexemes in
     let at = c.args.filled.values in
     let same : lexemes + 0 ≡ lexemes = omega arith in (
-      omega (arith, c.in_default.ensures.none, ap length bytes),
+      omega (arith, c.in_default.ensures.none.0, ap length bytes),
+      c.in_default.ensures.none.1,
       c.with.ensures ∙ ap (λ k. wanted_by k (at + length c.bytes_of_fault-bytes.result.now)) same ∙ ap (λ t. wanted_by lexemes (at + length t)) bytes,
     )
 
