@@ -48,8 +48,8 @@ int main(void)
 {
     size_t len;
     uint8_t *text = read_input(&len);
-    size_t lexemes_cap = 1024;
-    size_t values_cap = 8192;
+    size_t lexemes_cap = 65536;
+    size_t values_cap = 1048576;
     starlark_lexeme *lexemes = malloc(lexemes_cap * sizeof *lexemes);
     uint8_t *values = malloc(values_cap);
     starlark_outcome outcome = {.status = STARLARK_FULL};
