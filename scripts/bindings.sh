@@ -74,9 +74,9 @@ compiler() {
     return 1
 }
 
-# Compiles a test in C, with sanitizers where the compiler has them.
+# Compiles a test in C, with further flags; with sanitizers where the compiler has them.
 compile() {
-    flags='-std=c11 -O1 -g -Wall -Wextra -Werror'
+    flags="-std=c11 -O1 -g -Wall -Wextra -Werror $2"
     inputs="$top/bindings/c/$1.c $made/libstarlark_lex.a"
     # shellcheck disable=SC2086
     "$cc" $flags -fsanitize=address,undefined -fno-sanitize-recover -I "$made" $inputs \
@@ -89,9 +89,13 @@ test_c() {
         echo 'C was left out: there is no C compiler'
         return 0
     }
-    compile stored_texts
+    compile stored_texts ''
+    compile refused_memory '-Wl,--wrap=malloc,--wrap=realloc'
+    compile print_tokens ''
     printf 'C: '
     "$made/stored_texts" "$texts/stdin" "$texts/stdout"
+    printf 'C: '
+    "$made/refused_memory"
 }
 
 test_python() {
