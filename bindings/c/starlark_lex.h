@@ -4,8 +4,9 @@
  * that it frees again. So calls may run at once in any number of threads, as long as no two of them
  * write into one buffer.
  *
- * A buffer is a pointer and its length: the number of its records, or of its bytes. The pointer must
- * not be NULL, not even with a length of 0. What a call reads and what it writes must not overlap.
+ * A buffer is a pointer and its length: the number of its records, or of its bytes. The pointer
+ * must not be NULL, not even with a length of 0. What a call reads and what it writes must not
+ * overlap.
  *
  * Offsets and lengths count bytes, from 0. Texts are UTF-8 and have no terminating zero; a zero byte
  * is a character like others.
