@@ -8,8 +8,8 @@
  * must not be NULL, not even with a length of 0. What a call reads and what it writes must not
  * overlap.
  *
- * Offsets and lengths count bytes, from 0. Texts are UTF-8 and have no terminating zero; a zero byte
- * is a character like others.
+ * Offsets and lengths count bytes, from 0. Texts are UTF-8 and have no terminating zero; a zero
+ * byte is a character like others.
  */
 #ifndef STARLARK_LEX_H
 #define STARLARK_LEX_H
@@ -183,8 +183,8 @@ typedef struct starlark_outcome {
  * Where the buffers are full they have the lexemes up to offset `next` of the text, a clean cut: a
  * line ends there, and no bracket, block or f-string is open. The text from there on is lexed by a
  * next call, whose offsets count from there. The lexemes of all calls, one after another, are those
- * of the whole text. Each call tests that all bytes which it is given are UTF-8, and lexes the piece
- * that it returns with STARLARK_FULL twice.
+ * of the whole text. Each call tests that all bytes which it is given are UTF-8, and lexes the
+ * piece that it returns with STARLARK_FULL twice.
  */
 uint32_t starlark_lex(const uint8_t *text, size_t text_len,
                       starlark_lexeme *lexemes, size_t lexemes_cap,
@@ -207,9 +207,9 @@ bool starlark_place(const uint8_t *text, size_t text_len, size_t at, starlark_te
  * zero. Returns its length in bytes, which is 0 for a number that no kind has. */
 size_t starlark_kind_name(uint32_t kind, uint8_t *name, size_t name_cap);
 
-/* Writes the message of a fault, if there is room for it, without a terminating zero. `named` is the
- * text that the fault names. Returns the message's length in bytes, which is 0 for a number that no
- * fault has. */
+/* Writes the message of a fault, if there is room for it, without a terminating zero. `named` is
+ * the text that the fault names. Returns the message's length in bytes, which is 0 for a number that
+ * no fault has. */
 size_t starlark_fault_message(uint32_t kind, const uint8_t *named, size_t named_len,
                               uint8_t *message, size_t message_cap);
 
