@@ -34,7 +34,6 @@ is_current() {
 
 # Proves and builds the archive.
 build_archive() {
-    command -v rt >/dev/null || fail "the Rattle kit's rt is not on the path"
     echo 'proving and building the archive of starlark_c' >&2
     mkdir -p "$made"
     (cd "$crate" && rt lib </dev/null >"$made/rt.log" 2>&1) || {
@@ -118,6 +117,7 @@ c | python | both) ;;
     exit 2
     ;;
 esac
+command -v rt >/dev/null || fail "the Rattle kit's rt is not on the path"
 is_current || build_archive
 link_libraries
 case ${1:-both} in c | both) test_c ;; esac
