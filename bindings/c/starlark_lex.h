@@ -1,0 +1,220 @@
+/* The proved lexer of Starlark, for C and C++.
+ *
+ * Each call fills buffers of its caller, keeps nothing after it returns, and allocates only memory
+ * that it frees again. So calls may run at once in any number of threads, as long as no two of them
+ * write into one buffer.
+ *
+ * A buffer is a pointer and its length: the number of its records, or of its bytes. The pointer
+ * must not be NULL, not even with a length of 0. What a call reads and what it writes must not
+ * overlap.
+ *
+ * Offsets and lengths count bytes, from 0. Texts are UTF-8 and have no terminating zero; a zero
+ * byte is a character like others.
+ */
+#ifndef STARLARK_LEX_H
+#define STARLARK_LEX_H
+
+#include <stdbool.h>
+#include <stddef.h>
+#include <stdint.h>
+
+#ifdef __cplusplus
+extern "C" {
+#endif
+
+/* The kinds of lexemes. A number never changes; a new kind gets the next one. */
+enum starlark_kind {
+    STARLARK_KIND_COMMENT = 1,
+    STARLARK_KIND_INDENT = 2,
+    STARLARK_KIND_DEDENT = 3,
+    STARLARK_KIND_NEWLINE = 4,
+    STARLARK_KIND_IDENTIFIER = 5,
+    STARLARK_KIND_INT = 6,
+    STARLARK_KIND_FLOAT = 7,
+    STARLARK_KIND_STRING = 8,
+    STARLARK_KIND_BYTES = 9,
+    STARLARK_KIND_FSTRING_START = 10,
+    STARLARK_KIND_FSTRING_TEXT = 11,
+    STARLARK_KIND_FSTRING_EXPR_START = 12,
+    STARLARK_KIND_FSTRING_EXPR_END = 13,
+    STARLARK_KIND_FSTRING_BANG = 14,
+    STARLARK_KIND_FSTRING_END = 15,
+    STARLARK_KIND_AND = 16,
+    STARLARK_KIND_BREAK = 17,
+    STARLARK_KIND_CONTINUE = 18,
+    STARLARK_KIND_DEF = 19,
+    STARLARK_KIND_ELIF = 20,
+    STARLARK_KIND_ELSE = 21,
+    STARLARK_KIND_FOR = 22,
+    STARLARK_KIND_IF = 23,
+    STARLARK_KIND_IN = 24,
+    STARLARK_KIND_LAMBDA = 25,
+    STARLARK_KIND_LOAD = 26,
+    STARLARK_KIND_NOT = 27,
+    STARLARK_KIND_OR = 28,
+    STARLARK_KIND_PASS = 29,
+    STARLARK_KIND_RETURN = 30,
+    STARLARK_KIND_COMMA = 31,
+    STARLARK_KIND_SEMICOLON = 32,
+    STARLARK_KIND_COLON = 33,
+    STARLARK_KIND_PLUS_EQUAL = 34,
+    STARLARK_KIND_MINUS_EQUAL = 35,
+    STARLARK_KIND_STAR_EQUAL = 36,
+    STARLARK_KIND_SLASH_EQUAL = 37,
+    STARLARK_KIND_SLASH_SLASH_EQUAL = 38,
+    STARLARK_KIND_PERCENT_EQUAL = 39,
+    STARLARK_KIND_EQUAL_EQUAL = 40,
+    STARLARK_KIND_BANG_EQUAL = 41,
+    STARLARK_KIND_LESS_EQUAL = 42,
+    STARLARK_KIND_GREATER_EQUAL = 43,
+    STARLARK_KIND_STAR_STAR = 44,
+    STARLARK_KIND_MINUS_GREATER = 45,
+    STARLARK_KIND_EQUAL = 46,
+    STARLARK_KIND_LESS_THAN = 47,
+    STARLARK_KIND_GREATER_THAN = 48,
+    STARLARK_KIND_MINUS = 49,
+    STARLARK_KIND_PLUS = 50,
+    STARLARK_KIND_STAR = 51,
+    STARLARK_KIND_PERCENT = 52,
+    STARLARK_KIND_SLASH = 53,
+    STARLARK_KIND_SLASH_SLASH = 54,
+    STARLARK_KIND_DOT = 55,
+    STARLARK_KIND_AMPERSAND = 56,
+    STARLARK_KIND_PIPE = 57,
+    STARLARK_KIND_CARET = 58,
+    STARLARK_KIND_LESS_LESS = 59,
+    STARLARK_KIND_GREATER_GREATER = 60,
+    STARLARK_KIND_TILDE = 61,
+    STARLARK_KIND_AMPERSAND_EQUAL = 62,
+    STARLARK_KIND_PIPE_EQUAL = 63,
+    STARLARK_KIND_CARET_EQUAL = 64,
+    STARLARK_KIND_LESS_LESS_EQUAL = 65,
+    STARLARK_KIND_GREATER_GREATER_EQUAL = 66,
+    STARLARK_KIND_ELLIPSIS = 67,
+    STARLARK_KIND_OPENING_SQUARE = 68,
+    STARLARK_KIND_OPENING_CURLY = 69,
+    STARLARK_KIND_OPENING_ROUND = 70,
+    STARLARK_KIND_CLOSING_SQUARE = 71,
+    STARLARK_KIND_CLOSING_CURLY = 72,
+    STARLARK_KIND_CLOSING_ROUND = 73
+};
+
+/* The kinds of faults. A number never changes; a new kind gets the next one. */
+enum starlark_fault {
+    STARLARK_FAULT_INDENTATION = 1,
+    STARLARK_FAULT_INVALID_INPUT = 2,
+    STARLARK_FAULT_INVALID_TAB = 3,
+    STARLARK_FAULT_UNFINISHED_STRING_LITERAL = 4,
+    STARLARK_FAULT_INVALID_ESCAPE_SEQUENCE = 5,
+    STARLARK_FAULT_EMPTY_ESCAPE_SEQUENCE = 6,
+    STARLARK_FAULT_RESERVED_KEYWORD = 7,
+    STARLARK_FAULT_STARTS_ZERO = 8,
+    STARLARK_FAULT_UNFINISHED_FSTRING_EXPRESSION = 9
+};
+
+/* The quotes of an f-string: the field `detail` of a STARLARK_KIND_FSTRING_START. */
+enum starlark_quotes {
+    STARLARK_QUOTES_SINGLE = 1,
+    STARLARK_QUOTES_DOUBLE = 2,
+    STARLARK_QUOTES_TRIPLE_SINGLE = 3,
+    STARLARK_QUOTES_TRIPLE_DOUBLE = 4
+};
+
+/* How lexing a text ended: what starlark_lex returns. */
+enum starlark_status {
+    STARLARK_WHOLE = 0,    /* the text has no fault, and all its lexemes are in the buffers */
+    STARLARK_FAULT = 1,    /* the text has a fault; all lexemes before it are in the buffers */
+    STARLARK_FULL = 2,     /* the buffers have no room for the text: they have a piece of it, if
+                              `next` isn't 0 */
+    STARLARK_NOT_UTF8 = 3, /* the bytes are not UTF-8 */
+    STARLARK_TOO_LONG = 4, /* the text has more than 4294967295 bytes */
+    STARLARK_MEMORY = 5    /* malloc or realloc returned NULL */
+};
+
+/* A lexeme. 32 bytes, without padding where a size_t has 64 bits. */
+typedef struct starlark_lexeme {
+    uint32_t begin;     /* offset of its first byte in the text */
+    uint32_t end;       /* offset in the text after its last byte */
+    uint16_t kind;      /* an enum starlark_kind */
+    uint16_t detail;    /* STARLARK_KIND_FSTRING_START: its quotes, an enum starlark_quotes;
+                           STARLARK_KIND_INT with value_len > 0: the base of its digits;
+                           else 0 */
+    int32_t integer;    /* STARLARK_KIND_INT with value_len == 0: its value; else 0 */
+    size_t value_begin; /* offset of its value in the buffer of values */
+    size_t value_len;   /* length of its value in bytes, 0 for a kind without a value:
+                           STARLARK_KIND_COMMENT: the text after `#`
+                           STARLARK_KIND_IDENTIFIER: the name
+                           STARLARK_KIND_INT out of the range of int32_t: the digits, without
+                               leading zeros and with letters in lower case
+                           STARLARK_KIND_FLOAT: the text as it is written
+                           STARLARK_KIND_STRING, STARLARK_KIND_FSTRING_TEXT: the text with its
+                               escapes decoded, in UTF-8
+                           STARLARK_KIND_BYTES: the bytes with their escapes decoded */
+} starlark_lexeme;
+
+/* What a call of starlark_lex did. A field is 0 where its comment doesn't name the status. */
+typedef struct starlark_outcome {
+    uint32_t status;          /* an enum starlark_status */
+    uint32_t fault_kind;      /* STARLARK_FAULT: an enum starlark_fault */
+    uint32_t fault_begin;     /* STARLARK_FAULT: offset of its first byte in the text */
+    uint32_t fault_end;       /* STARLARK_FAULT: offset in the text after its last byte */
+    size_t fault_value_begin; /* STARLARK_FAULT: offset in the buffer of values of the text that the
+                                 fault names */
+    size_t fault_value_len;   /* STARLARK_FAULT: length of that text in bytes; 0 for a kind that
+                                 names none */
+    size_t lexemes;           /* how many records in the buffer are right */
+    size_t values;            /* how many bytes in the buffer of values are right */
+    size_t next;              /* STARLARK_WHOLE: the length of the text;
+                                 STARLARK_FULL: offset of a clean cut, where to go on; 0 where the
+                                     buffers have no room for the first piece;
+                                 STARLARK_NOT_UTF8: offset of the first byte that is not UTF-8 */
+    size_t wanted_lexemes;    /* STARLARK_FULL with next == 0: how many records the first piece of
+                                 the text needs */
+    size_t wanted_values;     /* STARLARK_FULL with next == 0: how many bytes of values it needs */
+} starlark_outcome;
+
+/* Lexes a text into two buffers, says in *outcome how that ended, and returns its status.
+ *
+ * Up to the counts in *outcome the buffers have the records of the text's lexemes, in order, and
+ * their values, one after another. After a fault's lexemes the values have the text that the fault
+ * names, and `values` counts it. After what is counted the buffers are as they were, except with
+ * STARLARK_FULL.
+ *
+ * Where the buffers are full they have the lexemes up to offset `next` of the text, a clean cut: a
+ * line ends there, and no bracket, block or f-string is open. The text from there on is lexed by a
+ * next call, whose offsets count from there. The lexemes of all calls, one after another, are those
+ * of the whole text. Each call tests that all bytes which it is given are UTF-8, and lexes the
+ * piece that it returns with STARLARK_FULL twice.
+ */
+uint32_t starlark_lex(const uint8_t *text, size_t text_len,
+                      starlark_lexeme *lexemes, size_t lexemes_cap,
+                      uint8_t *values, size_t values_cap,
+                      starlark_outcome *outcome);
+
+/* The line and columns of an offset in a text. Each counts from 0. */
+typedef struct starlark_text_place {
+    size_t line;         /* how many LF are before the offset */
+    size_t column;       /* how many characters are on the line before the offset */
+    size_t utf16_column; /* how many units of UTF-16 these take */
+} starlark_text_place;
+
+/* Tells the line and columns of an offset in *place, and returns true. Where the offset is past the
+ * end of the text, or the text up to it is not UTF-8, as inside a character, it returns false, and
+ * *place is as it was. It reads the text up to the offset. */
+bool starlark_place(const uint8_t *text, size_t text_len, size_t at, starlark_text_place *place);
+
+/* Writes the name of a kind, such as "Identifier", if there is room for it, without a terminating
+ * zero. Returns its length in bytes, which is 0 for a number that no kind has. */
+size_t starlark_kind_name(uint32_t kind, uint8_t *name, size_t name_cap);
+
+/* Writes the message of a fault, if there is room for it, without a terminating zero. `named` is
+ * the text that the fault names. Returns the message's length in bytes, which is 0 for a number that
+ * no fault has. */
+size_t starlark_fault_message(uint32_t kind, const uint8_t *named, size_t named_len,
+                              uint8_t *message, size_t message_cap);
+
+#ifdef __cplusplus
+}
+#endif
+
+#endif

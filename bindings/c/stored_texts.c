@@ -1,0 +1,426 @@
+/* Lexes the stored texts through the header, and compares with what starlark_lex prints of them.
+ *
+ *     stored_texts STDIN STDOUT
+ *
+ * The files are those of crates/starlark_texts: texts, and the lines that are printed of each. Of a
+ * record that isn't a plain text (its fronts, a repetition, an edit) nothing is compared. Each text
+ * of at most 64 bytes is also lexed in pieces, with buffers of each smaller size: the pieces joined
+ * have to be the whole, what a call says it wants has to be enough for the next one, and nothing may
+ * be written outside of what a call tells. */
+#include "starlark_lex.h"
+
+#include <inttypes.h>
+#include <stdbool.h>
+#include <stdio.h>
+#include <stdlib.h>
+#include <string.h>
+
+#define SMALL_TEXT 64
+#define GUARD 16
+#define UNTOUCHED 0xA5
+
+typedef struct bytes {
+    uint8_t *at;
+    size_t len;
+} bytes;
+
+/* A text in the making. */
+typedef struct text {
+    char *at;
+    size_t len;
+    size_t room;
+} text;
+
+static void stop(const char *why)
+{
+    fprintf(stderr, "stored_texts: %s\n", why);
+    exit(2);
+}
+
+static void *room_for(size_t len)
+{
+    void *at = malloc(len == 0 ? 1 : len);
+    if (at == NULL)
+        stop("out of memory");
+    return at;
+}
+
+/* The bytes of a file, with a zero after them. */
+static bytes read_file(const char *name)
+{
+    FILE *file = fopen(name, "rb");
+    if (file == NULL || fseek(file, 0, SEEK_END) != 0)
+        stop(name);
+    long len = ftell(file);
+    if (len < 0 || fseek(file, 0, SEEK_SET) != 0)
+        stop(name);
+    bytes all = {room_for((size_t)len + 1), (size_t)len};
+    if (fread(all.at, 1, all.len, file) != all.len)
+        stop(name);
+    all.at[all.len] = 0;
+    fclose(file);
+    return all;
+}
+
+static void add(text *line, const void *from, size_t len)
+{
+    if (line->room - line->len < len) {
+        line->room = 2 * (line->len + len);
+        line->at = realloc(line->at, line->room);
+        if (line->at == NULL)
+            stop("out of memory");
+    }
+    memcpy(line->at + line->len, from, len);
+    line->len += len;
+}
+
+static void add_word(text *line, const char *word)
+{
+    add(line, word, strlen(word));
+}
+
+static void add_number(text *line, uint64_t number)
+{
+    char digits[32];
+    snprintf(digits, sizeof digits, "%" PRIu64, number);
+    add_word(line, digits);
+}
+
+static void add_hex(text *line, const uint8_t *from, size_t len)
+{
+    char digits[3];
+    for (size_t at = 0; at < len; at++) {
+        snprintf(digits, sizeof digits, "%02x", from[at]);
+        add(line, digits, 2);
+    }
+}
+
+static starlark_text_place place_of(bytes source, size_t at)
+{
+    starlark_text_place place;
+    if (!starlark_place(source.at, source.len, at, &place))
+        stop("an offset without a place");
+    return place;
+}
+
+static void add_place(text *line, bytes source, size_t begin, size_t end)
+{
+    starlark_text_place from = place_of(source, begin);
+    starlark_text_place to = place_of(source, end);
+    add_number(line, from.line + 1);
+    add_word(line, ":");
+    add_number(line, from.column + 1);
+    if (from.line == to.line && from.column == to.column)
+        return;
+    add_word(line, "-");
+    if (from.line != to.line) {
+        add_number(line, to.line + 1);
+        add_word(line, ":");
+    }
+    add_number(line, to.column + 1);
+}
+
+static void add_value(text *line, const starlark_lexeme *lexeme, const uint8_t *value)
+{
+    static const char *const quotes[] = {"", "Single", "Double", "TripleSingle", "TripleDouble"};
+    char digits[16];
+    switch (lexeme->kind) {
+    case STARLARK_KIND_COMMENT:
+    case STARLARK_KIND_IDENTIFIER:
+    case STARLARK_KIND_FLOAT:
+        add_word(line, " ");
+        add(line, value, lexeme->value_len);
+        break;
+    case STARLARK_KIND_INT:
+        add_word(line, " ");
+        if (lexeme->value_len == 0) {
+            snprintf(digits, sizeof digits, "%" PRId32, lexeme->integer);
+            add_word(line, digits);
+            break;
+        }
+        add(line, value, lexeme->value_len);
+        if (lexeme->detail != 10) {
+            add_word(line, " (base ");
+            add_number(line, lexeme->detail);
+            add_word(line, ")");
+        }
+        break;
+    case STARLARK_KIND_STRING:
+    case STARLARK_KIND_BYTES:
+    case STARLARK_KIND_FSTRING_TEXT:
+        add_word(line, " ");
+        add_hex(line, value, lexeme->value_len);
+        break;
+    case STARLARK_KIND_FSTRING_START:
+        add_word(line, " ");
+        add_word(line, quotes[lexeme->detail]);
+        break;
+    default:
+        break;
+    }
+}
+
+static void add_lexeme(text *line, bytes source, const starlark_lexeme *lexeme, const uint8_t *values)
+{
+    uint8_t name[32];
+    size_t len = starlark_kind_name(lexeme->kind, name, sizeof name);
+    if (len == 0 || len > sizeof name)
+        stop("a kind without a name");
+    add_number(line, lexeme->begin);
+    add_word(line, "-");
+    add_number(line, lexeme->end);
+    add_word(line, " ");
+    add_place(line, source, lexeme->begin, lexeme->end);
+    add_word(line, " ");
+    add(line, name, len);
+    add_value(line, lexeme, values + lexeme->value_begin);
+    add_word(line, "\n");
+}
+
+static void add_fault(text *line, bytes source, const starlark_outcome *outcome, const uint8_t *values)
+{
+    const uint8_t *named = values + outcome->fault_value_begin;
+    size_t len = starlark_fault_message(outcome->fault_kind, named, outcome->fault_value_len, (uint8_t *)line->at, 0);
+    uint8_t *message = room_for(len);
+    if (len == 0 || starlark_fault_message(outcome->fault_kind, named, outcome->fault_value_len, message, len) != len)
+        stop("a fault without a message");
+    add_word(line, "fault ");
+    add_number(line, outcome->fault_begin);
+    add_word(line, "-");
+    add_number(line, outcome->fault_end);
+    add_word(line, " <stdin>:");
+    add_place(line, source, outcome->fault_begin, outcome->fault_end);
+    add_word(line, " ");
+    add(line, message, len);
+    add_word(line, "\n");
+    free(message);
+}
+
+/* The lines that starlark_lex prints of a lexed text, after one with its number and status. */
+static void add_lines(text *line, size_t number, bytes source, const starlark_outcome *outcome, const starlark_lexeme *lexemes, const uint8_t *values)
+{
+    static const char *const said[] = {"clean", "fault", "full", "input is not UTF-8", "too long", "memory"};
+    add_word(line, "text ");
+    add_number(line, number);
+    add_word(line, ": ");
+    add_word(line, said[outcome->status]);
+    add_word(line, "\n");
+    for (size_t at = 0; at < outcome->lexemes; at++)
+        add_lexeme(line, source, &lexemes[at], values);
+    if (outcome->status == STARLARK_FAULT)
+        add_fault(line, source, outcome, values);
+}
+
+static bool is_untouched(const void *from, size_t len)
+{
+    const uint8_t *bytes = from;
+    for (size_t at = 0; at < len; at++)
+        if (bytes[at] != UNTOUCHED)
+            return false;
+    return true;
+}
+
+/* The buffers of a call, with a guard after each. */
+typedef struct buffers {
+    starlark_lexeme *lexemes;
+    size_t lexemes_cap;
+    uint8_t *values;
+    size_t values_cap;
+} buffers;
+
+static buffers buffers_of(size_t lexemes, size_t values)
+{
+    buffers made = {room_for((lexemes + GUARD) * sizeof(starlark_lexeme)), lexemes, room_for(values + GUARD), values};
+    memset(made.lexemes, UNTOUCHED, (lexemes + GUARD) * sizeof(starlark_lexeme));
+    memset(made.values, UNTOUCHED, values + GUARD);
+    return made;
+}
+
+static void release(buffers given)
+{
+    free(given.lexemes);
+    free(given.values);
+}
+
+static starlark_outcome lex(bytes source, buffers into)
+{
+    starlark_outcome outcome;
+    memset(&outcome, UNTOUCHED, sizeof outcome);
+    uint32_t status = starlark_lex(source.at, source.len, into.lexemes, into.lexemes_cap, into.values, into.values_cap, &outcome);
+    if (status != outcome.status)
+        stop("another status was returned than told");
+    return outcome;
+}
+
+/* Whether nothing is written after what an outcome counts, or after the buffers where they are full. */
+static bool is_kept(buffers into, const starlark_outcome *outcome)
+{
+    bool is_full = outcome->status == STARLARK_FULL;
+    size_t lexemes = is_full ? into.lexemes_cap : outcome->lexemes;
+    size_t values = is_full ? into.values_cap : outcome->values;
+    return is_untouched(into.lexemes + lexemes, (into.lexemes_cap + GUARD - lexemes) * sizeof(starlark_lexeme))
+        && is_untouched(into.values + values, into.values_cap + GUARD - values);
+}
+
+/* A text that was lexed at once: what a call that had room for it did. */
+typedef struct lexed {
+    bytes source;
+    buffers into;
+    starlark_outcome outcome;
+} lexed;
+
+/* Whether a record of a piece that begins at an offset is the record of the whole text. */
+static bool is_same(const lexed *whole, size_t index, size_t from, const starlark_lexeme *lexeme, const uint8_t *values)
+{
+    const starlark_lexeme *wanted = &whole->into.lexemes[index];
+    return lexeme->begin + from == wanted->begin && lexeme->end + from == wanted->end
+        && lexeme->kind == wanted->kind && lexeme->detail == wanted->detail && lexeme->integer == wanted->integer
+        && lexeme->value_len == wanted->value_len
+        && memcmp(values + lexeme->value_begin, whole->into.values + wanted->value_begin, wanted->value_len) == 0;
+}
+
+/* Whether the fault of the last piece, which begins at an offset, is that of the whole text. */
+static bool is_same_fault(const lexed *whole, size_t from, const starlark_outcome *last, const uint8_t *values)
+{
+    const starlark_outcome *wanted = &whole->outcome;
+    if (wanted->status != STARLARK_FAULT)
+        return last->fault_kind == 0;
+    return last->fault_kind == wanted->fault_kind && last->fault_begin + from == wanted->fault_begin
+        && last->fault_end + from == wanted->fault_end && last->fault_value_len == wanted->fault_value_len
+        && memcmp(values + last->fault_value_begin, whole->into.values + wanted->fault_value_begin, wanted->fault_value_len) == 0;
+}
+
+/* Whether a call's records are those of the whole text from an index on. */
+static bool are_next(const lexed *whole, size_t index, size_t from, const starlark_outcome *outcome, buffers into)
+{
+    if (!is_kept(into, outcome) || outcome->lexemes > into.lexemes_cap || outcome->values > into.values_cap
+        || index + outcome->lexemes > whole->outcome.lexemes)
+        return false;
+    for (size_t at = 0; at < outcome->lexemes; at++)
+        if (!is_same(whole, index + at, from, &into.lexemes[at], into.values))
+            return false;
+    return true;
+}
+
+/* Whether the pieces of a text, by buffers of a size, are the whole text. Where a piece needs more,
+ * it gets what it wants. Adds to the number of calls. */
+static bool are_pieces(const lexed *whole, size_t lexemes, size_t values, size_t *calls)
+{
+    buffers into = buffers_of(lexemes, values);
+    size_t from = 0;
+    size_t index = 0;
+    bool is_larger = false;
+    for (;;) {
+        starlark_outcome outcome = lex((bytes){whole->source.at + from, whole->source.len - from}, into);
+        ++*calls;
+        bool is_right = are_next(whole, index, from, &outcome, into);
+        index += outcome.lexemes;
+        if (outcome.status != STARLARK_FULL) {
+            is_right = is_right && outcome.status == whole->outcome.status && index == whole->outcome.lexemes
+                && is_same_fault(whole, from, &outcome, into.values);
+            release(into);
+            return is_right;
+        }
+        bool has_room = outcome.wanted_lexemes <= into.lexemes_cap && outcome.wanted_values <= into.values_cap;
+        is_right = is_right && (outcome.next == 0) == !has_room && !(is_larger && outcome.next == 0)
+            && (outcome.next == 0 || whole->source.at[from + outcome.next - 1] == '\n');
+        is_larger = outcome.next == 0;
+        from += outcome.next;
+        release(into);
+        if (!is_right)
+            return false;
+        into = is_larger ? buffers_of(outcome.wanted_lexemes, outcome.wanted_values) : buffers_of(lexemes, values);
+    }
+}
+
+/* Whether the pieces of a text by buffers of each smaller size are the whole text. */
+static bool are_all_pieces(const lexed *whole, size_t *calls)
+{
+    for (size_t lexemes = 0; lexemes <= whole->outcome.lexemes; lexemes++)
+        if (!are_pieces(whole, lexemes, whole->outcome.values, calls))
+            return false;
+    for (size_t values = 0; values <= whole->outcome.values; values++)
+        if (!are_pieces(whole, whole->outcome.lexemes, values, calls) || !are_pieces(whole, values + 1, values, calls))
+            return false;
+    return true;
+}
+
+/* The counts of what was compared. */
+typedef struct tally {
+    size_t texts;
+    size_t lexemes;
+    size_t calls;
+} tally;
+
+/* Lexes a text, and returns the end of its lines in what has to be printed. */
+static size_t compare(bytes source, size_t number, bytes printed, size_t at, tally *counts)
+{
+    buffers into = buffers_of(2 * source.len + 1, 2 * source.len);
+    starlark_outcome outcome = lex(source, into);
+    text line = {NULL, 0, 0};
+    if (outcome.status == STARLARK_FULL || outcome.status == STARLARK_MEMORY || !is_kept(into, &outcome))
+        stop("a call didn't do what it has to");
+    add_lines(&line, number, source, &outcome, into.lexemes, into.values);
+    if (printed.len - at < line.len || memcmp(printed.at + at, line.at, line.len) != 0) {
+        fprintf(stderr, "stored_texts: text %zu is lexed otherwise:\n%.*s", number, (int)line.len, line.at);
+        exit(1);
+    }
+    counts->texts++;
+    counts->lexemes += outcome.lexemes;
+    lexed whole = {source, into, outcome};
+    if (source.len <= SMALL_TEXT && outcome.status <= STARLARK_FAULT && !are_all_pieces(&whole, &counts->calls)) {
+        fprintf(stderr, "stored_texts: the pieces of text %zu, with small buffers, are not the whole\n", number);
+        exit(1);
+    }
+    release(into);
+    free(line.at);
+    return at + line.len;
+}
+
+/* The end of the line at an offset. */
+static size_t line_end(bytes from, size_t at)
+{
+    const uint8_t *end = memchr(from.at + at, '\n', from.len - at);
+    if (end == NULL)
+        stop("a last line without its end");
+    return (size_t)(end - from.at) + 1;
+}
+
+/* The offset of the first line of a later record. */
+static size_t skip_record(bytes printed, size_t at, size_t number)
+{
+    while (at < printed.len) {
+        const char *line = (const char *)printed.at + at;
+        if (strncmp(line, "text ", 5) == 0 && strtoul(line + 5, NULL, 10) > number)
+            break;
+        at = line_end(printed, at);
+    }
+    return at;
+}
+
+int main(int count, char **words)
+{
+    if (count != 3)
+        stop("usage: stored_texts STDIN STDOUT");
+    bytes stored = read_file(words[1]);
+    bytes printed = read_file(words[2]);
+    tally counts = {0, 0, 0};
+    size_t at = 0;
+    size_t out = 0;
+    for (size_t number = 1; at < stored.len; number++) {
+        size_t begin = line_end(stored, at);
+        char *word = NULL;
+        size_t len = strtoul((char *)stored.at + at, &word, 10);
+        if (*word == '\n')
+            out = compare((bytes){stored.at + begin, len}, number, printed, out, &counts);
+        else
+            out = skip_record(printed, out, number);
+        at = begin + len + 1;
+    }
+    if (out != printed.len)
+        stop("there are more lines than texts");
+    printf("%zu texts, %zu lexemes, %zu calls with small buffers\n", counts.texts, counts.lexemes, counts.calls);
+    free(stored.at);
+    free(printed.at);
+    return 0;
+}

@@ -1,0 +1,26 @@
+"""The proved lexer of Starlark, the language of Bazel's and Buck's files.
+
+    >>> from starlark_lexer import tokenize
+    >>> [(token.type.name, token.string) for token in tokenize("x = 1\\n")]
+    [('IDENTIFIER', 'x'), ('EQUAL', '='), ('INT', '1'), ('NEWLINE', '\\n'), ('NEWLINE', '')]
+
+A text is a `str`, or `bytes` in UTF-8. `tokenize` yields its tokens, and raises its first fault as a
+`StarlarkFault`. `faults` returns the faults. Nothing is shared between two calls, so they may run in
+any number of threads.
+"""
+
+from .kinds import FaultKind, Kind, Quotes
+from .tokens import Fault, StarlarkFault, Token, Value, faults, lex, tokenize
+
+__all__ = [
+    "Fault",
+    "FaultKind",
+    "Kind",
+    "Quotes",
+    "StarlarkFault",
+    "Token",
+    "Value",
+    "faults",
+    "lex",
+    "tokenize",
+]

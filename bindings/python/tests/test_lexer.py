@@ -1,0 +1,252 @@
+"""Tests of the package, against what the program starlark_lex prints."""
+
+from __future__ import annotations
+
+import io
+import json
+import subprocess
+import unittest
+from contextlib import redirect_stderr, redirect_stdout
+from pathlib import Path
+from tempfile import TemporaryDirectory
+from typing import Iterator, Optional, Tuple
+
+from starlark_lexer import FaultKind, Kind, Quotes, StarlarkFault, Token, faults, lex, tokenize
+from starlark_lexer.__main__ import main
+from starlark_lexer.library import kind_name, place_of
+
+TOP = Path(__file__).resolve().parents[3]
+STORED = TOP / "crates/starlark_texts"
+QUOTES = {
+    Quotes.SINGLE: "Single",
+    Quotes.DOUBLE: "Double",
+    Quotes.TRIPLE_SINGLE: "TripleSingle",
+    Quotes.TRIPLE_DOUBLE: "TripleDouble",
+}
+
+
+def place_text(start: Tuple[int, int], end: Tuple[int, int]) -> str:
+    """A place as the program prints it."""
+    begin = f"{start[0]}:{start[1] + 1}"
+    if start == end:
+        return begin
+    return begin + (f"-{end[1] + 1}" if start[0] == end[0] else f"-{end[0]}:{end[1] + 1}")
+
+
+def integer_text(value: int, string: str) -> str:
+    """An integer as the program prints it."""
+    if -(2**31) <= value < 2**31:
+        return str(value)
+    bases = {"x": (16, "x"), "o": (8, "o"), "b": (2, "b")}
+    base, form = bases.get(string[1:2].lower(), (10, "d"))
+    return format(value, form) + ("" if base == 10 else f" (base {base})")
+
+
+def value_text(token: Token) -> str:
+    """The value of a token as the program prints it, after a space."""
+    value = token.value
+    if value is None:
+        return ""
+    if isinstance(value, Quotes):
+        return " " + QUOTES[value]
+    if isinstance(value, int):
+        return " " + integer_text(value, token.string)
+    if isinstance(value, bytes):
+        return " " + value.hex()
+    if token.type in (Kind.STRING, Kind.FSTRING_TEXT):
+        return " " + value.encode().hex()
+    return " " + value
+
+
+def lines_of(source: bytes) -> str:
+    """The lines that the program prints for a text."""
+    tokens, fault = lex(source)
+    lines = [
+        f"{token.span[0]}-{token.span[1]} {place_text(token.start, token.end)} "
+        f"{kind_name(token.type)}{value_text(token)}\n"
+        for token in tokens
+    ]
+    if fault:
+        place = f"<stdin>:{place_text(fault.start, fault.end)}"
+        lines.append(f"fault {fault.span[0]}-{fault.span[1]} {place} {fault.message}\n")
+    return "".join(lines)
+
+
+def stored_texts() -> Iterator[Tuple[int, str, bytes]]:
+    """The stored texts, each with its number and its task."""
+    stored = (STORED / "stdin").read_bytes()
+    at = 0
+    number = 0
+    while at < len(stored):
+        begin = stored.index(b"\n", at) + 1
+        length, _, task = stored[at : begin - 1].decode().partition(" ")
+        number += 1
+        yield number, task, stored[begin : begin + int(length)]
+        at = begin + int(length) + 1
+
+
+class StoredTexts(unittest.TestCase):
+    """Each stored text is lexed as the program lexes it."""
+
+    def test_stored_texts(self) -> None:
+        printed = (STORED / "stdout").read_bytes().decode()
+        at = 0
+        for number, task, source in stored_texts():
+            if task:
+                continue
+            begin = printed.index(f"text {number}: ", at)
+            at = printed.index("\n", begin) + 1
+            try:
+                lines = lines_of(source)
+            except UnicodeDecodeError:
+                self.assertEqual(printed[begin:at], f"text {number}: input is not UTF-8\n")
+                continue
+            self.assertEqual(printed[at : at + len(lines)], lines, f"text {number}: {source!r}")
+            end = at + len(lines)
+            self.assertTrue(end == len(printed) or printed.startswith("text ", end), f"text {number} has more lines")
+
+
+class Program(unittest.TestCase):
+    """Files are lexed as the program lexes them now."""
+
+    TEXTS = (
+        b"",
+        b"if x:\n    y = 01\n",
+        'def f(a):\n    return f"{a!r} \u00e9\\n" + b"\\xff"  # \u6c49\n'.encode(),
+        b"x = 0xFFFFFFFFFF + 2147483648\ny = 0o7777777777777 + 0b" + b"1" * 40 + b"\n",
+        b"cc_library(\n    name = \"x\",\n    srcs = glob([\"*.cc\"]),\n)\n" * 200,
+        b"a\r\n\tb\n",
+        b"'" + b"z" * 300 + b"\n",
+    )
+
+    def test_lines(self) -> None:
+        for source in self.TEXTS:
+            run = subprocess.run([TOP / "starlark_lex"], input=source, capture_output=True, check=False)
+            self.assertIn(run.returncode, (0, 1))
+            self.assertEqual(lines_of(source), run.stdout.decode())
+
+
+class Tokens(unittest.TestCase):
+    """What the package adds to the lines."""
+
+    def test_fields(self) -> None:
+        token = next(tokenize("x = 'a\\n'\n"))
+        self.assertEqual(token[:5], (Kind.IDENTIFIER, "x", (1, 0), (1, 1), "x = 'a\\n'\n"))
+        self.assertEqual((token.value, token.span), ("x", (0, 1)))
+
+    def test_values(self) -> None:
+        source = "a 1 2147483648 1.5 'b\\n' b'\\xff' # c"
+        values = [token.value for token in tokenize(source) if token.value is not None]
+        self.assertEqual(values, ["a", 1, 2147483648, "1.5", "b\n", b"\xff", " c"])
+
+    def test_quotes(self) -> None:
+        starts = [token.value for token in tokenize('f"" f\'\' f"""""" f\'\'\'\'\'\'') if token.type == Kind.FSTRING_START]
+        self.assertEqual(starts, [Quotes.DOUBLE, Quotes.SINGLE, Quotes.TRIPLE_DOUBLE, Quotes.TRIPLE_SINGLE])
+
+    def test_columns_count_characters(self) -> None:
+        tokens = list(tokenize("'é' + '🔬'; x\n"))
+        self.assertEqual([token.start for token in tokens[:5]], [(1, 0), (1, 4), (1, 6), (1, 9), (1, 11)])
+
+    def test_every_number_is_named(self) -> None:
+        for kind in Kind:
+            self.assertEqual(kind_name(kind).upper(), kind.name.replace("_", ""))
+        self.assertEqual([kind_name(0), kind_name(max(Kind) + 1), kind_name(2**32 - 1)], ["", "", ""])
+
+
+class Places(unittest.TestCase):
+    """Lines and columns of offsets, against Python's own."""
+
+    def test_each_offset(self) -> None:
+        for text in ("", "a\nb\n\nc", "é\n汉🔬x\r\n🔬", "\U0010ffff\ud7ff\uffff\n"):
+            source = text.encode()
+            for at in range(len(source) + 2):
+                self.assertEqual(place_of(source, at), self.place(source, at), (text, at))
+
+    @staticmethod
+    def place(source: bytes, at: int) -> Optional[Tuple[int, int, int]]:
+        """The place of an offset, by Python's strings."""
+        try:
+            front = source[:at].decode()
+        except UnicodeDecodeError:
+            return None
+        line = front.rpartition("\n")[2]
+        place = front.count("\n"), len(line), len(line.encode("utf-16-le")) // 2
+        return place if at <= len(source) else None
+
+
+class Faults(unittest.TestCase):
+    """Texts that aren't Starlark's tokens."""
+
+    KINDS = {
+        "if x:\n  y\n z": FaultKind.INDENTATION,
+        "?": FaultKind.INVALID_INPUT,
+        "x\n\ty": FaultKind.INVALID_TAB,
+        "'": FaultKind.UNFINISHED_STRING_LITERAL,
+        "'\\x'": FaultKind.INVALID_ESCAPE_SEQUENCE,
+        "'\\": FaultKind.EMPTY_ESCAPE_SEQUENCE,
+        "class": FaultKind.RESERVED_KEYWORD,
+        "01": FaultKind.STARTS_ZERO,
+        "f'{\"a": FaultKind.UNFINISHED_FSTRING_EXPRESSION,
+    }
+
+    def test_kinds(self) -> None:
+        for source, kind in self.KINDS.items():
+            self.assertEqual([fault.type for fault in faults(source)], [kind], source)
+
+    def test_none(self) -> None:
+        self.assertEqual(faults("x = 1\n"), [])
+
+    def test_raised_after_the_tokens_before_it(self) -> None:
+        found = []
+        with self.assertRaises(StarlarkFault) as raised:
+            for token in tokenize("x = 01"):
+                found.append(token.string)
+        self.assertEqual(found, ["x", "="])
+        self.assertEqual(str(raised.exception), "1:5: Parse error: integer cannot have leading 0, got `01`")
+        self.assertEqual(raised.exception.fault.span, (4, 6))
+
+    def test_not_utf8(self) -> None:
+        with self.assertRaises(UnicodeDecodeError) as raised:
+            list(tokenize(b"ab\xff"))
+        self.assertEqual(raised.exception.start, 2)
+
+
+class Printed(unittest.TestCase):
+    """What `python -m starlark_lexer` prints."""
+
+    def run_main(self, source: bytes, *words: str) -> Tuple[int, str, str]:
+        with TemporaryDirectory() as folder:
+            file = Path(folder) / "BUILD"
+            file.write_bytes(source)
+            out, err = io.StringIO(), io.StringIO()
+            with redirect_stdout(out), redirect_stderr(err):
+                status = main([*words, str(file)])
+            return status, out.getvalue(), err.getvalue().replace(str(file), "BUILD")
+
+    def test_tokens(self) -> None:
+        status, out, err = self.run_main(b"x !")
+        self.assertEqual((status, err), (1, "BUILD:1:3: Parse error: invalid input `!`\n"))
+        self.assertEqual(out.split(), ["1,0-1,1:", "IDENTIFIER", "'x'"])
+
+    def test_json(self) -> None:
+        status, out, _ = self.run_main(b"b'\\xff' 01", "--json")
+        found = json.loads(out)
+        self.assertEqual(status, 1)
+        self.assertEqual([(token["type"], token["value"]) for token in found["tokens"]], [("BYTES", [255])])
+        self.assertEqual([(fault["type"], fault["span"]) for fault in found["faults"]], [("STARTS_ZERO", [8, 10])])
+
+    def test_page_has_the_text(self) -> None:
+        status, out, _ = self.run_main(b"x = '<a>'\ny = 01\n", "--html")
+        self.assertEqual(status, 1)
+        self.assertIn('x <span class="operator">=</span> <span class="string">&#x27;&lt;a&gt;&#x27;</span>', out)
+        self.assertIn(">01</mark>", out)
+        self.assertNotIn("http", out)
+
+    def test_not_utf8(self) -> None:
+        status, out, err = self.run_main(b"\xff")
+        self.assertEqual((status, out), (2, ""))
+        self.assertIn("BUILD", err)
+
+
+if __name__ == "__main__":
+    unittest.main()

@@ -1,0 +1,7 @@
+pub mod Items
+pub mod Filled
+pub mod CutTexts
+pub mod Ends
+pub mod Stops
+pub mod Wanted
+pub mod Lines

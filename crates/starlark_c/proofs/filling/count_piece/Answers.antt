@@ -1,0 +1,64 @@
+use Rattle.std.proofs.Common.{◌≡◌, ℕ, ◌+◌, ◌≤◌, false, length, take, refl, ap, sym, ◌∙◌, arith, inl, inr}
+use Rattle.starlark_c.specs.Endings.{all_values, lexemes_of}
+use Rattle.starlark_c.specs.Records.{fault_bytes, values}
+use Rattle.starlark_c.proofs.Items.{next_fault, next_lexeme}
+use Rattle.starlark_c.proofs.Wanted.{all_bytes, more_values, wanted_fault, wanted_more}
+use Rattle.starlark_syntax.specs.Lexer.{LexerView}
+use Rattle.starlark_token.specs.Lexemes.{lexeme_view}
+use Rattle.starlark_c.proofs.filling.count_piece.Goals as goal
+
+pub returns-then-passed : goal.returns-then-passed
+returns-then-passed c =
+    let inv = c.loop-item.invariant in
+    let text = c.args.lexer.now.text in
+    let n = c.loop-item.lexer.yielded_count in
+    let next = next_lexeme c.loop-item.lexer.code_map text n c.in-Ok.lexeme (rw (c.in-Ok.is, inv.text) at (c.in-Some.ensures.item inv.going)) in
+    record {
+      all_lexemes = n + 1;
+      all_bytes = length (values (take (n + 1) (lexemes_of text)));
+      first = inl (next.few, refl);
+      more_lexemes = omega (arith, inv.later);
+      more_bytes = omega (arith, inv.more, more_values text n (lexeme_view c.in-Ok.lexeme) next);
+      needs = wanted_more text n (lexeme_view c.in-Ok.lexeme) c.loop-item.passed.wanted c.pass_lexeme-passed.result.wanted next inv.wanted c.pass_lexeme-passed.ensures;
+    }
+
+pub loop-item-smaller : goal.loop-item-smaller
+loop-item-smaller c =
+    let inv = c.loop-item.invariant in
+    let n = c.loop-item.lexer.yielded_count in
+    let next = next_lexeme c.loop-item.lexer.code_map c.args.lexer.now.text n c.in-Ok.lexeme (rw (c.in-Ok.is, inv.text) at (c.in-Some.ensures.item inv.going)) in
+    let handed : c.next.new.self.yielded_count ≡ n + 1 = ap (λ (l : LexerView). l.yielded_count) (rw c.in-Ok.is at c.in-Some.ensures.after) in
+    omega (arith, handed, next.some)
+
+pub loop-item-preserved : goal.loop-item-preserved
+loop-item-preserved c =
+    let inv = c.loop-item.invariant in
+    let text = c.args.lexer.now.text in
+    let n = c.loop-item.lexer.yielded_count in
+    let next = next_lexeme c.loop-item.lexer.code_map text n c.in-Ok.lexeme (rw (c.in-Ok.is, inv.text) at (c.in-Some.ensures.item inv.going)) in
+    let after = rw c.in-Ok.is at c.in-Some.ensures.after in
+    let handed : c.next.new.self.yielded_count ≡ n + 1 = ap (λ (l : LexerView). l.yielded_count) after in
+    let ended : c.next.new.self.has_ended ≡ false = ap (λ (l : LexerView). l.has_ended) after ∙ rw inv.going refl in
+    rw handed (record {
+      going = ended;
+      text = ap (λ (l : LexerView). l.text) after ∙ inv.text;
+      few = next.few;
+      later = omega (arith, inv.later);
+      more = omega (arith, inv.more, more_values text n (lexeme_view c.in-Ok.lexeme) next);
+      wanted = wanted_more text n (lexeme_view c.in-Ok.lexeme) c.loop-item.passed.wanted c.pass_lexeme-passed.result.wanted next inv.wanted c.pass_lexeme-passed.ensures;
+    })
+
+pub returns-in-Err-Error : goal.returns-in-Err-Error
+returns-in-Err-Error c =
+    let inv = c.loop-item.invariant in
+    let text = c.args.lexer.now.text in
+    let n = c.loop-item.lexer.yielded_count in
+    let last = next_fault c.loop-item.lexer.code_map text n c.in-Err-Error.exception (rw (c.in-Err-Error.is, c.in-Err-Error.field-0-is, inv.text) at (c.in-Some.ensures.item inv.going)) in
+    record {
+      all_lexemes = length (lexemes_of text);
+      all_bytes = length (all_values text);
+      first = inr (refl, refl);
+      more_lexemes = omega (arith, inv.later, last.all);
+      more_bytes = omega (arith, inv.more, all_bytes text n last.fault last.all last.is);
+      needs = wanted_fault text n c.named_len.result last.fault c.loop-item.passed.wanted c.with.result last.all last.is inv.wanted (c.named_len.ensures c.loop-item.lexer.code_map last.fault last.thrown) c.with.ensures;
+    }

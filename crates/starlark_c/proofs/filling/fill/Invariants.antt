@@ -1,0 +1,21 @@
+use Rattle.std.proofs.Common.{◌≡◌, ◌-◌, ◌≤◌, false, length, take}
+use Rattle.starlark_c.specs.Endings.{Hold, lexemes_of}
+use Rattle.starlark_c.specs.Inner.Filling.{IsStop}
+use Rattle.starlark_c.specs.Records.{records, values}
+use Rattle.starlark_c.proofs.Filled.{filled_by}
+use Rattle.starlark_c.proofs.filling.fill.Given as goal
+use Rattle.starlark_token.specs.TextItems.{items}
+
+-- the lexemes that the lexer has yielded fill the buffers
+abbrev pub invariant-loop-item : goal.invariant-loop-item
+invariant-loop-item l = record {
+  going : l.lexer.has_ended ≡ false;
+  text : l.lexer.text ≡ l.text;
+  few : l.lexer.yielded_count ≤ length (lexemes_of l.text);
+  hold : Hold (records (take l.lexer.yielded_count (lexemes_of l.text))) (values (take l.lexer.yielded_count (lexemes_of l.text))) (record { lexemes = l.fn.lexemes; values = l.fn.values }) (record { lexemes = l.lexemes; values = l.values });
+  filled : l.progress.filled ≡ filled_by (take l.lexer.yielded_count (lexemes_of l.text));
+  stop : IsStop l.text l.lexer.yielded_count l.progress.stop;
+}
+
+abbrev pub decreases-loop-item : goal.decreases-loop-item
+decreases-loop-item l = length (items l.text) - l.lexer.yielded_count

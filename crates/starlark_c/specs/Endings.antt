@@ -1,0 +1,112 @@
+-- How lexing a text into the caller's buffers ends, and what the buffers hold then.
+use Rattle.std.specs.Prelude.{◌≡◌, ◌<◌, ◌≤◌, ◌^◌, ◌-◌, ◌⊎◌, ℕ, true, min, List, [], ◌++◌, map, length, take, drop, Option, Some, None}
+use Rattle.std.specs.Str.{IsUtf8, IsValidUpTo}
+use Rattle.starlark_c.specs.Records.{fault_bytes, fault_record, records, values}
+use Rattle.starlark_c.specs.declared.endings.Ending.{Ending}
+use Rattle.starlark_c.specs.declared.endings.Ending.TheVariants as ending
+use Rattle.starlark_c.specs.declared.endings.Filled.{Filled}
+use Rattle.starlark_c.specs.declared.records.FaultRecord.{FaultRecord}
+use Rattle.starlark_c.specs.declared.records.LexemeRecord.{LexemeRecord}
+use Rattle.starlark_grammar.specs.Cuts.{is_clean_cut, without_closing}
+use Rattle.starlark_grammar.specs.Reading.{outcome}
+use Rattle.starlark_grammar.specs.TextLaws.{Join}
+use Rattle.starlark_grammar.specs.Tokens as grammar
+use Rattle.starlark_grammar.specs.Words.{Text}
+use Rattle.starlark_token.specs.Lexemes.{shown_lexeme}
+use Rattle.starlark_token.specs.TokenViews.{TokenView}
+
+-- the caller's buffers: records of lexemes, and the bytes of values
+pub record Buffers : Type 0 where
+  pub lexemes : List LexemeRecord
+  pub values : Text
+
+-- the buffers begin with these records and values, and are as they were after them
+pub record Hold (list : List LexemeRecord) (bytes : Text) (before after : Buffers) : Type 0 where
+  pub lexemes_fit : length list ≤ length before.lexemes
+  pub values_fit : length bytes ≤ length before.values
+  pub lexemes : after.lexemes ≡ list ++ drop (length list) before.lexemes
+  pub values : after.values ≡ bytes ++ drop (length bytes) before.values
+
+-- the lexemes of a text, or those before its fault
+abbrev pub lexemes_of : Text → List (grammar.Spanned TokenView)
+lexemes_of text = map shown_lexeme (outcome text).lexemes
+
+-- the text that a fault names, if there is a fault
+abbrev pub named : Option (grammar.Spanned grammar.Fault) → Text
+named None = []
+named (Some fault) = fault_bytes fault.node
+
+-- the values of a text's lexemes, and then the text that its fault names
+abbrev pub all_values : Text → Text
+all_values text = values (lexemes_of text) ++ named (outcome text).fault
+
+-- the text is UTF-8, and 32 bits can count its bytes
+pub record IsText (text : Text) : Type 0 where
+  pub utf8 : IsUtf8 text
+  pub fits : length text < 2 ^ 32
+
+-- the text has no fault, and the buffers have all its lexemes
+pub record IsWhole (text : Text) (before after : Buffers) (filled : Filled) : Type 0 where
+  pub faultless : (outcome text).fault ≡ None
+  pub hold : Hold (records (lexemes_of text)) (values (lexemes_of text)) before after
+  pub counts : filled ≡ record { lexemes = length (lexemes_of text); values = length (values (lexemes_of text)) }
+
+-- the text has the fault, and the buffers have all lexemes before it and the text that it names
+pub record IsFaulty (text : Text) (before after : Buffers) (filled : Filled) (told : FaultRecord) : Type 0 where
+  pub fault : grammar.Spanned grammar.Fault
+  pub is : (outcome text).fault ≡ Some fault
+  pub hold : Hold (records (lexemes_of text)) (all_values text) before after
+  pub tells : told ≡ fault_record (length (values (lexemes_of text))) fault
+  pub counts : filled ≡ record { lexemes = length (lexemes_of text); values = length (all_values text) }
+
+-- the text can be cut after `at` bytes: it is a clean cut up to there, its first `count` lexemes are those of that part
+-- without the closing `Newline`, and all its lexemes are the joined list of both parts
+pub record IsPiece (text : Text) (at count : ℕ) : Type 0 where
+  pub some : 0 < at
+  pub inside : at ≤ length text
+  pub clean : is_clean_cut (take at text) ≡ true
+  pub lexemes : take count (lexemes_of text) ≡ map shown_lexeme (without_closing (outcome (take at text)).lexemes)
+  pub joins : Join (take at text) (drop at text)
+
+-- the buffers begin with the lexemes of the text up to a cut after `next` bytes
+pub record IsCut (text : Text) (after : Buffers) (filled : Filled) (next : ℕ) : Type 0 where
+  pub count : ℕ
+  pub piece : IsPiece text next count
+  pub all_lexemes : take count after.lexemes ≡ records (take count (lexemes_of text))
+  pub all_values : take (length (values (take count (lexemes_of text)))) after.values ≡ values (take count (lexemes_of text))
+  pub counts : filled ≡ record { lexemes = count; values = length (values (take count (lexemes_of text))) }
+
+-- so many lexemes and bytes of values are the first of the text, or all with the text that its fault names
+abbrev pub AreFirst : Text → (lexemes bytes : ℕ) → Type 0
+AreFirst text lexemes bytes =
+    ((lexemes ≤ length (lexemes_of text)) × (bytes ≡ length (values (take lexemes (lexemes_of text)))))
+    ⊎ ((lexemes ≡ length (lexemes_of text)) × (bytes ≡ length (all_values text)))
+
+-- the greatest number of 64 bits where it would be greater
+abbrev pub capped : ℕ → ℕ
+capped n = min n (2 ^ 64 - 1)
+
+-- the buffers have no room for the first lexemes of the text, which need this much
+pub record IsFull (text : Text) (before : Buffers) (wanted : Filled) : Type 0 where
+  pub lexemes : ℕ
+  pub bytes : ℕ
+  pub first : AreFirst text lexemes bytes
+  pub lacks : (length before.lexemes < lexemes) ⊎ (length before.values < bytes)
+  pub needs : wanted ≡ record { lexemes = capped lexemes; values = capped bytes }
+
+-- the buffers have the first lexemes of the text, or all
+pub record IsBegun (text : Text) (before after : Buffers) (filled : Filled) : Type 0 where
+  pub count : ℕ
+  pub few : count ≤ length (lexemes_of text)
+  pub hold : Hold (records (take count (lexemes_of text))) (values (take count (lexemes_of text))) before after
+  pub counts : filled ≡ record { lexemes = count; values = length (values (take count (lexemes_of text))) }
+
+-- how lexing some bytes into buffers ends
+abbrev pub Ends : Text → Buffers → Buffers → Ending → Type 0
+Ends text before after (ending.Whole filled) = IsText text × IsWhole text before after filled
+Ends text before after (ending.Fault filled fault) = IsText text × IsFaulty text before after filled fault
+Ends text before after (ending.Piece filled next) = IsText text × IsCut text after filled next
+Ends text before after (ending.Full wanted) = IsText text × IsFull text before wanted
+Ends text before after (ending.Memory filled) = IsText text × IsBegun text before after filled
+Ends text before after (ending.NotUtf8 valid) = (length text < 2 ^ 32) × (¬ IsUtf8 text) × IsValidUpTo text valid × (after ≡ before)
+Ends text before after ending.TooLong = (2 ^ 32 ≤ length text) × (after ≡ before)

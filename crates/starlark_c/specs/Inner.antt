@@ -1,0 +1,2 @@
+-- Definitions that only inner functions and proofs cite.
+pub mod Filling

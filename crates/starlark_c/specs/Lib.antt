@@ -1,0 +1,7 @@
+pub mod Kinds
+pub mod Records
+pub mod Endings
+pub mod Outcomes
+pub mod Written
+pub mod Places
+pub mod Inner

@@ -1,0 +1,85 @@
+//! The lexer for callers in C: each call fills buffers of its caller with plain records.
+//!
+//! No call keeps anything between two calls, and none requires more of its arguments than their
+//! types say. A slice is a pointer and a length in C. `bindings/c/starlark_lex.h` declares all calls.
+#![tactic(auto)]
+
+ghost use Rattle.std.specs.Prelude.{◌≡◌, length};
+ghost use Rattle.starlark_c.specs.Endings.{Ends};
+ghost use Rattle.starlark_c.specs.Outcomes.{outcome_record};
+ghost use Rattle.starlark_c.specs.Places.{TellsPlace};
+ghost use Rattle.starlark_c.specs.Written.{IsWritten};
+ghost use Rattle.starlark_c.specs.declared.endings.Ending.{Ending};
+ghost use Rattle.starlark_grammar.specs.Words.{Text};
+
+mod endings;
+mod filling;
+mod kinds;
+mod lexing;
+mod outcomes;
+mod pieces;
+mod places;
+mod progress;
+mod records;
+mod texts;
+
+use crate::kinds::name_of_kind;
+use crate::lexing::lex_into;
+use crate::outcomes::{LexOutcome, outcome_of};
+use crate::places::{PlaceRecord, tell_place};
+use crate::records::LexemeRecord;
+use crate::texts::{write_message, write_text};
+use std::alloc::Global;
+
+/// Lexes a text into two buffers: a record for each lexeme, and the values, one after another.
+///
+/// The outcome says how that ended, and how much of the buffers is filled; its status is returned
+/// too. Where the buffers have no room for the text, they have the lexemes up to a clean cut, and
+/// the outcome says where to go on. If not even these have room, it says how much they need. After
+/// what is filled the buffers are as they were, except with the status `FULL`.
+#[unsafe(no_mangle)]
+pub extern "C" fn starlark_lex(
+    alloc: Global,
+    text: &[u8],
+    lexemes: &mut [LexemeRecord],
+    values: &mut [u8],
+    outcome: &mut LexOutcome,
+) -> u32
+    ensures lexed { (ending : Ending) × (outcome.new ≡ outcome_record (length text.now) ending) × Ends text.now (record { lexemes = lexemes.old; values = values.old }) (record { lexemes = lexemes.new; values = values.new }) ending }
+    ensures status { result ≡ outcome.new.status }
+{
+    *outcome = outcome_of(text.len(), lex_into(alloc, text, lexemes, values));
+    outcome.status
+}
+
+/// Writes the name of the kind with a number into a buffer, if it has room for it.
+///
+/// Returns the length of the name, which is 0 where no kind has the number.
+#[unsafe(no_mangle)]
+pub extern "C" fn starlark_kind_name(kind: u32, name: &mut [u8]) -> usize
+    ensures { (text : Text) × IsWritten text name.old name.new result }
+{
+    write_text(name_of_kind(kind), name)
+}
+
+/// Writes the message of a fault into a buffer, if it has room for it.
+///
+/// The fault is given by the number of its kind and the text that it names. Returns the length of
+/// the message, which is 0 where no fault has the number.
+#[unsafe(no_mangle)]
+pub extern "C" fn starlark_fault_message(kind: u32, named: &[u8], message: &mut [u8]) -> usize
+    ensures { (text : Text) × IsWritten text message.old message.new result }
+{
+    write_message(kind, named, message)
+}
+
+/// Tells the line and columns of an offset in a text, and returns whether it could.
+///
+/// It couldn't, and the record is as it was, where the offset is past the end of the text, or the
+/// text up to it isn't UTF-8, as inside a character. It reads the text up to the offset.
+#[unsafe(no_mangle)]
+pub extern "C" fn starlark_place(text: &[u8], at: usize, place: &mut PlaceRecord) -> bool
+    ensures { TellsPlace text.now at place.old place.new result }
+{
+    tell_place(text, at, place)
+}

@@ -1,0 +1,83 @@
+#!/usr/bin/env python3
+"""Compares the numbers that cross to C and Python: in the definitions, the header and the package.
+
+    scripts/binding_numbers.py
+
+The numbers of kinds and faults are those of crates/starlark_c/specs, the numbers of statuses those
+of its src. A number never changes. The exit status is 0 where all agree, and 1 where some don't.
+"""
+
+import re
+import sys
+from pathlib import Path
+
+TOP = Path(__file__).resolve().parent.parent
+CRATE = TOP / "crates/starlark_c"
+HEADER = TOP / "bindings/c/starlark_lex.h"
+PACKAGE = TOP / "bindings/python/starlark_lexer"
+
+
+def plain(name):
+    """A name without its form: in lower case, without underscores."""
+    return name.replace("_", "").lower()
+
+
+def found(file, pattern):
+    """The names and numbers that a pattern finds in a file, in order."""
+    return [(plain(name), int(number)) for name, number in re.findall(pattern, file.read_text())]
+
+
+def members(file, name):
+    """The names and numbers of an enumeration of the package."""
+    body = re.search(rf"class {name}\(IntEnum\):(.*?)(?:\nclass |\Z)", file.read_text(), re.S)
+    return [(plain(member), int(number)) for member, number in re.findall(r"^    (\w+) = (\d+)$", body[1], re.M)]
+
+
+def enumerators(prefix):
+    """The names and numbers of the header that begin with a prefix."""
+    return found(HEADER, rf"STARLARK_{prefix}(\w+) = (\d+)")
+
+
+def statuses():
+    """The statuses of the header."""
+    body = re.search(r"enum starlark_status \{(.*?)\};", HEADER.read_text(), re.S)
+    return [(plain(name), int(number)) for name, number in re.findall(r"STARLARK_(\w+) = (\d+)", body[1])]
+
+
+def defined_quotes():
+    """The numbers of quotes in the definitions."""
+    pattern = r"quotes_number (Single|Double) (true|false) = (\d+)"
+    found_quotes = re.findall(pattern, (CRATE / "specs/Records.antt").read_text())
+    return [(plain(("Triple" if is_triple == "true" else "") + quote), int(number)) for quote, is_triple, number in found_quotes]
+
+
+def compared():
+    """What is compared: a name, the numbers that are right, and those of each other place."""
+    kinds = CRATE / "specs/Kinds.antt"
+    records = CRATE / "specs/Records.antt"
+    kind = r"(?:token_number \(?grammar|terminal_number terminal)\.(\w+)(?: \w+\))? = (\d+)"
+    yield "kinds", sorted(found(kinds, kind), key=lambda pair: pair[1]), enumerators("KIND_"), members(PACKAGE / "kinds.py", "Kind")
+    fault = r"fault_number \(?grammar\.(\w+)(?: \w+\))? = (\d+)"
+    yield "faults", found(records, fault), enumerators("FAULT_"), members(PACKAGE / "kinds.py", "FaultKind")
+    yield "quotes", defined_quotes(), enumerators("QUOTES_"), members(PACKAGE / "kinds.py", "Quotes")
+    status = r"pub const (\w+): u32 = (\d+);"
+    yield "statuses", found(CRATE / "src/outcomes.rt", status), statuses(), members(PACKAGE / "library.py", "Status")
+
+
+def main():
+    """Compares all numbers."""
+    wrong = 0
+    for name, right, header, package in compared():
+        if not right or [number for _, number in right] != sorted({number for _, number in right}):
+            print(f"{name}: the definitions have no numbers, or one twice")
+            wrong += 1
+        for place, numbers in [("the header", header), ("the package", package)]:
+            if numbers != right:
+                print(f"{name} of {place} differ: {sorted(set(numbers) ^ set(right))}")
+                wrong += 1
+        print(f"{len(right)} {name}")
+    return 1 if wrong else 0
+
+
+if __name__ == "__main__":
+    sys.exit(main())

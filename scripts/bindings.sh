@@ -1,0 +1,124 @@
+#!/bin/sh
+# Makes the lexer's library for C and Python, and tests it from both.
+#
+#     scripts/bindings.sh [c | python]
+#
+# It proves and builds the archive of crates/starlark_c where that is missing or older than a
+# source, which takes seconds where `rt ci` has passed on this machine. Then out/bindings has
+#
+#     libstarlark_lex.a, starlark_lex.h       for C: the archive, with the kit's allocator in it
+#     python/                                 for Python: the package, with the shared object in it
+#
+# and the tests of the parts that are named, or of both, were run. Where there is no C compiler, or
+# no python3, it says that this part was left out.
+set -eu
+
+top=$(CDPATH= cd -- "$(dirname -- "$0")/.." && pwd)
+crate="$top/crates/starlark_c"
+archive="$crate/out/libstarlark_c.a"
+made="$top/out/bindings"
+texts="$top/crates/starlark_texts"
+
+fail() {
+    echo "bindings.sh: $1" >&2
+    exit 1
+}
+
+# Whether the archive is newer than each source of its crate and of those below it.
+is_current() {
+    [ -e "$archive" ] || return 1
+    newer=$(find "$top/crates" "$top/crates.txt" "$top/HANDLES" \
+        -name out -prune -o -type f -newer "$archive" -print)
+    [ -z "$newer" ]
+}
+
+# Proves and builds the archive.
+build_archive() {
+    echo 'proving and building the archive of starlark_c' >&2
+    mkdir -p "$made"
+    (cd "$crate" && rt lib </dev/null >"$made/rt.log" 2>&1) || {
+        cat "$made/rt.log" >&2
+        fail 'the archive of starlark_c is not proved'
+    }
+}
+
+# Makes the archive and the shared object with the kit's tools. Nothing but the calls of the header
+# is visible in the shared object.
+link_libraries() {
+    kit=$(dirname "$(rt doc)")
+    mkdir -p "$made"
+    rm -f "$made/libstarlark_lex.a"
+    "$kit/toolchain/bin/llvm-ar" -M <<END
+create $made/libstarlark_lex.a
+addlib $archive
+addlib $kit/c/liblibc_c.a
+save
+end
+END
+    echo '{ global: starlark_*; local: *; };' >"$made/exports"
+    "$kit/toolchain/bin/ld.lld" -shared --gc-sections -z noexecstack -z relro -z now \
+        -soname libstarlark_lex.so --version-script "$made/exports" \
+        --whole-archive "$made/libstarlark_lex.a" -o "$made/libstarlark_lex.so"
+    cp "$top/bindings/c/starlark_lex.h" "$made"
+}
+
+# Prints the C compiler that is there.
+compiler() {
+    for name in ${CC:-} cc gcc clang; do
+        if command -v "$name" >/dev/null; then
+            echo "$name"
+            return 0
+        fi
+    done
+    return 1
+}
+
+# Compiles a test in C, with further flags; with sanitizers where the compiler has them.
+compile() {
+    flags="-std=c11 -O1 -g -Wall -Wextra -Werror $2"
+    inputs="$top/bindings/c/$1.c $made/libstarlark_lex.a"
+    # shellcheck disable=SC2086
+    "$cc" $flags -fsanitize=address,undefined -fno-sanitize-recover -I "$made" $inputs \
+        -o "$made/$1" 2>/dev/null ||
+        "$cc" $flags -I "$made" $inputs -o "$made/$1"
+}
+
+test_c() {
+    cc=$(compiler) || {
+        echo 'C was left out: there is no C compiler'
+        return 0
+    }
+    compile stored_texts ''
+    compile refused_memory '-Wl,--wrap=malloc,--wrap=realloc'
+    compile print_tokens ''
+    printf 'C: '
+    "$made/stored_texts" "$texts/stdin" "$texts/stdout"
+    printf 'C: '
+    "$made/refused_memory"
+}
+
+test_python() {
+    command -v python3 >/dev/null || {
+        echo 'Python was left out: there is no python3'
+        return 0
+    }
+    rm -rf "$made/python"
+    cp -R "$top/bindings/python" "$made/python"
+    cp "$made/libstarlark_lex.so" "$made/python/starlark_lexer"
+    python3 "$top/scripts/binding_numbers.py"
+    (cd "$top" && PYTHONPATH="$made/python" PYTHONDONTWRITEBYTECODE=1 \
+        python3 -W error -m unittest discover -s bindings/python/tests)
+}
+
+case ${1:-both} in
+c | python | both) ;;
+*)
+    echo 'usage: scripts/bindings.sh [c | python]' >&2
+    exit 2
+    ;;
+esac
+command -v rt >/dev/null || fail "the Rattle kit's rt is not on the path"
+is_current || build_archive
+link_libraries
+case ${1:-both} in c | both) test_c ;; esac
+case ${1:-both} in python | both) test_python ;; esac
