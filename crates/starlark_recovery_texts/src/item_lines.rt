@@ -29,15 +29,20 @@ fn add_value(lines: &mut String, token: &Token) -> Result<(), AllocError> {
     }
 }
 
-/// The span from one offset to another, if they are in order and fit in 32 bits, and the file holds
-/// it.
-fn held_span(file: &CodeMap, begin: usize, end: usize) -> Option<Span> {
-    let (begin, end) = (u32::try_from(begin).ok()?, u32::try_from(end).ok()?);
-    if begin > end {
+/// The span between two offsets; `None` if they are out of order or don't fit in 32 bits.
+fn span_of(begin: usize, end: usize) -> Option<Span> {
+    if begin > end || end > u32::MAX as usize {
         return None;
     }
-    let span = Span::new(Pos::new(begin), Pos::new(end));
-    file.holds(span).then_some(span)
+    Some(Span::new(Pos::new(begin as u32), Pos::new(end as u32)))
+}
+
+/// Appends the lines and columns of a span, or a word where its file doesn't hold it.
+fn add_place(lines: &mut String, file: &CodeMap, span: Span) -> Result<(), AllocError> {
+    if !file.holds(span) {
+        return lines.push_str("outside");
+    }
+    write!(lines, "{}", file.resolve_span(span))
 }
 
 /// Appends the line of a lexeme of a file.
@@ -48,10 +53,9 @@ pub fn add_lexeme(
     token: &Token,
     end: usize,
 ) -> Result<(), AllocError> {
-    write!(lines, "{begin}-{end}")?;
-    match held_span(file, begin, end) {
-        Some(span) => write!(lines, " {}", file.resolve_span(span))?,
-        None => lines.push_str(" outside of the file")?,
+    write!(lines, "{begin}-{end} ")?;
+    if let Some(span) = span_of(begin, end) {
+        add_place(lines, file, span)?;
     }
     write!(lines, " {}", token.kind())?;
     add_value(lines, token)?;
