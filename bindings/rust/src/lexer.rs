@@ -109,6 +109,7 @@ impl<'a> Lexer<'a> {
     }
 
     /// The next lexeme in the buffers.
+    #[inline]
     fn next_in_buffers(&mut self) -> Option<Lexeme<'a>> {
         let record = self.buffers.lexeme(self.index)?;
         let span = self.span(record.begin, record.end);
@@ -117,9 +118,27 @@ impl<'a> Lexer<'a> {
         Some(Lexeme { span, token })
     }
 
+    /// The next item where the buffers have no further lexeme.
+    #[cold]
+    fn next_after_buffers(&mut self) -> Option<Result<Lexeme<'a>, Fault>> {
+        loop {
+            match mem::replace(&mut self.after, After::End) {
+                After::Rest(from) => self.lex(from),
+                After::Fault(fault) => return Some(Err(fault)),
+                After::End => return None,
+            }
+            if let Some(lexeme) = self.next_in_buffers() {
+                return Some(Ok(lexeme));
+            }
+        }
+    }
+
     /// Fills the buffers with the lexemes of the text from an offset on, or of a piece of it.
     fn lex(&mut self, from: usize) {
         let rest = &self.text[from..];
+        if from > 0 {
+            self.grow(0, 0);
+        }
         self.index = 0;
         self.from = from;
         self.after = loop {
@@ -165,21 +184,11 @@ fn twice(capacity: usize, most: usize) -> usize {
 impl<'a> Iterator for Lexer<'a> {
     type Item = Result<Lexeme<'a>, Fault>;
 
+    #[inline]
     fn next(&mut self) -> Option<Self::Item> {
-        loop {
-            if let Some(lexeme) = self.next_in_buffers() {
-                return Some(Ok(lexeme));
-            }
-            match mem::replace(&mut self.after, After::End) {
-                After::Rest(from) => {
-                    if from > 0 {
-                        self.grow(0, 0);
-                    }
-                    self.lex(from);
-                }
-                After::Fault(fault) => return Some(Err(fault)),
-                After::End => return None,
-            }
+        match self.next_in_buffers() {
+            Some(lexeme) => Some(Ok(lexeme)),
+            None => self.next_after_buffers(),
         }
     }
 }

@@ -245,26 +245,27 @@ tokens! {
 
 impl<'a> Token<'a> {
     /// The token of a record in the buffers, whose bytes in the text are the span's.
+    #[inline]
     pub(crate) fn of_record(
         text: &'a str,
         span: Span,
         record: &LexemeRecord,
         buffers: &Buffers,
     ) -> Self {
-        let value = Value {
+        let value = || Value {
             text,
             end: span.end,
             bytes: buffers.value(record),
         };
         match record.kind {
-            1 => Token::Comment(value.text_before(&[0])),
-            5 => Token::Identifier(value.text_before(&[0])),
-            6 => Token::Int(value.integer(record)),
-            7 => Token::Float(value.text_before(&[0])),
-            8 => Token::String(value.text_before(&[1, 3])),
-            9 => Token::Bytes(value.bytes_before(&[1, 3])),
+            1 => Token::Comment(value().text_before(&[0])),
+            5 => Token::Identifier(value().text_before(&[0])),
+            6 => Token::Int(value().integer(record)),
+            7 => Token::Float(value().text_before(&[0])),
+            8 => Token::String(value().text_before(&[1, 3])),
+            9 => Token::Bytes(value().bytes_before(&[1, 3])),
             10 => Token::FStringStart(quotes(record.detail)),
-            11 => Token::FStringText(value.text_before(&[0])),
+            11 => Token::FStringText(value().text_before(&[0])),
             number => Token::of_number(number)
                 .unwrap_or_else(|| unreachable!("the library has no kind {number}")),
         }
