@@ -1,5 +1,6 @@
 #!/usr/bin/env python3
-"""Compares the numbers that cross to C and Python: in the definitions, the header and the package.
+"""Compares the numbers that cross to C, Rust and Python: in the definitions, the header, the crate
+and the package.
 
     scripts/binding_numbers.py
 
@@ -15,6 +16,7 @@ TOP = Path(__file__).resolve().parent.parent
 CRATE = TOP / "crates/starlark_c"
 HEADER = TOP / "bindings/c/starlark_lex.h"
 PACKAGE = TOP / "bindings/python/starlark_lexer"
+RUST = TOP / "bindings/rust/src"
 
 
 def plain(name):
@@ -31,6 +33,15 @@ def members(file, name):
     """The names and numbers of an enumeration of the package."""
     body = re.search(rf"class {name}\(IntEnum\):(.*?)(?:\nclass |\Z)", file.read_text(), re.S)
     return [(plain(member), int(number)) for member, number in re.findall(r"^    (\w+) = (\d+)$", body[1], re.M)]
+
+
+def arms(file, name):
+    """The names and numbers of an enumeration of the crate, in order of the numbers."""
+    text = file.read_text()
+    pairs = [(plain(variant), int(number)) for number, variant in re.findall(rf"^ +(\d+) => {name}::(\w+)", text, re.M)]
+    if name == "Token":
+        pairs += found(file, r"(?m)^    (\w+) = (\d+),$")
+    return sorted(pairs, key=lambda pair: pair[1])
 
 
 def enumerators(prefix):
@@ -52,26 +63,28 @@ def defined_quotes():
 
 
 def compared():
-    """What is compared: a name, the numbers that are right, and those of each other place."""
+    """What is compared: a name, the numbers that are right, and those of the header, the package and the crate."""
     kinds = CRATE / "specs/Kinds.antt"
     records = CRATE / "specs/Records.antt"
     kind = r"(?:token_number \(?grammar|terminal_number terminal)\.(\w+)(?: \w+\))? = (\d+)"
-    yield "kinds", sorted(found(kinds, kind), key=lambda pair: pair[1]), enumerators("KIND_"), members(PACKAGE / "kinds.py", "Kind")
+    right = sorted(found(kinds, kind), key=lambda pair: pair[1])
+    yield "kinds", right, enumerators("KIND_"), members(PACKAGE / "kinds.py", "Kind"), arms(RUST / "token.rs", "Token")
     fault = r"fault_number \(?grammar\.(\w+)(?: \w+\))? = (\d+)"
-    yield "faults", found(records, fault), enumerators("FAULT_"), members(PACKAGE / "kinds.py", "FaultKind")
-    yield "quotes", defined_quotes(), enumerators("QUOTES_"), members(PACKAGE / "kinds.py", "Quotes")
+    right = found(records, fault)
+    yield "faults", right, enumerators("FAULT_"), members(PACKAGE / "kinds.py", "FaultKind"), arms(RUST / "fault.rs", "FaultKind")
+    yield "quotes", defined_quotes(), enumerators("QUOTES_"), members(PACKAGE / "kinds.py", "Quotes"), arms(RUST / "token.rs", "FStringQuote")
     status = r"pub const (\w+): u32 = (\d+);"
-    yield "statuses", found(CRATE / "src/outcomes.rt", status), statuses(), members(PACKAGE / "library.py", "Status")
+    yield "statuses", found(CRATE / "src/outcomes.rt", status), statuses(), members(PACKAGE / "library.py", "Status"), found(RUST / "ffi.rs", r"const (\w+): u32 = (\d+);")
 
 
 def main():
     """Compares all numbers."""
     wrong = 0
-    for name, right, header, package in compared():
+    for name, right, header, package, crate in compared():
         if not right or [number for _, number in right] != sorted({number for _, number in right}):
             print(f"{name}: the definitions have no numbers, or one twice")
             wrong += 1
-        for place, numbers in [("the header", header), ("the package", package)]:
+        for place, numbers in [("the header", header), ("the package", package), ("the crate", crate)]:
             if numbers != right:
                 print(f"{name} of {place} differ: {sorted(set(numbers) ^ set(right))}")
                 wrong += 1

@@ -1,7 +1,7 @@
 #!/bin/sh
-# Makes the lexer's library for C and Python, and tests it from both.
+# Makes the lexer's library for C, Rust and Python, and tests it from each.
 #
-#     scripts/bindings.sh [c | python]
+#     scripts/bindings.sh [c | rust | python | library]
 #
 # It proves and builds the archive of crates/starlark_c where that is missing or older than a
 # source, which takes seconds where `rt ci` has passed on this machine. Then out/bindings has
@@ -9,7 +9,8 @@
 #     libstarlark_lex.a, starlark_lex.h       for C: the archive, with the kit's allocator in it
 #     python/                                 for Python: the package, with the shared object in it
 #
-# and the tests of the parts that are named, or of both, were run. Where there is no C compiler, or
+# and the tests of the part that is named, or of all, were run; of `library` none. The crate for Rust
+# is built where it is, in bindings/rust, with the archive. Where there is no C compiler, no cargo, or
 # no python3, it says that this part was left out.
 set -eu
 
@@ -62,6 +63,13 @@ END
     cp "$top/bindings/c/starlark_lex.h" "$made"
 }
 
+# Compares the numbers that cross to the header, the crate and the package, where there is a python3.
+compare_numbers() {
+    if command -v python3 >/dev/null; then
+        python3 "$top/scripts/binding_numbers.py"
+    fi
+}
+
 # Prints the C compiler that is there.
 compiler() {
     for name in ${CC:-} cc gcc clang; do
@@ -97,6 +105,20 @@ test_c() {
     "$made/refused_memory"
 }
 
+test_rust() {
+    cargo --version >/dev/null 2>&1 || {
+        echo 'Rust was left out: there is no cargo'
+        return 0
+    }
+    command -v cc >/dev/null || {
+        echo 'Rust was left out: there is no cc, with which rustc links'
+        return 0
+    }
+    (cd "$top/bindings/rust" && STARLARK_LEX_DIR="$made" CARGO_TARGET_DIR="$made/cargo" \
+        cargo test --offline --quiet)
+    echo 'Rust: the tests of the crate passed'
+}
+
 test_python() {
     command -v python3 >/dev/null || {
         echo 'Python was left out: there is no python3'
@@ -105,20 +127,22 @@ test_python() {
     rm -rf "$made/python"
     cp -R "$top/bindings/python" "$made/python"
     cp "$made/libstarlark_lex.so" "$made/python/starlark_lexer"
-    python3 "$top/scripts/binding_numbers.py"
     (cd "$top" && PYTHONPATH="$made/python" PYTHONDONTWRITEBYTECODE=1 \
         python3 -W error -m unittest discover -s bindings/python/tests)
 }
 
-case ${1:-both} in
-c | python | both) ;;
+part=${1:-all}
+case $part in
+c | rust | python | library | all) ;;
 *)
-    echo 'usage: scripts/bindings.sh [c | python]' >&2
+    echo 'usage: scripts/bindings.sh [c | rust | python | library]' >&2
     exit 2
     ;;
 esac
 command -v rt >/dev/null || fail "the Rattle kit's rt is not on the path"
 is_current || build_archive
 link_libraries
-case ${1:-both} in c | both) test_c ;; esac
-case ${1:-both} in python | both) test_python ;; esac
+case $part in c | all) test_c ;; esac
+case $part in rust | all) test_rust ;; esac
+case $part in python | all) test_python ;; esac
+case $part in rust | python | all) compare_numbers ;; esac

@@ -1,0 +1,37 @@
+//! Prints the tokens of standard input, each with its place, and the fault.
+
+use starlark_lexer::{Lexer, LineIndex, Span};
+use std::error::Error;
+use std::io::{self, Write};
+use std::process::ExitCode;
+
+/// The line and column where a span begins, from 1, in characters.
+fn place(lines: &LineIndex<'_>, span: Span) -> String {
+    let place = lines.place(span.begin);
+    place.map_or_else(String::new, |place| {
+        format!("{}:{}", place.line + 1, place.column + 1)
+    })
+}
+
+/// Prints the tokens of a text, and returns whether it has no fault.
+fn print_tokens(text: &str, out: &mut impl Write) -> Result<bool, Box<dyn Error>> {
+    let lines = LineIndex::new(text);
+    for lexeme in Lexer::new(text)? {
+        match lexeme {
+            Ok(lexeme) => writeln!(out, "{} {:?}", place(&lines, lexeme.span), lexeme.token)?,
+            Err(fault) => {
+                writeln!(out, "{} {fault}", place(&lines, fault.span()))?;
+                return Ok(false);
+            }
+        }
+    }
+    Ok(true)
+}
+
+fn main() -> Result<ExitCode, Box<dyn Error>> {
+    let text = io::read_to_string(io::stdin())?;
+    let mut out = io::BufWriter::new(io::stdout().lock());
+    let is_clean = print_tokens(&text, &mut out)?;
+    out.flush()?;
+    Ok(ExitCode::from(u8::from(!is_clean)))
+}

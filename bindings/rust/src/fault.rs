@@ -1,0 +1,91 @@
+//! Why a text isn't Starlark's tokens, and why it can't be lexed.
+
+use crate::Span;
+use std::error::Error;
+use std::fmt;
+
+/// The kind of a fault.
+#[derive(Clone, Copy, Debug, PartialEq, Eq, Hash)]
+pub enum FaultKind {
+    /// A line's margin ends no block that is open.
+    Indentation,
+    /// No token begins here.
+    InvalidInput,
+    /// A tab where none may be.
+    InvalidTab,
+    /// A string literal has no end.
+    UnfinishedStringLiteral,
+    /// An escape sequence means no character.
+    InvalidEscapeSequence,
+    /// The text ends after the `\` of an escape sequence.
+    EmptyEscapeSequence,
+    /// A reserved word, such as `class`.
+    ReservedKeyword,
+    /// An integer with a leading zero, such as `01`.
+    StartsZero,
+    /// An expression of an f-string has no `}`.
+    UnfinishedFStringExpression,
+}
+
+impl FaultKind {
+    /// The kind with a number of the library.
+    pub(crate) fn of_number(number: u32) -> Option<Self> {
+        Some(match number {
+            1 => FaultKind::Indentation,
+            2 => FaultKind::InvalidInput,
+            3 => FaultKind::InvalidTab,
+            4 => FaultKind::UnfinishedStringLiteral,
+            5 => FaultKind::InvalidEscapeSequence,
+            6 => FaultKind::EmptyEscapeSequence,
+            7 => FaultKind::ReservedKeyword,
+            8 => FaultKind::StartsZero,
+            9 => FaultKind::UnfinishedFStringExpression,
+            _ => return None,
+        })
+    }
+}
+
+/// The fault that ends a text's lexemes. It prints its message, without its place.
+#[derive(Clone, Debug, PartialEq, Eq)]
+pub struct Fault {
+    pub(crate) kind: FaultKind,
+    pub(crate) span: Span,
+    pub(crate) message: String,
+}
+
+impl Fault {
+    /// The kind of the fault.
+    pub fn kind(&self) -> FaultKind {
+        self.kind
+    }
+
+    /// The bytes of the text that are at fault.
+    pub fn span(&self) -> Span {
+        self.span
+    }
+
+    /// The message, such as ``Parse error: invalid input `!` ``.
+    pub fn message(&self) -> &str {
+        &self.message
+    }
+}
+
+impl fmt::Display for Fault {
+    fn fmt(&self, f: &mut fmt::Formatter<'_>) -> fmt::Result {
+        f.write_str(&self.message)
+    }
+}
+
+impl Error for Fault {}
+
+/// The error of a text with more than 4,294,967,295 bytes.
+#[derive(Clone, Copy, Debug, PartialEq, Eq)]
+pub struct TooLong;
+
+impl fmt::Display for TooLong {
+    fn fmt(&self, f: &mut fmt::Formatter<'_>) -> fmt::Result {
+        f.write_str("the text has more than 4294967295 bytes")
+    }
+}
+
+impl Error for TooLong {}

@@ -1,0 +1,242 @@
+//! The calls of the library, with the records of `bindings/c/starlark_lex.h`.
+//!
+//! All `unsafe` of the crate is here. What leaves this module is safe for every argument.
+
+use crate::Place;
+use std::alloc::{handle_alloc_error, Layout};
+
+/// A lexeme: a `starlark_lexeme` of the header, which says what each field holds.
+#[repr(C)]
+#[derive(Clone, Copy, Debug)]
+pub(crate) struct LexemeRecord {
+    pub begin: u32,
+    pub end: u32,
+    pub kind: u16,
+    pub detail: u16,
+    pub integer: i32,
+    pub value_begin: usize,
+    pub value_len: usize,
+}
+
+/// What a call did: a `starlark_outcome` of the header.
+#[repr(C)]
+#[derive(Clone, Copy, Debug, Default)]
+struct Outcome {
+    status: u32,
+    fault_kind: u32,
+    fault_begin: u32,
+    fault_end: u32,
+    fault_value_begin: usize,
+    fault_value_len: usize,
+    lexemes: usize,
+    values: usize,
+    next: usize,
+    wanted_lexemes: usize,
+    wanted_values: usize,
+}
+
+/// A `starlark_text_place` of the header.
+#[repr(C)]
+#[derive(Clone, Copy, Debug, Default)]
+struct TextPlace {
+    line: usize,
+    column: usize,
+    utf16_column: usize,
+}
+
+const WHOLE: u32 = 0;
+const FAULT: u32 = 1;
+const FULL: u32 = 2;
+const NOT_UTF8: u32 = 3;
+const TOO_LONG: u32 = 4;
+const MEMORY: u32 = 5;
+
+extern "C" {
+    fn starlark_lex(
+        text: *const u8,
+        text_len: usize,
+        lexemes: *mut LexemeRecord,
+        lexemes_cap: usize,
+        values: *mut u8,
+        values_cap: usize,
+        outcome: *mut Outcome,
+    ) -> u32;
+
+    fn starlark_place(text: *const u8, text_len: usize, at: usize, place: *mut TextPlace) -> bool;
+
+    fn starlark_fault_message(
+        kind: u32,
+        named: *const u8,
+        named_len: usize,
+        message: *mut u8,
+        message_cap: usize,
+    ) -> usize;
+
+    #[cfg(test)]
+    fn starlark_kind_name(kind: u32, name: *mut u8, name_cap: usize) -> usize;
+}
+
+/// A fault, with the number of its kind. Its offsets count from the start of what was lexed.
+#[derive(Clone, Copy, Debug)]
+pub(crate) struct FaultRecord {
+    pub kind: u32,
+    pub begin: u32,
+    pub end: u32,
+    value_begin: usize,
+    value_len: usize,
+}
+
+/// How lexing a text into buffers ended.
+#[derive(Clone, Copy, Debug)]
+pub(crate) enum Ending {
+    /// The buffers have all lexemes of the text.
+    Whole,
+    /// The buffers have all lexemes before the text's fault.
+    Fault(FaultRecord),
+    /// The buffers have the lexemes up to an offset in bytes, where lexing goes on.
+    Piece { next: usize },
+    /// The buffers have nothing: they need this much room.
+    Full { lexemes: usize, values: usize },
+}
+
+/// Buffers for the lexemes of a text and their values.
+#[derive(Clone, Debug)]
+pub(crate) struct Buffers {
+    lexemes: Vec<LexemeRecord>,
+    values: Vec<u8>,
+}
+
+impl Buffers {
+    /// Buffers with room for this many lexemes and bytes of values, which have nothing.
+    pub(crate) fn with_capacity(lexemes: usize, values: usize) -> Self {
+        Buffers {
+            lexemes: Vec::with_capacity(lexemes),
+            values: Vec::with_capacity(values),
+        }
+    }
+
+    /// How many lexemes have room.
+    pub(crate) fn lexemes_capacity(&self) -> usize {
+        self.lexemes.capacity()
+    }
+
+    /// How many bytes of values have room.
+    pub(crate) fn values_capacity(&self) -> usize {
+        self.values.capacity()
+    }
+
+    /// The record with an index, if there is one.
+    pub(crate) fn lexeme(&self, index: usize) -> Option<&LexemeRecord> {
+        self.lexemes.get(index)
+    }
+
+    /// The bytes of a lexeme's value.
+    pub(crate) fn value(&self, lexeme: &LexemeRecord) -> &[u8] {
+        &self.values[lexeme.value_begin..][..lexeme.value_len]
+    }
+
+    /// The message of the fault of the text that was lexed last.
+    pub(crate) fn message(&self, fault: &FaultRecord) -> String {
+        let named = &self.values[fault.value_begin..][..fault.value_len];
+        let mut message = Vec::with_capacity(named.len() + 128);
+        loop {
+            let room = message.capacity();
+            // SAFETY: `named` is readable for its length, and `message` writable for its capacity.
+            // Both are other memory, and neither pointer is null.
+            let len = unsafe {
+                starlark_fault_message(
+                    fault.kind,
+                    named.as_ptr(),
+                    named.len(),
+                    message.as_mut_ptr(),
+                    room,
+                )
+            };
+            if len <= room {
+                // SAFETY: the call wrote the first `len` bytes, and the capacity has room for them.
+                unsafe { message.set_len(len) };
+                return String::from_utf8(message).expect("a message is UTF-8");
+            }
+            message.reserve(len);
+        }
+    }
+
+    /// Lexes a text into the buffers, which have nothing but its lexemes then.
+    ///
+    /// The text has at most `u32::MAX` bytes. Where memory runs out the process aborts, as it does
+    /// where a `Vec` gets none.
+    pub(crate) fn lex(&mut self, text: &str) -> Ending {
+        let mut outcome = Outcome::default();
+        self.lexemes.clear();
+        self.values.clear();
+        // SAFETY: `text` is readable for its length, and both buffers are writable for their
+        // capacities, which are numbers of records and bytes. The call reads nothing of them.
+        // The four are different memory, no pointer is null, and all live until the call returns.
+        unsafe {
+            starlark_lex(
+                text.as_ptr(),
+                text.len(),
+                self.lexemes.as_mut_ptr(),
+                self.lexemes.capacity(),
+                self.values.as_mut_ptr(),
+                self.values.capacity(),
+                &mut outcome,
+            );
+        }
+        assert!(outcome.lexemes <= self.lexemes.capacity());
+        assert!(outcome.values <= self.values.capacity());
+        // SAFETY: the counts are within the capacities, and the call wrote what it counts. All bits
+        // are right for the numbers of a record.
+        unsafe {
+            self.lexemes.set_len(outcome.lexemes);
+            self.values.set_len(outcome.values);
+        }
+        outcome.ending()
+    }
+}
+
+impl Outcome {
+    /// How a call with a text of UTF-8 ended that isn't too long.
+    fn ending(&self) -> Ending {
+        match self.status {
+            WHOLE => Ending::Whole,
+            FAULT => Ending::Fault(FaultRecord {
+                kind: self.fault_kind,
+                begin: self.fault_begin,
+                end: self.fault_end,
+                value_begin: self.fault_value_begin,
+                value_len: self.fault_value_len,
+            }),
+            FULL if self.next > 0 => Ending::Piece { next: self.next },
+            FULL => Ending::Full {
+                lexemes: self.wanted_lexemes,
+                values: self.wanted_values,
+            },
+            MEMORY => handle_alloc_error(Layout::new::<LexemeRecord>()),
+            NOT_UTF8 | TOO_LONG => unreachable!("a `str` is UTF-8, and its length was tested"),
+            status => unreachable!("the library has no status {status}"),
+        }
+    }
+}
+
+/// The place of an offset in a text. `None` past its end, and inside a character.
+pub(crate) fn place(text: &str, at: usize) -> Option<Place> {
+    let mut place = TextPlace::default();
+    // SAFETY: `text` is readable for its length, `place` is writable and other memory, and neither
+    // pointer is null. Each offset may be asked for.
+    let is_told = unsafe { starlark_place(text.as_ptr(), text.len(), at, &mut place) };
+    is_told.then_some(Place {
+        line: place.line,
+        column: place.column,
+        utf16_column: place.utf16_column,
+    })
+}
+
+/// The name of a kind, which is empty where no kind has the number.
+#[cfg(test)]
+pub(crate) fn kind_name(kind: u32) -> String {
+    let mut name = [0; 64];
+    // SAFETY: `name` is writable for its length, and its pointer isn't null.
+    let len = unsafe { starlark_kind_name(kind, name.as_mut_ptr(), name.len()) };
+    String::from_utf8(name[..len].to_vec()).expect("a name is UTF-8")
+}

@@ -1,0 +1,228 @@
+//! The lexer: an iterator over a text's lexemes.
+
+use crate::ffi::{Buffers, Ending, FaultRecord};
+use crate::{Fault, FaultKind, Span, Token, TooLong};
+use std::iter::FusedIterator;
+use std::mem;
+
+/// The largest buffers that a lexer makes of itself. A piece that needs more gets more.
+const MOST_LEXEMES: usize = 1 << 22;
+const MOST_VALUES: usize = 1 << 26;
+
+/// A token with its bytes in the text.
+#[derive(Clone, Debug, PartialEq, Eq, Hash)]
+pub struct Lexeme<'a> {
+    /// Its bytes. An `Indent`, a `Dedent` and the last `Newline` may have none.
+    pub span: Span,
+    /// The token, with its value.
+    pub token: Token<'a>,
+}
+
+/// What comes after the lexemes in the buffers.
+#[derive(Clone, Debug)]
+enum After {
+    /// The text from an offset on, which isn't lexed yet.
+    Rest(usize),
+    /// The text's fault.
+    Fault(Fault),
+    /// Nothing.
+    End,
+}
+
+/// The lexemes of a text, in order. The first fault is the last item.
+///
+/// It keeps the lexemes of a piece of the text, 32 bytes each, until they are yielded. A text of up
+/// to 8 MB is mostly one piece. Of a longer text each piece but the last is lexed twice.
+///
+/// ```
+/// use starlark_lexer::{FaultKind, Lexer, Token, TokenInt};
+///
+/// let mut lexer = Lexer::new("x = 1 $")?;
+/// let tokens: Vec<_> = lexer.by_ref().map_while(Result::ok).map(|lexeme| lexeme.token).collect();
+/// let value = Token::Int(TokenInt::I32(1));
+/// assert_eq!(tokens, [Token::Identifier("x".into()), Token::Equal, value]);
+///
+/// let fault = Lexer::new("x = 1 $")?.find_map(Result::err).unwrap();
+/// assert_eq!((fault.kind(), fault.span().range()), (FaultKind::InvalidInput, 6..7));
+/// # Ok::<(), starlark_lexer::TooLong>(())
+/// ```
+#[derive(Clone, Debug)]
+pub struct Lexer<'a> {
+    text: &'a str,
+    /// The lexemes of a piece of the text, and the index of the next one.
+    buffers: Buffers,
+    index: usize,
+    /// Offset in the text where the piece begins.
+    from: usize,
+    after: After,
+}
+
+impl<'a> Lexer<'a> {
+    /// A lexer of a text. Nothing is lexed before the first lexeme is asked for.
+    ///
+    /// # Errors
+    ///
+    /// `TooLong` for a text of more than 4,294,967,295 bytes.
+    pub fn new(text: &'a str) -> Result<Self, TooLong> {
+        let lexemes = (text.len() / 2 + 16).min(MOST_LEXEMES);
+        let values = (text.len() + 16).min(MOST_VALUES);
+        Lexer::with_capacity(text, lexemes, values)
+    }
+
+    /// A lexer of a text whose buffers have room at first for this many lexemes, and this many
+    /// bytes of their values. Whatever the room is, the lexemes are the same.
+    ///
+    /// Small buffers hold less, and lex the text in more pieces, which takes longer. They grow for
+    /// each further piece.
+    ///
+    /// # Errors
+    ///
+    /// `TooLong` for a text of more than 4,294,967,295 bytes.
+    ///
+    /// # Panics
+    ///
+    /// Where a buffer would take more than `isize::MAX` bytes, as `Vec::with_capacity` does.
+    pub fn with_capacity(text: &'a str, lexemes: usize, values: usize) -> Result<Self, TooLong> {
+        if text.len() > u32::MAX as usize {
+            return Err(TooLong);
+        }
+        Ok(Lexer {
+            text,
+            buffers: Buffers::with_capacity(lexemes, values),
+            index: 0,
+            from: 0,
+            after: After::Rest(0),
+        })
+    }
+
+    /// The text that is lexed.
+    pub fn text(&self) -> &'a str {
+        self.text
+    }
+
+    /// The bytes of the text from one offset in the piece to another.
+    fn span(&self, begin: u32, end: u32) -> Span {
+        Span {
+            begin: self.from + begin as usize,
+            end: self.from + end as usize,
+        }
+    }
+
+    /// The next lexeme in the buffers.
+    #[inline]
+    fn next_in_buffers(&mut self) -> Option<Lexeme<'a>> {
+        let record = self.buffers.lexeme(self.index)?;
+        let span = self.span(record.begin, record.end);
+        let token = Token::of_record(self.text, span, record, &self.buffers);
+        self.index += 1;
+        Some(Lexeme { span, token })
+    }
+
+    /// The next item where the buffers have no further lexeme.
+    #[cold]
+    fn next_after_buffers(&mut self) -> Option<Result<Lexeme<'a>, Fault>> {
+        loop {
+            match mem::replace(&mut self.after, After::End) {
+                After::Rest(from) => self.lex(from),
+                After::Fault(fault) => return Some(Err(fault)),
+                After::End => return None,
+            }
+            if let Some(lexeme) = self.next_in_buffers() {
+                return Some(Ok(lexeme));
+            }
+        }
+    }
+
+    /// Fills the buffers with the lexemes of the text from an offset on, or of a piece of it.
+    fn lex(&mut self, from: usize) {
+        let rest = &self.text[from..];
+        if from > 0 {
+            self.grow(0, 0);
+        }
+        self.index = 0;
+        self.from = from;
+        self.after = loop {
+            match self.buffers.lex(rest) {
+                Ending::Whole => break After::End,
+                Ending::Fault(record) => break After::Fault(self.fault(&record)),
+                Ending::Piece { next } => break After::Rest(from + next),
+                Ending::Full { lexemes, values } => self.grow(lexemes, values),
+            }
+        };
+    }
+
+    /// Makes the buffers larger, up to the most, and gives them at least this much room.
+    fn grow(&mut self, lexemes: usize, values: usize) {
+        let room = (
+            self.buffers.lexemes_capacity(),
+            self.buffers.values_capacity(),
+        );
+        let lexemes = lexemes.max(twice(room.0, MOST_LEXEMES));
+        let values = values.max(twice(room.1, MOST_VALUES));
+        if (lexemes, values) != room {
+            self.buffers = Buffers::with_capacity(lexemes, values);
+        }
+    }
+
+    /// The fault of the text, whose record counts from where the piece begins.
+    fn fault(&self, record: &FaultRecord) -> Fault {
+        let number = record.kind;
+        Fault {
+            kind: FaultKind::of_number(number)
+                .unwrap_or_else(|| unreachable!("the library has no fault {number}")),
+            span: self.span(record.begin, record.end),
+            message: self.buffers.message(record),
+        }
+    }
+}
+
+/// Twice a capacity, if that isn't more than the most; else the capacity.
+fn twice(capacity: usize, most: usize) -> usize {
+    capacity.max((2 * capacity).min(most))
+}
+
+impl<'a> Iterator for Lexer<'a> {
+    type Item = Result<Lexeme<'a>, Fault>;
+
+    #[inline]
+    fn next(&mut self) -> Option<Self::Item> {
+        match self.next_in_buffers() {
+            Some(lexeme) => Some(Ok(lexeme)),
+            None => self.next_after_buffers(),
+        }
+    }
+}
+
+impl FusedIterator for Lexer<'_> {}
+
+#[cfg(test)]
+mod tests {
+    use super::*;
+
+    /// Where the pieces of a text begin, by buffers with little room at first.
+    fn pieces(text: &str, lexemes: usize, values: usize) -> Vec<usize> {
+        let mut lexer = Lexer::with_capacity(text, lexemes, values).unwrap();
+        let mut begins = Vec::new();
+        while lexer.next().is_some() {
+            if begins.last() != Some(&lexer.from) {
+                begins.push(lexer.from);
+            }
+        }
+        begins
+    }
+
+    #[test]
+    fn small_buffers_lex_in_pieces() {
+        let text = "a\n".repeat(1000);
+        assert_eq!(pieces(&text, 4096, 4096), [0]);
+        let begins = pieces(&text, 8, 4096);
+        assert!(begins.len() > 4, "{begins:?}");
+        assert!(begins.iter().all(|begin| begin % 2 == 0), "{begins:?}");
+        assert!(pieces(&text, 4096, 8).len() > 4);
+    }
+
+    #[test]
+    fn empty_buffers_grow() {
+        assert_eq!(pieces("f(a,\n  b)\nc", 0, 0).len(), 2);
+    }
+}

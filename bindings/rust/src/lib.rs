@@ -1,0 +1,48 @@
+//! The lexer of Starlark, the language of Bazel's and Buck's files, over the proved library.
+//!
+//! A [`Lexer`] yields the lexemes of a text: each is a [`Token`] with its [`Span`]. The first
+//! [`Fault`] ends it. A [`LineIndex`] tells the line and columns of an offset.
+//!
+//! ```
+//! use starlark_lexer::{Lexer, LineIndex, Token};
+//!
+//! let text = "load('//a.bzl', 'a')\nb = 01\n";
+//! let lines = LineIndex::new(text);
+//! let mut strings = Vec::new();
+//! for lexeme in Lexer::new(text)? {
+//!     match lexeme {
+//!         Ok(lexeme) => {
+//!             if let Token::String(value) = lexeme.token {
+//!                 strings.push(value);
+//!             }
+//!         }
+//!         Err(fault) => {
+//!             let place = lines.place(fault.span().begin).unwrap();
+//!             assert_eq!((place.line + 1, place.column + 1), (2, 5));
+//!             assert_eq!(fault.to_string(), "Parse error: integer cannot have leading 0, got `01`");
+//!         }
+//!     }
+//! }
+//! assert_eq!(strings, ["//a.bzl", "a"]);
+//! # Ok::<(), starlark_lexer::TooLong>(())
+//! ```
+//!
+//! The library is proved to yield exactly the lexemes of a written grammar. The lines of this crate
+//! are not proved, but tested. Its calls share nothing, so they may run in any number of threads.
+#![deny(unsafe_code)]
+#![deny(unsafe_op_in_unsafe_fn)]
+#![warn(missing_docs)]
+
+mod fault;
+#[allow(unsafe_code)]
+mod ffi;
+mod lexer;
+mod places;
+mod span;
+mod token;
+
+pub use crate::fault::{Fault, FaultKind, TooLong};
+pub use crate::lexer::{Lexeme, Lexer};
+pub use crate::places::{LineIndex, Place};
+pub use crate::span::Span;
+pub use crate::token::{FStringQuote, Token, TokenInt};
