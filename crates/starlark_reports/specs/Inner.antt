@@ -1,0 +1,2 @@
+-- What only contracts of inner functions, and proofs, speak of.
+pub mod Reporters

@@ -1,0 +1,16 @@
+-- Makers of lines, between two items of a text.
+use Rattle.std.specs.Prelude.{◌≡◌, string_bytes}
+use Rattle.starlark_base.specs.Places.{Text}
+use Rattle.starlark_reports.specs.Positions.{IsPosition}
+use Rattle.starlark_reports.specs.declared.reporter.Reporter.{Reporter}
+
+-- both positions are some of the text
+pub record IsReady (reporter : Reporter) : Type 0 where
+  pub here : IsPosition reporter.text.now reporter.here
+  pub last_fault : IsPosition reporter.text.now reporter.last_fault
+
+-- form, text and prefix are those of before
+pub record Keeps (old new : Reporter) : Type 0 where
+  pub form : new.form ≡ old.form
+  pub text : new.text ≡ old.text
+  pub prefix : string_bytes new.prefix ≡ string_bytes old.prefix

@@ -1,0 +1,220 @@
+//! Texts and bytes as Python writes them, on one line.
+
+ghost use Rattle.std.specs.Prelude.{◌≡◌, ◌&&◌, ◌<◌, ◌^◌, ◌++◌, OnOk, string_bytes, map};
+ghost use Rattle.std.specs.List.{flat_map, list_any};
+ghost use Rattle.std.specs.Char.{digit_char};
+ghost use Rattle.std.specs.Str.{chars};
+ghost use Rattle.starlark_reports.specs.PythonLiterals as spec;
+
+use std::alloc::AllocError;
+
+/// The hexadecimal digit of a number less than 16.
+fn hex_digit(number: u8) -> char
+    requires { number < 16 }
+    ensures { result ≡ digit_char number }
+{
+    let Some(digit) = char::from_digit(number as u32, 16) else {
+        unreachable!()
+    };
+    digit
+}
+
+/// Appends a byte as two hexadecimal digits.
+pub fn push_hex_pair(line: &mut String, byte: u8) -> Result<(), AllocError>
+    ensures { OnOk result (string_bytes line.new ≡ string_bytes line.old ++ spec.hex_pair byte) }
+{
+    line.push(hex_digit(byte / 16))?;
+    line.push(hex_digit(byte % 16))
+}
+
+/// Appends a number as four hexadecimal digits.
+fn push_hex_four(line: &mut String, number: u16) -> Result<(), AllocError>
+    ensures { OnOk result (string_bytes line.new ≡ string_bytes line.old ++ spec.hex_four number) }
+{
+    push_hex_pair(line, (number / 256) as u8)?;
+    push_hex_pair(line, (number % 256) as u8)
+}
+
+/// Appends a character by its number: `\x`, `\u` or `\U` and hexadecimal digits.
+fn push_numbered(line: &mut String, character: char) -> Result<(), AllocError>
+    ensures { OnOk result (string_bytes line.new ≡ string_bytes line.old ++ spec.numbered character) }
+{
+    let number = character as u32;
+    if number < 256 {
+        line.push_str("\\x")?;
+        return push_hex_pair(line, number as u8);
+    }
+    if number < 65_536 {
+        line.push_str("\\u")?;
+        return push_hex_four(line, number as u16);
+    }
+    line.push_str("\\U")?;
+    push_hex_four(line, (number / 65_536) as u16)?;
+    push_hex_four(line, (number % 65_536) as u16)
+}
+
+/// Appends a character that isn't shown as it is.
+fn push_hidden(line: &mut String, character: char) -> Result<(), AllocError>
+    ensures { OnOk result (string_bytes line.new ≡ string_bytes line.old ++ spec.hidden_text character) }
+{
+    match character {
+        '\t' => line.push_str("\\t"),
+        '\n' => line.push_str("\\n"),
+        '\r' => line.push_str("\\r"),
+        _ => push_numbered(line, character),
+    }
+}
+
+/// Whether a character is one of those from `first` to `last`.
+fn is_between(first: char, last: char, character: char) -> bool
+    ensures { result ≡ spec.is_between first last character }
+{
+    first <= character && character <= last
+}
+
+/// Whether a character beyond U+00AD isn't shown as it is.
+fn is_hidden_mark(c: char) -> bool {
+    is_between('\u{1680}', '\u{1680}', c)
+        || is_between('\u{2000}', '\u{200f}', c)
+        || is_between('\u{2028}', '\u{202f}', c)
+        || is_between('\u{205f}', '\u{206f}', c)
+        || is_between('\u{3000}', '\u{3000}', c)
+        || is_between('\u{e000}', '\u{f8ff}', c)
+        || is_between('\u{feff}', '\u{feff}', c)
+        || is_between('\u{fff0}', '\u{fffb}', c)
+        || is_between('\u{e0000}', '\u{e007f}', c)
+        || is_between('\u{f0000}', '\u{10ffff}', c)
+}
+
+/// Whether a character isn't shown as it is: a control, a space other than the plain one, a line
+/// or paragraph separator, a mark that directs or joins, or one for private use.
+pub fn is_hidden(c: char) -> bool
+    ensures { result ≡ spec.is_hidden c }
+{
+    if c < '\x7f' {
+        return c < ' ';
+    }
+    is_between('\x7f', '\u{a0}', c) || is_between('\u{ad}', '\u{ad}', c) || is_hidden_mark(c)
+}
+
+/// Appends a character as it is on one line, without quotes around it.
+fn push_line_char(line: &mut String, character: char) -> Result<(), AllocError>
+    ensures { OnOk result (string_bytes line.new ≡ string_bytes line.old ++ spec.line_char character) }
+{
+    if is_hidden(character) {
+        return push_hidden(line, character);
+    }
+    line.push(character)
+}
+
+/// Appends a text on one line, without quotes around it.
+pub fn push_one_line(line: &mut String, text: &str) -> Result<(), AllocError>
+    ensures { OnOk result (string_bytes line.new ≡ string_bytes line.old ++ spec.one_line text.now) }
+{
+    for character in text.chars() {
+        push_line_char(line, character)?;
+    }
+    Ok(())
+}
+
+/// Appends a character of a text that has this quote around it.
+fn push_quoted_char(line: &mut String, quote: char, character: char) -> Result<(), AllocError>
+    ensures { OnOk result (string_bytes line.new ≡ string_bytes line.old ++ spec.quoted_char quote character) }
+{
+    if character == '\\' || character == quote {
+        line.push('\\')?;
+        return line.push(character);
+    }
+    push_line_char(line, character)
+}
+
+/// Appends a byte of bytes that have this quote around them.
+fn push_quoted_byte(line: &mut String, quote: char, byte: u8) -> Result<(), AllocError>
+    ensures { OnOk result (string_bytes line.new ≡ string_bytes line.old ++ spec.quoted_byte quote byte) }
+{
+    let character = byte as char;
+    if byte == b'\\' || character == quote {
+        line.push('\\')?;
+        return line.push(character);
+    }
+    if is_between(' ', '~', character) {
+        return line.push(character);
+    }
+    push_hidden(line, character)
+}
+
+/// Whether some bytes have a byte among them.
+fn has_byte(bytes: &[u8], wanted: u8) -> bool
+    ensures { result ≡ spec.has_byte wanted bytes.now }
+{
+    bytes.iter().any(|byte| *byte == wanted)
+}
+
+/// The quote around some bytes: a double one if they have single quotes and no double ones.
+fn quote_of(bytes: &[u8]) -> char
+    ensures { result ≡ spec.quote_of bytes.now }
+{
+    if has_byte(bytes, b'\'') && !has_byte(bytes, b'"') {
+        '"'
+    } else {
+        '\''
+    }
+}
+
+/// Appends the characters of a text that has this quote around it.
+fn push_quoted_chars(line: &mut String, quote: char, text: &str) -> Result<(), AllocError>
+    ensures { OnOk result (string_bytes line.new ≡ string_bytes line.old ++ flat_map (spec.quoted_char quote) (chars text.now)) }
+{
+    for character in text.chars() {
+        push_quoted_char(line, quote, character)?;
+    }
+    Ok(())
+}
+
+/// Appends a text in quotes, as Python writes it.
+pub fn push_quoted(line: &mut String, text: &str) -> Result<(), AllocError>
+    ensures { OnOk result (string_bytes line.new ≡ string_bytes line.old ++ spec.quoted text.now) }
+{
+    let quote = quote_of(text.as_bytes());
+    line.push(quote)?;
+    push_quoted_chars(line, quote, text)?;
+    line.push(quote)
+}
+
+/// Appends the bytes that have this quote around them.
+fn push_quoted_all(line: &mut String, quote: char, bytes: &[u8]) -> Result<(), AllocError>
+    ensures { OnOk result (string_bytes line.new ≡ string_bytes line.old ++ flat_map (spec.quoted_byte quote) bytes.now) }
+{
+    for &byte in bytes {
+        push_quoted_byte(line, quote, byte)?;
+    }
+    Ok(())
+}
+
+/// Appends bytes in quotes after a `b`, as Python writes them.
+pub fn push_quoted_bytes(line: &mut String, bytes: &[u8]) -> Result<(), AllocError>
+    ensures { OnOk result (string_bytes line.new ≡ string_bytes line.old ++ spec.quoted_bytes bytes.now) }
+{
+    let quote = quote_of(bytes);
+    line.push('b')?;
+    line.push(quote)?;
+    push_quoted_all(line, quote, bytes)?;
+    line.push(quote)
+}
+
+/// Whether a character is shown as it is, and neither begins nor ends a quoted text.
+fn is_plain(c: char) -> bool
+    ensures { result ≡ spec.is_plain c }
+{
+    !(is_hidden(c) || c == '"' || c == '\'' || c == '\\')
+}
+
+/// Appends a name: as it is if it has only plain characters, or else in quotes.
+pub fn push_name(line: &mut String, name: &str) -> Result<(), AllocError>
+    ensures { OnOk result (string_bytes line.new ≡ string_bytes line.old ++ spec.shown_name name.now) }
+{
+    if name.chars().any(|character| !is_plain(character)) {
+        return push_quoted(line, name);
+    }
+    line.push_str(name)
+}
