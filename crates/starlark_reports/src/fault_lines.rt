@@ -2,7 +2,7 @@
 
 ghost use Rattle.std.specs.Prelude.{◌≡◌, ◌≤◌, ◌-◌, ◌++◌, OnOk, length, map, string_bytes, take};
 ghost use Rattle.std.specs.List.{flat_map};
-ghost use Rattle.std.specs.Str.{IsCharBoundary, chars};
+ghost use Rattle.std.specs.Str.{IsCharBoundary, chars, encode_utf8};
 ghost use Rattle.starlark_reports.specs.Lines as spec;
 
 use crate::position::Position;
@@ -34,7 +34,9 @@ fn line_back(text: &str, at: usize) -> &str
 }
 
 /// A character of the source as it is shown: one that is hidden has another in its place.
-fn source_char(character: char) -> char {
+fn source_char(character: char) -> char
+    ensures { encode_utf8 result ≡ spec.source_char character }
+{
     if character != '\t' && is_hidden(character) {
         char::REPLACEMENT_CHARACTER
     } else {
@@ -63,7 +65,10 @@ fn push_below(line: &mut String, front: &str) -> Result<(), AllocError>
 }
 
 /// Number of characters in the first `len` bytes of a text, or in all of it.
-fn marked_count(back: &str, len: usize) -> usize {
+fn marked_count(back: &str, len: usize) -> usize
+    requires { len ≤ length back.now → IsCharBoundary back.now len }
+    ensures { result ≡ length (chars (take len back.now)) }
+{
     match back.get(..len) {
         Some(part) => count_characters(part),
         None => count_characters(back),
@@ -91,6 +96,8 @@ pub fn push_fault_lines(
 ) -> Result<(), AllocError>
     requires boundary { IsCharBoundary text.now begin.at }
     requires order { begin.at ≤ end }
+    ensures { OnOk result (string_bytes line.new ≡ string_bytes line.old
+        ++ spec.fault_lines prefix.now begin.place message.now (spec.line_front text.now begin.at) (spec.line_back text.now begin.at) (end - begin.at)) }
 {
     let front = line_front(text, begin.at);
     let back = line_back(text, begin.at);

@@ -1,5 +1,8 @@
 //! What a report shows, and in which form.
 
+ghost use Rattle.std.specs.Prelude.{◌≡◌};
+ghost use Rattle.starlark_reports.specs.Inner.Reporters.{has_only_faults};
+
 /// The form of a report.
 #[derive(Clone, Copy, Debug, PartialEq, Eq)]
 pub enum Form {
@@ -17,7 +20,9 @@ pub enum Form {
 
 impl Form {
     /// Whether tokens are left out.
-    pub fn has_only_faults(self) -> bool {
+    pub fn has_only_faults(self) -> bool
+        ensures { result ≡ has_only_faults self }
+    {
         matches!(self, Form::Faults | Form::JsonFaults)
     }
 }

@@ -1,63 +1,55 @@
 //! Prints the report of a text.
 
+ghost use Rattle.std.specs.Prelude.{◌≡◌, ◌-◌, ◌<◌, ◌^◌, IfOk, IfSome, IsSome, OnOk, Some, length, min};
+ghost use Rattle.std.specs.Io.KnownBytes.{Appends};
+ghost use Rattle.std.specs.Str.{IsCharBoundary};
+ghost use Rattle.starlark_reports.specs.Reports.{fault_count, report};
+
 use crate::form::Form;
+use crate::item_reader::ItemReader;
 use crate::reporter::Reporter;
-use starlark_base::codemap::{CodeMap, CodeMapId, OrMemory, SourceTooLong};
+use starlark_base::codemap::{FileSpan, OrMemory};
 use starlark_syntax::eval_exception::EvalException;
-use starlark_syntax::lexer::Lexer;
-use starlark_text::dialect::Dialect;
 use std::alloc::{AllocError, Global};
 use std::io;
 use std::io::Write;
 
-/// A code map of an empty text, for faults of which only the span's bytes are used.
-fn empty_file(alloc: Global) -> Result<CodeMap, AllocError> {
-    match CodeMap::new(
-        alloc,
-        CodeMapId::EMPTY,
-        String::new(alloc),
-        String::new(alloc),
-    ) {
-        Ok(file) => Ok(file),
-        Err(_) => Err(AllocError),
-    }
-}
-
-/// The lexer whose items are reported. Its text must be shorter than 2^32 bytes.
-fn lexer_of(alloc: Global, text: &str) -> Result<Lexer<'_>, AllocError> {
-    let file = empty_file(alloc)?;
-    match Lexer::new(alloc, text, &Dialect::Extended, file) {
-        Ok(lexer) => Ok(lexer),
-        Err(SourceTooLong) => Err(AllocError),
-    }
-}
-
-/// Makes the lines of an exception.
-fn report_fault(reporter: &mut Reporter<'_>, exception: &EvalException) -> Result<(), AllocError> {
-    let error = exception.error();
-    let Some(place) = error.span() else {
+/// The file span of an exception that has one.
+fn place_of(exception: &EvalException) -> &FileSpan
+    requires { IsSome exception.now.span }
+    ensures { exception.now.span ≡ Some result.now }
+{
+    let Some(place) = exception.error().span() else {
         unreachable!()
     };
-    reporter.fault(place.span, error.kind())
+    place
 }
 
-/// Prints the report of the text `name`, and returns how many faults it has.
+/// Prints the report of the text `name` in a form, and returns how many faults it has.
+///
+/// The text must be shorter than 2^32 bytes. Fails where a write fails, and with `OutOfMemory`
+/// where memory runs out; then a beginning of the report may be written.
 pub fn report_text<W: Write>(
     alloc: Global,
     form: Form,
     name: &str,
     text: &str,
     writer: &mut W,
-) -> io::Result<usize> {
+) -> io::Result<usize>
+    requires fits { length text.now < 2 ^ 32 }
+    ensures written { OnOk result (Appends (W.contents writer.old) (W.contents writer.new) (report form name.now text.now)) }
+    ensures counted { IfOk result (λ faults. faults ≡ min (fault_count text.now) (2 ^ 64 - 1)) }
+{
     let mut reporter = Reporter::new(alloc, form, name, text)?;
-    let mut lexer = lexer_of(alloc, text)?;
+    let mut reader = ItemReader::new(alloc, text)?;
     let mut faults: usize = 0;
-    while let Some(item) = lexer.next() {
+    while let Some(item) = reader.next() {
         match item {
             Ok((begin, token, end)) => reporter.token(begin, &token, end)?,
             Err(OrMemory::Error(exception)) => {
-                report_fault(&mut reporter, &exception)?;
-                faults += 1;
+                let span = place_of(&exception).span;
+                reporter.fault(span, exception.error().kind())?;
+                faults = faults.saturating_add(1);
             }
             Err(OrMemory::Memory) => return Err(io::Error::from(AllocError)),
         }

@@ -68,7 +68,12 @@ impl<'t> Reporter<'t> {
         form: Form,
         name: &str,
         text: &'t str,
-    ) -> Result<Reporter<'t>, AllocError> {
+    ) -> Result<Reporter<'t>, AllocError>
+        ensures ready { IfOk result IsReady }
+        ensures form { IfOk result (λ reporter. reporter.form ≡ form) }
+        ensures text { IfOk result (λ reporter. reporter.text.now ≡ text.now) }
+        ensures prefix { IfOk result (λ reporter. string_bytes reporter.prefix ≡ prefix_of form name.now) }
+    {
         let prefix = prefix(alloc, form, name)?;
         Ok(Reporter {
             form,
@@ -82,7 +87,16 @@ impl<'t> Reporter<'t> {
     }
 
     /// Makes the lines of a token: none where the form has only faults.
-    pub fn token(&mut self, begin: usize, token: &Token, end: usize) -> Result<(), AllocError> {
+    pub fn token(&mut self, begin: usize, token: &Token, end: usize) -> Result<(), AllocError>
+        requires ready { IsReady self.old }
+        requires begin { IsCharBoundary self.old.text.now begin }
+        requires end { IsCharBoundary self.old.text.now end }
+        requires order { begin ≤ end }
+        ensures ready { OnOk result (IsReady self.new) }
+        ensures kept { OnOk result (Keeps self.old self.new) }
+        ensures lines { OnOk result (string_bytes self.new.lines ≡ token_report self.old.form (string_bytes self.old.prefix)
+            (position_at self.old.text.now begin) (position_at self.old.text.now end) (token_view token.now)) }
+    {
         self.lines.clear();
         if self.form.has_only_faults() {
             return Ok(());
@@ -101,7 +115,15 @@ impl<'t> Reporter<'t> {
     }
 
     /// Makes the lines of a fault.
-    pub fn fault(&mut self, span: Span, kind: &ErrorKind) -> Result<(), AllocError> {
+    pub fn fault(&mut self, span: Span, kind: &ErrorKind) -> Result<(), AllocError>
+        requires ready { IsReady self.old }
+        requires begin { IsCharBoundary self.old.text.now span.begin }
+        requires end { IsCharBoundary self.old.text.now span.end }
+        ensures ready { OnOk result (IsReady self.new) }
+        ensures kept { OnOk result (Keeps self.old self.new) }
+        ensures lines { OnOk result (string_bytes self.new.lines ≡ fault_report self.old.form (string_bytes self.old.prefix) self.old.text.now
+            (position_at self.old.text.now span.begin) (position_at self.old.text.now span.end) (kind_text kind.now)) }
+    {
         let begin = span.begin().get() as usize;
         let begin = Position::nearest(self.here, self.last_fault, self.text, begin);
         let end = begin.moved(self.text, span.end().get() as usize);

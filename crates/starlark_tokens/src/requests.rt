@@ -1,5 +1,8 @@
 //! What the arguments of the program ask for.
 
+ghost use Rattle.std.specs.Prelude.{◌≡◌, ◌++◌, IfOk, MatchOption, None, Some, codes, map, string_bytes};
+ghost use Rattle.starlark_tokens.specs.Requests as spec;
+
 use std::alloc::{AllocError, Global};
 
 /// What the arguments ask for.
@@ -29,49 +32,72 @@ pub struct Reports<'a> {
 }
 
 /// Number of arguments before the first `--`.
-fn leading_count(arguments: &[String]) -> usize {
-    arguments
-        .iter()
-        .take_while(|word| word.as_str() != "--")
-        .count()
+fn leading_count(arguments: &[String]) -> usize
+    ensures { result ≡ spec.leading_count (map string_bytes arguments.now) }
+{
+    for (index, word) in arguments.iter().enumerate() {
+        if word.as_str() == "--" {
+            return index;
+        }
+    }
+    arguments.len()
 }
 
 /// Whether an argument is an option: it begins with `-` and isn't `-` alone.
-fn is_option(word: &str) -> bool {
-    word.starts_with('-') && word != "-"
+fn is_option(word: &str) -> bool
+    ensures { result ≡ spec.is_option word.now }
+{
+    word.starts_with("-") && word != "-"
 }
 
 /// Whether the program has an option.
-fn is_known(word: &str) -> bool {
-    matches!(
-        word,
-        "--check" | "--json" | "--quiet" | "--version" | "--help"
-    )
+fn is_known(word: &str) -> bool
+    ensures { result ≡ spec.is_known word.now }
+{
+    word == "--check"
+        || word == "--json"
+        || word == "--quiet"
+        || word == "--version"
+        || word == "--help"
+}
+
+/// Whether the program doesn't have an option.
+fn is_unknown(word: &str) -> bool
+    ensures { result ≡ spec.is_unknown word.now }
+{
+    is_option(word) && !is_known(word)
 }
 
 /// Whether an option is among arguments.
-fn has(words: &[String], option: &str) -> bool {
-    words.iter().any(|word| word.as_str() == option)
+fn has(words: &[String], option: &str) -> bool
+    ensures { result ≡ spec.is_among option.now (map string_bytes words.now) }
+{
+    for word in words {
+        if word.as_str() == option {
+            return true;
+        }
+    }
+    false
 }
 
 /// The first option that the program doesn't have.
-fn first_unknown(words: &[String]) -> Option<&str> {
+fn first_unknown(words: &[String]) -> Option<&str>
+    ensures { MatchOption result (spec.first_unknown (map string_bytes words.now) ≡ None) (λ word. spec.first_unknown (map string_bytes words.now) ≡ Some word.now) }
+{
     for word in words {
-        let word = word.as_str();
-        if is_option(word) && !is_known(word) {
-            return Some(word);
+        if is_unknown(word.as_str()) {
+            return Some(word.as_str());
         }
     }
     None
 }
 
-/// The names among arguments, of which those from index `leading` on are names whatever they begin
-/// with, but for the first `--`.
-fn names_of(
+/// The names among arguments: those before the first `--` that aren't options, and those after it.
+fn names_of<'a>(
     alloc: Global,
-    leading: &[String],
-    trailing: &[String],
-) -> Result<Vec<&str>, AllocError> {
+    leading: &'a [String],
+    trailing: &'a [String],
+) -> Result<Vec<&'a str>, AllocError> {
     let mut names = Vec::new(alloc);
     for word in leading {
         if !is_option(word.as_str()) {
@@ -84,7 +110,22 @@ fn names_of(
     Ok(names)
 }
 
-/// What arguments ask for. An unknown option comes before all else, and then `--help`.
+/// Which reports arguments ask for.
+fn reports<'a>(
+    alloc: Global,
+    leading: &'a [String],
+    trailing: &'a [String],
+) -> Result<Reports<'a>, AllocError> {
+    let names = names_of(alloc, leading, trailing)?;
+    Ok(Reports {
+        check: has(leading, "--check"),
+        json: has(leading, "--json"),
+        quiet: has(leading, "--quiet"),
+        names,
+    })
+}
+
+/// What arguments ask for. An unknown option comes before all else, then `--help`, then `--version`.
 pub fn request(alloc: Global, arguments: &[String]) -> Result<Request<'_>, AllocError> {
     let count = leading_count(arguments);
     let leading = &arguments[..count];
@@ -98,10 +139,5 @@ pub fn request(alloc: Global, arguments: &[String]) -> Result<Request<'_>, Alloc
     if has(leading, "--version") {
         return Ok(Request::Version);
     }
-    Ok(Request::Reports(Reports {
-        check: has(leading, "--check"),
-        json: has(leading, "--json"),
-        quiet: has(leading, "--quiet"),
-        names: names_of(alloc, leading, trailing)?,
-    }))
+    Ok(Request::Reports(reports(alloc, leading, trailing)?))
 }
