@@ -1,5 +1,5 @@
 -- The pieces of JSON strings that characters are written as.
-use Rattle.std.proofs.Common.{◌≡◌, ◌∙◌, ℕ, ◌<◌, ◌≤◌, ◌⊎◌, inl, inr, Bool, true, false, ◌&&◌, ◌||◌, not, ◌==◌, nat_lt, List, [], ◌∷◌, ◌++◌, map, ap, refl, subst, sym, arith}
+use Rattle.std.proofs.Common.{◌≡◌, ◌∙◌, ℕ, ◌<◌, ◌≤◌, ◌⊎◌, inl, inr, Bool, true, false, ◌&&◌, ◌||◌, not, ◌==◌, nat_le, nat_lt, List, [], ◌∷◌, ◌++◌, map, ap, refl, subst, sym, arith}
 use Rattle.std.specs.List.{flat_map, list_all}
 use Rattle.std.proofs.lemmas.Bool.{agree_below_at, and_from, cond_both, eqb-true, le-leb, ltb-false, ltb-true, not_from_false, or_cases, or_parts}
 use Rattle.starlark_reports.specs.JsonStrings.{Coded, Itself, Lettered, Piece, coded, is_piece, json_char, meaning, piece_of, piece_text}
@@ -23,8 +23,9 @@ coded_fits c low = (
 
 itself_fits : (c : ℕ) → 32 ≤ c → (c == 34) || (c == 92) ≡ false → Fits c (Itself c)
 itself_fits c high other =
-    let parts = or_parts _ _ other in
-    (and_from _ _ (le-leb 32 c high) (and_from _ _ (not_from_false _ parts.0) (not_from_false _ parts.1)), refl)
+    let parts = or_parts (c == 34) (c == 92) other in
+    let front = and_from (nat_le 32 c) (not (c == 34)) (le-leb 32 c high) (not_from_false (c == 34) parts.0) in
+    (and_from (nat_le 32 c && not (c == 34)) (not (c == 92)) front (not_from_false (c == 92) parts.1), refl)
 
 pub piece_fits : (c : ℕ) → Fits c (piece_of c)
 piece_fits c =

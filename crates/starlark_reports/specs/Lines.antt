@@ -1,10 +1,11 @@
 -- Lines of tokens and faults: for people, as JSON, and with the line of the source.
-use Rattle.std.specs.Prelude.{ℕ, ◌+◌, ◌-◌, max, Bool, ◌&&◌, not, ◌==◌, if◌then◌else◌, List, [], ◌∷◌, ◌++◌, map, length, take, drop, codes, replicate}
+use Rattle.std.specs.Prelude.{ℕ, ◌+◌, ◌-◌, max, Bool, ◌&&◌, not, ◌==◌, if◌then◌else◌, List, [], ◌∷◌, ◌++◌, map, length, take, drop, codes, count_by, encode_utf8, replicate, slice_index}
 use Rattle.std.specs.Fmt.{decimal}
 use Rattle.std.specs.List.{after_last, flat_map, prefix_len}
-use Rattle.std.specs.Str.{chars, encode_utf8}
+use Rattle.std.specs.Str.{chars}
 use Rattle.starlark_base.specs.Places.{Text, is_lf, place_at, place_text}
 use Rattle.starlark_base.specs.declared.codemap.resolved.ResolvedPos.{ResolvedPos}
+use Rattle.starlark_text.specs.Characters.{starts_character}
 use Rattle.starlark_reports.specs.Positions.{utf16_column}
 use Rattle.starlark_reports.specs.PythonLiterals.{is_hidden, one_line}
 use Rattle.starlark_reports.specs.declared.position.Position.{Position}
@@ -54,7 +55,7 @@ source_text part = flat_map source_char (chars part)
 
 -- a text without the CR at its end, if it has one
 abbrev pub without_cr : Text → Text
-without_cr text = if ends_with nat_eq text (codes "\r") then take (length text - 1) text else text
+without_cr text = if slice_index text (length text - 1) == 13 then take (length text - 1) text else text
 
 -- carets: so many, but at least one
 abbrev pub carets : ℕ → Text
@@ -64,11 +65,20 @@ carets count = replicate (max 1 count) 94
 abbrev pub below : ℕ → Text
 below c = (if c == 9 then 9 else 32) ∷ []
 
--- The lines of a fault: its place and message, the line of the source, and carets below the fault's
--- characters on that line: at least one. `front` and `back` are that line before the fault and from
--- it on, and `len` is the fault's length.
+-- the line of a fault's place and message
+unfoldable pub fault_line : (prefix : Text) → ResolvedPos → (message : Text) → Text
+fault_line prefix place message = prefix ++ (place_text place ++ (codes ": " ++ (one_line message ++ codes "\n")))
+
+-- the line of the source, by what is before the fault and from it on
+unfoldable pub source_line : (front back : Text) → Text
+source_line front back = source_text front ++ (source_text (without_cr back) ++ codes "\n")
+
+-- the line with carets below the characters that begin in the fault on that line: at least one
+unfoldable pub caret_line : (front back : Text) → (len : ℕ) → Text
+caret_line front back len = flat_map below (chars front) ++ (carets (count_by starts_character (take len back)) ++ codes "\n")
+
+-- The lines of a fault: its place and message, the line of the source, and carets. `front` and `back`
+-- are that line before the fault and from it on, and `len` is the fault's length.
 unfoldable pub fault_lines : (prefix : Text) → ResolvedPos → (message front back : Text) → (len : ℕ) → Text
 fault_lines prefix place message front back len =
-    prefix ++ (place_text place ++ (codes ": " ++ (one_line message ++ (codes "\n"
-    ++ (source_text front ++ (source_text (without_cr back) ++ (codes "\n"
-    ++ (flat_map below (chars front) ++ (carets (length (chars (take len back))) ++ codes "\n")))))))))
+    fault_line prefix place message ++ (source_line front back ++ caret_line front back len)

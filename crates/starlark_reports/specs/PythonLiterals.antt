@@ -1,8 +1,8 @@
 -- Texts and bytes as Python writes them: in quotes, on one line.
-use Rattle.std.specs.Prelude.{ℕ, ◌/◌, ◌%◌, ◌+◌, ◌*◌, Bool, true, false, ◌&&◌, ◌||◌, not, ◌==◌, nat_lt, nat_le, if◌then◌else◌, List, [], ◌∷◌, ◌++◌, map, codes}
+use Rattle.std.specs.Prelude.{ℕ, ◌/◌, ◌%◌, ◌+◌, ◌*◌, Bool, true, false, ◌&&◌, ◌||◌, not, ◌==◌, nat_lt, nat_le, if◌then◌else◌, List, [], ◌∷◌, ◌++◌, codes, encode_utf8, map}
 use Rattle.std.specs.Char.{digit_char}
-use Rattle.std.specs.List.{flat_map, list_any}
-use Rattle.std.specs.Str.{chars, encode_utf8, encode_utf8_all}
+use Rattle.std.specs.List.{flat_map, list_all, list_any}
+use Rattle.std.specs.Str.{chars}
 use Rattle.starlark_base.specs.Places.{Text}
 
 -- the number is between two others, or is one of them
@@ -75,6 +75,10 @@ quoted_bytes bytes = 98 ∷ quote_of bytes ∷ (flat_map (quoted_byte (quote_of 
 abbrev pub is_plain : ℕ → Bool
 is_plain c = not (is_hidden c || c == 34 || c == 39 || c == 92)
 
+-- all characters are plain
+abbrev pub are_plain : List ℕ → Bool
+are_plain characters = list_all is_plain characters
+
 -- a name: as it is if it has only plain characters, or else in quotes
 unfoldable pub shown_name : Text → Text
-shown_name name = if list_any (λ c. not (is_plain c)) (chars name) then quoted name else name
+shown_name name = if are_plain (chars name) then name else quoted name

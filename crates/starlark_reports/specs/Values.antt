@@ -1,5 +1,5 @@
 -- Values of tokens, for people and as JSON.
-use Rattle.std.specs.Prelude.{ℕ, ◌^◌, Bool, true, false, nat_lt, ◌==◌, if◌then◌else◌, [], ◌∷◌, ◌++◌, codes, Option, Some, None}
+use Rattle.std.specs.Prelude.{ℕ, ◌^◌, Bool, true, false, nat_lt, ◌==◌, if◌then◌else◌, [], ◌∷◌, ◌++◌, codes, Option, Some, None, is_some}
 use Rattle.std.specs.Fmt.{decimal, sign_text, signed_decimal}
 use Rattle.std.specs.List.{flat_map}
 use Rattle.std.specs.Str.Parse.{digits_value}
@@ -11,21 +11,37 @@ use Rattle.starlark_token.specs.TokenViews.{TokenView, Whole}
 use Rattle.starlark_reports.specs.JsonStrings.{json_string}
 use Rattle.starlark_reports.specs.PythonLiterals.{hex_pair, quoted, quoted_bytes}
 
--- the value of a literal's digits fits in 53 bits, as each number of JSON's usual readers does
+-- a value if it fits in 53 bits, as each number of JSON's usual readers does
+abbrev pub if_exact : ℕ → Option ℕ
+if_exact value = if nat_lt value (2 ^ 53) then Some value else None
+
+-- the value of digits if it fits in 53 bits
+unfoldable pub exact_value : (base : ℕ) → (digits : Text) → Option ℕ
+exact_value base digits = if_exact (digits_value base digits)
+
+-- an integer that fits in 53 bits
 unfoldable pub is_exact : Integer → Bool
 is_exact (Small value) = true
-is_exact (Big is_negative digits base) = nat_lt (digits_value base digits) (2 ^ 53)
+is_exact (Big is_negative digits base) = is_some (exact_value base digits)
 
 -- what is before the digits of a base
 abbrev pub base_prefix : ℕ → Text
 base_prefix base =
     if base == 16 then codes "0x" else (if base == 8 then codes "0o" else (if base == 2 then codes "0b" else []))
 
--- an integer: decimal if it fits in 53 bits, or else its digits in their base
+-- a value in decimal if there is one, or else the digits in their base
+abbrev pub decimal_or : Option ℕ → (base : ℕ) → (digits : Text) → Text
+decimal_or (Some value) base digits = decimal value
+decimal_or None base digits = base_prefix base ++ digits
+
+-- an integer that doesn't fit in 32 bits: decimal if it fits in 53 bits, or else its digits
+abbrev pub shown_big : Bool → (base : ℕ) → (digits : Text) → Text
+shown_big is_negative base digits = sign_text is_negative ++ decimal_or (exact_value base digits) base digits
+
+-- an integer
 unfoldable pub shown_integer : Integer → Text
 shown_integer (Small value) = signed_decimal value
-shown_integer (Big is_negative digits base) =
-    sign_text is_negative ++ (if nat_lt (digits_value base digits) (2 ^ 53) then decimal (digits_value base digits) else base_prefix base ++ digits)
+shown_integer (Big is_negative digits base) = shown_big is_negative base digits
 
 -- the value of a token for people, if it has one
 abbrev pub readable_value : grammar.Token → Option Text
@@ -57,11 +73,15 @@ in_quotes text = 34 ∷ (text ++ 34 ∷ [])
 abbrev pub hex : Text → Text
 hex bytes = flat_map hex_pair bytes
 
+-- an integer as JSON: a number if it fits in 53 bits, or else a string
+abbrev pub json_integer : Integer → Text
+json_integer value = if is_exact value then shown_integer value else in_quotes (shown_integer value)
+
 -- the value of a token as JSON, if it has one
 abbrev pub json_value : grammar.Token → Option Text
 json_value (grammar.Comment text) = Some (json_string text)
 json_value (grammar.Identifier name) = Some (json_string name)
-json_value (grammar.Int value) = Some (if is_exact value then shown_integer value else in_quotes (shown_integer value))
+json_value (grammar.Int value) = Some (json_integer value)
 json_value (grammar.Float text) = Some (json_string text)
 json_value (grammar.String value) = Some (json_string value)
 json_value (grammar.Bytes value) = Some (in_quotes (hex value))

@@ -5,16 +5,17 @@ ghost use Rattle.std.specs.List.{flat_map};
 ghost use Rattle.std.specs.Str.{chars};
 ghost use Rattle.starlark_reports.specs.JsonStrings as spec;
 
-use crate::python_literals::push_hex_pair;
+use crate::python_literals::{push_ascii, push_hex_pair};
 use std::alloc::AllocError;
 
 /// Appends a character as a string of JSON has it.
+#[tactic(auto, unfolding(crate::specs::JsonStrings::json_char))]
 fn push_json_char(line: &mut String, character: char) -> Result<(), AllocError>
     ensures { OnOk result (string_bytes line.new ≡ string_bytes line.old ++ spec.json_char character) }
 {
     if character == '"' || character == '\\' {
-        line.push('\\')?;
-        return line.push(character);
+        push_ascii(line, '\\')?;
+        return push_ascii(line, character);
     }
     match character {
         '\t' => line.push_str("\\t"),
@@ -39,10 +40,11 @@ fn push_json_chars(line: &mut String, text: &str) -> Result<(), AllocError>
 }
 
 /// Appends a text as a string of JSON.
+#[tactic(auto, unfolding(crate::specs::JsonStrings::json_string))]
 pub fn push_json_string(line: &mut String, text: &str) -> Result<(), AllocError>
     ensures { OnOk result (string_bytes line.new ≡ string_bytes line.old ++ spec.json_string text.now) }
 {
-    line.push('"')?;
+    push_ascii(line, '"')?;
     push_json_chars(line, text)?;
-    line.push('"')
+    push_ascii(line, '"')
 }

@@ -11,7 +11,7 @@ use starlark_base::codemap::ResolvedPos;
 use starlark_text::character_starts::count_characters;
 
 /// A position in a text: its byte, line and column, and the characters of two UTF-16 units.
-#[derive(Clone, Copy, Debug, PartialEq, Eq)]
+#[derive(Clone, Copy)]
 pub struct Position {
     /// The offset, in bytes.
     pub at: usize,

@@ -1,6 +1,8 @@
 //! Makes the lines of the tokens and faults of one text.
 
-ghost use Rattle.std.specs.Prelude.{◌≡◌, ◌≤◌, IfOk, OnOk, string_bytes};
+ghost use Rattle.std.specs.Prelude.{◌≡◌, ◌≤◌, ◌++◌, IfOk, OnOk, codes, string_bytes};
+ghost use Rattle.starlark_reports.specs.JsonStrings.{json_string};
+ghost use Rattle.starlark_reports.specs.PythonLiterals.{shown_name};
 ghost use Rattle.std.specs.Str.{IsCharBoundary};
 ghost use Rattle.starlark_reports.specs.Inner.Reporters.{IsReady, Keeps};
 ghost use Rattle.starlark_reports.specs.Positions.{IsPosition, position_at};
@@ -32,7 +34,9 @@ pub struct Reporter<'t> {
 }
 
 /// A name before each line, for people.
-fn named_prefix(alloc: Global, name: &str) -> Result<String, AllocError> {
+fn named_prefix(alloc: Global, name: &str) -> Result<String, AllocError>
+    ensures { IfOk result (λ prefix. string_bytes prefix ≡ shown_name name.now ++ codes ":") }
+{
     let mut prefix = String::new(alloc);
     push_name(&mut prefix, name)?;
     prefix.push_str(":")?;
@@ -40,7 +44,9 @@ fn named_prefix(alloc: Global, name: &str) -> Result<String, AllocError> {
 }
 
 /// The begin of each object of JSON, up to the kind.
-fn json_prefix(alloc: Global, name: &str) -> Result<String, AllocError> {
+fn json_prefix(alloc: Global, name: &str) -> Result<String, AllocError>
+    ensures { IfOk result (λ prefix. string_bytes prefix ≡ codes "{\"file\":" ++ (json_string name.now ++ codes ",\"kind\":\"")) }
+{
     let mut prefix = String::from_str(alloc, "{\"file\":")?;
     push_json_string(&mut prefix, name)?;
     prefix.push_str(",\"kind\":\"")?;

@@ -1,13 +1,14 @@
 //! Values of tokens, for people and as JSON.
 
-ghost use Rattle.std.specs.Prelude.{◌≡◌, ◌++◌, OnOk, string_bytes};
+ghost use Rattle.std.specs.Prelude.{◌≡◌, ◌++◌, ◌∷◌, OnOk, codes, string_bytes};
+ghost use Rattle.starlark_reports.specs.PythonLiterals.{quoted, quoted_bytes};
 ghost use Rattle.starlark_reports.specs.Values as spec;
 ghost use Rattle.starlark_run.specs.Output.{quotes_name};
 ghost use Rattle.starlark_token.specs.TokenInts.{integer_view};
 ghost use Rattle.starlark_token.specs.TokenViews.{fstring_quote_view, token_view};
 
 use crate::json_strings::push_json_string;
-use crate::python_literals::{push_hex_pair, push_quoted, push_quoted_bytes};
+use crate::python_literals::{push_ascii, push_hex_pair, push_quoted, push_quoted_bytes};
 use starlark_token::big_int::BigInt;
 use starlark_token::fstring_style::FStringQuote;
 use starlark_token::token_int::TokenInt;
@@ -17,10 +18,21 @@ use std::alloc::AllocError;
 /// The least number that 53 bits don't hold.
 const INEXACT: u64 = 9_007_199_254_740_992;
 
+/// A value, if it fits in 53 bits.
+fn if_exact(value: u64) -> Option<u64>
+    ensures { result ≡ spec.if_exact value }
+{
+    if value < INEXACT { Some(value) } else { None }
+}
+
 /// The value of a number's digits, if it fits in 53 bits.
-fn exact_value(number: &BigInt) -> Option<u64> {
-    let value = u64::from_str_radix(number.digits(), number.radix()).ok()?;
-    (value < INEXACT).then_some(value)
+fn exact_value(number: &BigInt) -> Option<u64>
+    ensures { result ≡ spec.exact_value number.now.radix number.now.digits }
+{
+    match u64::from_str_radix(number.digits(), number.radix()) {
+        Ok(value) => if_exact(value),
+        Err(_) => None,
+    }
 }
 
 /// What is before the digits of a base.
@@ -35,22 +47,28 @@ fn base_prefix(base: u32) -> &'static str
     }
 }
 
+/// Appends what is before the digits of a base, and the digits.
+fn push_digits(line: &mut String, number: &BigInt) -> Result<(), AllocError>
+    ensures { OnOk result (string_bytes line.new ≡ string_bytes line.old ++ (spec.base_prefix number.now.radix ++ number.now.digits)) }
+{
+    line.push_str(base_prefix(number.radix()))?;
+    line.push_str(number.digits())
+}
+
 /// Appends an integer that doesn't fit in 32 bits: decimal if it fits in 53 bits, or else its
 /// digits in their base.
-fn push_big(line: &mut String, number: &BigInt) -> Result<(), AllocError> {
-    if number.is_negative() {
-        line.push('-')?;
-    }
+fn push_big(line: &mut String, number: &BigInt) -> Result<(), AllocError>
+    ensures { OnOk result (string_bytes line.new ≡ string_bytes line.old ++ spec.shown_big number.now.is_negative number.now.radix number.now.digits) }
+{
+    line.push_str(if number.is_negative() { "-" } else { "" })?;
     match exact_value(number) {
         Some(value) => write!(line, "{value}"),
-        None => {
-            line.push_str(base_prefix(number.radix()))?;
-            line.push_str(number.digits())
-        }
+        None => push_digits(line, number),
     }
 }
 
 /// Appends an integer.
+#[tactic(auto, unfolding(crate::specs::Values::shown_integer))]
 fn push_integer(line: &mut String, number: &TokenInt) -> Result<(), AllocError>
     ensures { OnOk result (string_bytes line.new ≡ string_bytes line.old ++ spec.shown_integer (integer_view number.now)) }
 {
@@ -61,6 +79,7 @@ fn push_integer(line: &mut String, number: &TokenInt) -> Result<(), AllocError>
 }
 
 /// Whether an integer fits in 53 bits.
+#[tactic(auto, unfolding(crate::specs::Values::is_exact))]
 fn is_exact(number: &TokenInt) -> bool
     ensures { result ≡ spec.is_exact (integer_view number.now) }
 {
@@ -71,13 +90,15 @@ fn is_exact(number: &TokenInt) -> bool
 }
 
 /// Appends an integer as JSON: a number if it fits in 53 bits, or else a string.
-fn push_json_integer(line: &mut String, number: &TokenInt) -> Result<(), AllocError> {
+fn push_json_integer(line: &mut String, number: &TokenInt) -> Result<(), AllocError>
+    ensures { OnOk result (string_bytes line.new ≡ string_bytes line.old ++ spec.json_integer (integer_view number.now)) }
+{
     if is_exact(number) {
         return push_integer(line, number);
     }
-    line.push('"')?;
+    push_ascii(line, '"')?;
     push_integer(line, number)?;
-    line.push('"')
+    push_ascii(line, '"')
 }
 
 /// Appends each byte as two hexadecimal digits.
@@ -94,9 +115,9 @@ fn push_hex(line: &mut String, bytes: &[u8]) -> Result<(), AllocError>
 fn push_json_bytes(line: &mut String, bytes: &[u8]) -> Result<(), AllocError>
     ensures { OnOk result (string_bytes line.new ≡ string_bytes line.old ++ spec.in_quotes (spec.hex bytes.now)) }
 {
-    line.push('"')?;
+    push_ascii(line, '"')?;
     push_hex(line, bytes)?;
-    line.push('"')
+    push_ascii(line, '"')
 }
 
 /// The name of an f-string's quotes.
@@ -112,20 +133,26 @@ fn quotes_of(quote: FStringQuote) -> &'static str
 }
 
 /// Appends a space and a text in quotes.
-fn push_text(line: &mut String, text: &str) -> Result<(), AllocError> {
-    line.push(' ')?;
+fn push_text(line: &mut String, text: &str) -> Result<(), AllocError>
+    ensures { OnOk result (string_bytes line.new ≡ string_bytes line.old ++ 32 ∷ quoted text.now) }
+{
+    push_ascii(line, ' ')?;
     push_quoted(line, text)
 }
 
 /// Appends a space and bytes in quotes.
-fn push_bytes(line: &mut String, bytes: &[u8]) -> Result<(), AllocError> {
-    line.push(' ')?;
+fn push_bytes(line: &mut String, bytes: &[u8]) -> Result<(), AllocError>
+    ensures { OnOk result (string_bytes line.new ≡ string_bytes line.old ++ 32 ∷ quoted_bytes bytes.now) }
+{
+    push_ascii(line, ' ')?;
     push_quoted_bytes(line, bytes)
 }
 
 /// Appends a space and an integer.
-fn push_number(line: &mut String, number: &TokenInt) -> Result<(), AllocError> {
-    line.push(' ')?;
+fn push_number(line: &mut String, number: &TokenInt) -> Result<(), AllocError>
+    ensures { OnOk result (string_bytes line.new ≡ string_bytes line.old ++ 32 ∷ spec.shown_integer (integer_view number.now)) }
+{
+    push_ascii(line, ' ')?;
     push_integer(line, number)
 }
 
@@ -146,6 +173,13 @@ pub fn push_readable(line: &mut String, token: &Token) -> Result<(), AllocError>
     }
 }
 
+/// Appends `null`.
+fn push_null(line: &mut String) -> Result<(), AllocError>
+    ensures { OnOk result (string_bytes line.new ≡ string_bytes line.old ++ codes "null") }
+{
+    line.push_str("null")
+}
+
 /// Appends the value of a token as JSON: `null` if it has none.
 pub fn push_json_value(line: &mut String, token: &Token) -> Result<(), AllocError>
     ensures { OnOk result (string_bytes line.new ≡ string_bytes line.old ++ spec.json_of (token_view token.now)) }
@@ -159,6 +193,6 @@ pub fn push_json_value(line: &mut String, token: &Token) -> Result<(), AllocErro
         Token::String(text) => push_json_string(line, text.as_str()),
         Token::FStringText(text) => push_json_string(line, text.as_str()),
         Token::Bytes(bytes) => push_json_bytes(line, bytes.as_slice()),
-        _ => line.push_str("null"),
+        _ => push_null(line),
     }
 }

@@ -9,7 +9,7 @@ mod runs;
 mod sources;
 mod totals;
 
-use crate::requests::{Request, request};
+use crate::requests::{Request, asked};
 use crate::runs::run;
 use crate::totals::TROUBLE;
 use std::process::ExitCode;
@@ -60,7 +60,7 @@ fn print_text(rt: &HostRuntime, text: &str) -> u8 {
 /// Does what the arguments ask for, and returns the exit status.
 fn answer(rt: &HostRuntime) -> io::Result<u8> {
     let words = arguments(rt)?;
-    match request(rt.alloc(), words.as_slice())? {
+    match asked(rt.alloc(), words.as_slice())? {
         Request::Unknown(option) => {
             runs::say(rt, option, &"unknown option; --help lists them");
             Ok(TROUBLE)

@@ -2,11 +2,12 @@
 
 ghost use Rattle.std.specs.Prelude.{◌≡◌, ◌++◌, IfOk, MatchOption, None, Some, codes, map, string_bytes};
 ghost use Rattle.starlark_tokens.specs.Requests as spec;
+ghost use Rattle.starlark_tokens.specs.Requests.{Asks};
 
 use std::alloc::{AllocError, Global};
 
 /// What the arguments ask for.
-#[derive(Debug, Drop, PartialEq)]
+#[derive(Drop)]
 pub enum Request<'a> {
     /// An option that the program doesn't have.
     Unknown(&'a str),
@@ -19,7 +20,7 @@ pub enum Request<'a> {
 }
 
 /// Which reports are asked for.
-#[derive(Debug, Drop, PartialEq)]
+#[derive(Drop)]
 pub struct Reports<'a> {
     /// Whether faults alone are reported.
     pub check: bool,
@@ -111,7 +112,7 @@ fn names_of<'a>(
 }
 
 /// Which reports arguments ask for.
-fn reports<'a>(
+fn wanted<'a>(
     alloc: Global,
     leading: &'a [String],
     trailing: &'a [String],
@@ -126,7 +127,9 @@ fn reports<'a>(
 }
 
 /// What arguments ask for. An unknown option comes before all else, then `--help`, then `--version`.
-pub fn request(alloc: Global, arguments: &[String]) -> Result<Request<'_>, AllocError> {
+pub fn asked(alloc: Global, arguments: &[String]) -> Result<Request<'_>, AllocError>
+    ensures { IfOk result (Asks (map string_bytes arguments.now)) }
+{
     let count = leading_count(arguments);
     let leading = &arguments[..count];
     let trailing = arguments.get(count + 1..).unwrap_or(&[]);
@@ -139,5 +142,5 @@ pub fn request(alloc: Global, arguments: &[String]) -> Result<Request<'_>, Alloc
     if has(leading, "--version") {
         return Ok(Request::Version);
     }
-    Ok(Request::Reports(reports(alloc, leading, trailing)?))
+    Ok(Request::Reports(wanted(alloc, leading, trailing)?))
 }

@@ -10,7 +10,7 @@ pub const TROUBLE: u8 = 2;
 const FAULTY: u8 = 1;
 
 /// What was found in the files so far.
-#[derive(Clone, Copy, Debug, PartialEq, Eq)]
+#[derive(Clone, Copy)]
 pub struct Totals {
     /// How many files were read.
     pub files: usize,

@@ -4,7 +4,7 @@ use Rattle.std.specs.Str.{chars}
 use Rattle.std.proofs.lemmas.Iterator.{YieldsList-from_chars}
 use Rattle.std.proofs.lemmas.Iterator.Consumers.{YieldsList-end}
 use Rattle.std.proofs.lemmas.List.{flat_map_more, map-id}
-use Rattle.starlark_reports.specs.PythonLiterals.{line_char}
+use Rattle.starlark_reports.specs.PythonLiterals.{line_char, one_line}
 use Rattle.starlark_reports.proofs.python_literals.push_one_line.Goals as goal
 
 pub loop-character-preserved : goal.loop-character-preserved
@@ -14,6 +14,7 @@ loop-character-preserved c =
     ∙ flat_map_more (line_char) (string_bytes c.args.line.now) c.loop-character.yielded c.in-Some.character
 
 pub returns : goal.returns
+unfolding one_line
 returns c =
     let all = YieldsList-end (YieldsList-from_chars c.args.text.now c.utf8.text cc) c.loop-character.yielded _ c.loop-character.yielded_by _ _ c.in-None.is c.next.ensures.steps in
     c.loop-character.invariant

@@ -30,6 +30,6 @@ returns c =
     let at = c.args.self.at in
     let placed = c.place_after.ensures (take at text) (IsUtf8-take text at c.utf8.text c.requires.here.boundary) (sym (ap (λ (p : Position). p.place) c.requires.here.known)) in
     let paired = c.pairs_after.ensures (take at text) (sym (ap (λ (p : Position). p.pairs) c.requires.here.known)) in
-    let place = sym (rw c.range.ensures.value at placed) ∙ place_onward text at c.args.to c.requires.onward in
-    let pairs = sym (rw c.range.ensures.value at paired) ∙ pairs_onward text at c.args.to c.requires.onward in
+    let place = sym (rw c.range-passed.ensures.value at placed) ∙ place_onward text at c.args.to c.requires.onward in
+    let pairs = sym (rw c.range-passed.ensures.value at paired) ∙ pairs_onward text at c.args.to c.requires.onward in
     rw (place, pairs) refl
