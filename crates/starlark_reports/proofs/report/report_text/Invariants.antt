@@ -9,12 +9,12 @@ use Rattle.starlark_reports.proofs.report.report_text.Given as goal
 abbrev pub invariant-loop-item : goal.invariant-loop-item
 invariant-loop-item g l = record {
   ready : IsReady l.reporter;
-  form : l.reporter.form ≡ l.form;
-  text : l.reporter.text.now ≡ l.text;
-  prefix : string_bytes l.reporter.prefix ≡ prefix_of l.form l.name;
-  source : l.reader.text ≡ l.text;
-  written : (done : Text) × Appends (g.W.contents l.fn.writer) (g.W.contents l.writer) done × (done ++ items_report l.form (prefix_of l.form l.name) l.text l.reader.left ≡ report l.form l.name l.text);
-  counted : min (l.faults + count_by is_fault l.reader.left) (2 ^ 64 - 1) ≡ min (fault_count l.text) (2 ^ 64 - 1);
+  form : l.reporter.form ≡ l.fn.form;
+  text : l.reporter.text.now ≡ l.fn.text;
+  prefix : string_bytes l.reporter.prefix ≡ prefix_of l.fn.form l.fn.name;
+  source : l.reader.text ≡ l.fn.text;
+  written : (done : Text) × Appends (g.W.Write.contents l.fn.writer) (g.W.Write.contents l.writer) done × (done ++ items_report l.fn.form (prefix_of l.fn.form l.fn.name) l.fn.text l.reader.left ≡ report l.fn.form l.fn.name l.fn.text);
+  counted : min (l.faults + count_by is_fault l.reader.left) (2 ^ 64 - 1) ≡ min (fault_count l.fn.text) (2 ^ 64 - 1);
 }
 
 abbrev pub decreases-loop-item : goal.decreases-loop-item
