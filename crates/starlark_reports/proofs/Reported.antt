@@ -1,7 +1,8 @@
 -- What a reader of items answers, by the items that are left.
-use Rattle.std.proofs.Common.{◌≡◌, ℕ, ◌+◌, ◌<◌, ◌≤◌, List, [], ◌∷◌, ◌++◌, length, drop, refl, ap, append_assoc, append-nil, sym, subst, ◌∙◌, arith, None, Some, Ok, Err, slice_get}
+use Rattle.std.proofs.lemmas.List.Sums.{sum_by-append}
+use Rattle.std.proofs.Common.{◌≡◌, cond, min, ℕ, ◌+◌, ◌<◌, ◌≤◌, List, [], ◌∷◌, ◌++◌, length, drop, refl, ap, append_assoc, append-nil, sym, subst, ◌∙◌, arith, None, Some, Ok, Err, slice_get}
 use Rattle.std.specs.Io.KnownBytes.{Appends}
-use Rattle.std.specs.Prelude.{Option, string_bytes}
+use Rattle.std.specs.Prelude.{IsSome, Option, Result, count_by, string_bytes}
 use Rattle.starlark_base.specs.Diagnostics.{Diagnosed, place_in}
 use Rattle.starlark_base.specs.Places.{Text}
 use Rattle.starlark_base.specs.Sources.{SourceFile}
@@ -12,19 +13,22 @@ use Rattle.starlark_grammar.specs.Tokens.{Fault, Spanned}
 use Rattle.starlark_run.specs.Output.{message_of}
 use Rattle.starlark_syntax.specs.Errors.{kind_text, message_text}
 use Rattle.starlark_syntax.specs.Exceptions.{IsException}
-use Rattle.starlark_syntax.specs.Lexer.{AnswersNext}
+use Rattle.starlark_syntax.specs.Lexer.{Answers, AnswersNext}
 use Rattle.starlark_syntax.specs.declared.error.kinds.ErrorKind.{ErrorKind}
 use Rattle.starlark_syntax.specs.declared.error.kinds.ErrorKind.TheVariants.{Parser}
 use Rattle.starlark_syntax.specs.declared.error.kinds.ParserMessage.TheVariants as message
+use Rattle.starlark_text.specs.declared.or_memory.OrMemory.{OrMemory}
 use Rattle.starlark_text.specs.declared.or_memory.OrMemory.TheVariants as refusal
 use Rattle.starlark_token.specs.FaultTexts.{fault_text}
 use Rattle.starlark_token.specs.Lexemes.{fault_view, lexeme_view}
-use Rattle.starlark_token.specs.TextItems.{Given, LexerItem, Refused}
+use Rattle.starlark_token.specs.TokenViews.{TokenView, token_view}
+use Rattle.starlark_token.specs.TextItems.{Given, LexerItem, Refused, items}
 use Rattle.starlark_token.specs.declared.lexeme_error.LexemeError.{LexemeError}
 use Rattle.starlark_token.specs.declared.lexeme_error.LexemeError.TheVariants as error
 use Rattle.starlark_token.specs.declared.tokens.Token.{Token}
 use Rattle.starlark_reports.specs.declared.form.Form.{Form}
-use Rattle.starlark_reports.specs.Reports.{fault_count, is_fault, item_report, items_report}
+use Rattle.starlark_reports.specs.Positions.{position_at}
+use Rattle.starlark_reports.specs.Reports.{fault_count, fault_report, is_fault, item_report, items_report, prefix_of, report, token_report}
 
 -- what an error of the lexer is printed as
 message_is : (error : LexemeError) (node : Fault) → fault_view error ≡ Some node → kind_text (Parser (message.Lexeme error)) ≡ message_of node
@@ -42,41 +46,53 @@ message_is error.CommentSpanComputedIncorrectly node e = cc
 message_is (error.CannotParse text base) node e = cc
 message_is error.UnfinishedFStringExpression node e = let same : token.UnfinishedFStringExpression ≡ node = cc in subst (λ n. kind_text (Parser (message.Lexeme error.UnfinishedFStringExpression)) ≡ message_of n) same refl
 
--- a lexeme that is answered is the next item
-pub next_given : (file : SourceFile) (left : List LexerItem) (found : ℕ × Token × ℕ) → AnswersNext file (slice_get left 0) (Some (Ok found)) → left ≡ Given (lexeme_view found) ∷ drop 1 left
-next_given file [] found answers = absurd answers
-next_given file (Given lexeme ∷ more) found answers = ap (λ x. Given x ∷ more) (sym answers)
-next_given file (Refused fault ∷ more) found answers = absurd answers
+-- what is printed of an item that was answered as a lexeme
+pub given_report : (form : Form) (prefix text : Text) (file : SourceFile) (next : LexerItem) (found : ℕ × Token × ℕ) → Answers file next (Ok found) → item_report form prefix text next ≡ token_report form prefix (position_at text found.0) (position_at text found.2) (token_view found.1)
+unfolding item_report
+given_report form prefix text file (Given lexeme) found answers = ap (λ (l : Spanned TokenView). token_report form prefix (position_at text l.begin) (position_at text l.end) l.node) (sym answers)
+given_report form prefix text file (Refused fault) found answers = absurd answers
+
+pub given_count : (file : SourceFile) (next : LexerItem) (found : ℕ × Token × ℕ) → Answers file next (Ok found) → 0 ≡ count_by is_fault (next ∷ [])
+given_count file (Given lexeme) found answers = refl
+given_count file (Refused fault) found answers = absurd answers
+
+-- what is printed of an item that was answered as an exception
+fault_is : (form : Form) (prefix text : Text) (file : SourceFile) (fault : Spanned Fault) (exception : Diagnosed ErrorKind) (place : FileSpan) → IsException file fault exception → exception.span ≡ Some place → item_report form prefix text (Refused fault) ≡ fault_report form prefix text (position_at text place.span.begin) (position_at text place.span.end) (kind_text exception.value)
+unfolding item_report
+fault_is form prefix text file fault exception place thrown known =
+    let span : ByteSpan = record { begin = fault.begin; end = fault.end } in
+    let there : Some place ≡ Some (place_in file span) = sym known ∙ ap (λ (d : Diagnosed ErrorKind). d.span) thrown.2 in
+    let at : place ≡ place_in file span = cc in
+    let said : kind_text exception.value ≡ message_of fault.node = ap (λ (d : Diagnosed ErrorKind). kind_text d.value) thrown.2 ∙ message_is thrown.0 fault.node thrown.1 in
+    rw (at, said) refl
+
+pub refused_report : (form : Form) (prefix text : Text) (file : SourceFile) (next : LexerItem) (exception : Diagnosed ErrorKind) (place : FileSpan) → Answers file next (Err (refusal.Error exception)) → exception.span ≡ Some place → item_report form prefix text next ≡ fault_report form prefix text (position_at text place.span.begin) (position_at text place.span.end) (kind_text exception.value)
+refused_report form prefix text file (Given lexeme) exception place answers known = absurd answers
+refused_report form prefix text file (Refused fault) exception place answers known = fault_is form prefix text file fault exception place answers known
+
+pub refused_count : (file : SourceFile) (next : LexerItem) (exception : Diagnosed ErrorKind) → Answers file next (Err (refusal.Error exception)) → 1 ≡ count_by is_fault (next ∷ [])
+refused_count file (Given lexeme) exception answers = absurd answers
+refused_count file (Refused fault) exception answers = refl
+
+-- an exception has a span
+pub thrown_span : (file : SourceFile) (next : LexerItem) (exception : Diagnosed ErrorKind) → Answers file next (Err (refusal.Error exception)) → IsSome exception.span
+thrown_span file (Given lexeme) exception answers = absurd answers
+thrown_span file (Refused fault) exception answers = rw answers.2 cc
+
+-- the item that was answered, and those after it
+pub record IsNext (file : SourceFile) (left : List LexerItem) (answer : Result (ℕ × Token × ℕ) (OrMemory (Diagnosed ErrorKind))) : Type 0 where
+  pub next : LexerItem
+  pub is : left ≡ next ∷ drop 1 left
+  pub answers : Answers file next answer
+
+pub next_item : (file : SourceFile) (left : List LexerItem) (answer : Result (ℕ × Token × ℕ) (OrMemory (Diagnosed ErrorKind))) → AnswersNext file (slice_get left 0) (Some answer) → IsNext file left answer
+next_item file [] answer answers = absurd answers
+next_item file (item ∷ more) answer answers = record { next = item; is = refl; answers = answers }
 
 -- where nothing is answered nothing is left
 pub next_none : (file : SourceFile) (left : List LexerItem) → AnswersNext file (slice_get left 0) None → left ≡ []
 next_none file [] answers = refl
-next_none file (Given lexeme ∷ more) answers = absurd answers
-next_none file (Refused fault ∷ more) answers = absurd answers
-
--- an exception that is answered is that of the next item, which is a fault
-pub record IsNextFault (left : List LexerItem) (exception : Diagnosed ErrorKind) (place : FileSpan) : Type 0 where
-  pub fault : Spanned Fault
-  pub left : left ≡ Refused fault ∷ drop 1 left
-  pub span : place.span ≡ record { begin = fault.begin; end = fault.end }
-  pub message : kind_text exception.value ≡ message_of fault.node
-
-fault_of : (file : SourceFile) (fault : Spanned Fault) (more : List LexerItem) (exception : Diagnosed ErrorKind) (place : FileSpan) → IsException file fault exception → exception.span ≡ Some place → IsNextFault (Refused fault ∷ more) exception place
-fault_of file fault more exception place thrown known =
-    let span : ByteSpan = record { begin = fault.begin; end = fault.end } in
-    let there : Some place ≡ Some (place_in file span) = sym known ∙ ap (λ (d : Diagnosed ErrorKind). d.span) thrown.2 in
-    let at : place ≡ place_in file span = cc in
-    record {
-      fault = fault;
-      left = refl;
-      span = ap (λ (p : FileSpan). p.span) at;
-      message = ap (λ (d : Diagnosed ErrorKind). kind_text d.value) thrown.2 ∙ message_is thrown.0 fault.node thrown.1;
-    }
-
-pub next_fault : (file : SourceFile) (left : List LexerItem) (exception : Diagnosed ErrorKind) (place : FileSpan) → AnswersNext file (slice_get left 0) (Some (Err (refusal.Error exception))) → exception.span ≡ Some place → IsNextFault left exception place
-next_fault file [] exception place answers known = absurd answers
-next_fault file (Given lexeme ∷ more) exception place answers known = absurd answers
-next_fault file (Refused fault ∷ more) exception place answers known = fault_of file fault more exception place answers known
+next_none file (item ∷ more) answers = absurd answers
 
 -- known bytes grow by a text, and then by another
 pub appends_then : (a b c : Option Text) (s t : Text) → Appends a b s → Appends b c t → Appends a c (s ++ t)
@@ -97,3 +113,18 @@ report_cons form prefix text item more = refl
 pub report_nil : (form : Form) (prefix text : Text) → items_report form prefix text [] ≡ []
 unfolding items_report
 report_nil form prefix text = refl
+
+-- a count that stops at the greatest number, and what is still to count
+pub saturated : (f n r most : ℕ) → min (min (f + n) most + r) most ≡ min (f + (n + r)) most
+saturated f n r most = omega arith
+
+pub count_cons : (item : LexerItem) (more : List LexerItem) → count_by is_fault (item ∷ more) ≡ count_by is_fault (item ∷ []) + count_by is_fault more
+count_cons item more = sum_by-append (λ x. cond (is_fault x) 1 0) (item ∷ []) more
+
+pub count_all : (text : Text) → fault_count text ≡ count_by is_fault (items text)
+unfolding fault_count
+count_all text = refl
+
+pub report_all : (form : Form) (name text : Text) → report form name text ≡ items_report form (prefix_of form name) text (items text)
+unfolding report
+report_all form name text = refl

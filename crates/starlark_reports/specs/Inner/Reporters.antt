@@ -14,7 +14,7 @@ pub record IsReady (reporter : Reporter) : Type 0 where
 -- form, text and prefix are those of before
 pub record Keeps (old new : Reporter) : Type 0 where
   pub form : new.form ≡ old.form
-  pub text : new.text ≡ old.text
+  pub text : new.text.now ≡ old.text.now
   pub prefix : string_bytes new.prefix ≡ string_bytes old.prefix
 
 -- the form leaves tokens out

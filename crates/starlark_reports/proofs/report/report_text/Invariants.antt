@@ -1,4 +1,4 @@
-use Rattle.std.proofs.Common.{◌≡◌, ◌+◌, ◌-◌, ◌^◌, ◌++◌, count_by, length, min, string_bytes}
+use Rattle.std.proofs.Common.{◌≡◌, ◌+◌, ◌-◌, ◌^◌, ◌++◌, ◌≤◌, count_by, length, min, string_bytes}
 use Rattle.std.specs.Io.KnownBytes.{Appends}
 use Rattle.starlark_base.specs.Places.{Text}
 use Rattle.starlark_reports.specs.Inner.Reporters.{IsReady}
@@ -14,6 +14,7 @@ invariant-loop-item g l = record {
   prefix : string_bytes l.reporter.prefix ≡ prefix_of l.fn.form l.fn.name;
   source : l.reader.text ≡ l.fn.text;
   written : (done : Text) × Appends (g.W.Write.contents l.fn.writer) (g.W.Write.contents l.writer) done × (done ++ items_report l.fn.form (prefix_of l.fn.form l.fn.name) l.fn.text l.reader.left ≡ report l.fn.form l.fn.name l.fn.text);
+  fits : l.faults ≤ 2 ^ 64 - 1;
   counted : min (l.faults + count_by is_fault l.reader.left) (2 ^ 64 - 1) ≡ min (fault_count l.fn.text) (2 ^ 64 - 1);
 }
 
