@@ -208,7 +208,7 @@ def ended(form, named_texts):
 
 STORED = [
     ("tokens", "tokens", ["values.star"]), ("named", "named", ["BUILD", "faults.bzl"]), ("json", "json", ["values.star"]),
-    ("check", "check", ["BUILD", "faults.bzl"]), ("check_json", "check json", ["faults.bzl"]),
+    ("check", "check", ["BUILD", "faults.bzl", "quotes.bzl", "zero.bzl"]), ("check_json", "check json", ["faults.bzl"]),
 ]
 
 
