@@ -1,7 +1,9 @@
 //! What the arguments of the program ask for.
 
-ghost use Rattle.std.specs.Prelude.{◌≡◌, ◌≤◌, length};
+ghost use Rattle.std.specs.Prelude.{◌≡◌, ◌≤◌, IfOk, length, map, string_bytes};
+ghost use Rattle.std.specs.Option.{option_map};
 ghost use Rattle.starlark_tokens.specs.Requests as spec;
+ghost use Rattle.starlark_tokens.specs.Requests.{Asks, Wants};
 
 use std::alloc::{AllocError, Global};
 
@@ -33,7 +35,8 @@ pub struct Reports<'a> {
 
 /// Number of arguments before the first `--`.
 fn leading_count(arguments: &[String]) -> usize
-    ensures { result ≤ length arguments.now }
+    ensures within { result ≤ length arguments.now }
+    ensures value { result ≡ spec.leading_count (map string_bytes arguments.now) }
 {
     for (index, word) in arguments.iter().enumerate() {
         if word.as_str() == "--" {
@@ -69,7 +72,9 @@ fn is_unknown(word: &str) -> bool
 }
 
 /// Whether an option is among arguments.
-fn has(words: &[String], option: &str) -> bool {
+fn has(words: &[String], option: &str) -> bool
+    ensures { result ≡ spec.is_among option.now (map string_bytes words.now) }
+{
     for word in words {
         if word.as_str() == option {
             return true;
@@ -79,7 +84,9 @@ fn has(words: &[String], option: &str) -> bool {
 }
 
 /// The first option that the program doesn't have.
-fn first_unknown(words: &[String]) -> Option<&str> {
+fn first_unknown(words: &[String]) -> Option<&str>
+    ensures { option_map (λ word. word.now) result ≡ spec.first_unknown (map string_bytes words.now) }
+{
     for word in words {
         if is_unknown(word.as_str()) {
             return Some(word.as_str());
@@ -93,15 +100,17 @@ fn names_of<'a>(
     alloc: Global,
     leading: &'a [String],
     trailing: &'a [String],
-) -> Result<Vec<&'a str>, AllocError> {
+) -> Result<Vec<&'a str>, AllocError>
+    ensures { IfOk result (λ names. map (λ name. name.now) names.items ≡ spec.names (map string_bytes leading.now) (map string_bytes trailing.now)) }
+{
     let mut names = Vec::new(alloc);
     for word in leading {
         if !is_option(word.as_str()) {
             names.push(word.as_str())?;
         }
     }
-    for word in trailing {
-        names.push(word.as_str())?;
+    for name in trailing {
+        names.push(name.as_str())?;
     }
     Ok(names)
 }
@@ -111,7 +120,9 @@ fn wanted<'a>(
     alloc: Global,
     leading: &'a [String],
     trailing: &'a [String],
-) -> Result<Reports<'a>, AllocError> {
+) -> Result<Reports<'a>, AllocError>
+    ensures { IfOk result (Wants (map string_bytes leading.now) (map string_bytes trailing.now)) }
+{
     let names = names_of(alloc, leading, trailing)?;
     Ok(Reports {
         check: has(leading, "--check"),
@@ -121,11 +132,16 @@ fn wanted<'a>(
     })
 }
 
-/// What arguments ask for. An unknown option comes before all else, then `--help`, then `--version`.
-pub fn asked(alloc: Global, arguments: &[String]) -> Result<Request<'_>, AllocError> {
-    let count = leading_count(arguments);
-    let leading = &arguments[..count];
-    let trailing = arguments.get(count.saturating_add(1)..).unwrap_or(&[]);
+/// What arguments ask for, by those before the first `--` and those after it.
+///
+/// An unknown option comes before all else, then `--help`, then `--version`.
+fn asked_by<'a>(
+    alloc: Global,
+    leading: &'a [String],
+    trailing: &'a [String],
+) -> Result<Request<'a>, AllocError>
+    ensures { IfOk result (Asks (map string_bytes leading.now) (map string_bytes trailing.now)) }
+{
     if let Some(option) = first_unknown(leading) {
         return Ok(Request::Unknown(option));
     }
@@ -135,5 +151,13 @@ pub fn asked(alloc: Global, arguments: &[String]) -> Result<Request<'_>, AllocEr
     if has(leading, "--version") {
         return Ok(Request::Version);
     }
-    Ok(Request::Reports(wanted(alloc, leading, trailing)?))
+    let reports = wanted(alloc, leading, trailing)?;
+    Ok(Request::Reports(reports))
+}
+
+/// What arguments ask for.
+pub fn asked(alloc: Global, arguments: &[String]) -> Result<Request<'_>, AllocError> {
+    let count = leading_count(arguments);
+    let trailing = arguments.get(count.saturating_add(1)..).unwrap_or(&[]);
+    asked_by(alloc, &arguments[..count], trailing)
 }
