@@ -15,6 +15,7 @@ import ast
 import json
 import os
 import random
+import re
 import resource
 import subprocess
 import sys
@@ -116,7 +117,9 @@ def json_line(name, text, item):
         "file": name, "kind": kind, "begin": begin, "end": end, "line": line, "column": column, "end_line": end_line,
         "end_column": end_column, "utf16_column": len(front.encode("utf-16-le")) // 2 + 1, "value": value,
     }
-    return json.dumps(fields, ensure_ascii=False, separators=(",", ":"))
+    written = json.dumps(fields, ensure_ascii=False, separators=(",", ":"))
+    # These two controls have short forms too, which Python takes.
+    return re.sub(r"\\([bf\\])", lambda match: {"b": "\\u0008", "f": "\\u000c"}.get(match[1], match[0]), written)
 
 
 def readable_line(prefix, text, item):
