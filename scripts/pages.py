@@ -6,7 +6,8 @@
 
 Two things are compared. Behind a line `<!-- PATH -->` stands a block of code: the file of that path, but for the comment
 that it begins with. A line `    $ printf 'TEXT' | ./starlark_lex NAME` shows a run: the indented lines behind it are what the
-program prints. Runs are left out where the program isn't built; it isn't built here.
+program prints. A line `    $ ./starlark_tokens ..` does so too, with what goes to standard error, unless it has `jq`, `git` or
+a folder of the reader's. Runs are left out where the program isn't built; it isn't built here.
 """
 
 import re
@@ -18,6 +19,9 @@ TOP = Path(__file__).resolve().parent.parent
 PROGRAM = TOP / "crates/starlark_lex/out/starlark_lex"
 FILE = re.compile(r"<!-- (crates/\S+) -->\n```(\w*)\n(.*?)```\n", re.DOTALL)
 RUN = re.compile(r"^    \$ printf ('[^']*') \| \./starlark_lex( \w+)?\n((?:    (?!\$).*\n)*)", re.MULTILINE)
+
+TOKENS_PROGRAM = TOP / "crates/starlark_tokens/out/starlark_tokens"
+TOKENS_RUN = re.compile(r"^    \$ (?!.*(?:jq|git|FILE|FOLDER))((?:printf '[^']*' \| )?\./starlark_tokens.*)\n((?:    (?!\$).*\n)*)", re.MULTILINE)
 
 
 def code_of(path):
@@ -43,10 +47,19 @@ def with_run(match):
     return f"    $ printf {text} | ./starlark_lex{name or ''}\n{lines}"
 
 
+def with_tokens_run(match):
+    """A run of starlark_tokens as a terminal shows it."""
+    command = match[1].replace("./starlark_tokens", str(TOKENS_PROGRAM), 1)
+    answer = subprocess.run(["sh", "-c", f"{{ {command}; }} 2>&1"], cwd=TOP, capture_output=True, text=True, check=False)
+    lines = "".join(f"    {line}\n" if line else "\n" for line in answer.stdout.splitlines())
+    return f"    $ {match[1]}\n{lines}"
+
+
 def as_it_is(page):
     """A page with the code and the runs that the repository has."""
     page = FILE.sub(with_file, page)
-    return RUN.sub(with_run, page) if PROGRAM.exists() else page
+    page = RUN.sub(with_run, page) if PROGRAM.exists() else page
+    return TOKENS_RUN.sub(with_tokens_run, page) if TOKENS_PROGRAM.exists() else page
 
 
 def main():
@@ -62,8 +75,9 @@ def main():
         else:
             differing += 1
             print(f"{path.relative_to(TOP)} shows something else than the repository has")
-    if not PROGRAM.exists():
-        print("the runs were left out: the program isn't built")
+    for program in (PROGRAM, TOKENS_PROGRAM):
+        if not program.exists():
+            print(f"the runs of {program.name} were left out: it isn't built")
     return 1 if differing else 0
 
 

@@ -1,0 +1,5 @@
+pub mod Pairs
+pub mod JsonPieces
+pub mod ExactValues
+pub mod Left
+pub mod Reported

@@ -1,0 +1,3 @@
+-- What only contracts of inner functions, and proofs, speak of.
+pub mod ItemReaders
+pub mod Reporters

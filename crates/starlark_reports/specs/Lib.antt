@@ -1,0 +1,7 @@
+pub mod PythonLiterals
+pub mod JsonStrings
+pub mod Values
+pub mod Positions
+pub mod Lines
+pub mod Reports
+pub mod Inner
