@@ -7,23 +7,23 @@ use std::fmt;
 /// The kind of a fault.
 #[derive(Clone, Copy, Debug, PartialEq, Eq, Hash)]
 pub enum FaultKind {
-    /// A line's margin ends no block that is open.
+    /// A line closes a block, and is as wide as no open one.
     Indentation,
-    /// No token begins here.
+    /// No token starts so.
     InvalidInput,
-    /// A tab where none may be.
+    /// A tab between words, at the end of a line, or in an indentation.
     InvalidTab,
-    /// A string literal has no end.
+    /// A literal or the text of an f-string has no end.
     UnfinishedStringLiteral,
-    /// An escape sequence means no character.
+    /// An escape sequence that means nothing, such as `\x4`.
     InvalidEscapeSequence,
-    /// The text ends after the `\` of an escape sequence.
+    /// A backslash at the end of the text, in a literal.
     EmptyEscapeSequence,
     /// A reserved word, such as `class`.
     ReservedKeyword,
     /// An integer with a leading zero, such as `01`.
     StartsZero,
-    /// An expression of an f-string has no `}`.
+    /// A text literal in an expression of an f-string has no end, as in `f'{"a`.
     UnfinishedFStringExpression,
 }
 

@@ -12,7 +12,7 @@ const MOST_VALUES: usize = 1 << 26;
 /// A token with its bytes in the text.
 #[derive(Clone, Debug, PartialEq, Eq, Hash)]
 pub struct Lexeme<'a> {
-    /// Its bytes. An `Indent`, a `Dedent` and the last `Newline` may have none.
+    /// Its bytes. A `Dedent` and the `Newline` at the end of a text have none.
     pub span: Span,
     /// The token, with its value.
     pub token: Token<'a>,
