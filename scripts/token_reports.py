@@ -1,5 +1,5 @@
 #!/usr/bin/env python3
-"""Compares what starlark_tokens prints with plain reports, made here over the lexer of fuzz.py.
+"""Compares what starlark_tokens prints with plain reports, made here over the lexer of recovered_texts.py.
 
     scripts/token_reports.py [--count N] [--seed N] [--program PROGRAM] [--write]
 
@@ -23,7 +23,8 @@ import tempfile
 from pathlib import Path
 from typing import NamedTuple
 
-from fuzz import line_and_column, outcome, random_text
+from fuzz import line_and_column, random_text
+from recovered_texts import items_of
 from refused_memory import built
 
 TOP = Path(__file__).resolve().parent.parent
@@ -100,12 +101,12 @@ def json_value(lexeme):
 
 
 def items(text):
-    """The lexemes of a text as (begin, end, kind, value for people, value), and its faults likewise."""
-    lexemes, fault = outcome(text)
-    for lexeme in lexemes:
-        yield lexeme.begin, lexeme.end, lexeme.kind, readable(lexeme), json_value(lexeme)
-    if fault:
-        yield fault.begin, fault.end, "Fault", " " + quoted(fault.message), fault.message
+    """All lexemes and faults of a text, in order, as (begin, end, kind, value for people, value)."""
+    for what, item in items_of(text):
+        if what == "fault":
+            yield item.begin, item.end, "Fault", " " + quoted(item.message), item.message
+        else:
+            yield item.begin, item.end, item.kind, readable(item), json_value(item)
 
 
 def json_line(name, text, item):
@@ -247,8 +248,9 @@ def random_runs(tester, count, seed):
             found = tester.run(OPTIONS[form], text)
             tester.compare(f"{form} of {text!r}", found, ended(form, [("<stdin>", text)]))
             if form == "tokens":
-                pairs = zip(found.stdout.splitlines(), outcome(text)[0])
-                tester.compare(f"values of {text!r}", all(is_read_back(*pair) for pair in pairs), True)
+                pairs = zip(found.stdout.splitlines(), items_of(text))
+                values = [is_read_back(line, item) for line, (what, item) in pairs if what == "lexeme"]
+                tester.compare(f"values of {text!r}", all(values), True)
             if "json" in form:
                 for line in found.stdout.split("\n")[:-1]:
                     json.loads(line)
@@ -260,7 +262,9 @@ def option_runs(tester):
     tester.compare("--help", (usage.status, usage.stderr, usage.stdout.startswith("usage: starlark_tokens ")), (0, "", True))
     version = f"starlark_tokens {(TOP / 'VERSION').read_text().strip()}\n"
     tester.compare("--version", tester.run(["--version"]), Ended(0, version, ""))
-    x_line, fault = "1:1-1:2 Identifier 'x'\n1:2-2:1 Newline\n2:1-2:1 Newline\n", "1:1-1:2 Fault 'Parse error: invalid input `!`'\n"
+    x_line = "1:1-1:2 Identifier 'x'\n1:2-2:1 Newline\n2:1-2:1 Newline\n"
+    fault = "1:1-1:2 Fault 'Parse error: invalid input `!`'\n1:2-1:2 Newline\n"
+    shown_fault = "<stdin>:%d:1: Parse error: invalid input `!`\n!\n^\n"
     rows = [
         ([], b"x\n", 0, x_line, ""),
         (["-"], b"x\n", 0, x_line, ""),
@@ -271,7 +275,8 @@ def option_runs(tester):
         ([], b"!", 1, fault, ""),
         (["--check"], b"x\n", 0, "", "0 faults in 0 of 1 files\n"),
         (["--check", "--quiet"], b"x\n", 0, "", ""),
-        (["--quiet", "--check"], b"!", 1, "<stdin>:1:1: Parse error: invalid input `!`\n!\n^\n", ""),
+        (["--quiet", "--check"], b"!", 1, shown_fault % 1, ""),
+        (["--check"], b"!\n!", 1, shown_fault % 1 + shown_fault % 2, "2 faults in 1 of 1 files\n"),
         (["--chekc"], b"x\n", 2, "", "starlark_tokens: --chekc: unknown option; --help lists them\n"),
         (["-x", "--help"], b"x\n", 2, "", "starlark_tokens: -x: unknown option; --help lists them\n"),
         (["--check", "--json="], b"x\n", 2, "", "starlark_tokens: --json=: unknown option; --help lists them\n"),

@@ -1,5 +1,4 @@
 pub mod Pairs
 pub mod JsonPieces
 pub mod ExactValues
-pub mod Left
 pub mod Reported

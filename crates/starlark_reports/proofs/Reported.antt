@@ -1,4 +1,4 @@
--- What a reader of items answers, by the items that are left.
+-- What a lexer answers, by the items that are left.
 use Rattle.std.proofs.lemmas.List.Sums.{sum_by-append}
 use Rattle.std.proofs.Common.{◌≡◌, cond, min, ℕ, ◌+◌, ◌<◌, ◌≤◌, List, [], ◌∷◌, ◌++◌, length, drop, refl, ap, append_assoc, append-nil, sym, subst, ◌∙◌, arith, None, Some, Ok, Err, slice_get}
 use Rattle.std.specs.Io.KnownBytes.{Appends}
@@ -10,6 +10,7 @@ use Rattle.starlark_base.specs.Spans.{ByteSpan}
 use Rattle.starlark_base.specs.declared.codemap.file_span.FileSpan.{FileSpan}
 use Rattle.starlark_grammar.specs.Tokens as token
 use Rattle.starlark_grammar.specs.Tokens.{Fault, Spanned}
+use Rattle.starlark_recovery.specs.RecoveringLexer.{all_items}
 use Rattle.starlark_run.specs.Output.{message_of}
 use Rattle.starlark_syntax.specs.Errors.{kind_text, message_text}
 use Rattle.starlark_syntax.specs.Exceptions.{IsException}
@@ -22,7 +23,7 @@ use Rattle.starlark_text.specs.declared.or_memory.OrMemory.TheVariants as refusa
 use Rattle.starlark_token.specs.FaultTexts.{fault_text}
 use Rattle.starlark_token.specs.Lexemes.{fault_view, lexeme_view}
 use Rattle.starlark_token.specs.TokenViews.{TokenView, token_view}
-use Rattle.starlark_token.specs.TextItems.{Given, LexerItem, Refused, items}
+use Rattle.starlark_token.specs.TextItems.{Given, LexerItem, Refused}
 use Rattle.starlark_token.specs.declared.lexeme_error.LexemeError.{LexemeError}
 use Rattle.starlark_token.specs.declared.lexeme_error.LexemeError.TheVariants as error
 use Rattle.starlark_token.specs.declared.tokens.Token.{Token}
@@ -121,10 +122,10 @@ saturated f n r most = omega arith
 pub count_cons : (item : LexerItem) (more : List LexerItem) → count_by is_fault (item ∷ more) ≡ count_by is_fault (item ∷ []) + count_by is_fault more
 count_cons item more = sum_by-append (λ x. cond (is_fault x) 1 0) (item ∷ []) more
 
-pub count_all : (text : Text) → fault_count text ≡ count_by is_fault (items text)
+pub count_all : (text : Text) → fault_count text ≡ count_by is_fault (all_items text)
 unfolding fault_count
 count_all text = refl
 
-pub report_all : (form : Form) (name text : Text) → report form name text ≡ items_report form (prefix_of form name) text (items text)
+pub report_all : (form : Form) (name text : Text) → report form name text ≡ items_report form (prefix_of form name) text (all_items text)
 unfolding report
 report_all form name text = refl

@@ -1,3 +1,2 @@
 -- What only contracts of inner functions, and proofs, speak of.
-pub mod ItemReaders
 pub mod Reporters

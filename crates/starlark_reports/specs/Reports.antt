@@ -3,8 +3,9 @@ use Rattle.std.specs.Prelude.{ℕ, ◌-◌, Bool, true, false, [], ◌∷◌, �
 use Rattle.std.specs.List.{flat_map}
 use Rattle.starlark_base.specs.Places.{Text}
 use Rattle.starlark_grammar.specs.Tokens as grammar
+use Rattle.starlark_recovery.specs.RecoveringLexer.{all_items}
 use Rattle.starlark_run.specs.Output.{message_of}
-use Rattle.starlark_token.specs.TextItems.{LexerItem, Given, Refused, items}
+use Rattle.starlark_token.specs.TextItems.{LexerItem, Given, Refused}
 use Rattle.starlark_token.specs.TokenTexts.{kind_of}
 use Rattle.starlark_token.specs.TokenViews.{TokenView}
 use Rattle.starlark_reports.specs.JsonStrings.{json_string}
@@ -50,9 +51,9 @@ item_report form prefix text (Refused fault) = fault_report form prefix text (po
 unfoldable pub items_report : Form → (prefix text : Text) → List LexerItem → Text
 items_report form prefix text list = flat_map (item_report form prefix text) list
 
--- what is printed of a text: its items, in order
+-- what is printed of a text: all its tokens and faults, in order
 unfoldable pub report : Form → (name text : Text) → Text
-report form name text = items_report form (prefix_of form name) text (items text)
+report form name text = items_report form (prefix_of form name) text (all_items text)
 
 -- whether an item is a fault
 abbrev pub is_fault : LexerItem → Bool
@@ -61,4 +62,4 @@ is_fault (Refused fault) = true
 
 -- how many faults a text has
 unfoldable pub fault_count : Text → ℕ
-fault_count text = count_by is_fault (items text)
+fault_count text = count_by is_fault (all_items text)

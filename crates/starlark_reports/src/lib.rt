@@ -5,7 +5,6 @@
 mod fault_lines;
 mod form;
 mod item_lines;
-mod item_reader;
 pub mod json_strings;
 pub mod laws;
 mod position;

@@ -3,18 +3,19 @@
 ghost use Rattle.std.specs.Prelude.{◌≡◌, ◌-◌, ◌<◌, ◌^◌, List, [], ◌∷◌, IfOk, IsSome, OnOk, Some, count_by, drop, length, min, string_bytes};
 ghost use Rattle.std.specs.Io.KnownBytes.{Appends};
 ghost use Rattle.starlark_base.specs.Sources.{SourceFile};
-ghost use Rattle.starlark_reports.specs.Inner.ItemReaders.{left_after};
+ghost use Rattle.starlark_recovery.specs.RecoveringLexer.{all_items, left_after};
 ghost use Rattle.starlark_reports.specs.Inner.Reporters.{IsReady, Keeps};
 ghost use Rattle.starlark_reports.specs.Reports.{fault_count, is_fault, item_report, report};
 ghost use Rattle.starlark_syntax.specs.Lexer.{Answers, AnswersBetween, AnswersWithin};
 ghost use Rattle.starlark_token.specs.TextItems.{LexerItem};
 
 use crate::form::Form;
-use crate::item_reader::ItemReader;
 use crate::reporter::Reporter;
-use starlark_base::codemap::{FileSpan, OrMemory};
+use starlark_base::codemap::{CodeMap, CodeMapId, FileSpan, OrMemory};
+use starlark_recovery::RecoveringLexer;
 use starlark_syntax::eval_exception::EvalException;
 use starlark_syntax::lexer::Lexeme;
+use starlark_text::dialect::Dialect;
 use std::alloc::{AllocError, Global};
 use std::io;
 use std::io::Write;
@@ -57,6 +58,22 @@ fn report_item(reporter: &mut Reporter<'_>, item: Lexeme) -> Result<usize, Alloc
     }
 }
 
+/// A code map of an empty text, for faults of which only the span's bytes are used.
+fn empty_file(alloc: Global) -> Result<CodeMap, AllocError> {
+    let name = String::new(alloc);
+    CodeMap::new(alloc, CodeMapId::EMPTY, name, String::new(alloc)).map_err(|_| AllocError)
+}
+
+/// A lexer of all items of a text.
+fn lexer_of(alloc: Global, text: &str) -> Result<RecoveringLexer<'_>, AllocError>
+    requires { length text.now < 2 ^ 32 }
+    ensures text { IfOk result (λ lexer. lexer.text ≡ text.now) }
+    ensures left { IfOk result (λ lexer. lexer.left ≡ all_items text.now) }
+{
+    let file = empty_file(alloc)?;
+    RecoveringLexer::new(alloc, text, &Dialect::Extended, file).map_err(|_| AllocError)
+}
+
 /// Prints the report of the text `name` in a form, and returns how many faults it has.
 ///
 /// The text must be shorter than 2^32 bytes. Fails where a write fails, and with `OutOfMemory`
@@ -73,9 +90,9 @@ pub fn report_text<W: Write>(
     ensures counted { IfOk result (λ faults. faults ≡ min (fault_count text.now) (2 ^ 64 - 1)) }
 {
     let mut reporter = Reporter::new(alloc, form, name, text)?;
-    let mut reader = ItemReader::new(alloc, text)?;
+    let mut lexer = lexer_of(alloc, text)?;
     let mut faults: usize = 0;
-    while let Some(item) = reader.next() {
+    while let Some(item) = lexer.next() {
         let count = report_item(&mut reporter, item)?;
         writer.write_all(reporter.lines.as_bytes())?;
         faults = faults.saturating_add(count);

@@ -12,11 +12,11 @@ invariant-loop-item g l = record {
   form : l.reporter.form ≡ l.fn.form;
   text : l.reporter.text.now ≡ l.fn.text;
   prefix : string_bytes l.reporter.prefix ≡ prefix_of l.fn.form l.fn.name;
-  source : l.reader.text ≡ l.fn.text;
-  written : (done : Text) × Appends (g.W.Write.contents l.fn.writer) (g.W.Write.contents l.writer) done × (done ++ items_report l.fn.form (prefix_of l.fn.form l.fn.name) l.fn.text l.reader.left ≡ report l.fn.form l.fn.name l.fn.text);
+  source : l.lexer.text ≡ l.fn.text;
+  written : (done : Text) × Appends (g.W.Write.contents l.fn.writer) (g.W.Write.contents l.writer) done × (done ++ items_report l.fn.form (prefix_of l.fn.form l.fn.name) l.fn.text l.lexer.left ≡ report l.fn.form l.fn.name l.fn.text);
   fits : l.faults ≤ 2 ^ 64 - 1;
-  counted : min (l.faults + count_by is_fault l.reader.left) (2 ^ 64 - 1) ≡ min (fault_count l.fn.text) (2 ^ 64 - 1);
+  counted : min (l.faults + count_by is_fault l.lexer.left) (2 ^ 64 - 1) ≡ min (fault_count l.fn.text) (2 ^ 64 - 1);
 }
 
 abbrev pub decreases-loop-item : goal.decreases-loop-item
-decreases-loop-item g l = length l.reader.left
+decreases-loop-item g l = length l.lexer.left
