@@ -114,6 +114,6 @@ kind_names =
 unfoldable pub kind_name : ℕ → Text
 kind_name kind = get_or kind_names kind []
 
--- a number has the name of each token whose number it is
+-- the name at this number is that of each token which has it
 abbrev pub NamesTokens : ℕ → Type 0
 NamesTokens kind = (token : grammar.Token) → token_number token ≡ kind → kind_name kind ≡ whole_kind token

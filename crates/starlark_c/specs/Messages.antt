@@ -7,7 +7,7 @@ use Rattle.starlark_token.specs.FaultTexts.{fault_text}
 use Rattle.starlark_token.specs.Lexemes.{fault_view}
 use Rattle.starlark_token.specs.declared.lexeme_error.LexemeError.{LexemeError}
 
--- the messages of faults that name a text, each at its number; no fault has the number 0
+-- the messages of faults, each at its number, with the text that the fault names; no fault has the number 0
 unfoldable pub messages : (named : Text) → List Text
 messages named =
     []
@@ -22,11 +22,11 @@ messages named =
     ∷ codes "Parse error: f-string expression is missing closing `}`"
     ∷ []
 
--- the message of the fault with a number, which names a text; empty where no fault has the number
+-- the message of the fault with a number; empty where no fault has it
 unfoldable pub fault_message : ℕ → (named : Text) → Text
 fault_message kind named = get_or (messages named) kind []
 
--- a number and a text have the message that is printed of each error which is a fault of that number, and names that text
+-- the message for this number and text is the one printed of each error whose fault has them
 abbrev pub TellsErrors : ℕ → (named : Text) → Type 0
 TellsErrors kind named =
     (error : LexemeError) (fault : grammar.Fault) → fault_view error ≡ Some fault → fault_number fault ≡ kind → fault_bytes fault ≡ named → fault_message kind named ≡ fault_text error
