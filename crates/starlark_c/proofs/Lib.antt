@@ -5,3 +5,5 @@ pub mod Ends
 pub mod Stops
 pub mod Wanted
 pub mod Lines
+pub mod KindNames
+pub mod ErrorMessages

@@ -1,8 +1,10 @@
--- The numbers of kinds. A number never changes: a new kind gets the next one.
-use Rattle.std.specs.Prelude.{ℕ}
+-- The numbers of kinds, and their names. A number never changes: a new kind gets the next one.
+use Rattle.std.specs.Prelude.{◌≡◌, ℕ, List, [], ◌∷◌, get_or, codes}
 use Rattle.starlark_grammar.specs.Tokens as grammar
 use Rattle.starlark_grammar.specs.declared.class.Terminal.{Terminal}
 use Rattle.starlark_grammar.specs.declared.class.Terminal.TheVariants as terminal
+use Rattle.starlark_grammar.specs.Words.{Text}
+use Rattle.starlark_token.specs.TokenTexts.{whole_kind}
 use Rattle.starlark_token.specs.TokenViews.{TokenView, Whole}
 
 -- the numbers of keywords and symbols
@@ -89,3 +91,29 @@ token_number (grammar.Word terminal) = terminal_number terminal
 unfoldable pub kind_number : TokenView → ℕ
 kind_number (Whole token) = token_number token
 kind_number view = 0
+
+-- the names of kinds, each at its number; no kind has the number 0
+unfoldable pub kind_names : List Text
+kind_names =
+    [] ∷ codes "Comment" ∷ codes "Indent" ∷ codes "Dedent" ∷ codes "Newline" ∷ codes "Identifier" ∷ codes "Int"
+    ∷ codes "Float" ∷ codes "String" ∷ codes "Bytes" ∷ codes "FStringStart" ∷ codes "FStringText"
+    ∷ codes "FStringExprStart" ∷ codes "FStringExprEnd" ∷ codes "FStringBang" ∷ codes "FStringEnd" ∷ codes "And"
+    ∷ codes "Break" ∷ codes "Continue" ∷ codes "Def" ∷ codes "Elif" ∷ codes "Else" ∷ codes "For" ∷ codes "If"
+    ∷ codes "In" ∷ codes "Lambda" ∷ codes "Load" ∷ codes "Not" ∷ codes "Or" ∷ codes "Pass" ∷ codes "Return"
+    ∷ codes "Comma" ∷ codes "Semicolon" ∷ codes "Colon" ∷ codes "PlusEqual" ∷ codes "MinusEqual" ∷ codes "StarEqual"
+    ∷ codes "SlashEqual" ∷ codes "SlashSlashEqual" ∷ codes "PercentEqual" ∷ codes "EqualEqual" ∷ codes "BangEqual"
+    ∷ codes "LessEqual" ∷ codes "GreaterEqual" ∷ codes "StarStar" ∷ codes "MinusGreater" ∷ codes "Equal"
+    ∷ codes "LessThan" ∷ codes "GreaterThan" ∷ codes "Minus" ∷ codes "Plus" ∷ codes "Star" ∷ codes "Percent"
+    ∷ codes "Slash" ∷ codes "SlashSlash" ∷ codes "Dot" ∷ codes "Ampersand" ∷ codes "Pipe" ∷ codes "Caret"
+    ∷ codes "LessLess" ∷ codes "GreaterGreater" ∷ codes "Tilde" ∷ codes "AmpersandEqual" ∷ codes "PipeEqual"
+    ∷ codes "CaretEqual" ∷ codes "LessLessEqual" ∷ codes "GreaterGreaterEqual" ∷ codes "Ellipsis"
+    ∷ codes "OpeningSquare" ∷ codes "OpeningCurly" ∷ codes "OpeningRound" ∷ codes "ClosingSquare"
+    ∷ codes "ClosingCurly" ∷ codes "ClosingRound" ∷ []
+
+-- the name of the kind with a number; empty where no kind has it
+unfoldable pub kind_name : ℕ → Text
+kind_name kind = get_or kind_names kind []
+
+-- the name at this number is that of each token which has it
+abbrev pub NamesTokens : ℕ → Type 0
+NamesTokens kind = (token : grammar.Token) → token_number token ≡ kind → kind_name kind ≡ whole_kind token

@@ -6,11 +6,12 @@
 
 ghost use Rattle.std.specs.Prelude.{◌≡◌, length};
 ghost use Rattle.starlark_c.specs.Endings.{Ends};
+ghost use Rattle.starlark_c.specs.Kinds.{NamesTokens, kind_name};
+ghost use Rattle.starlark_c.specs.Messages.{TellsErrors, fault_message};
 ghost use Rattle.starlark_c.specs.Outcomes.{outcome_record};
 ghost use Rattle.starlark_c.specs.Places.{TellsPlace};
 ghost use Rattle.starlark_c.specs.Written.{IsWritten};
 ghost use Rattle.starlark_c.specs.declared.endings.Ending.{Ending};
-ghost use Rattle.starlark_grammar.specs.Words.{Text};
 
 mod endings;
 mod filling;
@@ -57,18 +58,21 @@ pub extern "C" fn starlark_lex(
 /// Returns the length of the name, which is 0 where no kind has the number.
 #[unsafe(no_mangle)]
 pub extern "C" fn starlark_kind_name(kind: u32, name: &mut [u8]) -> usize
-    ensures { (text : Text) × IsWritten text name.old name.new result }
+    ensures name { IsWritten (kind_name kind) name.old name.new result }
+    ensures tokens { NamesTokens kind }
 {
     write_text(name_of_kind(kind), name)
 }
 
 /// Writes the message of a fault into a buffer, if it has room for it.
 ///
-/// The fault is given by the number of its kind and the text that it names. Returns the length of
-/// the message, which is 0 where no fault has the number.
+/// The fault is given by the number of its kind and the text that it names. The message of a fault
+/// that names none leaves that text out. Returns the length of the message, which is 0 where no
+/// fault has the number.
 #[unsafe(no_mangle)]
 pub extern "C" fn starlark_fault_message(kind: u32, named: &[u8], message: &mut [u8]) -> usize
-    ensures { (text : Text) × IsWritten text message.old message.new result }
+    ensures message { IsWritten (fault_message kind named.now) message.old message.new result }
+    ensures errors { TellsErrors kind named.now }
 {
     write_message(kind, named, message)
 }

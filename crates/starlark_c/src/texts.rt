@@ -1,26 +1,8 @@
 //! Texts that are written into a buffer of the caller: names of kinds, and messages of faults.
 
 ghost use Rattle.std.specs.Prelude.{◌<◌, ◌^◌, ◌++◌, length};
+ghost use Rattle.starlark_c.specs.Messages.{fault_message};
 ghost use Rattle.starlark_c.specs.Written.{IsWritten};
-ghost use Rattle.starlark_grammar.specs.Words.{Text};
-
-/// What the message of each fault begins with, before the text that it names. No fault has the
-/// number 0.
-const FRONTS: [&str; 10] = [
-    "",
-    "Parse error: incorrect indentation",
-    "Parse error: invalid input `",
-    "Parse error: tabs are not allowed",
-    "Parse error: unfinished string literal",
-    "Parse error: invalid string escape sequence `",
-    "Parse error: missing string escape sequence, only saw `\\`",
-    "Parse error: cannot use reserved keyword `",
-    "Parse error: integer cannot have leading 0, got `",
-    "Parse error: f-string expression is missing closing `}`",
-];
-
-/// What the message of each fault ends with, after the text that it names.
-const BACKS: [&str; 10] = ["", "", "`", "", "", "`", "", "`", "`", ""];
 
 /// Writes a text into a buffer, if it has room for it, and returns the text's length.
 pub fn write_text(text: &str, buffer: &mut [u8]) -> usize
@@ -53,13 +35,41 @@ fn write_three(front: &str, middle: &[u8], back: &str, buffer: &mut [u8]) -> usi
 
 /// Writes the message of a fault, by the number of its kind and the text that it names, and returns
 /// the message's length.
+#[tactic(auto, unfolding(crate::specs::Messages::fault_message, crate::specs::Messages::messages))]
 pub fn write_message(kind: u32, named: &[u8], buffer: &mut [u8]) -> usize
-    ensures { (message : Text) × IsWritten message buffer.old buffer.new result }
+    ensures { IsWritten (fault_message kind named.now) buffer.old buffer.new result }
 {
-    let at = kind as usize;
-    if at < FRONTS.len() {
-        write_three(FRONTS[at], named, BACKS[at], buffer)
-    } else {
-        write_text("", buffer)
+    match kind {
+        1 => write_text("Parse error: incorrect indentation", buffer),
+        2 => write_three("Parse error: invalid input `", named, "`", buffer),
+        3 => write_text("Parse error: tabs are not allowed", buffer),
+        4 => write_text("Parse error: unfinished string literal", buffer),
+        5 => write_three(
+            "Parse error: invalid string escape sequence `",
+            named,
+            "`",
+            buffer,
+        ),
+        6 => write_text(
+            "Parse error: missing string escape sequence, only saw `\\`",
+            buffer,
+        ),
+        7 => write_three(
+            "Parse error: cannot use reserved keyword `",
+            named,
+            "`",
+            buffer,
+        ),
+        8 => write_three(
+            "Parse error: integer cannot have leading 0, got `",
+            named,
+            "`",
+            buffer,
+        ),
+        9 => write_text(
+            "Parse error: f-string expression is missing closing `}`",
+            buffer,
+        ),
+        _ => write_text("", buffer),
     }
 }
