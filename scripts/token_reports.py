@@ -13,8 +13,6 @@ built, or are older than a source, are proved and built first. The exit status i
 import argparse
 import ast
 import json
-import os
-import random
 import re
 import resource
 import subprocess
@@ -23,8 +21,8 @@ import tempfile
 from pathlib import Path
 from typing import NamedTuple
 
-from fuzz import line_and_column, random_text
-from recovered_texts import items_of
+from fuzz import line_and_column
+from recovered_texts import items_of, random_texts
 from refused_memory import built
 
 TOP = Path(__file__).resolve().parent.parent
@@ -237,13 +235,7 @@ def is_read_back(line, lexeme):
 
 def random_runs(tester, count, seed):
     """Random texts in each form; each line of JSON is read by Python, and each value for people too."""
-    dice = random.Random(seed)
-    for _ in range(count):
-        text = random_text(dice)
-        try:
-            text.decode()
-        except UnicodeDecodeError:
-            continue
+    for text in random_texts(count, seed):
         for form in ("tokens", "json", "check", "check json"):
             found = tester.run(OPTIONS[form], text)
             tester.compare(f"{form} of {text!r}", found, ended(form, [("<stdin>", text)]))
