@@ -37,12 +37,17 @@ pub fn say<D: Display>(rt: &HostRuntime, name: &str, what: &D) {
     };
 }
 
-/// The exit status where the output can't be written; says why unless its pipe is closed.
+/// The exit status where the output can't be written, or memory ran out for it; says which, unless
+/// the output's pipe is closed.
 pub fn unwritable(rt: &HostRuntime, error: &io::Error) -> u8 {
     if error.kind() == ErrorKind::BrokenPipe {
         return CLOSED_PIPE;
     }
-    let _ = eprintln!(rt; "starlark_tokens: cannot write the output: {error}");
+    let _ = if error.kind() == ErrorKind::OutOfMemory {
+        eprintln!(rt; "starlark_tokens: out of memory")
+    } else {
+        eprintln!(rt; "starlark_tokens: cannot write the output: {error}")
+    };
     TROUBLE
 }
 
