@@ -1,4 +1,5 @@
 pub mod Recovery
+pub mod Joining
 pub mod RecoveryLaws
 pub mod RecoveringLexer
 pub mod Inner

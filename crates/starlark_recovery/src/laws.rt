@@ -2,6 +2,7 @@
 //!
 //! Each law is the contract of a function with an empty body. Programs don't call them.
 
+ghost use Rattle.starlark_recovery.specs.Joining.{ClosedAfterFaults, ClosedOfJoined, ClosedTextsJoin, DecidedFaultsStay};
 ghost use Rattle.starlark_recovery.specs.RecoveryLaws.{FaultlessIsOutcome, FaultlessRecovers, FaultsInOrder, LexemesAfterFaults, LexemesInside, LexesOn, RestartsLater};
 
 /// A text without fault has its outcome alone: its own lexemes, and no faults.
@@ -23,4 +24,18 @@ pub fn found_inside()
     ensures lexemes { LexemesInside }
     ensures later { LexemesAfterFaults }
     ensures faults { FaultsInOrder }
+{}
+
+/// A fault that ends before the last byte of its text, an LF, stays as it is whatever follows, and so
+/// does the line where lexing begins again.
+pub fn decided_faults_stay()
+    ensures { DecidedFaultsStay }
+{}
+
+/// What follows a closed text, and begins with content at the start of a line, is lexed by itself. So
+/// a text can be kept in chunks, each lexed alone.
+pub fn closed_texts_join()
+    ensures recovered { ClosedTextsJoin }
+    ensures closed { ClosedOfJoined }
+    ensures rest { ClosedAfterFaults }
 {}
