@@ -2,7 +2,7 @@
 //!
 //! Each law is the contract of a function with an empty body. Programs don't call them.
 
-ghost use Rattle.starlark_recovery.specs.Joining.{ClosedAfterFaults, ClosedOfJoined, ClosedTextsJoin, DecidedFaultsStay};
+ghost use Rattle.starlark_recovery.specs.Joining.{ClosedAfterFaults, ClosedOfJoined, ClosedTextsJoin, DecidedFaultsStay, LastNewlineCuts, LineCutsJoin, LineCutsOfJoined, NewlinesCut};
 ghost use Rattle.starlark_recovery.specs.RecoveryLaws.{FaultlessIsOutcome, FaultlessRecovers, FaultsInOrder, LexemesAfterFaults, LexemesInside, LexesOn, RestartsLater};
 
 /// A text without fault has its outcome alone: its own lexemes, and no faults.
@@ -30,6 +30,19 @@ pub fn found_inside()
 /// does the line where lexing begins again.
 pub fn decided_faults_stay()
     ensures { DecidedFaultsStay }
+{}
+
+/// A text can be cut between two lines where the second has content at its start: it closes all
+/// blocks, and each part is lexed by itself.
+pub fn line_cuts_join()
+    ensures outcome { LineCutsJoin }
+    ensures cut { LineCutsOfJoined }
+{}
+
+/// A `Newline` ends such a part, where no brackets are open after it.
+pub fn newlines_cut()
+    ensures inside { NewlinesCut }
+    ensures last { LastNewlineCuts }
 {}
 
 /// What follows a closed text, and begins with content at the start of a line, is lexed by itself. So
