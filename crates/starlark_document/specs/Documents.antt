@@ -1,0 +1,65 @@
+-- Documents, as their users see them: texts that change by edits, what is found in them, and what an edit changed.
+use Rattle.std.specs.Prelude.{◌≡◌, ◌≤◌, ◌<◌, ◌+◌, ℕ, Bool, nat_le, List, ◌++◌, map, length, take, drop, Some}
+use Rattle.std.specs.List.{AllByRecursion}
+use Rattle.std.specs.Str.{IsCharBoundary}
+use Rattle.starlark_document.specs.declared.document.Change.{Change}
+use Rattle.starlark_grammar.specs.Tokens as grammar
+use Rattle.starlark_grammar.specs.Words.{Text}
+use Rattle.starlark_recovery.specs.Recovery.{recovered}
+use Rattle.starlark_syntax.specs.declared.error.kinds.ErrorKind.{ErrorKind}
+use Rattle.starlark_syntax.specs.declared.error.kinds.ErrorKind.TheVariants.{Parser}
+use Rattle.starlark_syntax.specs.declared.error.kinds.ParserMessage.TheVariants.{Lexeme}
+use Rattle.starlark_token.specs.declared.lexeme_error.LexemeError.{LexemeError}
+use Rattle.starlark_token.specs.Lexemes.{fault_view, shown_lexeme}
+use Rattle.starlark_token.specs.TokenViews.{TokenView}
+
+-- both offsets lie in the text, in order, and at character boundaries
+abbrev pub IsRange : Text → ℕ → ℕ → Type 0
+IsRange text from to = (from ≤ to) × IsCharBoundary text from × IsCharBoundary text to
+
+-- a text of which the bytes from one offset to another are replaced
+abbrev pub edited : ℕ → ℕ → Text → Text → Text
+edited from to inserted text = take from text ++ (inserted ++ drop to text)
+
+-- all lexemes of a text that is lexed on after its faults, as the code shows them
+abbrev pub lexemes_of : Text → List (grammar.Spanned TokenView)
+lexemes_of text = map shown_lexeme (recovered text).lexemes
+
+-- all faults of a text that is lexed on after its faults
+abbrev pub faults_of : Text → List (grammar.Spanned grammar.Fault)
+faults_of text = (recovered text).faults
+
+-- the span ends at or before an offset
+abbrev pub ends_by : {A : Type 0} → ℕ → grammar.Spanned A → Bool
+ends_by at x = nat_le x.end at
+
+-- the kind of error that a fault of the grammar is
+abbrev pub IsKindOf : grammar.Fault → ErrorKind → Type 0
+IsKindOf fault kind = (error : LexemeError) × (fault_view error ≡ Some fault) × (kind ≡ Parser (Lexeme error))
+
+-- each of the spans lies in a range
+abbrev pub AllInside : {A : Type 0} → ℕ → ℕ → List (grammar.Spanned A) → Type 0
+AllInside begin end spans = AllByRecursion (λ x. (begin ≤ x.begin) × (x.end ≤ end)) spans
+
+-- Before a range two lists of spans are the same, and after it, too, but that they are moved: the range ends at one
+-- offset in the first list, and at another in the second.
+pub record SameOutside {A : Type 0} (begin first_end second_end : ℕ) (first second : List (grammar.Spanned A)) : Type 0 where
+  pub before : List (grammar.Spanned A)
+  pub first_inside : List (grammar.Spanned A)
+  pub second_inside : List (grammar.Spanned A)
+  pub after : List (grammar.Spanned A)
+  pub is_first : first ≡ before ++ (first_inside ++ map (grammar.moved first_end) after)
+  pub is_second : second ≡ before ++ (second_inside ++ map (grammar.moved second_end) after)
+  pub all_before : AllInside 0 begin before
+  pub all_first : AllInside begin first_end first_inside
+  pub all_second : AllInside begin second_end second_inside
+
+-- Outside of the ranges of a change, the lexemes and faults of the new text are those of the old one, and what is after
+-- them has moved with the text. At least the bytes of the new range were lexed.
+pub record IsChange (old new : Text) (change : Change) : Type 0 where
+  pub order : change.begin ≤ change.new_end
+  pub within : change.new_end ≤ length new
+  pub lengths : change.new_end + length old ≡ change.old_end + length new
+  pub lexemes : SameOutside change.begin change.old_end change.new_end (lexemes_of old) (lexemes_of new)
+  pub faults : SameOutside change.begin change.old_end change.new_end (faults_of old) (faults_of new)
+  pub lexed : change.new_end ≤ change.begin + change.lexed

@@ -1,0 +1,4 @@
+-- What only contracts of inner functions, and proofs, speak of.
+pub mod Segments
+pub mod Fronts
+pub mod Parts

@@ -1,0 +1,36 @@
+-- Parts of a document that an edit changes.
+use Rattle.std.specs.Prelude.{◌≡◌, ◌≤◌, ◌<◌, ◌==◌, true, List, ◌++◌, length, take, drop, string_bytes, ◌⊎◌}
+use Rattle.starlark_document.specs.Inner.Segments.{AreLaid, AreOpen, text_of}
+use Rattle.starlark_document.specs.declared.parts.LexedPart.{LexedPart}
+use Rattle.starlark_document.specs.declared.parts.Part.{Part}
+use Rattle.starlark_document.specs.declared.segments.Segment.{Segment}
+use Rattle.starlark_document.specs.declared.segments.SegmentPlace.{SegmentPlace}
+use Rattle.starlark_grammar.specs.Words.{Text}
+use Rattle.starlark_recovery.specs.Joining.{begins_plainly}
+
+-- a segment by its index, and where it begins
+pub record IsPlaceIn (segments : List Segment) (place : SegmentPlace) : Type 0 where
+  pub inside : place.index < length segments
+  pub begin : place.begin ≡ length (text_of (take place.index segments))
+
+-- Segments are replaced: what is before them, the new text, and what is after them are a text.
+pub record IsReplaced (segments : List Segment) (whole : Text) (part : Part) : Type 0 where
+  pub order : part.first.index ≤ part.end
+  pub within : part.end ≤ length segments
+  pub begin : part.first.begin ≡ length (text_of (take part.first.index segments))
+  pub whole : whole ≡ text_of (take part.first.index segments) ++ (string_bytes part.text ++ text_of (drop part.end segments))
+
+-- Segments are replaced, and the new text begins plainly, unless it is the first.
+pub record IsPart (segments : List Segment) (whole : Text) (part : Part) : Type 0 where
+  pub replaced : IsReplaced segments whole part
+  pub plain : (part.first.index ≡ 0) ⊎ (begins_plainly (string_bytes part.text) ≡ true)
+
+-- The segments of a part that was lexed anew, with those that are left after it.
+pub record IsLexedPart (segments : List Segment) (part : Part) (lexed : LexedPart) : Type 0 where
+  pub order : part.end ≤ lexed.end
+  pub within : lexed.end ≤ length segments
+  pub len : lexed.len ≡ length (text_of lexed.segments.items)
+  pub text : string_bytes part.text ++ text_of (drop part.end segments) ≡ text_of lexed.segments.items ++ text_of (drop lexed.end segments)
+  pub open : lexed.end < length segments → AreOpen (part.first.index == 0) lexed.segments.items
+  pub last : lexed.end ≡ length segments → AreLaid (part.first.index == 0) lexed.segments.items
+  pub least : lexed.len ≤ lexed.lexed

@@ -1,0 +1,246 @@
+//! Documents: texts that stay lexed while they are edited.
+
+ghost use Rattle.std.specs.Prelude.{◌≡◌, ◌≤◌, ◌<◌, ◌^◌, ◌↔◌, ◌==◌, ¬, Err, IfOk, IfSome, IsNone, IsTrue, OnErr, OnOk, drop_while, length, slice_range, string_bytes};
+ghost use Rattle.std.specs.Str.{IsCharBoundary};
+ghost use Rattle.starlark_base.specs.Refusals.{IsRefused};
+ghost use Rattle.starlark_document.specs.Documents.{IsChange, IsRange, edited, ends_by, faults_of, lexemes_of};
+ghost use Rattle.starlark_document.specs.Inner.Parts.{IsLexedPart, IsPart};
+ghost use Rattle.starlark_document.specs.Inner.Segments.{AreLaid, text_of};
+ghost use Rattle.starlark_grammar.specs.Words.{Text};
+
+use crate::parts::{LexedPart, Part, append_texts, end_at, lex_part, part_of_edit};
+use crate::segments::{Faults, Lexemes, Segment, SegmentPlace, passed_len, segment_at};
+use starlark_syntax::codemap::{CodeMap, CodeMapId, OrMemory, SourceTooLong};
+use std::alloc::{AllocError, Global};
+use std::marker::Model;
+
+/// A text that stays lexed while it is edited.
+///
+/// Its lexemes and faults are those of lexing the whole text on after its faults, after any edits.
+/// In a contract a document is its text.
+#[derive(Drop)]
+pub struct Document {
+    alloc: Global,
+    file: CodeMap,
+    segments: Vec<Segment>,
+    len: usize,
+    least_len: usize,
+}
+
+impl Model for Document {
+    ghost use Rattle.std.specs.Prelude.{◌≡◌, ◌<◌, ◌^◌, length, true};
+    ghost use Rattle.starlark_document.specs.Inner.Segments.{AreLaid, text_of};
+    ghost use Rattle.starlark_grammar.specs.Words.{Text};
+
+    ghost Value = { Text };
+
+    ghost view = { λ document. text_of document.segments.items };
+
+    ghost invariant = { λ document. AreLaid true document.segments.items
+        × (document.len ≡ length (text_of document.segments.items))
+        × (length (text_of document.segments.items) < 2 ^ 32) };
+}
+
+/// The least length of a segment in bytes, unless it is the only one.
+const SEGMENT_LEN: usize = 2048;
+
+/// What an edit changed. Outside of these ranges all lexemes and faults are the old ones; those after
+/// them are moved.
+#[derive(Clone, Copy)]
+pub struct Change {
+    /// Start of the range, in bytes of either text.
+    pub begin: usize,
+    /// End of the range in the old text.
+    pub old_end: usize,
+    /// End of the range in the new text.
+    pub new_end: usize,
+    /// Number of bytes that were given to the lexer. A byte that was lexed twice counts twice.
+    pub lexed: usize,
+}
+
+/// Why a document refuses an edit.
+#[derive(Clone, Copy)]
+pub enum EditError {
+    /// The offsets aren't in order, or aren't character boundaries of the text.
+    BadRange,
+    /// The text after the edit would have more than 4294967295 bytes.
+    TooLong,
+    /// Memory ran out.
+    Memory,
+}
+
+impl From<AllocError> for EditError {
+    fn from(_error: AllocError) -> EditError {
+        EditError::Memory
+    }
+}
+
+/// A code map of an empty text, for lexers of which only the bytes of a fault's span are used.
+fn empty_file(alloc: Global) -> Result<CodeMap, AllocError> {
+    let name = String::new(alloc);
+    CodeMap::new(alloc, CodeMapId::EMPTY, name, String::new(alloc)).map_err(|_| AllocError)
+}
+
+impl Document {
+    /// A document of a text.
+    ///
+    /// Fails where the text has more than 4294967295 bytes, and else where memory runs out.
+    pub fn new(alloc: Global, text: &str) -> Result<Document, OrMemory<SourceTooLong>>
+        ensures text { IfOk result (λ document. document ≡ text.now) }
+        ensures too_long { IsRefused result ↔ (2 ^ 32 ≤ length text.now) }
+    {
+        Document::with_segment_len(alloc, text, SEGMENT_LEN)
+    }
+
+    /// A document of a text, which is kept in segments of at least `least_len` bytes where it can be.
+    ///
+    /// Shorter segments make an edit faster, and take more memory. Fails as `new` does.
+    pub fn with_segment_len(
+        alloc: Global,
+        text: &str,
+        least_len: usize,
+    ) -> Result<Document, OrMemory<SourceTooLong>>
+        ensures text { IfOk result (λ document. document ≡ text.now) }
+        ensures too_long { IsRefused result ↔ (2 ^ 32 ≤ length text.now) }
+    {
+        if text.len() > u32::MAX as usize {
+            return Err(OrMemory::Error(SourceTooLong));
+        }
+        let file = empty_file(alloc)?;
+        let part = Part {
+            first: SegmentPlace { index: 0, begin: 0 },
+            end: 0,
+            text: String::from_str(alloc, text)?,
+        };
+        let lexed = lex_part(alloc, &file, &[], part, least_len)?;
+        Ok(Document {
+            alloc,
+            file,
+            segments: lexed.segments,
+            len: text.len(),
+            least_len,
+        })
+    }
+
+    /// Length of the text in bytes.
+    pub fn len(&self) -> usize
+        ensures { result ≡ length self.now }
+    {
+        self.len
+    }
+
+    /// Whether the text is empty.
+    pub fn is_empty(&self) -> bool
+        ensures { result ≡ (length self.now == 0) }
+    {
+        self.len == 0
+    }
+
+    /// Whether an offset lies in the text, or at its end, and not inside a character.
+    pub fn is_char_boundary(&self, at: usize) -> bool
+        ensures { IsTrue result ↔ IsCharBoundary self.now at }
+    {
+        let place = segment_at(&self.segments, at);
+        let text = self.segments[place.index].content.text.as_str();
+        text.is_char_boundary(at - place.begin)
+    }
+
+    /// Whether two offsets lie in the text, in order, and at character boundaries.
+    fn has_range(&self, from: usize, to: usize) -> bool
+        ensures { IsTrue result ↔ IsRange self.now from to }
+    {
+        from <= to && self.is_char_boundary(from) && self.is_char_boundary(to)
+    }
+
+    /// Replaces the bytes from `from` to `to`, and lexes what the edit touches.
+    ///
+    /// Fails where the range isn't one of the text, where the text would become too long, and where
+    /// memory runs out. After an error the document is as it was.
+    pub fn edit(&mut self, from: usize, to: usize, text: &str) -> Result<Change, EditError>
+        ensures text { OnOk result (self.new ≡ edited from to text.now self.old) }
+        ensures change { IfOk result (IsChange self.old self.new) }
+        ensures refused { OnErr result (self.new ≡ self.old) }
+        ensures range { (result ≡ Err EditError.BadRange) ↔ ¬ (IsRange self.old from to) }
+        ensures too_long { (result ≡ Err EditError.TooLong) ↔ (IsRange self.old from to × (2 ^ 32 ≤ length (edited from to text.now self.old))) }
+    {
+        if !self.has_range(from, to) {
+            return Err(EditError::BadRange);
+        }
+        if text.len() > u32::MAX as usize - (self.len - (to - from)) {
+            return Err(EditError::TooLong);
+        }
+        let part = part_of_edit(self.alloc, &self.segments, from, to, text)?;
+        let first = part.first;
+        let lexed = lex_part(self.alloc, &self.file, &self.segments, part, self.least_len)?;
+        let len = self.len - (to - from) + text.len();
+        Ok(self.replace(first, lexed, len)?)
+    }
+
+    /// Puts the segments of a part that was lexed anew in the place of the old ones.
+    fn replace(
+        &mut self,
+        first: SegmentPlace,
+        lexed: LexedPart,
+        len: usize,
+    ) -> Result<Change, AllocError>
+        requires parts { (new : Text) × (part : Part) × IsPart self.old.segments.items new part × (part.first ≡ first) × IsLexedPart self.old.segments.items part lexed × (len ≡ length new) × (length new < 2 ^ 32) }
+        requires laid { AreLaid true self.old.segments.items }
+        requires len { self.old.len ≡ length (text_of self.old.segments.items) }
+        ensures text { OnOk result ((new : Text) (part : Part) → IsPart self.old.segments.items new part → part.first ≡ first → IsLexedPart self.old.segments.items part lexed → text_of self.new.segments.items ≡ new) }
+        ensures laid { AreLaid true self.new.segments.items }
+        ensures len { self.new.len ≡ length (text_of self.new.segments.items) }
+        ensures change { IfOk result (IsChange (text_of self.old.segments.items) (text_of self.new.segments.items)) }
+        ensures refused { OnErr result (text_of self.new.segments.items ≡ text_of self.old.segments.items) }
+    {
+        let new_end = first.begin + lexed.len;
+        let change = Change {
+            begin: first.begin,
+            old_end: new_end + self.len - len,
+            new_end,
+            lexed: lexed.lexed,
+        };
+        self.segments.splice(first.index..lexed.end, lexed.segments)?;
+        self.len = len;
+        Ok(change)
+    }
+
+    /// All lexemes of the text.
+    pub fn lexemes(&self) -> Lexemes<'_>
+        ensures { result ≡ lexemes_of self.now }
+    {
+        Lexemes::new(&self.segments, 0, 0)
+    }
+
+    /// The lexemes of the text from the first one that ends after byte `at` on.
+    pub fn lexemes_from(&self, at: usize) -> Lexemes<'_>
+        ensures { result ≡ drop_while (ends_by at) (lexemes_of self.now) }
+    {
+        let place = segment_at(&self.segments, at);
+        let passed = passed_len(&self.segments[place.index], at - place.begin);
+        Lexemes::new(&self.segments[place.index..], place.begin, passed)
+    }
+
+    /// All faults of the text.
+    pub fn faults(&self) -> Faults<'_>
+        ensures { result ≡ faults_of self.now }
+    {
+        Faults::new(&self.segments)
+    }
+
+    /// The text from byte `from` to byte `to`; `None` where the range isn't one of the text.
+    pub fn slice(&self, from: usize, to: usize) -> Result<Option<String>, AllocError>
+        ensures text { IfOk result (λ found. IfSome found (λ text. string_bytes text ≡ slice_range self.now from to)) }
+        ensures none { IfOk result (λ found. IsNone found ↔ ¬ (IsRange self.now from to)) }
+    {
+        if !self.has_range(from, to) {
+            return Ok(None);
+        }
+        let first = segment_at(&self.segments, from);
+        let last = end_at(&self.segments, first, to);
+        let mut text = String::new(self.alloc);
+        append_texts(&mut text, &self.segments[first.index..last.index + 1])?;
+        let front = from - first.begin;
+        let len = to - first.begin;
+        Ok(Some(String::from_str(self.alloc, &text.as_str()[front..len])?))
+    }
+}

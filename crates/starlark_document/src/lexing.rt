@@ -1,0 +1,124 @@
+//! Makes segments: lexes a text from the start of a segment on.
+
+ghost use Rattle.std.specs.Prelude.{◌≡◌, ◌≤◌, ◌<◌, ◌^◌, IfOk, IfSome, IsSome, length, map, take, true};
+ghost use Rattle.starlark_document.specs.Inner.Fronts.{IsFirstSegment, IsFront, last_newline_at, without_newline};
+ghost use Rattle.std.specs.Str.{IsCharBoundary};
+ghost use Rattle.starlark_document.specs.Inner.Segments.{text_in};
+ghost use Rattle.starlark_recovery.specs.RecoveringLexer.{all_items};
+ghost use Rattle.starlark_token.specs.Lexemes.{lexeme_view};
+
+use crate::fronts::{Front, is_dedent};
+use crate::segments::{Content, PlacedToken, Segment};
+use starlark_recovery::RecoveringLexer;
+use starlark_syntax::codemap::CodeMap;
+use starlark_syntax::dialect::Dialect;
+use starlark_token::tokens::Token;
+use std::alloc::{AllocError, Global};
+use std::boxed::Box;
+
+/// Index of the last `Newline` of a list of lexemes, or its length if it has none.
+fn last_newline(lexemes: &[PlacedToken]) -> usize
+    ensures value { result ≡ last_newline_at (map lexeme_view lexemes.now) }
+    ensures within { result ≤ length lexemes.now }
+{
+    let mut at = lexemes.len();
+    while at > 0 {
+        at -= 1;
+        if matches!(lexemes[at].1, Token::Newline) {
+            return at;
+        }
+    }
+    lexemes.len()
+}
+
+/// A segment of a text, with what was found in it.
+fn segment(alloc: Global, text: &str, front: Front) -> Result<Segment, AllocError>
+    ensures text { IfOk result (λ segment. text_in segment ≡ text.now) }
+    ensures len { IfOk result (λ segment. segment.len ≡ length text.now) }
+    ensures lexemes { IfOk result (λ segment. segment.content.value.lexemes ≡ front.lexemes) }
+    ensures faults { IfOk result (λ segment. segment.content.value.faults ≡ front.faults) }
+{
+    let content = Content {
+        text: String::from_str(alloc, text)?,
+        lexemes: front.lexemes,
+        faults: front.faults,
+    };
+    Ok(Segment {
+        len: text.len(),
+        content: Box::new(alloc, content).map_err(|_| AllocError)?,
+    })
+}
+
+/// The segment of a text up to where it can be cut.
+fn cut_segment(alloc: Global, text: &str, front: Front) -> Result<Segment, AllocError>
+    requires within { front.line_end ≤ length text.now }
+    requires boundary { IsCharBoundary text.now front.line_end }
+    ensures text { IfOk result (λ segment. text_in segment ≡ take front.line_end text.now) }
+    ensures len { IfOk result (λ segment. segment.len ≡ front.line_end) }
+    ensures lexemes { IfOk result (λ segment. segment.content.value.lexemes ≡ front.lexemes) }
+    ensures faults { IfOk result (λ segment. segment.content.value.faults ≡ front.faults) }
+{
+    let len = front.line_end;
+    segment(alloc, &text[..len], front)
+}
+
+/// Takes the closing `Newline` out of what was found in a closed text, since another text follows.
+fn without_closing(front: Front) -> Front
+    ensures lexemes { map lexeme_view result.lexemes.items ≡ without_newline (map lexeme_view front.lexemes.items) }
+    ensures faults { result.faults ≡ front.faults }
+{
+    let mut open = front;
+    let at = last_newline(&open.lexemes);
+    if at < open.lexemes.len() {
+        open.lexemes.remove(at);
+    }
+    open
+}
+
+/// The segment of a whole text; `None` where the text isn't known to be closed, and another one
+/// follows it.
+fn whole_segment(
+    alloc: Global,
+    text: &str,
+    front: Front,
+    is_last: bool,
+) -> Result<Option<Segment>, AllocError>
+    requires front { IsFront text.now (all_items text.now) front }
+    ensures segment { IfOk result (λ found. IfSome found (IsFirstSegment text.now is_last)) }
+    ensures last { IfOk result (λ found. is_last ≡ true → IsSome found) }
+{
+    if is_last {
+        return Ok(Some(segment(alloc, text, front)?));
+    }
+    if text.is_empty() || front.line_end == text.len() {
+        return Ok(Some(segment(alloc, text, without_closing(front))?));
+    }
+    Ok(None)
+}
+
+/// Lexes the first segment of a text, which ends where the text can be cut, or with the text.
+///
+/// The text is the document's last, or other segments follow it. `None` where none can follow it:
+/// then it is to be lexed with more text.
+pub fn lex_segment(
+    alloc: Global,
+    file: &CodeMap,
+    text: &str,
+    is_last: bool,
+    least_len: usize,
+) -> Result<Option<Segment>, AllocError>
+    requires fits { length text.now < 2 ^ 32 }
+    ensures segment { IfOk result (λ found. IfSome found (IsFirstSegment text.now is_last)) }
+    ensures last { IfOk result (λ found. is_last ≡ true → IsSome found) }
+{
+    let lexer = RecoveringLexer::new(alloc, text, &Dialect::Standard, file.dupe()?);
+    let mut lexer = lexer.map_err(|_| AllocError)?;
+    let mut front = Front::new(alloc, least_len);
+    while let Some(item) = lexer.next() {
+        if front.is_cut && !is_dedent(&item)? {
+            return Ok(Some(cut_segment(alloc, text, front)?));
+        }
+        front.take(text, item)?;
+    }
+    whole_segment(alloc, text, front, is_last)
+}

@@ -1,0 +1,14 @@
+//! A text that stays lexed while it is edited: for editors, language servers and watchers.
+//!
+//! A `Document` owns its text. After an edit it lexes only the part of the text that the edit
+//! touches, and has the lexemes and faults that lexing the whole text on after its faults finds.
+#![tactic(auto)]
+
+mod document;
+mod fronts;
+mod lexing;
+mod parts;
+mod segments;
+
+pub use document::{Change, Document, EditError};
+pub use segments::{Faults, Lexemes};

@@ -1,0 +1,177 @@
+//! Parts of a document: the segments that an edit touches, with their text after it.
+
+ghost use Rattle.std.specs.Prelude.{◌≡◌, ◌≤◌, ◌<◌, ◌+◌, ◌++◌, ◌^◌, Some, IfOk, OnOk, drop, length, nat_eq, string_bytes, true};
+ghost use Rattle.std.specs.List.{slice_get};
+ghost use Rattle.starlark_document.specs.Documents.{IsRange, edited};
+ghost use Rattle.starlark_document.specs.Inner.Parts.{IsLexedPart, IsPart, IsPlaceIn, IsReplaced};
+ghost use Rattle.starlark_document.specs.Inner.Segments.{AreLaid, HaveLens, text_of};
+ghost use Rattle.starlark_grammar.specs.Words.{Text};
+
+use crate::fronts::begins_plainly;
+use crate::lexing::lex_segment;
+use crate::segments::{Segment, SegmentPlace, segment_at};
+use starlark_syntax::codemap::CodeMap;
+use std::alloc::{AllocError, Global};
+
+/// A part of a document whose text changes: the segments that it replaces, and its new text.
+#[derive(Drop)]
+pub struct Part {
+    /// The first segment that is replaced.
+    pub first: SegmentPlace,
+    /// Index after the last segment that is replaced.
+    pub end: usize,
+    /// The text after the edit.
+    pub text: String,
+}
+
+/// A part of a document that was lexed anew.
+#[derive(Drop)]
+pub struct LexedPart {
+    /// Index after the last segment that is replaced.
+    pub end: usize,
+    /// The segments in their place.
+    pub segments: Vec<Segment>,
+    /// Number of bytes of the new segments.
+    pub len: usize,
+    /// Number of bytes that were given to the lexer. A byte that was lexed twice counts twice.
+    pub lexed: usize,
+}
+
+/// The segment that byte `to` ends in, from a segment at or before it on; else the last one.
+pub fn end_at(segments: &[Segment], from: SegmentPlace, to: usize) -> SegmentPlace
+    requires lens { HaveLens segments.now }
+    requires fits { length (text_of segments.now) < 2 ^ 32 }
+    requires from { IsPlaceIn segments.now from }
+    requires before { from.begin ≤ to }
+    ensures place { IsPlaceIn segments.now result }
+    ensures later { from.index ≤ result.index }
+    ensures before { result.begin ≤ to }
+    ensures reach { to ≤ length (text_of segments.now) → (segment : Segment) → slice_get segments.now result.index ≡ Some segment → to ≤ result.begin + segment.len }
+{
+    let mut place = from;
+    while place.index + 1 < segments.len() && place.begin + segments[place.index].len < to {
+        place.begin += segments[place.index].len;
+        place.index += 1;
+    }
+    place
+}
+
+/// The part that an edit touches: the segments from that of byte `from` to that of byte `to`.
+fn touched_part(
+    alloc: Global,
+    segments: &[Segment],
+    from: usize,
+    to: usize,
+    inserted: &str,
+) -> Result<Part, AllocError>
+    requires laid { AreLaid true segments.now }
+    requires fits { length (text_of segments.now) < 2 ^ 32 }
+    requires range { IsRange (text_of segments.now) from to }
+    ensures part { IfOk result (IsReplaced segments.now (edited from to inserted.now (text_of segments.now))) }
+    ensures before { IfOk result (λ part. part.first.begin ≤ from) }
+{
+    let first = segment_at(segments, from);
+    let last = end_at(segments, first, to);
+    let mut text = String::new(alloc);
+    text.push_str(&segments[first.index].content.text.as_str()[..from - first.begin])?;
+    text.push_str(inserted)?;
+    text.push_str(&segments[last.index].content.text.as_str()[to - last.begin..])?;
+    Ok(Part {
+        first,
+        end: last.index + 1,
+        text,
+    })
+}
+
+/// The part with the segment before it, unless it is the first, or begins plainly.
+fn with_earlier(alloc: Global, segments: &[Segment], part: Part) -> Result<Part, AllocError>
+    requires laid { AreLaid true segments.now }
+    requires part { (whole : Text) × IsReplaced segments.now whole part }
+    ensures part { IfOk result (λ more. (whole : Text) → IsReplaced segments.now whole part → IsPart segments.now whole more) }
+    ensures before { IfOk result (λ more. more.first.begin ≤ part.first.begin) }
+{
+    if part.first.index == 0 || begins_plainly(part.text.as_bytes()) {
+        return Ok(part);
+    }
+    let index = part.first.index - 1;
+    let mut text = String::from_str(alloc, segments[index].content.text.as_str())?;
+    text.push_str(part.text.as_str())?;
+    Ok(Part {
+        first: SegmentPlace {
+            index,
+            begin: part.first.begin - segments[index].len,
+        },
+        end: part.end,
+        text,
+    })
+}
+
+/// The part of a document that an edit changes, with its text after the edit.
+pub fn part_of_edit(
+    alloc: Global,
+    segments: &[Segment],
+    from: usize,
+    to: usize,
+    inserted: &str,
+) -> Result<Part, AllocError>
+    requires laid { AreLaid true segments.now }
+    requires fits { length (text_of segments.now) < 2 ^ 32 }
+    requires range { IsRange (text_of segments.now) from to }
+    ensures part { IfOk result (IsPart segments.now (edited from to inserted.now (text_of segments.now))) }
+{
+    let part = touched_part(alloc, segments, from, to, inserted)?;
+    with_earlier(alloc, segments, part)
+}
+
+/// Appends the texts of segments to a text.
+pub fn append_texts(text: &mut String, segments: &[Segment]) -> Result<(), AllocError>
+    ensures { OnOk result (string_bytes text.new ≡ string_bytes text.old ++ text_of segments.now) }
+{
+    for segment in segments {
+        text.push_str(segment.content.text.as_str())?;
+    }
+    Ok(())
+}
+
+/// Lexes a part segment by segment. Where its text isn't closed, it takes in the segments after it:
+/// one, two, four, and so on. Segments get at least `least_len` bytes where they can.
+pub fn lex_part(
+    alloc: Global,
+    file: &CodeMap,
+    segments: &[Segment],
+    part: Part,
+    least_len: usize,
+) -> Result<LexedPart, AllocError>
+    requires laid { part.end < length segments.now → AreLaid (nat_eq part.end 0) (drop part.end segments.now) }
+    requires part { (whole : Text) × IsPart segments.now whole part × (length whole < 2 ^ 32) }
+    ensures { IfOk result (IsLexedPart segments.now part) }
+{
+    let mut text = part.text;
+    let mut lexed = LexedPart {
+        end: part.end,
+        segments: Vec::new(alloc),
+        len: 0,
+        lexed: 0,
+    };
+    let mut more = 1;
+    loop {
+        let is_last = lexed.end == segments.len();
+        let rest = &text.as_str()[lexed.len..];
+        lexed.lexed = lexed.lexed.saturating_add(rest.len());
+        match lex_segment(alloc, file, rest, is_last, least_len)? {
+            Some(segment) => {
+                lexed.len += segment.len;
+                lexed.segments.push(segment)?;
+                if lexed.len == text.len() {
+                    return Ok(lexed);
+                }
+            }
+            None => {
+                let end = segments.len().min(lexed.end.saturating_add(more));
+                append_texts(&mut text, &segments[lexed.end..end])?;
+                lexed.end = end;
+                more = more.saturating_mul(2);
+            }
+        }
+    }
+}
