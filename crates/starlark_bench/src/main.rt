@@ -10,6 +10,11 @@
 //! in its middle, N times. A line has the text's bytes, and for each of the two the number of bytes
 //! read and the nanoseconds.
 //!
+//! `starlark_bench --keystrokes N` makes a document of the text, types N characters in its middle, each
+//! at another place, and deletes each again. It prints one line: the text's bytes, the nanoseconds of
+//! making the document, those of a keystroke at the median and at 99 %, and the bytes that were lexed
+//! for a character on average.
+//!
 //! `starlark_bench --places N` resolves N spans that are spread over the text, except those with an
 //! end inside of a character. It prints one line: the text's bytes, its lines, the spans that were
 //! resolved, a checksum of their lines and columns, and the nanoseconds.
@@ -20,10 +25,12 @@
 #![tactic(auto)]
 
 mod edited;
+mod keystrokes;
 mod places;
 mod tally;
 
 use crate::edited::{edited_in_the_middle, middle, print_relexed};
+use crate::keystrokes::print_keystrokes;
 use crate::places::tally_of_places;
 use crate::tally::{BenchFault, tally_of};
 use starlark_syntax::codemap::{CodeMap, CodeMapId};
@@ -44,6 +51,8 @@ enum Request {
     Timed(u32),
     /// Resolve the given number of spans.
     Places(u32),
+    /// Type the given number of characters into a document.
+    Keystrokes(u32),
     /// Lex, and lex again after an edit, the given number of times.
     Relexed(u32),
 }
@@ -61,6 +70,7 @@ fn read_request<R: Env + AllocGlobal>(rt: &R) -> Option<Request> {
     }
     match flag.as_str() {
         "--bench" => Some(Request::Timed(count)),
+        "--keystrokes" => Some(Request::Keystrokes(count)),
         "--places" => Some(Request::Places(count)),
         "--relex" => Some(Request::Relexed(count)),
         _ => None,
@@ -118,13 +128,14 @@ fn bench(rt: &HostRuntime, request: Request) -> Result<(), BenchFault> {
         Request::Once => print_once(rt, &file),
         Request::Timed(count) => print_timed(rt, &file, count),
         Request::Places(count) => print_places(rt, &file, count),
+        Request::Keystrokes(count) => print_keystrokes(rt, file.source(), count),
         Request::Relexed(count) => print_edited(rt, &file, count),
     }
 }
 
 fn main(rt: HostRuntime) -> ExitCode {
     let Some(request) = read_request(&rt) else {
-        let _ = eprintln!(rt; "usage: starlark_bench [--bench N | --places N | --relex N]");
+        let _ = eprintln!(rt; "usage: starlark_bench [--bench N | --keystrokes N | --places N | --relex N]");
         return ExitCode::from(TROUBLE);
     };
     match bench(&rt, request) {
