@@ -4,4 +4,6 @@ pub mod Order
 pub mod NextLines
 pub mod Lefts
 pub mod Passes
+pub mod ClosedBlocks
+pub mod LineCuts
 mod Rows

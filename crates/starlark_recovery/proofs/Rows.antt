@@ -1,10 +1,12 @@
 -- Worked texts that are lexed on after their faults, closed by computing.
 use Rattle.std.proofs.Common.{◌≡◌, List, refl}
-use Rattle.std.specs.Prelude.{⊤, [], ◌∷◌, codes, false}
+use Rattle.std.specs.Prelude.{⊤, [], ◌∷◌, codes, true, false}
 use Rattle.starlark_grammar.proofs.Rows.Shapes.{all_definitions, at, single, utf8}
-use Rattle.starlark_grammar.specs.Tokens.{Fault, Lexeme, Spanned, Newline, Identifier, Indent, Word, Comment, FStringStart, InvalidInput, InvalidTab, Indentation, UnfinishedStringLiteral, ReservedKeyword}
+use Rattle.starlark_grammar.specs.Reading.{outcome}
+use Rattle.starlark_grammar.specs.Tokens.{Fault, Lexeme, Spanned, Newline, Identifier, Indent, Dedent, Word, Comment, FStringStart, InvalidInput, InvalidTab, Indentation, UnfinishedStringLiteral, ReservedKeyword}
 use Rattle.starlark_grammar.specs.Words.{Text}
 use Rattle.starlark_grammar.specs.declared.class.Terminal.TheVariants as terminal
+use Rattle.starlark_recovery.specs.Joining.{begins_plainly, is_between_lines, is_line_cut, without_last_newline}
 use Rattle.starlark_recovery.specs.Recovery.{next_line, outcomes, outcomes_from, recovered, restart, stopped_at}
 
 -- the text has these lexemes and these faults
@@ -41,3 +43,65 @@ rows_2 :
     × Recovers (utf8 "é\nx") (at 3 (Identifier (codes "x")) 4 ∷ at 4 Newline 4 ∷ []) (at 0 (InvalidInput (utf8 "é")) 2 ∷ [])
 unfolding all_recovery
 rows_2 = (refl, refl, refl, refl, refl, refl, refl, refl)
+
+-- which texts are cuts between lines
+line_cuts_1 :
+    (is_line_cut (codes "x\n") ≡ true)
+    × (is_line_cut (codes "x") ≡ false)
+    × (is_line_cut [] ≡ false)
+    × (is_line_cut (codes "if x:\n  y\n") ≡ true)
+    × (is_line_cut (codes "if x:\n  y\n\n") ≡ true)
+    × (is_line_cut (codes "if x:\n  y\n # c\n") ≡ true)
+    × (is_line_cut (codes "if x:\n  y") ≡ false)
+    × (is_line_cut (codes "if x:\n  y\n ") ≡ false)
+unfolding all_definitions is_between_lines is_line_cut
+line_cuts_1 = (refl, refl, refl, refl, refl, refl, refl, refl)
+
+-- which texts are cuts between lines
+line_cuts_2 :
+    (is_line_cut (codes "f(\n") ≡ false)
+    × (is_line_cut (codes "f(\n)\n") ≡ true)
+    × (is_line_cut (codes "'''\n") ≡ false)
+    × (is_line_cut (codes "f\"{x\n") ≡ false)
+    × (is_line_cut (codes "x\\\n") ≡ false)
+    × (is_line_cut (codes "x $\n") ≡ false)
+    × (is_line_cut (codes "# c\n") ≡ true)
+    × (is_line_cut (codes "# c") ≡ false)
+    × (is_line_cut (codes "\n") ≡ true)
+    × (is_line_cut (codes " x\r\n") ≡ true)
+unfolding all_definitions is_between_lines is_line_cut
+line_cuts_2 = (refl, refl, refl, refl, refl, refl, refl, refl, refl, refl)
+
+-- the text without its closing `Newline` has these lexemes
+abbrev Joins : Text → List Lexeme → Type 0
+Joins text lexemes = without_last_newline (outcome text).lexemes ≡ lexemes
+
+closing_newlines :
+    Joins [] []
+    × Joins (codes "# c\n") (at 0 (Comment (codes " c")) 3 ∷ [])
+    × Joins (codes "x") (at 0 (Identifier (codes "x")) 1 ∷ [])
+    × Joins (codes "x\n") (at 0 (Identifier (codes "x")) 1 ∷ at 1 Newline 2 ∷ [])
+    × Joins (codes "x:\n y\n") (at 0 (Identifier (codes "x")) 1 ∷ at 1 (Word terminal.Colon) 2 ∷ at 2 Newline 3 ∷ at 3 Indent 4 ∷ at 4 (Identifier (codes "y")) 5 ∷ at 5 Newline 6 ∷ at 6 Dedent 6 ∷ [])
+    × Joins (codes " x\n  y\n") (at 0 Indent 1 ∷ at 1 (Identifier (codes "x")) 2 ∷ at 2 Newline 3 ∷ at 3 Indent 5 ∷ at 5 (Identifier (codes "y")) 6 ∷ at 6 Newline 7 ∷ at 7 Dedent 7 ∷ at 7 Dedent 7 ∷ [])
+unfolding all_definitions
+closing_newlines = (refl, refl, refl, refl, refl, refl)
+
+-- lexemes with no `Newline`, and with some
+last_newlines :
+    (without_last_newline [] ≡ [])
+    × (without_last_newline (at 0 Dedent 0 ∷ []) ≡ at 0 Dedent 0 ∷ [])
+    × (without_last_newline (at 0 Newline 1 ∷ at 1 Newline 2 ∷ at 2 Dedent 2 ∷ []) ≡ at 0 Newline 1 ∷ at 2 Dedent 2 ∷ [])
+last_newlines = (refl, refl, refl)
+
+-- which texts begin plainly
+plain_texts :
+    (begins_plainly (codes "x") ≡ true)
+    × (begins_plainly (codes "$\n") ≡ true)
+    × (begins_plainly [] ≡ false)
+    × (begins_plainly (codes "\n") ≡ false)
+    × (begins_plainly (codes "# c\nx") ≡ false)
+    × (begins_plainly (codes " x") ≡ false)
+    × (begins_plainly (codes "\tx") ≡ false)
+    × (begins_plainly (codes "\rx") ≡ false)
+unfolding begins_plainly
+plain_texts = (refl, refl, refl, refl, refl, refl, refl, refl)
