@@ -37,12 +37,12 @@ has_newline (lexeme ∷ lexemes) = is_newline lexeme.node || has_newline lexemes
 -- `Dedent`s after it stay.
 abbrev pub without_last_newline : List Lexeme → List Lexeme
 without_last_newline [] = []
-without_last_newline (lexeme ∷ lexemes) = by (has_newline lexemes) (is_newline lexeme.node)
+without_last_newline (lexeme ∷ lexemes) = by (has_newline lexemes) (is_newline lexeme.node) (without_last_newline lexemes)
   where
-    by : Bool → Bool → List Lexeme
-    by true first = lexeme ∷ without_last_newline lexemes
-    by false true = lexemes
-    by false false = lexeme ∷ lexemes
+    by : Bool → Bool → List Lexeme → List Lexeme
+    by true first without = lexeme ∷ without
+    by false true without = lexemes
+    by false false without = lexeme ∷ lexemes
 
 -- a text is a cut between lines, or its fault is decided and the rest after it is closed
 abbrev pub is_closed_by : Text → Option (Spanned Fault) → (ℕ → Bool) → Bool
