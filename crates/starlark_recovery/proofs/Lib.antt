@@ -4,4 +4,6 @@ pub mod Order
 pub mod NextLines
 pub mod Lefts
 pub mod Passes
+pub mod NewlinePieces
+pub mod NewlineCuts
 mod Rows
