@@ -6,4 +6,6 @@ pub mod Lefts
 pub mod Passes
 pub mod ClosedBlocks
 pub mod LineCuts
+pub mod NewlinePieces
+pub mod NewlineCuts
 mod Rows
