@@ -4,4 +4,5 @@ pub mod Order
 pub mod NextLines
 pub mod Lefts
 pub mod Passes
+pub mod Joining
 mod Rows
