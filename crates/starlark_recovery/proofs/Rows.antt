@@ -1,10 +1,12 @@
 -- Worked texts that are lexed on after their faults, closed by computing.
 use Rattle.std.proofs.Common.{◌≡◌, List, refl}
-use Rattle.std.specs.Prelude.{⊤, [], ◌∷◌, codes, false}
+use Rattle.std.specs.Prelude.{⊤, [], ◌∷◌, codes, true, false}
 use Rattle.starlark_grammar.proofs.Rows.Shapes.{all_definitions, at, single, utf8}
+use Rattle.starlark_grammar.specs.Cuts.{is_clean_cut, is_clean_cut_in, is_settled}
 use Rattle.starlark_grammar.specs.Tokens.{Fault, Lexeme, Spanned, Newline, Identifier, Indent, Word, Comment, FStringStart, InvalidInput, InvalidTab, Indentation, UnfinishedStringLiteral, ReservedKeyword}
 use Rattle.starlark_grammar.specs.Words.{Text}
 use Rattle.starlark_grammar.specs.declared.class.Terminal.TheVariants as terminal
+use Rattle.starlark_recovery.specs.Joining.{begins_plainly, is_closed, is_closed_from, is_decided}
 use Rattle.starlark_recovery.specs.Recovery.{next_line, outcomes, outcomes_from, recovered, restart, stopped_at}
 
 -- the text has these lexemes and these faults
@@ -41,3 +43,56 @@ rows_2 :
     × Recovers (utf8 "é\nx") (at 3 (Identifier (codes "x")) 4 ∷ at 4 Newline 4 ∷ []) (at 0 (InvalidInput (utf8 "é")) 2 ∷ [])
 unfolding all_recovery
 rows_2 = (refl, refl, refl, refl, refl, refl, refl, refl)
+
+-- whether a fault is decided: not at the text's end, and not where no LF ends the text
+decided_rows :
+    (is_decided (codes "$\n") (at 0 (InvalidInput (codes "$")) 1) ≡ true)
+    × (is_decided (codes "'a\n") (at 0 UnfinishedStringLiteral 2) ≡ true)
+    × (is_decided (codes "f'a\nb\n") (at 2 UnfinishedStringLiteral 4) ≡ true)
+    × (is_decided (codes "x\n\ty\n") (at 1 InvalidTab 1) ≡ true)
+    × (is_decided (codes "$\nis\n") (at 0 (InvalidInput (codes "$")) 1) ≡ true)
+    × (is_decided (codes "$") (at 0 (InvalidInput (codes "$")) 1) ≡ false)
+    × (is_decided (codes "$\nx") (at 0 (InvalidInput (codes "$")) 1) ≡ false)
+    × (is_decided (codes "f'a\n") (at 2 UnfinishedStringLiteral 4) ≡ false)
+    × (is_decided (codes "f'a\\\n") (at 2 UnfinishedStringLiteral 5) ≡ false)
+    × (is_decided (codes "\"\"\"a\n") (at 0 UnfinishedStringLiteral 5) ≡ false)
+unfolding is_decided
+decided_rows = (refl, refl, refl, refl, refl, refl, refl, refl, refl, refl)
+
+-- closed texts: clean cuts, and texts with decided faults and a clean cut or nothing after them
+closed_rows :
+    (is_closed [] ≡ true)
+    × (is_closed (codes "x\n") ≡ true)
+    × (is_closed (codes "$\n") ≡ true)
+    × (is_closed (codes "'a\n") ≡ true)
+    × (is_closed (codes "f'a\nb\n") ≡ true)
+    × (is_closed (codes "x\n\ty\n") ≡ true)
+    × (is_closed (codes "(\n$\nx\n") ≡ true)
+unfolding all_recovery is_settled is_clean_cut_in is_clean_cut is_decided is_closed_from is_closed
+closed_rows = (refl, refl, refl, refl, refl, refl, refl)
+
+-- texts that aren't closed: by their end, by a fault at their end, and by what is open there
+open_rows :
+    (is_closed (codes "x") ≡ false)
+    × (is_closed (codes "$") ≡ false)
+    × (is_closed (codes "$\nx") ≡ false)
+    × (is_closed (codes "f'a\n") ≡ false)
+    × (is_closed (codes "f'a\\\n") ≡ false)
+    × (is_closed (codes "\"\"\"a\n") ≡ false)
+    × (is_closed (codes "$\n(\n") ≡ false)
+    × (is_closed (codes "$\n x\n") ≡ false)
+unfolding all_recovery is_settled is_clean_cut_in is_clean_cut is_decided is_closed_from is_closed
+open_rows = (refl, refl, refl, refl, refl, refl, refl, refl)
+
+-- texts that begin plainly, and others
+plain_rows :
+    (begins_plainly (codes "x") ≡ true)
+    × (begins_plainly (codes "$\n") ≡ true)
+    × (begins_plainly [] ≡ false)
+    × (begins_plainly (codes " x") ≡ false)
+    × (begins_plainly (codes "\tx") ≡ false)
+    × (begins_plainly (codes "\r\n") ≡ false)
+    × (begins_plainly (codes "\n") ≡ false)
+    × (begins_plainly (codes "# a") ≡ false)
+unfolding begins_plainly
+plain_rows = (refl, refl, refl, refl, refl, refl, refl, refl)

@@ -10,7 +10,7 @@ use Rattle.starlark_grammar.specs.Words.{Text, language}
 use Rattle.starlark_grammar.specs.Tokens.{Fault, Lexeme, Newline, Outcome, Spanned, moved}
 use Rattle.starlark_grammar.specs.Cuts.{is_clean_cut, is_clean_cut_in, is_faultless, is_settled, joined, without_closing}
 use Rattle.starlark_grammar.specs.Pieces.{Ends, Fails, Piece, Stands, Step}
-use Rattle.starlark_grammar.specs.Reading.{IsLongestReading, after_all, lexemes_along, nothing, outcome, outcome_of, pieces_len, read}
+use Rattle.starlark_grammar.specs.Reading.{after_all, closing, lexemes_along, nothing, outcome, outcome_of, pieces_len, read}
 use Rattle.starlark_grammar.proofs.Lists.{drop-behind}
 use Rattle.starlark_grammar.proofs.Reading.Readings.{read_is}
 use Rattle.starlark_grammar.proofs.Rows.Shapes.{all_definitions}
@@ -104,22 +104,25 @@ unfolding recovered
 recovered_on text fault has =
     let at : ℕ = restart text fault in
     let rest : List Outcome = outcomes (drop (restart text fault) text) in
-    let lexemes : lexemes_of (outcomes text) ≡ (outcome text).lexemes ++ map (moved (restart text fault)) (lexemes_of (outcomes (drop (restart text fault) text))) =
-    ap lexemes_of (lexes_on text fault has) ∙ ap (λ ls. (outcome text).lexemes ++ ls) (lexemes_moved (restart text fault) (outcomes (drop (restart text fault) text))) in
-    let faults : faults_of (outcomes text) ≡ fault ∷ map (moved (restart text fault)) (faults_of (outcomes (drop (restart text fault) text))) =
+    let lexemes : lexemes_of (outcomes text) ≡ (outcome text).lexemes ++ map (moved at) (lexemes_of rest) =
+    ap lexemes_of (lexes_on text fault has) ∙ ap (λ ls. (outcome text).lexemes ++ ls) (lexemes_moved at rest) in
+    let faults : faults_of (outcomes text) ≡ fault ∷ map (moved at) (faults_of rest) =
     ap faults_of (lexes_on text fault has)
-    ∙ ap (λ (f : Option (Spanned Fault)). option_to_list f ++ faults_of (map (moved_outcome (restart text fault)) (outcomes (drop (restart text fault) text)))) has
-    ∙ ap (λ fs. fault ∷ fs) (faults_moved (restart text fault) (outcomes (drop (restart text fault) text))) in
+    ∙ ap (λ (f : Option (Spanned Fault)). option_to_list f ++ faults_of (map (moved_outcome at) rest)) has
+    ∙ ap (λ fs. fault ∷ fs) (faults_moved at rest) in
     same_recovered lexemes faults
 
 -- some lexeme is found in every text
 outcome_some : (text : Text) → (outcome text).fault ≡ None → 0 < length (outcome text).lexemes
 outcome_some text none = by (read language text).last (outcome_by text (read language text).pieces (read language text).last (read_is language text))
   where
+    last : List Lexeme
+    last = closing (pieces_len (read language text).pieces) (after_all nothing (read language text).pieces)
+
     by : (last : Step) → outcome text ≡ outcome_of text (read language text).pieces last → 0 < length (outcome text).lexemes
     by (Fails fault) is = let wrong : Some (moved (pieces_len (read language text).pieces) fault) ≡ None = sym (ap (λ (o : Outcome). o.fault) is) ∙ none in cc
-    by (Stands piece) is = omega (arith, ap (λ (o : Outcome). length o.lexemes) is, length-append (lexemes_along 0 (read language text).pieces) _)
-    by Ends is = omega (arith, ap (λ (o : Outcome). length o.lexemes) is, length-append (lexemes_along 0 (read language text).pieces) _)
+    by (Stands piece) is = omega (arith, ap (λ (o : Outcome). length o.lexemes) is, length-append (lexemes_along 0 (read language text).pieces) last)
+    by Ends is = omega (arith, ap (λ (o : Outcome). length o.lexemes) is, length-append (lexemes_along 0 (read language text).pieces) last)
 
 abbrev SomeFound : Text → Type 0
 SomeFound text = 0 < length (recovered text).lexemes
@@ -184,16 +187,16 @@ module _ (second : Text) (plain : begins_plainly second ≡ true) where
           let n : ℕ = length first in
           let at : ℕ = restart second fault in
           let rest : Recovered = recovered (drop (restart second fault) second) in
-          let place : restart (first ++ second) (moved (length first) fault) ≡ length first + restart second fault = restart_moved first second fault some (plain_tab second fault plain is) in
-          let left : drop (length first + restart second fault) (first ++ second) ≡ drop (restart second fault) second = drop-append-add first second (restart second fault) in
-          recovered_on (first ++ second) (moved (length first) fault) (fault_is ∙ ap (option_map (moved (length first))) is)
-          ∙ ap (λ ls. on_fault ls (moved (length first) fault) (restart (first ++ second) (moved (length first) fault)) (recovered (drop (restart (first ++ second) (moved (length first) fault)) (first ++ second)))) lexemes_are
-          ∙ ap (λ k. on_fault (joined (length first) (outcome first).lexemes (outcome second).lexemes) (moved (length first) fault) k (recovered (drop k (first ++ second)))) place
-          ∙ ap (λ (t : Text). on_fault (joined (length first) (outcome first).lexemes (outcome second).lexemes) (moved (length first) fault) (length first + restart second fault) (recovered t)) left
-          ∙ same_recovered (lexemes_both (without_closing (outcome first).lexemes) (outcome second).lexemes (length first) (restart second fault) (recovered (drop (restart second fault) second)).lexemes)
-          (ap (λ fs. moved (length first) fault ∷ fs) (sym (twice (length first) (restart second fault) (recovered (drop (restart second fault) second)).faults)))
-          ∙ sym (ap (λ (one : Recovered). recovered_joined (length first) one (recovered second)) (faultless_recovers first none)
-          ∙ ap (recovered_joined (length first) (record { lexemes = (outcome first).lexemes; faults = [] })) (recovered_on second fault is))
+          let place : restart (first ++ second) (moved n fault) ≡ n + at = restart_moved first second fault some (plain_tab second fault plain is) in
+          let left : drop (n + at) (first ++ second) ≡ drop at second = drop-append-add first second at in
+          recovered_on (first ++ second) (moved n fault) (fault_is ∙ ap (option_map (moved n)) is)
+          ∙ ap (λ ls. on_fault ls (moved n fault) (restart (first ++ second) (moved n fault)) (recovered (drop (restart (first ++ second) (moved n fault)) (first ++ second)))) lexemes_are
+          ∙ ap (λ k. on_fault (joined n (outcome first).lexemes (outcome second).lexemes) (moved n fault) k (recovered (drop k (first ++ second)))) place
+          ∙ ap (λ (t : Text). on_fault (joined n (outcome first).lexemes (outcome second).lexemes) (moved n fault) (n + at) (recovered t)) left
+          ∙ same_recovered (lexemes_both (without_closing (outcome first).lexemes) (outcome second).lexemes n at rest.lexemes)
+          (ap (λ fs. moved n fault ∷ fs) (sym (twice n at rest.faults)))
+          ∙ sym (ap (λ (one : Recovered). recovered_joined n one (recovered second)) (faultless_recovers first none)
+          ∙ ap (recovered_joined n (record { lexemes = (outcome first).lexemes; faults = [] })) (recovered_on second fault is))
         where
           lexemes_both : (kept lexemes : List Lexeme) (n at : ℕ) (rest : List Lexeme) → (kept ++ map (moved n) lexemes) ++ map (moved (n + at)) rest ≡ kept ++ map (moved n) (lexemes ++ map (moved at) rest)
           lexemes_both kept lexemes n at rest =
@@ -228,14 +231,14 @@ module _ (second : Text) (plain : begins_plainly second ≡ true) where
     on_joins rest some =
         let at : ℕ = restart first fault in
         let left : Text = drop (restart first fault) first in
-        let total : restart first fault + length (drop (restart first fault) first) ≡ length first = omega (arith, inside, length-drop (restart first fault) first) in
+        let total : at + length left ≡ length first = omega (arith, inside, length-drop at first) in
         recovered_on (first ++ second) fault has_joined
         ∙ ap (λ (o : Outcome). on_fault o.lexemes fault (restart (first ++ second) fault) (recovered (drop (restart (first ++ second) fault) (first ++ second)))) stay.0
         ∙ ap (λ (t : Text). on_fault (outcome first).lexemes fault (restart (first ++ second) fault) (recovered t)) rest_joined
-        ∙ ap (λ n. on_fault (outcome first).lexemes fault n (recovered (drop (restart first fault) first ++ second))) stay.1
-        ∙ ap (on_fault (outcome first).lexemes fault (restart first fault)) rest
-        ∙ fault_joins (outcome first).lexemes fault (restart first fault) (length (drop (restart first fault) first)) (recovered (drop (restart first fault) first)) (recovered second) some
-        ∙ ap (λ n. recovered_joined n (on_fault (outcome first).lexemes fault (restart first fault) (recovered (drop (restart first fault) first))) (recovered second)) total
+        ∙ ap (λ n. on_fault (outcome first).lexemes fault n (recovered (left ++ second))) stay.1
+        ∙ ap (on_fault (outcome first).lexemes fault at) rest
+        ∙ fault_joins (outcome first).lexemes fault at (length left) (recovered left) (recovered second) some
+        ∙ ap (λ n. recovered_joined n (on_fault (outcome first).lexemes fault at (recovered left)) (recovered second)) total
         ∙ ap (λ (one : Recovered). recovered_joined (length first) one (recovered second)) (sym (recovered_on first fault has))
 
   joins_from : (passed : ℕ) (first : Text) → is_closed (drop passed first) ≡ true → Joins (drop passed first) second

@@ -40,23 +40,23 @@ fault_read text fault has = by (read language text).last (read_is language text)
     pieces : List Piece
     pieces = (read language text).pieces
 
-    made : (found : Spanned Fault) → IsLongestReading language nothing text (read language text).pieces (Fails found) → moved (pieces_len (read language text).pieces) found ≡ fault → FaultRead text fault
+    made : (found : Spanned Fault) → IsLongestReading language nothing text pieces (Fails found) → moved (pieces_len pieces) found ≡ fault → FaultRead text fault
     made found longest same =
-        let begin : pieces_len (read language text).pieces + found.begin ≡ fault.begin = ap (λ (f : Spanned Fault). f.begin) same in
-        let end : pieces_len (read language text).pieces + found.end ≡ fault.end = ap (λ (f : Spanned Fault). f.end) same in
+        let begin : pieces_len pieces + found.begin ≡ fault.begin = ap (λ (f : Spanned Fault). f.begin) same in
+        let end : pieces_len pieces + found.end ≡ fault.end = ap (λ (f : Spanned Fault). f.end) same in
         record {
-          pieces = (read language text).pieces;
+          pieces = pieces;
           found = found;
           stays = record { reads = longest.reads; fails = longest.stands_last };
           same = same;
-          is = outcome_by text (read language text).pieces (Fails found) longest;
+          is = outcome_by text pieces (Fails found) longest;
           begin = begin;
           end = end;
-          order = omega (arith, begin, end, (fault_fits language (after_all nothing (read language text).pieces) (drop (pieces_len (read language text).pieces) text) found longest.stands_last).order);
+          order = omega (arith, begin, end, (fault_fits language (after_all nothing pieces) (drop (pieces_len pieces) text) found longest.stands_last).order);
         }
 
-    by : (last : Step) → IsLongestReading language nothing text (read language text).pieces last → (outcome_of text (read language text).pieces last).fault ≡ Some fault → FaultRead text fault
-    by (Fails found) longest e = let same : moved (pieces_len (read language text).pieces) found ≡ fault = cc in made found longest same
+    by : (last : Step) → IsLongestReading language nothing text pieces last → (outcome_of text pieces last).fault ≡ Some fault → FaultRead text fault
+    by (Fails found) longest e = let same : moved (pieces_len pieces) found ≡ fault = cc in made found longest same
     by (Stands piece) longest e = cc
     by Ends longest e = cc
 

@@ -121,9 +121,9 @@ literal_fails : (place : Mode) (kind : Kind) (opening : Opening) (len : ℕ) (be
 literal_fails place kind opening len behind more found h e less =
     let body : Body = body_at (record { kind = kind; opening = opening }) behind in
     let fits = body_fits (record { kind = kind; opening = opening }) behind in
-    let inside = literal_inside place kind opening len behind more (body_at (record { kind = kind; opening = opening }) behind) found fits.0 (body_at (record { kind = kind; opening = opening }) behind).stop fits.1 e less in
-    ap (λ (body : Body). literal_by place kind opening len (behind ++ more) body body.stop) (body_stays (record { kind = kind; opening = opening }) behind more h inside)
-    ∙ literal_same place kind opening len behind more (body_at (record { kind = kind; opening = opening }) behind) found fits.0 (body_at (record { kind = kind; opening = opening }) behind).stop fits.1 h (body_single (record { kind = kind; opening = opening }) behind) e less
+    let inside = literal_inside place kind opening len behind more body found fits.0 body.stop fits.1 e less in
+    ap (λ (b : Body). literal_by place kind opening len (behind ++ more) b b.stop) (body_stays (record { kind = kind; opening = opening }) behind more h inside)
+    ∙ literal_same place kind opening len behind more body found fits.0 body.stop fits.1 h (body_single (record { kind = kind; opening = opening }) behind) e less
 
 literal_behind_fails : (place : Mode) (kind : Kind) (opening : Opening) (len quotes : ℕ) (behind more : Text) (found : Spanned Fault) → ends_line behind ≡ true → quotes < length behind → literal place kind opening (len + quotes) (drop quotes behind) ≡ Fails found → found.end < len + length behind
     → literal place kind opening (len + quotes) (drop quotes (behind ++ more)) ≡ Fails found
@@ -158,9 +158,10 @@ chunk_same opening text other body Ended found e less = absurd (omega (arith, le
 chunk_fails : (opening : Opening) (text more : Text) (found : Spanned Fault) → ends_line text ≡ true → chunk opening text ≡ Fails found → found.end < length text → chunk opening (text ++ more) ≡ Fails found
 unfolding chunk
 chunk_fails opening text more found h e less =
-    let inside = chunk_inside opening text (body_at (record { kind = OfFString; opening = opening }) text) (body_at (record { kind = OfFString; opening = opening }) text).stop found e less in
-    ap (λ (body : Body). chunk_by opening (text ++ more) body body.stop) (body_stays (record { kind = OfFString; opening = opening }) text more h inside)
-    ∙ chunk_same opening text (text ++ more) (body_at (record { kind = OfFString; opening = opening }) text) (body_at (record { kind = OfFString; opening = opening }) text).stop found e less
+    let body : Body = body_at (record { kind = OfFString; opening = opening }) text in
+    let inside = chunk_inside opening text body body.stop found e less in
+    ap (λ (b : Body). chunk_by opening (text ++ more) b b.stop) (body_stays (record { kind = OfFString; opening = opening }) text more h inside)
+    ∙ chunk_same opening text (text ++ more) body body.stop found e less
 
 -- Words
 
@@ -213,7 +214,10 @@ front_fails s text more (Some front) found h known e less =
 
 code_fails : (s : Situation) (text more : Text) (found : Spanned Fault) → ends_line text ≡ true → in_code language s text ≡ Fails found → found.end < length text → in_code language s (text ++ more) ≡ Fails found
 code_fails s [] more found h e less = cc
-code_fails s (b ∷ bs) more found h e less = ap (λ (front : Option (Class × ℕ)). step (takes_bang s.place s.before && is_bang (b ∷ (bs ++ more))) (b ∷ (bs ++ more)) front) known ∙ ap (λ bang. step bang (b ∷ (bs ++ more)) (longest_front (class_in language) (b ∷ bs))) same ∙ go (takes_bang s.place s.before && is_bang (b ∷ bs)) e
+code_fails s (b ∷ bs) more found h e less =
+    ap (λ (front : Option (Class × ℕ)). step (takes_bang s.place s.before && is_bang (b ∷ (bs ++ more))) (b ∷ (bs ++ more)) front) known
+    ∙ ap (λ bang. step bang (b ∷ (bs ++ more)) (longest_front (class_in language) (b ∷ bs))) same
+    ∙ go (takes_bang s.place s.before && is_bang (b ∷ bs)) e
   where
     step : Bool → Text → Option (Class × ℕ) → Step
     step bang text front = if bang then token 1 FStringBang else front_step s text front

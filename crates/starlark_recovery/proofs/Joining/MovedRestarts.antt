@@ -1,14 +1,14 @@
 -- Where lexing begins again in a text that stands after another.
-use Rattle.std.proofs.Common.{◌≡◌, ℕ, zero, suc, ◌+◌, ◌-◌, ◌≤◌, ◌<◌, Bool, true, false, not, List, [], ◌∷◌, ◌++◌, length, drop, refl, ap, ◌∙◌, sym, subst, Some, None, arith, ◌⊎◌, inl, inr, length-append}
-use Rattle.std.specs.Prelude.{◌&&◌, ◌||◌, ◌==◌, if◌then◌else◌, max, nat_eq}
+use Rattle.std.proofs.Common.{◌≡◌, ℕ, zero, suc, ◌+◌, ◌-◌, ◌≤◌, ◌<◌, Bool, true, false, not, List, [], ◌∷◌, ◌++◌, length, take, drop, refl, ap, ◌∙◌, sym, subst, Some, None, arith, ◌⊎◌, inl, inr, length-append}
+use Rattle.std.specs.Prelude.{◌&&◌, ◌||◌, ◌==◌, if◌then◌else◌, max, nat_eq, sum_by, take_while}
 use Rattle.std.specs.List.{onto_first, prefix_len}
 use Rattle.std.specs.Str.{byte}
 use Rattle.std.proofs.Math.Seq.{drop-append-add}
-use Rattle.std.proofs.lemmas.Bool.{both_ways, cases_lt}
+use Rattle.std.proofs.lemmas.Bool.{both_ways, cases_lt, eqb-true}
 use Rattle.starlark_grammar.specs.Words.{Text, language}
 use Rattle.starlark_grammar.specs.Tokens.{Spanned, Fault, moved}
 use Rattle.starlark_grammar.specs.Gaps.{begins_with_line_end}
-use Rattle.starlark_grammar.specs.Margins.{Margin, has_tab, is_blank, is_lf, lines, margin_of}
+use Rattle.starlark_grammar.specs.Margins.{blanks_len, has_tab, is_blank, is_comment_only, is_lf, lines, margin_of}
 use Rattle.starlark_grammar.specs.Pieces.{Fails, first_margin}
 use Rattle.starlark_grammar.specs.Reading.{after_all, nothing, next_step, outcome, pieces_len}
 use Rattle.starlark_grammar.specs.TextLaws.{HasFirstMargin}
@@ -29,10 +29,20 @@ not_any false false false h = (refl, refl, refl)
 
 plain_blanks : (b : ℕ) (bs : Text) → is_blank b ≡ false → is_lf b ≡ false → (b == byte "#") ≡ false → (margin_of (b ∷ bs)).blanks ≡ []
 unfolding margin_of lines
-plain_blanks b bs blank feed comment = go (lines bs)
+plain_blanks b bs blank feed comment = ap blanks (ap (take_while is_comment_only) first ∙ none (lines bs)) ∙ rw blank refl
   where
-    go : (more : List Text) → (margin_of (b ∷ bs)).blanks ≡ []
-    go more = rw (feed, blank, comment) refl
+    blanks : List Text → Text
+    blanks passed = take (blanks_len (drop (sum_by (λ (line : Text). length line) passed) (b ∷ bs))) (drop (sum_by (λ (line : Text). length line) passed) (b ∷ bs))
+
+    first : lines (b ∷ bs) ≡ onto_first b (lines bs)
+    first = rw feed refl
+
+    line : (more : Text) → is_comment_only (b ∷ more) ≡ false
+    line more = rw (blank, comment) refl
+
+    none : (more : List Text) → take_while is_comment_only (onto_first b more) ≡ []
+    none [] = rw (line []) refl
+    none (l ∷ more) = rw (line l) refl
 
 pub plain_first : (text : Text) → begins_plainly text ≡ true → HasFirstMargin language text
 unfolding begins_plainly
@@ -78,8 +88,11 @@ plain_tab text fault plain has tab = go (fault_read text fault has)
 -- Moved faults
 
 not_zero : (n : ℕ) → 0 < n → (n == 0) ≡ false
-not_zero zero some = absurd (omega (arith, some))
-not_zero (suc n) some = refl
+not_zero n some = go (n == 0) refl
+  where
+    go : (test : Bool) → (n == 0) ≡ test → test ≡ false
+    go true e = absurd (omega (arith, some, eqb-true n 0 e))
+    go false e = refl
 
 abbrev is_other : ℕ → Bool
 is_other b = not (is_lf b)
