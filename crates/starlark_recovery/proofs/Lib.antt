@@ -8,4 +8,5 @@ pub mod ClosedBlocks
 pub mod LineCuts
 pub mod NewlinePieces
 pub mod NewlineCuts
+pub mod Joining
 mod Rows

@@ -14,7 +14,7 @@ use Rattle.starlark_recovery.specs.RecoveryLaws.{AreInOrder, FaultsInOrder, IsIn
 
 -- the lexemes and faults of moved outcomes are moved
 
-lexemes_moved : (n : ℕ) (found : List Outcome) → lexemes_of (map (moved_outcome n) found) ≡ map (moved n) (lexemes_of found)
+pub lexemes_moved : (n : ℕ) (found : List Outcome) → lexemes_of (map (moved_outcome n) found) ≡ map (moved n) (lexemes_of found)
 lexemes_moved n [] = refl
 lexemes_moved n (one ∷ more) = ap (λ l. map (moved n) one.lexemes ++ l) (lexemes_moved n more) ∙ sym (map-append n one.lexemes (lexemes_of more))
   where
@@ -26,7 +26,7 @@ fault_moved : (n : ℕ) (fault : Option (Spanned Fault)) (more later : List (Spa
 fault_moved n None more later is = is
 fault_moved n (Some fault) more later is = ap (λ l. moved n fault ∷ l) is
 
-faults_moved : (n : ℕ) (found : List Outcome) → faults_of (map (moved_outcome n) found) ≡ map (moved n) (faults_of found)
+pub faults_moved : (n : ℕ) (found : List Outcome) → faults_of (map (moved_outcome n) found) ≡ map (moved n) (faults_of found)
 faults_moved n [] = refl
 faults_moved n (one ∷ more) = fault_moved n one.fault (faults_of (map (moved_outcome n) more)) (faults_of more) (faults_moved n more)
 

@@ -6,7 +6,7 @@ use Rattle.starlark_grammar.specs.Reading.{outcome}
 use Rattle.starlark_grammar.specs.Tokens.{Fault, Lexeme, Spanned, Newline, Identifier, Indent, Dedent, Word, Comment, FStringStart, InvalidInput, InvalidTab, Indentation, UnfinishedStringLiteral, ReservedKeyword}
 use Rattle.starlark_grammar.specs.Words.{Text}
 use Rattle.starlark_grammar.specs.declared.class.Terminal.TheVariants as terminal
-use Rattle.starlark_recovery.specs.Joining.{begins_plainly, is_between_lines, is_line_cut, without_last_newline}
+use Rattle.starlark_recovery.specs.Joining.{begins_plainly, is_between_lines, is_closed, is_closed_from, is_decided, is_line_cut, without_last_newline}
 use Rattle.starlark_recovery.specs.Recovery.{next_line, outcomes, outcomes_from, recovered, restart, stopped_at}
 
 -- the text has these lexemes and these faults
@@ -105,3 +105,44 @@ plain_texts :
     × (begins_plainly (codes "\rx") ≡ false)
 unfolding begins_plainly
 plain_texts = (refl, refl, refl, refl, refl, refl, refl, refl)
+
+-- whether a fault is decided: not at the text's end, and not where no LF ends the text
+decided_rows :
+    (is_decided (codes "$\n") (at 0 (InvalidInput (codes "$")) 1) ≡ true)
+    × (is_decided (codes "'a\n") (at 0 UnfinishedStringLiteral 2) ≡ true)
+    × (is_decided (codes "f'a\nb\n") (at 2 UnfinishedStringLiteral 4) ≡ true)
+    × (is_decided (codes "x\n\ty\n") (at 1 InvalidTab 1) ≡ true)
+    × (is_decided (codes "$\nis\n") (at 0 (InvalidInput (codes "$")) 1) ≡ true)
+    × (is_decided (codes "$") (at 0 (InvalidInput (codes "$")) 1) ≡ false)
+    × (is_decided (codes "$\nx") (at 0 (InvalidInput (codes "$")) 1) ≡ false)
+    × (is_decided (codes "f'a\n") (at 2 UnfinishedStringLiteral 4) ≡ false)
+    × (is_decided (codes "f'a\\\n") (at 2 UnfinishedStringLiteral 5) ≡ false)
+    × (is_decided (codes "\"\"\"a\n") (at 0 UnfinishedStringLiteral 5) ≡ false)
+unfolding is_decided
+decided_rows = (refl, refl, refl, refl, refl, refl, refl, refl, refl, refl)
+
+-- closed texts: cuts between lines, and texts with decided faults and such a cut or nothing after them
+closed_rows :
+    (is_closed [] ≡ true)
+    × (is_closed (codes "x\n") ≡ true)
+    × (is_closed (codes "$\n") ≡ true)
+    × (is_closed (codes "'a\n") ≡ true)
+    × (is_closed (codes "f'a\nb\n") ≡ true)
+    × (is_closed (codes "x\n\ty\n") ≡ true)
+    × (is_closed (codes "(\n$\nx\n") ≡ true)
+    × (is_closed (codes "$\n x\n") ≡ true)
+unfolding all_recovery is_between_lines is_line_cut is_decided is_closed_from is_closed
+closed_rows = (refl, refl, refl, refl, refl, refl, refl, refl)
+
+-- texts that aren't closed: by their end, by a fault at their end, and by what is open there
+open_rows :
+    (is_closed (codes "x") ≡ false)
+    × (is_closed (codes "$") ≡ false)
+    × (is_closed (codes "$\nx") ≡ false)
+    × (is_closed (codes "f'a\n") ≡ false)
+    × (is_closed (codes "f'a\\\n") ≡ false)
+    × (is_closed (codes "\"\"\"a\n") ≡ false)
+    × (is_closed (codes "$\n(\n") ≡ false)
+    × (is_closed (codes "$\nif") ≡ false)
+unfolding all_recovery is_between_lines is_line_cut is_decided is_closed_from is_closed
+open_rows = (refl, refl, refl, refl, refl, refl, refl, refl)

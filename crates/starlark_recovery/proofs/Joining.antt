@@ -1,0 +1,6 @@
+-- Texts that are lexed on after their faults, and texts after them.
+pub mod FollowedStops
+pub mod FollowedFaults
+pub mod MarginTabs
+pub mod DecidedFaults
+pub mod MovedRestarts
