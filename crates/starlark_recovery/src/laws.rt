@@ -29,7 +29,7 @@ pub fn found_inside()
 /// A fault that ends before the last byte of its text, an LF, stays as it is whatever follows, and so
 /// does the line where lexing begins again.
 pub fn decided_faults_stay()
-    ensures { DecidedFaultsStay }
+    ensures stays { DecidedFaultsStay }
 {}
 
 /// A text can be cut between two lines where the second has content at its start: it closes all
