@@ -38,23 +38,28 @@ has_newline_view (lexeme ∷ lexemes) = is_newline_view lexeme.node || has_newli
 -- the index of the last `Newline` of a list, or its length if it has none
 abbrev pub last_newline_at : List (grammar.Spanned TokenView) → ℕ
 last_newline_at [] = 0
-last_newline_at (lexeme ∷ lexemes) = by (has_newline_view lexemes) (is_newline_view lexeme.node)
+last_newline_at (lexeme ∷ lexemes) = by (has_newline_view lexemes) (is_newline_view lexeme.node) (last_newline_at lexemes)
   where
-    by : Bool → Bool → ℕ
-    by false true = 0
-    by others first = suc (last_newline_at lexemes)
+    by : Bool → Bool → ℕ → ℕ
+    by false true later = 0
+    by others first later = suc later
 
 -- the lexemes without the last `Newline`
 abbrev pub without_newline : List (grammar.Spanned TokenView) → List (grammar.Spanned TokenView)
 without_newline lexemes = take (last_newline_at lexemes) lexemes ++ drop (suc (last_newline_at lexemes)) lexemes
+
+-- the lexeme is a `Dedent`
+abbrev pub is_dedent_view : TokenView → Bool
+is_dedent_view (Whole grammar.Dedent) = true
+is_dedent_view view = false
 
 -- a `Newline` of some bytes
 abbrev pub IsLineEnd : grammar.Spanned TokenView → Type 0
 IsLineEnd lexeme = (lexeme.node ≡ Whole grammar.Newline) × (lexeme.begin < lexeme.end)
 
 abbrev pub is_dedent_item : LexerItem → Bool
-is_dedent_item (Given (record { begin = begin; node = Whole grammar.Dedent; end = end })) = true
-is_dedent_item item = false
+is_dedent_item (Given lexeme) = is_dedent_view lexeme.node
+is_dedent_item (Refused fault) = false
 
 -- items that don't begin with a `Dedent`
 abbrev pub BeginUndented : List LexerItem → Type 0
@@ -62,20 +67,20 @@ BeginUndented [] = ⊤
 BeginUndented (item ∷ more) = is_dedent_item item ≡ false
 
 -- the last newline of some bytes among the items ends at an offset
-pub record EndsLine (items : List LexerItem) (at : ℕ) : Type 0 where
+pub record EndsLine (found : List LexerItem) (at : ℕ) : Type 0 where
   pub front : List LexerItem
   pub newline : grammar.Spanned TokenView
   pub more : List LexerItem
-  pub items : items ≡ front ++ (Given newline ∷ more)
+  pub items : found ≡ front ++ (Given newline ∷ more)
   pub is_line_end : IsLineEnd newline
   pub end : newline.end ≡ at
 
 -- a newline of some bytes ends at an offset where a line begins plainly, and only `Dedent`s come after it
-pub record EndsPlainly (text : Text) (items : List LexerItem) (at : ℕ) : Type 0 where
+pub record EndsPlainly (text : Text) (found : List LexerItem) (at : ℕ) : Type 0 where
   pub front : List LexerItem
   pub newline : grammar.Spanned TokenView
   pub dedents : List LexerItem
-  pub items : items ≡ front ++ (Given newline ∷ dedents)
+  pub items : found ≡ front ++ (Given newline ∷ dedents)
   pub is_line_end : IsLineEnd newline
   pub end : newline.end ≡ at
   pub are_dedents : AllByRecursion (λ item. is_dedent_item item ≡ true) dedents
@@ -109,11 +114,11 @@ abbrev pub ItemsAreFound : Type 0
 ItemsAreFound = (text : Text) → (given_of (all_items text) ≡ map shown_lexeme (recovered text).lexemes) × (refused_of (all_items text) ≡ (recovered text).faults)
 
 -- the first segment of a text: up to where it can be cut, or the whole text, which is the document's last or not
-pub record IsFirstSegment (text : Text) (is_last : Bool) (segment : Segment) : Type 0 where
-  pub within : segment.len ≤ length text
-  pub text : text_in segment ≡ take segment.len text
+pub record IsFirstSegment (whole : Text) (is_last : Bool) (segment : Segment) : Type 0 where
+  pub within : segment.len ≤ length whole
+  pub text : text_in segment ≡ take segment.len whole
   pub len : segment.len ≡ length (text_in segment)
-  pub some : 0 < length text → 0 < segment.len
-  pub cut : segment.len < length text → IsOpen segment × (begins_plainly (drop segment.len text) ≡ true)
-  pub last : segment.len ≡ length text → is_last ≡ true → IsWhole segment
-  pub inner : segment.len ≡ length text → is_last ≡ false → IsOpen segment
+  pub some : 0 < length whole → 0 < segment.len
+  pub cut : segment.len < length whole → IsOpen segment × (begins_plainly (drop segment.len whole) ≡ true)
+  pub last : segment.len ≡ length whole → is_last ≡ true → IsWhole segment
+  pub inner : segment.len ≡ length whole → is_last ≡ false → IsOpen segment

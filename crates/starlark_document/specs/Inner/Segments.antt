@@ -34,8 +34,8 @@ AreFaults (fault ∷ faults) (placed ∷ more) = IsPlaced fault placed × AreFau
 AreFaults faults placed = ⊥
 
 -- the segment has these lexemes, and the faults of its text
-pub record IsLexedAs (lexemes : List grammar.Lexeme) (segment : Segment) : Type 0 where
-  pub lexemes : map lexeme_view segment.content.value.lexemes.items ≡ map shown_lexeme lexemes
+pub record IsLexedAs (found : List grammar.Lexeme) (segment : Segment) : Type 0 where
+  pub lexemes : map lexeme_view segment.content.value.lexemes.items ≡ map shown_lexeme found
   pub faults : AreFaults (recovered (text_in segment)).faults segment.content.value.faults.items
   pub len : segment.len ≡ length (text_in segment)
 
