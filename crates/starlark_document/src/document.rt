@@ -1,6 +1,6 @@
 //! Documents: texts that stay lexed while they are edited.
 
-ghost use Rattle.std.specs.Prelude.{◌≡◌, ◌≤◌, ◌<◌, ◌^◌, ◌↔◌, ◌==◌, ¬, Err, IfOk, IfSome, IsNone, IsTrue, OnErr, OnOk, drop_while, length, slice_range, string_bytes};
+ghost use Rattle.std.specs.Prelude.{◌≡◌, ◌≤◌, ◌<◌, ◌^◌, ◌↔◌, ◌==◌, ⊥, Err, IfOk, IfSome, IsNone, IsTrue, OnErr, OnOk, drop_while, length, slice_range, string_bytes};
 ghost use Rattle.std.specs.Str.{IsCharBoundary};
 ghost use Rattle.starlark_base.specs.Refusals.{IsRefused};
 ghost use Rattle.starlark_document.specs.Documents.{IsChange, IsRange, edited, ends_by, faults_of, lexemes_of};
@@ -160,7 +160,7 @@ impl Document {
         ensures text { OnOk result (self.new ≡ edited from to text.now self.old) }
         ensures change { IfOk result (IsChange self.old self.new) }
         ensures refused { OnErr result (self.new ≡ self.old) }
-        ensures range { (result ≡ Err EditError.BadRange) ↔ ¬ (IsRange self.old from to) }
+        ensures range { (result ≡ Err EditError.BadRange) ↔ (IsRange self.old from to → ⊥) }
         ensures too_long { (result ≡ Err EditError.TooLong) ↔ (IsRange self.old from to × (2 ^ 32 ≤ length (edited from to text.now self.old))) }
     {
         if !self.has_range(from, to) {
@@ -230,7 +230,7 @@ impl Document {
     /// The text from byte `from` to byte `to`; `None` where the range isn't one of the text.
     pub fn slice(&self, from: usize, to: usize) -> Result<Option<String>, AllocError>
         ensures text { IfOk result (λ found. IfSome found (λ text. string_bytes text ≡ slice_range self.now from to)) }
-        ensures none { IfOk result (λ found. IsNone found ↔ ¬ (IsRange self.now from to)) }
+        ensures none { IfOk result (λ found. IsNone found ↔ (IsRange self.now from to → ⊥)) }
     {
         if !self.has_range(from, to) {
             return Ok(None);

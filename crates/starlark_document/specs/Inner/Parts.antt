@@ -31,6 +31,6 @@ pub record IsLexedPart (segments : List Segment) (part : Part) (lexed : LexedPar
   pub within : lexed.end ≤ length segments
   pub len : lexed.len ≡ length (text_of lexed.segments.items)
   pub text : string_bytes part.text ++ text_of (drop part.end segments) ≡ text_of lexed.segments.items ++ text_of (drop lexed.end segments)
-  pub open : lexed.end < length segments → AreOpen (part.first.index == 0) lexed.segments.items
+  pub inner : lexed.end < length segments → AreOpen (part.first.index == 0) lexed.segments.items
   pub last : lexed.end ≡ length segments → AreLaid (part.first.index == 0) lexed.segments.items
   pub least : lexed.len ≤ lexed.lexed
