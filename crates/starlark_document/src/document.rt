@@ -1,6 +1,7 @@
 //! Documents: texts that stay lexed while they are edited.
 
-ghost use Rattle.std.specs.Prelude.{◌≡◌, ◌≤◌, ◌<◌, ◌^◌, ◌↔◌, ◌==◌, ⊥, Err, IfOk, IfSome, IsNone, IsTrue, OnErr, OnOk, drop_while, length, slice_range, string_bytes};
+ghost use Rattle.std.specs.Prelude.{◌≡◌, ◌≤◌, ◌<◌, ◌^◌, ◌↔◌, ◌==◌, Err, IfOk, IfSome, IsNone, IsTrue, OnErr, OnOk, drop, length, slice_range, string_bytes};
+ghost use Rattle.std.specs.List.{prefix_len};
 ghost use Rattle.std.specs.Str.{IsCharBoundary};
 ghost use Rattle.starlark_base.specs.Refusals.{IsRefused};
 ghost use Rattle.starlark_document.specs.Documents.{IsChange, IsRange, edited, ends_by, faults_of, lexemes_of};
@@ -213,7 +214,7 @@ impl Document {
 
     /// The lexemes of the text from the first one that ends after byte `at` on.
     pub fn lexemes_from(&self, at: usize) -> Lexemes<'_>
-        ensures { result ≡ drop_while (ends_by at) (lexemes_of self.now) }
+        ensures { result ≡ drop (prefix_len (ends_by at) (lexemes_of self.now)) (lexemes_of self.now) }
     {
         let place = segment_at(&self.segments, at);
         let passed = passed_len(&self.segments[place.index], at - place.begin);

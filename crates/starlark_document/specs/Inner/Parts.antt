@@ -18,7 +18,7 @@ pub record IsReplaced (segments : List Segment) (whole : Text) (part : Part) : T
   pub order : part.first.index ≤ part.end
   pub within : part.end ≤ length segments
   pub begin : part.first.begin ≡ length (text_of (take part.first.index segments))
-  pub whole : whole ≡ text_of (take part.first.index segments) ++ (string_bytes part.text ++ text_of (drop part.end segments))
+  pub same : whole ≡ text_of (take part.first.index segments) ++ (string_bytes part.text ++ text_of (drop part.end segments))
 
 -- Segments are replaced, and the new text begins plainly, unless it is the first.
 pub record IsPart (segments : List Segment) (whole : Text) (part : Part) : Type 0 where
