@@ -4,3 +4,4 @@ pub mod FollowedFaults
 pub mod MarginTabs
 pub mod DecidedFaults
 pub mod MovedRestarts
+pub mod ClosedTexts

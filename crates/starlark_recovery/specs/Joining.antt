@@ -3,7 +3,7 @@ use Rattle.std.specs.Prelude.{◌≡◌, ◌<◌, ℕ, zero, suc, ◌-◌, Bool,
 use Rattle.std.specs.List.{ends_with, list_all}
 use Rattle.std.specs.Str.{byte}
 use Rattle.starlark_grammar.specs.Words.{Text}
-use Rattle.starlark_grammar.specs.Tokens.{Dedent, Token, Lexeme, Outcome, Spanned, moved, Fault}
+use Rattle.starlark_grammar.specs.Tokens.{Dedent, Token, Lexeme, Spanned, moved, Fault}
 use Rattle.starlark_grammar.specs.Margins.{is_blank, is_lf}
 use Rattle.starlark_grammar.specs.Words.{language}
 use Rattle.starlark_grammar.specs.Cuts.{is_faultless, is_layout, is_outside, is_newline}

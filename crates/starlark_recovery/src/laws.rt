@@ -2,7 +2,7 @@
 //!
 //! Each law is the contract of a function with an empty body. Programs don't call them.
 
-ghost use Rattle.starlark_recovery.specs.Joining.{DecidedFaultsStay, LastNewlineCuts, LineCutsJoin, LineCutsOfJoined, NewlinesCut};
+ghost use Rattle.starlark_recovery.specs.Joining.{ClosedAfterFaults, ClosedOfJoined, ClosedTextsJoin, DecidedFaultsStay, LastNewlineCuts, LineCutsJoin, LineCutsOfJoined, NewlinesCut};
 ghost use Rattle.starlark_recovery.specs.RecoveryLaws.{FaultlessIsOutcome, FaultlessRecovers, FaultsInOrder, LexemesAfterFaults, LexemesInside, LexesOn, RestartsLater};
 
 /// A text without fault has its outcome alone: its own lexemes, and no faults.
@@ -43,4 +43,12 @@ pub fn line_cuts_join()
 pub fn newlines_cut()
     ensures inside { NewlinesCut }
     ensures last { LastNewlineCuts }
+{}
+
+/// What follows a closed text, and begins with content at the start of a line, is lexed by itself. So
+/// a text can be kept in parts, each lexed alone.
+pub fn closed_texts_join()
+    ensures recovered { ClosedTextsJoin }
+    ensures closed { ClosedOfJoined }
+    ensures rest { ClosedAfterFaults }
 {}

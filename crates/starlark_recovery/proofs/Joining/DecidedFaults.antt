@@ -1,7 +1,7 @@
 -- A decided fault stays, and so does the line where lexing begins again.
-use Rattle.std.proofs.Common.{◌≡◌, ℕ, zero, suc, ◌+◌, ◌-◌, ◌≤◌, ◌<◌, Bool, true, false, cond, not, List, [], ◌∷◌, ◌++◌, length, drop, refl, ap, ◌∙◌, sym, subst, Option, Some, None, arith, ◌⊎◌, inl, inr, length-append, append-nil}
+use Rattle.std.proofs.Common.{◌≡◌, ℕ, ◌+◌, ◌-◌, ◌≤◌, ◌<◌, Bool, true, false, cond, not, List, [], ◌∷◌, ◌++◌, length, drop, refl, ap, ◌∙◌, sym, subst, Some, arith, ◌⊎◌, inl, inr, length-append}
 use Rattle.std.specs.Prelude.{◌&&◌, ◌||◌, ◌==◌, if◌then◌else◌, max, nat_eq, nat_lt, codes}
-use Rattle.std.specs.List.{ends_with, prefix_len, starts_with}
+use Rattle.std.specs.List.{prefix_len, starts_with}
 use Rattle.std.proofs.lemmas.Bool.{and_parts, eqb-true, ltb-true}
 use Rattle.std.proofs.lemmas.List.{drop-append-le, length-drop}
 use Rattle.std.proofs.lemmas.List.Sums.{sum_by-cons}
@@ -9,14 +9,14 @@ use Rattle.starlark_grammar.specs.Words.{Text, language}
 use Rattle.starlark_grammar.specs.Tokens.{Spanned, Fault, Lexeme, moved, Outcome}
 use Rattle.starlark_grammar.specs.Gaps.{begins_with_line_end}
 use Rattle.starlark_grammar.specs.Margins.{Margin, is_lf, margin_of, margin_len}
-use Rattle.starlark_grammar.specs.Pieces.{Piece, Step, Stands, Fails, Ends, first_margin, margin_step}
-use Rattle.starlark_grammar.specs.Reading.{after, after_all, before_fault, nothing, next_step, IsReading, IsLongestReading, pieces_len, outcome, outcome_of, read}
+use Rattle.starlark_grammar.specs.Pieces.{Piece, Step, Stands, Fails, Ends, first_margin}
+use Rattle.starlark_grammar.specs.Reading.{after_all, before_fault, nothing, IsLongestReading, pieces_len, outcome, outcome_of, read}
 use Rattle.starlark_grammar.proofs.Lists.{drop-sum}
 use Rattle.starlark_grammar.proofs.Literals.Bodies.{starts_fits}
-use Rattle.starlark_grammar.proofs.Reading.Readings.{fault_fits, read_is, reading_fits}
+use Rattle.starlark_grammar.proofs.Reading.Readings.{fault_fits, read_is}
 use Rattle.starlark_grammar.proofs.Joining.Followed.{ends_line, ends_line_drop, ends_line_of}
 use Rattle.starlark_grammar.proofs.Joining.FollowedMargins.{Followed, Whole, Within, followed, whole_behind}
-use Rattle.starlark_grammar.proofs.Joining.Joined.{blank_step, margin_step_len, whole_from_ends}
+use Rattle.starlark_grammar.proofs.Joining.Joined.{margin_step_len, whole_from_ends}
 use Rattle.starlark_grammar.proofs.Joining.Tabs.{first_step, outcome_by}
 use Rattle.starlark_recovery.specs.Joining.{DecidedFaultsStay, is_decided}
 use Rattle.starlark_recovery.specs.Recovery.{is_margin_tab, is_tab, line_end_len, margin_line, next_line, restart, stopped_at}

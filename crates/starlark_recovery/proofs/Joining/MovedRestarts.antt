@@ -1,6 +1,6 @@
 -- Where lexing begins again in a text that stands after another.
-use Rattle.std.proofs.Common.{◌≡◌, ℕ, zero, suc, ◌+◌, ◌-◌, ◌≤◌, ◌<◌, Bool, true, false, not, List, [], ◌∷◌, ◌++◌, length, take, drop, refl, ap, ◌∙◌, sym, subst, Some, None, arith, ◌⊎◌, inl, inr, length-append}
-use Rattle.std.specs.Prelude.{◌&&◌, ◌||◌, ◌==◌, if◌then◌else◌, max, nat_eq, sum_by, take_while}
+use Rattle.std.proofs.Common.{◌≡◌, ℕ, ◌+◌, ◌-◌, ◌≤◌, ◌<◌, Bool, true, false, not, List, [], ◌∷◌, ◌++◌, length, take, drop, refl, ap, ◌∙◌, sym, subst, Some, arith, ◌⊎◌, inl, inr, length-append}
+use Rattle.std.specs.Prelude.{◌&&◌, ◌||◌, ◌==◌, if◌then◌else◌, max, sum_by, take_while}
 use Rattle.std.specs.List.{onto_first, prefix_len}
 use Rattle.std.specs.Str.{byte}
 use Rattle.std.proofs.Math.Seq.{drop-append-add}
@@ -10,7 +10,7 @@ use Rattle.starlark_grammar.specs.Tokens.{Spanned, Fault, moved}
 use Rattle.starlark_grammar.specs.Gaps.{begins_with_line_end}
 use Rattle.starlark_grammar.specs.Margins.{blanks_len, has_tab, is_blank, is_comment_only, is_lf, lines, margin_of}
 use Rattle.starlark_grammar.specs.Pieces.{Fails, first_margin}
-use Rattle.starlark_grammar.specs.Reading.{after_all, nothing, next_step, outcome, pieces_len}
+use Rattle.starlark_grammar.specs.Reading.{after_all, nothing, outcome, pieces_len}
 use Rattle.starlark_grammar.specs.TextLaws.{HasFirstMargin}
 use Rattle.starlark_grammar.proofs.Joining.Tabs.{HasTab, first_margin_is, first_step}
 use Rattle.starlark_recovery.specs.Joining.{begins_plainly}
