@@ -4,7 +4,7 @@
 #
 #     scripts/vendor.sh [--run] DIR
 #
-# The crates are `starlark_recovery`, `starlark_syntax` and those below them; with --run, or where an
+# The crates are `starlark_document`, `starlark_recovery`, `starlark_syntax` and those below them; with --run, or where an
 # earlier call did so, `starlark_run` too. Edits, tests and what checks left are no part of a copy.
 # Crates and lines of DIR/crates.txt that this script didn't write stay as they are.
 set -eu
@@ -70,9 +70,9 @@ copy_crate() {
     done
 }
 
-roots='starlark_recovery starlark_syntax'
+roots='starlark_document starlark_recovery starlark_syntax'
 if [ "${1-}" = --run ]; then
-    roots='starlark_recovery starlark_syntax starlark_run'
+    roots='starlark_document starlark_recovery starlark_syntax starlark_run'
     shift
 fi
 [ $# = 1 ] && [ -d "$1" ] || usage
@@ -81,7 +81,7 @@ target=$(CDPATH= cd -- "$1" && pwd)
 
 copied=$(crates_copied)
 case " $(echo $copied) " in
-*' starlark_run '*) roots='starlark_recovery starlark_syntax starlark_run' ;;
+*' starlark_run '*) roots='starlark_document starlark_recovery starlark_syntax starlark_run' ;;
 esac
 names=$(crates_and_below $roots)
 

@@ -13,6 +13,7 @@ use crate::parts::{LexedPart, Part, append_texts, end_at, lex_part, part_of_edit
 use crate::segments::{Faults, Lexemes, Segment, SegmentPlace, passed_len, segment_at};
 use starlark_syntax::codemap::{CodeMap, CodeMapId, OrMemory, SourceTooLong};
 use std::alloc::{AllocError, Global};
+use std::fmt;
 use std::marker::Model;
 
 /// A text that stays lexed while it is edited.
@@ -68,6 +69,16 @@ pub enum EditError {
     TooLong,
     /// Memory ran out.
     Memory,
+}
+
+impl fmt::Display for EditError {
+    fn fmt<W: fmt::Write>(&self, f: &mut fmt::Formatter<W>) -> fmt::Result {
+        f.write_str(match self {
+            EditError::BadRange => "the range isn't one of the text",
+            EditError::TooLong => "the text would be longer than 4294967295 bytes",
+            EditError::Memory => "out of memory",
+        })
+    }
 }
 
 impl From<AllocError> for EditError {

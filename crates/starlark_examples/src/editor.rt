@@ -1,53 +1,82 @@
-//! An editor: a text that stays lexed from one version to the next, and columns as editors count
-//! them.
+//! An editor: a file that stays lexed at each keystroke, the part of it on the screen, and its faults.
 
-ghost use Rattle.std.specs.Prelude.{◌≡◌, take, true};
-ghost use Rattle.std.specs.Str.{IsCharBoundary};
+use starlark_document::{Change, Document, EditError};
+use starlark_syntax::lexer::Token;
+use std::alloc::{AllocError, Global};
+use std::fmt;
 
-use starlark_syntax::codemap::{CodeMap, Pos};
-use starlark_syntax::dialect::Dialect;
-use starlark_syntax::lexer::{LexedText, SourceError};
-use std::alloc::Global;
-
-/// Whether two texts have the same bytes up to byte `from`, a character boundary of both.
-fn agree(old: &str, new: &str, from: usize) -> bool
-    ensures { result ≡ true → IsCharBoundary old.now from × IsCharBoundary new.now from × (take from old.now ≡ take from new.now) }
-{
-    old.is_char_boundary(from) && new.is_char_boundary(from) && old[..from] == new[..from]
+/// How a span is shown.
+#[derive(Clone, Copy, PartialEq)]
+pub enum Style {
+    /// A name.
+    Name,
+    /// A string, bytes, or a part of an f-string.
+    Text,
+    /// A number.
+    Number,
+    /// A comment.
+    Comment,
+    /// A keyword, an operator or a bracket.
+    Plain,
 }
 
-/// Lexes a file when it is opened.
-pub fn opened<'a>(alloc: Global, file: &'a CodeMap) -> Result<LexedText<'a>, SourceError> {
-    Ok(LexedText::lex(alloc, file.source(), &Dialect::Standard, file.dupe()?)?)
+/// A span of the file, in bytes, and how it is shown.
+#[derive(Clone, Copy)]
+pub struct StyledSpan {
+    /// Offset of its first byte.
+    pub begin: usize,
+    /// Offset after its last byte.
+    pub end: usize,
+    /// How it is shown.
+    pub style: Style,
 }
 
-/// Lexes a new version of a file, which differs from the old one only from byte `from` on.
-///
-/// If that isn't so, all of it is lexed.
-pub fn update<'a>(
+/// Prints a span as one letter for its style, and its offsets.
+impl fmt::Display for StyledSpan {
+    fn fmt<W: fmt::Write>(&self, f: &mut fmt::Formatter<W>) -> fmt::Result {
+        let letter = match self.style {
+            Style::Name => 'n',
+            Style::Text => 't',
+            Style::Number => '1',
+            Style::Comment => '#',
+            Style::Plain => '.',
+        };
+        write!(f, "{letter}{}-{}", self.begin, self.end)
+    }
+}
+
+/// How a token is shown.
+fn style_of(token: &Token) -> Style {
+    match token {
+        Token::Identifier(_) => Style::Name,
+        Token::String(_) | Token::Bytes(_) | Token::FStringText(_) => Style::Text,
+        Token::Int(_) | Token::Float(_) => Style::Number,
+        Token::Comment(_) => Style::Comment,
+        _ => Style::Plain,
+    }
+}
+
+/// Types a text at an offset of the file. Returns what is to be painted again.
+pub fn typed(document: &mut Document, at: usize, text: &str) -> Result<Change, EditError> {
+    document.edit(at, at, text)
+}
+
+/// The spans between two offsets, for the lines on the screen. Spans without bytes are left out.
+pub fn painted(
     alloc: Global,
-    old: LexedText<'a>,
+    document: &Document,
     from: usize,
-    new: &'a CodeMap,
-) -> Result<LexedText<'a>, SourceError> {
-    if !agree(old.text(), new.source(), from) {
-        return opened(alloc, new);
+    to: usize,
+) -> Result<Vec<StyledSpan>, AllocError> {
+    let mut spans = Vec::new(alloc);
+    for (begin, token, end) in document.lexemes_from(from) {
+        if begin >= to {
+            break;
+        }
+        let style = style_of(token);
+        if begin < end {
+            spans.push(StyledSpan { begin, end, style })?;
+        }
     }
-    old.relex(from, new.source(), new)
-        .map_err(|_| SourceError::Memory)
-}
-
-/// Line and column of a position, both from 0, with columns in UTF-16 units.
-///
-/// `None` where the position is out of range, or inside a character.
-pub fn utf16_place(file: &CodeMap, place: Pos) -> Option<(usize, usize)> {
-    if !file.has_pos(place) {
-        return None;
-    }
-    let line = file.find_line(place);
-    let begin = file.line_span(line).begin();
-    let front = file
-        .source()
-        .get(begin.get() as usize..place.get() as usize)?;
-    Some((line, front.encode_utf16().count()))
+    Ok(spans)
 }

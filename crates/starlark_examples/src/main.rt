@@ -1,8 +1,8 @@
 //! Runs the examples of docs/use over the sections of standard input, and prints their output.
 //!
 //! A section begins with a line `%%% EXAMPLE`. In that of the build tool each file begins with a
-//! line `--- NAME`. In that of the editor a line `---` is between the text before an edit and the
-//! text after it.
+//! line `--- NAME`. In that of the versions a line `---` is between the text before an edit and the
+//! text after it. In that of the editor a line `---` is between a file and what is typed before it.
 #![tactic(auto)]
 
 mod editor;
@@ -12,9 +12,11 @@ mod lexeme_list;
 mod linter;
 mod loads;
 mod parser;
+mod versions;
 
 use crate::linter::Report;
 use crate::parser::Expression;
+use starlark_document::Document;
 use starlark_syntax::codemap::{CodeMap, CodeMapId};
 use starlark_syntax::eval_exception::EvalException;
 use starlark_syntax::lexer::{LexedText, SourceError};
@@ -83,7 +85,7 @@ fn add_place(lines: &mut String, fault: &EvalException) -> Result<(), AllocError
     let Some(place) = fault.error().span() else {
         return Ok(());
     };
-    match editor::utf16_place(&place.file, place.span.begin()) {
+    match versions::utf16_place(&place.file, place.span.begin()) {
         Some((line, column)) => write!(lines, ", a fault in line {line}, column {column}"),
         None => Ok(()),
     }
@@ -113,14 +115,43 @@ fn add_versions(
     old: &CodeMap,
     new: &CodeMap,
 ) -> Result<(), SourceError> {
-    let lexed = editor::opened(alloc, old)?;
+    let lexed = versions::opened(alloc, old)?;
     add_version(lines, &lexed)?;
     let from = common_len(old.source(), new.source());
-    let lexed = editor::update(alloc, lexed, from, new)?;
+    let lexed = versions::update(alloc, lexed, from, new)?;
     Ok(add_version(lines, &lexed)?)
 }
 
-/// The editor's output: a line for the text before an edit, and one for the text after it.
+/// The lines of a document: its spans, and its faults.
+fn document_lines(alloc: Global, document: &Document) -> Result<String, AllocError> {
+    let mut lines = String::new(alloc);
+    for span in &editor::painted(alloc, document, 0, document.len())? {
+        write!(lines, "{span} ")?;
+    }
+    for (begin, kind, end) in document.faults() {
+        write!(lines, "\n{begin}-{end} {kind}")?;
+    }
+    lines.push('\n')?;
+    Ok(lines)
+}
+
+/// The editor's output: what is shown of a file, what has to be painted again after a text was typed
+/// before it, and what is shown then.
+fn typed(alloc: Global, texts: &str) -> Result<String, SourceError> {
+    let Some((file, text)) = texts.split_once("---\n") else {
+        return Ok(String::new(alloc));
+    };
+    let mut document = Document::new(alloc, file)?;
+    let mut lines = document_lines(alloc, &document)?;
+    match editor::typed(&mut document, 0, text) {
+        Ok(change) => write!(lines, "painted again: {}-{}\n", change.begin, change.new_end)?,
+        Err(error) => write!(lines, "{error}\n")?,
+    }
+    lines.push_str(document_lines(alloc, &document)?.as_str())?;
+    Ok(lines)
+}
+
+/// The output of the versions: a line for the text before an edit, and one for the text after it.
 fn edited(alloc: Global, versions: &str) -> Result<String, SourceError> {
     let mut lines = String::new(alloc);
     if let Some((old, new)) = versions.split_once("---\n") {
@@ -180,7 +211,8 @@ fn answer(alloc: Global, example: &str, text: &str) -> Result<String, SourceErro
     match example {
         "linter" => linted(alloc, text),
         "loads" => loaded(alloc, text),
-        "editor" => edited(alloc, text),
+        "editor" => typed(alloc, text),
+        "versions" => edited(alloc, text),
         "evaluator" => evaluated(alloc, text),
         "parser" => parsed(alloc, text),
         "formatter" => formatted(alloc, text),
