@@ -1,4 +1,5 @@
 pub mod Recovery
+pub mod Restarts
 pub mod RecoveryLaws
 pub mod RecoveringLexer
 pub mod Inner
