@@ -1,6 +1,6 @@
-/* Prints the tokens and the faults of standard input, in pieces: two buffers of a fixed size serve a
- * text of any length. A piece that needs more makes them larger. After a fault it goes on at the next
- * line. */
+/* Prints the tokens and the faults of standard input, in pieces: two buffers of a fixed size serve
+ * a text of any length. A piece that needs more makes them larger. After a fault it goes on at the
+ * next line. */
 #include "starlark_lex.h"
 
 #include <stdbool.h>
@@ -47,16 +47,17 @@ static void print_fault(size_t from, const starlark_outcome *outcome, const uint
 }
 
 /* Prints what a call found in the text from an offset on, and returns where the next call begins. */
-static size_t print_found(const uint8_t *text, size_t len, size_t from, const starlark_outcome *outcome,
-                          const starlark_lexeme *lexemes, const uint8_t *values)
+static size_t print_found(const uint8_t *text, size_t len, size_t from,
+                          const starlark_outcome *outcome, const starlark_lexeme *lexemes,
+                          const uint8_t *values)
 {
     for (size_t at = 0; at < outcome->lexemes; at++)
         print_token(from, &lexemes[at], values);
     if (outcome->status != STARLARK_FAULT)
         return from + outcome->next;
     print_fault(from, outcome, values);
-    return from + starlark_restart(text + from, len - from, outcome->fault_begin, outcome->fault_end,
-                                   outcome->fault_kind);
+    return from + starlark_restart(text + from, len - from, outcome->fault_begin,
+                                   outcome->fault_end, outcome->fault_kind);
 }
 
 int main(void)

@@ -103,7 +103,7 @@ impl<'a> Lexer<'a> {
         self.text
     }
 
-    /// Goes on after a fault that was yielded, at the next line, as if that began a text of its own.
+    /// Goes on after a fault that was yielded: at the next line, as a text of its own.
     ///
     /// Nothing changes where none was.
     #[inline]

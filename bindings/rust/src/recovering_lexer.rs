@@ -5,12 +5,12 @@ use std::iter::FusedIterator;
 
 /// All lexemes and all faults of a text, in order.
 ///
-/// It yields what a [`Lexer`] yields up to the first fault. Then it begins again at the next line, as
-/// if that began a text of its own: with no open bracket, f-string or block. So an editor keeps its
-/// colours after an open quote, and a linter shows each fault of a file.
+/// It yields what a [`Lexer`] yields up to the first fault. Then it begins again at the next line,
+/// as if that began a text of its own: with no open bracket, f-string or block. So an editor keeps
+/// its colours after an open quote, and a linter shows each fault of a file.
 ///
-/// After each fault the rest of the text is tested for UTF-8 twice. So a text with many faults takes
-/// longer, by the number of its faults times its length.
+/// After each fault the rest of the text is tested for UTF-8 twice. So a text with many faults
+/// takes longer, by the number of its faults times its length.
 ///
 /// ```
 /// use starlark_lexer::{RecoveringLexer, Token};
