@@ -1,7 +1,7 @@
 //! Where lexing begins again after a fault, by the numbers that an outcome tells of it.
 
-ghost use Rattle.std.specs.Prelude.{◌≡◌, ◌<◌, ◌≤◌, ◌⊎◌, IfNone, IfSome, length};
-ghost use Rattle.starlark_c.specs.Restarts.{AreOf, IsRestart, IsSpan, no_restart};
+ghost use Rattle.std.specs.Prelude.{◌≡◌, ◌≤◌, IfNone, IfSome, length};
+ghost use Rattle.starlark_c.specs.Restarts.{AreOf, IsRestart, IsSpan};
 ghost use Rattle.starlark_grammar.specs.Tokens.{Fault, Spanned};
 ghost use Rattle.starlark_recovery.specs.Recovery as spec;
 
