@@ -19,6 +19,7 @@ crate="$top/crates/starlark_c"
 archive="$crate/out/libstarlark_c.a"
 made="$top/out/bindings"
 texts="$top/crates/starlark_texts"
+recovery="$top/crates/starlark_recovery_texts"
 
 fail() {
     echo "bindings.sh: $1" >&2
@@ -100,7 +101,7 @@ test_c() {
     compile refused_memory '-Wl,--wrap=malloc,--wrap=realloc'
     compile print_tokens ''
     printf 'C: '
-    "$made/stored_texts" "$texts/stdin" "$texts/stdout"
+    "$made/stored_texts" "$texts/stdin" "$texts/stdout" "$recovery/stdin" "$recovery/stdout"
     printf 'C: '
     "$made/refused_memory"
 }

@@ -1,7 +1,9 @@
-/* Prints the tokens of standard input, in pieces: two buffers of a fixed size serve a text of any
- * length. A piece that needs more makes them larger. */
+/* Prints the tokens and the faults of standard input, in pieces: two buffers of a fixed size serve
+ * a text of any length. A piece that needs more makes them larger. After a fault it goes on at the
+ * next line. */
 #include "starlark_lex.h"
 
+#include <stdbool.h>
 #include <stdio.h>
 #include <stdlib.h>
 
@@ -44,6 +46,20 @@ static void print_fault(size_t from, const starlark_outcome *outcome, const uint
     printf("fault %zu-%zu %.*s\n", from + outcome->fault_begin, from + outcome->fault_end, shown, (char *)message);
 }
 
+/* Prints what a call found in the text from an offset on, and returns where the next call begins. */
+static size_t print_found(const uint8_t *text, size_t len, size_t from,
+                          const starlark_outcome *outcome, const starlark_lexeme *lexemes,
+                          const uint8_t *values)
+{
+    for (size_t at = 0; at < outcome->lexemes; at++)
+        print_token(from, &lexemes[at], values);
+    if (outcome->status != STARLARK_FAULT)
+        return from + outcome->next;
+    print_fault(from, outcome, values);
+    return from + starlark_restart(text + from, len - from, outcome->fault_begin,
+                                   outcome->fault_end, outcome->fault_kind);
+}
+
 int main(void)
 {
     size_t len;
@@ -54,13 +70,12 @@ int main(void)
     uint8_t *values = malloc(values_cap);
     starlark_outcome outcome = {.status = STARLARK_FULL};
     size_t from = 0;
-    while (text != NULL && lexemes != NULL && values != NULL && outcome.status == STARLARK_FULL) {
+    bool has_fault = false;
+    while (text != NULL && lexemes != NULL && values != NULL
+           && (outcome.status == STARLARK_FULL || outcome.status == STARLARK_FAULT)) {
         starlark_lex(text + from, len - from, lexemes, lexemes_cap, values, values_cap, &outcome);
-        for (size_t at = 0; at < outcome.lexemes; at++)
-            print_token(from, &lexemes[at], values);
-        if (outcome.status == STARLARK_FAULT)
-            print_fault(from, &outcome, values);
-        from += outcome.next;
+        has_fault = has_fault || outcome.status == STARLARK_FAULT;
+        from = print_found(text, len, from, &outcome, lexemes, values);
         if (outcome.status == STARLARK_FULL && outcome.next == 0) {
             lexemes_cap = outcome.wanted_lexemes;
             values_cap = outcome.wanted_values;
@@ -74,5 +89,5 @@ int main(void)
     free(text);
     free(lexemes);
     free(values);
-    return status;
+    return status == STARLARK_WHOLE && has_fault ? STARLARK_FAULT : status;
 }

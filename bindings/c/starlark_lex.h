@@ -191,6 +191,38 @@ uint32_t starlark_lex(const uint8_t *text, size_t text_len,
                       uint8_t *values, size_t values_cap,
                       starlark_outcome *outcome);
 
+/* What starlark_restart returns where no fault of the text has the numbers. */
+#define STARLARK_NO_RESTART SIZE_MAX
+
+/* Returns the offset where lexing begins again after a fault: the start of a later line, or the end
+ * of the text. What comes from there on is lexed as a text of its own, with no open bracket, block
+ * or f-string.
+ *
+ * The text is the one that the call of starlark_lex was given, and the numbers are those of its
+ * outcome. For others it returns STARLARK_NO_RESTART: where the text is not UTF-8, where an offset
+ * is past its end, inside a character or out of order, or where no fault has the number. So all
+ * lexemes and all faults of a text are found by
+ *
+ *     size_t from = 0;
+ *     do {
+ *         const uint8_t *rest = text + from;
+ *         size_t rest_len = text_len - from;
+ *         starlark_lex(rest, rest_len, lexemes, lexemes_cap, values, values_cap, &outcome);
+ *         show(from, lexemes, values, &outcome);
+ *         if (outcome.status == STARLARK_FAULT)
+ *             from += starlark_restart(rest, rest_len, outcome.fault_begin, outcome.fault_end,
+ *                                      outcome.fault_kind);
+ *         else
+ *             from += outcome.next;
+ *     } while (outcome.status == STARLARK_FAULT
+ *              || (outcome.status == STARLARK_FULL && outcome.next > 0));
+ *
+ * where offsets of lexemes and faults count from `from`. With STARLARK_FULL and `next` 0 larger
+ * buffers are wanted. Both calls test that all bytes from there on are UTF-8. So a text with n
+ * faults, far from each other, is read n times: see docs/use/c.md. */
+size_t starlark_restart(const uint8_t *text, size_t text_len,
+                        uint32_t fault_begin, uint32_t fault_end, uint32_t fault_kind);
+
 /* The line and columns of an offset in a text. Each counts from 0. */
 typedef struct starlark_text_place {
     size_t line;         /* how many LF are before the offset */

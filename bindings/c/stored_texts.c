@@ -1,12 +1,15 @@
-/* Lexes the stored texts through the header, and compares with what starlark_lex prints of them.
+/* Lexes the stored texts through the header, and compares with what the programs print of them.
  *
- *     stored_texts STDIN STDOUT
+ *     stored_texts STDIN STDOUT [RECOVERY-STDIN RECOVERY-STDOUT]
  *
- * The files are those of crates/starlark_texts: texts, and the lines that are printed of each. Of a
- * record that isn't a plain text (its fronts, a repetition, an edit) nothing is compared. Each text
- * of at most 64 bytes is also lexed in pieces, with buffers of each smaller size: the pieces joined
- * have to be the whole, what a call says it wants has to be enough for the next one, and nothing may
- * be written outside of what a call tells. */
+ * The first two files are those of crates/starlark_texts: texts, and the lines that are printed of
+ * each. Of a record that isn't a plain text (its fronts, a repetition, an edit) nothing is compared.
+ * Each text of at most 64 bytes is also lexed in pieces, with buffers of each smaller size: the
+ * pieces joined have to be the whole, what a call says it wants has to be enough for the next one,
+ * and nothing may be written outside of what a call tells.
+ *
+ * The other two are those of crates/starlark_recovery_texts, which are lexed on after their faults,
+ * with buffers of each size from 0 to what the whole text needs. */
 #include "starlark_lex.h"
 
 #include <inttypes.h>
@@ -160,24 +163,26 @@ static void add_value(text *line, const starlark_lexeme *lexeme, const uint8_t *
     }
 }
 
-static void add_lexeme(text *line, bytes source, const starlark_lexeme *lexeme, const uint8_t *values)
+/* Appends the line of a lexeme of the text from an offset on. */
+static void add_lexeme(text *line, bytes source, size_t from, const starlark_lexeme *lexeme, const uint8_t *values)
 {
     uint8_t name[32];
     size_t len = starlark_kind_name(lexeme->kind, name, sizeof name);
     if (len == 0 || len > sizeof name)
         stop("a kind without a name");
-    add_number(line, lexeme->begin);
+    add_number(line, from + lexeme->begin);
     add_word(line, "-");
-    add_number(line, lexeme->end);
+    add_number(line, from + lexeme->end);
     add_word(line, " ");
-    add_place(line, source, lexeme->begin, lexeme->end);
+    add_place(line, source, from + lexeme->begin, from + lexeme->end);
     add_word(line, " ");
     add(line, name, len);
     add_value(line, lexeme, values + lexeme->value_begin);
     add_word(line, "\n");
 }
 
-static void add_fault(text *line, bytes source, const starlark_outcome *outcome, const uint8_t *values)
+/* Appends the line of the fault of the text from an offset on. */
+static void add_fault(text *line, bytes source, size_t from, const starlark_outcome *outcome, const uint8_t *values)
 {
     const uint8_t *named = values + outcome->fault_value_begin;
     size_t len = starlark_fault_message(outcome->fault_kind, named, outcome->fault_value_len, (uint8_t *)line->at, 0);
@@ -185,15 +190,24 @@ static void add_fault(text *line, bytes source, const starlark_outcome *outcome,
     if (len == 0 || starlark_fault_message(outcome->fault_kind, named, outcome->fault_value_len, message, len) != len)
         stop("a fault without a message");
     add_word(line, "fault ");
-    add_number(line, outcome->fault_begin);
+    add_number(line, from + outcome->fault_begin);
     add_word(line, "-");
-    add_number(line, outcome->fault_end);
+    add_number(line, from + outcome->fault_end);
     add_word(line, " <stdin>:");
-    add_place(line, source, outcome->fault_begin, outcome->fault_end);
+    add_place(line, source, from + outcome->fault_begin, from + outcome->fault_end);
     add_word(line, " ");
     add(line, message, len);
     add_word(line, "\n");
     free(message);
+}
+
+/* Appends the lines of what a call found in the text from an offset on. */
+static void add_found(text *line, bytes source, size_t from, const starlark_outcome *outcome, const starlark_lexeme *lexemes, const uint8_t *values)
+{
+    for (size_t at = 0; at < outcome->lexemes; at++)
+        add_lexeme(line, source, from, &lexemes[at], values);
+    if (outcome->status == STARLARK_FAULT)
+        add_fault(line, source, from, outcome, values);
 }
 
 /* The lines that starlark_lex prints of a lexed text, after one with its number and status. */
@@ -205,10 +219,7 @@ static void add_lines(text *line, size_t number, bytes source, const starlark_ou
     add_word(line, ": ");
     add_word(line, said[outcome->status]);
     add_word(line, "\n");
-    for (size_t at = 0; at < outcome->lexemes; at++)
-        add_lexeme(line, source, &lexemes[at], values);
-    if (outcome->status == STARLARK_FAULT)
-        add_fault(line, source, outcome, values);
+    add_found(line, source, 0, outcome, lexemes, values);
 }
 
 static bool is_untouched(const void *from, size_t len)
@@ -398,12 +409,106 @@ static size_t skip_record(bytes printed, size_t at, size_t number)
     return at;
 }
 
-int main(int count, char **words)
+/* Where the call after an outcome begins, counted from where the call itself began. */
+static size_t next_call(bytes rest, const starlark_outcome *outcome)
 {
-    if (count != 3)
-        stop("usage: stored_texts STDIN STDOUT");
-    bytes stored = read_file(words[1]);
-    bytes printed = read_file(words[2]);
+    if (outcome->status != STARLARK_FAULT)
+        return outcome->next;
+    size_t next = starlark_restart(rest.at, rest.len, outcome->fault_begin, outcome->fault_end, outcome->fault_kind);
+    if (next > rest.len || next == 0)
+        stop("lexing doesn't begin again after a fault");
+    return next;
+}
+
+/* Appends the lines of all lexemes and all faults of a text, by buffers of a size. Where a piece
+ * needs more, it gets what it wants. Returns how many calls there were. */
+static size_t add_recovered(text *line, bytes source, size_t lexemes, size_t values)
+{
+    size_t from = 0;
+    size_t calls = 0;
+    uint32_t status = STARLARK_FAULT;
+    buffers into = buffers_of(lexemes, values);
+    while (status == STARLARK_FAULT || status == STARLARK_FULL) {
+        bytes rest = {source.at + from, source.len - from};
+        starlark_outcome outcome = lex(rest, into);
+        status = outcome.status;
+        calls++;
+        add_found(line, source, from, &outcome, into.lexemes, into.values);
+        from += next_call(rest, &outcome);
+        bool is_larger = status == STARLARK_FULL && outcome.next == 0;
+        release(into);
+        into = is_larger ? buffers_of(outcome.wanted_lexemes, outcome.wanted_values) : buffers_of(lexemes, values);
+    }
+    release(into);
+    if (status != STARLARK_WHOLE)
+        stop("a text is lexed to no end");
+    return calls;
+}
+
+/* Lexes a text on after its faults by buffers of a size, and returns the end of its lines in what has
+ * to be printed. */
+static size_t compare_recovered(bytes source, size_t number, bytes printed, size_t at, size_t lexemes, size_t values, tally *counts)
+{
+    text line = {NULL, 0, 0};
+    add_word(&line, "text ");
+    add_number(&line, number);
+    add_word(&line, "\n");
+    counts->calls += add_recovered(&line, source, lexemes, values);
+    if (printed.len - at < line.len || memcmp(printed.at + at, line.at, line.len) != 0) {
+        fprintf(stderr, "stored_texts: text %zu is lexed on otherwise:\n%.*s", number, (int)line.len, line.at);
+        exit(1);
+    }
+    free(line.at);
+    return at + line.len;
+}
+
+/* Compares all texts that are lexed on after their faults. */
+static void compare_all_recovered(bytes stored, bytes printed)
+{
+    tally counts = {0, 0, 0};
+    size_t out = 0;
+    for (size_t at = 0; at < stored.len; counts.texts++) {
+        size_t begin = line_end(stored, at);
+        bytes source = {stored.at + begin, strtoul((char *)stored.at + at, NULL, 10)};
+        size_t end = out;
+        for (size_t room = 0; room <= 2 * source.len + 1; room++) {
+            end = compare_recovered(source, counts.texts + 1, printed, out, room, 2 * source.len, &counts);
+            compare_recovered(source, counts.texts + 1, printed, out, 2 * source.len + 1, room, &counts);
+        }
+        out = end;
+        at = begin + source.len + 1;
+    }
+    if (out != printed.len)
+        stop("there are more lines of faults than texts");
+    printf("%zu texts lexed on after faults, %zu calls\n", counts.texts, counts.calls);
+}
+
+/* Whether there is nowhere to begin again after a fault of these numbers. */
+static bool is_no_restart(const char *source, uint32_t begin, uint32_t end, uint32_t kind)
+{
+    return starlark_restart((const uint8_t *)source, strlen(source), begin, end, kind) == STARLARK_NO_RESTART;
+}
+
+/* Calls with numbers of no fault. */
+static void refuse_numbers(void)
+{
+    const char *source = "\xc3\xa9 ?\nx\n";
+    bool is_right = starlark_restart((const uint8_t *)source, strlen(source), 3, 4, STARLARK_FAULT_INVALID_INPUT) == 5
+        && is_no_restart(source, 3, 4, 0) && is_no_restart(source, 3, 4, 10) && is_no_restart(source, 3, 4, UINT32_MAX)
+        && is_no_restart(source, 4, 3, STARLARK_FAULT_INVALID_INPUT)
+        && is_no_restart(source, 1, 4, STARLARK_FAULT_INVALID_INPUT)
+        && is_no_restart(source, 0, 1, STARLARK_FAULT_INVALID_INPUT)
+        && is_no_restart(source, 3, 8, STARLARK_FAULT_INVALID_INPUT)
+        && is_no_restart(source, UINT32_MAX, UINT32_MAX, STARLARK_FAULT_INVALID_INPUT)
+        && is_no_restart("?\xff", 0, 1, STARLARK_FAULT_INVALID_INPUT)
+        && is_no_restart("", 0, 1, STARLARK_FAULT_INVALID_INPUT);
+    if (!is_right)
+        stop("numbers of no fault have a place to begin again");
+}
+
+/* Compares all texts. */
+static void compare_all(bytes stored, bytes printed)
+{
     tally counts = {0, 0, 0};
     size_t at = 0;
     size_t out = 0;
@@ -420,7 +525,26 @@ int main(int count, char **words)
     if (out != printed.len)
         stop("there are more lines than texts");
     printf("%zu texts, %zu lexemes, %zu calls with small buffers\n", counts.texts, counts.lexemes, counts.calls);
+}
+
+/* Compares the texts of two files by a function. */
+static void compare_files(const char *stored_name, const char *printed_name, void (*compare_texts)(bytes, bytes))
+{
+    bytes stored = read_file(stored_name);
+    bytes printed = read_file(printed_name);
+    compare_texts(stored, printed);
     free(stored.at);
     free(printed.at);
+}
+
+int main(int count, char **words)
+{
+    if (count != 3 && count != 5)
+        stop("usage: stored_texts STDIN STDOUT [RECOVERY-STDIN RECOVERY-STDOUT]");
+    compare_files(words[1], words[2], compare_all);
+    if (count == 5) {
+        refuse_numbers();
+        compare_files(words[3], words[4], compare_all_recovered);
+    }
     return 0;
 }

@@ -5,12 +5,17 @@
     [('IDENTIFIER', 'x'), ('EQUAL', '='), ('INT', '1'), ('NEWLINE', '\\n'), ('NEWLINE', '')]
 
 A text is a `str`, or `bytes` in UTF-8. `tokenize` yields its tokens, and raises its first fault as a
-`StarlarkFault`. `faults` returns the faults. Nothing is shared between two calls, so they may run in
-any number of threads.
+`StarlarkFault`, or goes on after each fault:
+
+    >>> [token.string for token in tokenize("x = 'a\\ny\\n", recover=True)]
+    ['x', '=', 'y', '\\n', '']
+
+`faults` returns all faults, and `lex_all` both. Nothing is shared between two calls, so they may run
+in any number of threads.
 """
 
 from .kinds import FaultKind, Kind, Quotes
-from .tokens import Fault, StarlarkFault, Token, Value, faults, lex, tokenize
+from .tokens import Fault, StarlarkFault, Token, Value, faults, lex, lex_all, tokenize
 
 __all__ = [
     "Fault",
@@ -22,5 +27,6 @@ __all__ = [
     "Value",
     "faults",
     "lex",
+    "lex_all",
     "tokenize",
 ]

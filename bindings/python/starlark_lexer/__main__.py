@@ -3,8 +3,9 @@
 usage: python -m starlark_lexer [--json | --html] [FILE]
 
 Without FILE it reads standard input. A token is printed as `python -m tokenize` does. --json prints
-a list of objects, --html a page with the text in colours and its fault marked. The exit status is 0
-without a fault, 1 with one, and 2 where the text can't be read.
+tokens and faults as objects, --html a page with the text in colours and its faults marked. After a
+fault it goes on at the next line. Each fault has a line on standard error. The exit status is 0
+without a fault, 1 with one or more, and 2 where the text can't be read.
 """
 
 from __future__ import annotations
@@ -15,7 +16,7 @@ import sys
 from typing import Any, Dict, List, Optional
 
 from .page import page
-from .tokens import Fault, Token, lex
+from .tokens import Fault, Token, lex_all
 
 
 def _read(name: Optional[str]) -> bytes:
@@ -46,9 +47,9 @@ def _fault(fault: Fault) -> Dict[str, Any]:
     return {**fault._asdict(), "type": fault.type.name}
 
 
-def _json(tokens: List[Token], fault: Optional[Fault]) -> str:
+def _json(tokens: List[Token], faults: List[Fault]) -> str:
     """The tokens and faults as JSON."""
-    found = {"tokens": [_token(token) for token in tokens], "faults": [_fault(fault)] if fault else []}
+    found = {"tokens": [_token(token) for token in tokens], "faults": [_fault(fault) for fault in faults]}
     return json.dumps(found, indent=1, ensure_ascii=False)
 
 
@@ -63,20 +64,20 @@ def main(words: Optional[List[str]] = None) -> int:
     name = given.file or "<stdin>"
     try:
         source = _read(given.file)
-        tokens, fault = lex(source)
+        tokens, faults = lex_all(source)
     except (OSError, ValueError) as error:
         print(f"{name}: {error}", file=sys.stderr)
         return 2
     if given.json:
-        print(_json(tokens, fault))
+        print(_json(tokens, faults))
     elif given.html:
-        print(page(name, source, tokens, fault))
+        print(page(name, source, tokens, faults))
     else:
         for token in tokens:
             print(_line(token))
-    if fault:
+    for fault in faults:
         print(f"{name}:{fault.start[0]}:{fault.start[1] + 1}: {fault.message}", file=sys.stderr)
-    return 1 if fault else 0
+    return 1 if faults else 0
 
 
 if __name__ == "__main__":

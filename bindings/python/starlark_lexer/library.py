@@ -3,7 +3,19 @@
 from __future__ import annotations
 
 import os
-from ctypes import CDLL, POINTER, Structure, byref, c_bool, c_char, c_int32, c_size_t, c_uint16, c_uint32
+from ctypes import (
+    CDLL,
+    POINTER,
+    Structure,
+    byref,
+    c_bool,
+    c_char,
+    c_int32,
+    c_size_t,
+    c_uint16,
+    c_uint32,
+    create_string_buffer,
+)
 from enum import IntEnum
 from pathlib import Path
 from typing import Any, Optional, Tuple
@@ -74,6 +86,8 @@ def _loaded() -> Any:
         c_size_t,
         POINTER(Outcome),
     ]
+    library.starlark_restart.restype = c_size_t
+    library.starlark_restart.argtypes = [POINTER(c_char), c_size_t, c_uint32, c_uint32, c_uint32]
     library.starlark_fault_message.restype = c_size_t
     library.starlark_fault_message.argtypes = [c_uint32, POINTER(c_char), c_size_t, POINTER(c_char), c_size_t]
     library.starlark_kind_name.restype = c_size_t
@@ -87,8 +101,20 @@ _LIBRARY = _loaded()
 
 
 def _text(source: bytes) -> Any:
-    """The bytes of a text as an array, which has one byte at least, so that its address isn't null."""
-    return (c_char * max(len(source), 1)).from_buffer_copy(source or b"\0")
+    """The bytes of a text as an array, with a zero after them, so that its address isn't null."""
+    return create_string_buffer(source, len(source) + 1)
+
+
+class Text:
+    """A text that is copied once, for calls that lex it from an offset on."""
+
+    def __init__(self, source: bytes) -> None:
+        self._length = len(source)
+        self._array = _text(source)
+
+    def rest(self, at: int) -> Tuple[Any, int]:
+        """The pointer and the length of the text from an offset on."""
+        return byref(c_char.from_buffer(self._array, at)), self._length - at
 
 
 class Buffers:
@@ -99,13 +125,11 @@ class Buffers:
         self.values = (c_char * max(values, 1))()
         self.outcome = Outcome()
 
-    def lex(self, source: bytes) -> Status:
-        """Lexes a text into the buffers."""
-        text = _text(source)
+    def lex(self, text: Text, at: int) -> Status:
+        """Lexes a text from an offset on into the buffers. All offsets count from there."""
         return Status(
             _LIBRARY.starlark_lex(
-                text,
-                len(source),
+                *text.rest(at),
                 self.lexemes,
                 len(self.lexemes),
                 self.values,
@@ -113,6 +137,12 @@ class Buffers:
                 byref(self.outcome),
             )
         )
+
+    def restart(self, text: Text, at: int) -> int:
+        """Where lexing begins again after the fault of the text from an offset on, which was lexed last."""
+        told = self.outcome
+        next_at = _LIBRARY.starlark_restart(*text.rest(at), told.fault_begin, told.fault_end, told.fault_kind)
+        return at + int(next_at)
 
     def value(self, begin: int, length: int) -> bytes:
         """The bytes of a value."""

@@ -1,9 +1,9 @@
-"""A page with a text in colours and its fault marked: one file, which needs no other."""
+"""A page with a text in colours and its faults marked: one file, which needs no other."""
 
 from __future__ import annotations
 
 from html import escape
-from typing import List, Optional, Tuple
+from typing import List, Tuple
 
 from .kinds import Kind
 from .tokens import Fault, Token
@@ -25,7 +25,7 @@ _STYLE = """
 body { background: var(--paper); color: var(--ink); font: 15px/1.5 system-ui, sans-serif; margin: 2rem; }
 h1 { font-size: 1.1rem; font-weight: 600; margin: 0 0 .25rem; }
 p { color: var(--faint); margin: 0 0 1rem; }
-p.fault { color: var(--fault); }
+ul { color: var(--fault); margin: 0 0 1rem; padding-left: 1.25rem; }
 a { color: inherit; }
 pre { border: 1px solid var(--rule); border-radius: 6px; font: 14px/1.5 ui-monospace, monospace;
   margin: 0; overflow-x: auto; padding: .75rem 0; tab-size: 4; }
@@ -52,7 +52,8 @@ _STRINGS = frozenset(
     }
 )
 
-Part = Tuple[int, int, str]
+# Where a part of the text begins and ends in bytes, its colour, and the message of its fault.
+Part = Tuple[int, int, str, str]
 
 
 def _style_of(kind: Kind) -> str:
@@ -70,19 +71,18 @@ def _style_of(kind: Kind) -> str:
     return ""
 
 
-def _parts(length: int, tokens: List[Token], fault: Optional[Fault]) -> List[Part]:
+def _parts(length: int, tokens: List[Token], faults: List[Fault]) -> List[Part]:
     """The parts of a text with a colour each, in order, without gaps."""
-    coloured = [(*token.span, _style_of(token.type)) for token in tokens if _style_of(token.type)]
-    if fault:
-        begin, end = fault.span
-        coloured = [part for part in coloured if part[1] <= begin]
-        coloured.append((begin, end, "fault"))
+    styles = ((*token.span, _style_of(token.type), "") for token in tokens)
+    coloured: List[Part] = [part for part in styles if part[2]]
+    coloured += [(*fault.span, "fault", fault.message) for fault in faults]
     parts: List[Part] = []
     at = 0
-    for begin, end, style in coloured:
-        parts += [(at, begin, ""), (begin, end, style)]
-        at = end
-    return [*parts, (at, length, "")]
+    for begin, end, style, message in sorted(coloured):
+        if begin >= at:
+            parts += [(at, begin, "", ""), (begin, end, style, message)]
+            at = end
+    return [*parts, (at, length, "", "")]
 
 
 def _pieces(text: str, style: str, message: str) -> str:
@@ -102,29 +102,40 @@ def _lines_of(fault: Fault) -> range:
     return range(fault.start[0], max(last, fault.start[0]) + 1)
 
 
-def _marked(number: int, at_fault: range) -> str:
-    """The attributes of a line, by whether the fault is on it."""
-    if number not in at_fault:
-        return ""
-    return ' id="fault" class="at-fault"' if number == at_fault.start else ' class="at-fault"'
-
-
-def page(name: str, source: bytes, tokens: List[Token], fault: Optional[Fault]) -> str:
-    """The page of a text with these tokens and this fault."""
-    message = fault.message if fault else ""
-    parts = _parts(len(source), tokens, fault)
-    text = "".join(_pieces(source[begin:end].decode(), style, message) for begin, end, style in parts)
-    at_fault = _lines_of(fault) if fault else range(0)
-    lines = "".join(
-        f'<span data-line="{number}"{_marked(number, at_fault)}>{line}</span>'
+def _lines(text: str, faults: List[Fault]) -> str:
+    """The lines of a text in colours, each with its number, and with a name if a fault begins there."""
+    named = {fault.start[0] for fault in faults}
+    at_fault = {number for fault in faults for number in _lines_of(fault)}
+    attributes = {number: ' class="at-fault"' for number in at_fault}
+    attributes.update({number: f' id="line-{number}" class="at-fault"' for number in named})
+    return "".join(
+        f'<span data-line="{number}"{attributes.get(number, "")}>{line}</span>'
         for number, line in enumerate(text.split("\n"), 1)
     )
-    said = f"<p>{len(tokens)} tokens</p>"
-    if fault:
-        place = f"line {fault.start[0]}, column {fault.start[1] + 1}"
-        said += f'\n<p class="fault"><a href="#fault">{place}</a>: {escape(message)}</p>'
+
+
+def _list(faults: List[Fault]) -> str:
+    """The list of faults, each with a link to its line."""
+    rows = "".join(
+        f'\n<li><a href="#line-{fault.start[0]}">line {fault.start[0]}, column {fault.start[1] + 1}</a>: '
+        f"{escape(fault.message)}</li>"
+        for fault in faults
+    )
+    return f"\n<ul>{rows}\n</ul>" if faults else ""
+
+
+def _count(number: int, noun: str) -> str:
+    """A number with its noun."""
+    return f"{number} {noun}" if number == 1 else f"{number} {noun}s"
+
+
+def page(name: str, source: bytes, tokens: List[Token], faults: List[Fault]) -> str:
+    """The page of a text with these tokens and these faults."""
+    parts = _parts(len(source), tokens, faults)
+    text = "".join(_pieces(source[begin:end].decode(), style, message) for begin, end, style, message in parts)
+    said = f"<p>{_count(len(tokens), 'token')}, {_count(len(faults), 'fault')}</p>{_list(faults)}"
     return (
         f'<!doctype html>\n<html lang="en">\n<meta charset="utf-8">\n<title>{escape(name)}</title>\n'
         f'<meta name="viewport" content="width=device-width, initial-scale=1">\n<style>{_STYLE}</style>\n'
-        f"<h1>{escape(name)}</h1>\n{said}\n<pre>{lines}</pre>\n</html>"
+        f"<h1>{escape(name)}</h1>\n{said}\n<pre>{_lines(text, faults)}</pre>\n</html>"
     )

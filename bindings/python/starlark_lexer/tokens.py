@@ -5,7 +5,7 @@ from __future__ import annotations
 from typing import Iterator, List, NamedTuple, Optional, Tuple, Union
 
 from .kinds import FaultKind, Kind, Quotes
-from .library import Buffers, Lexeme, Status, fault_message
+from .library import Buffers, Lexeme, Status, Text, fault_message
 
 Source = Union[str, bytes]
 Place = Tuple[int, int]
@@ -103,77 +103,109 @@ def _value_of(lexeme: Lexeme, value: bytes) -> Value:
     return None
 
 
-def _lexed(source: bytes) -> Buffers:
-    """The buffers with a text's lexemes. They have four times the room where they were full."""
-    room = len(source) // 2 + 16
-    while True:
-        buffers = Buffers(room, 2 * room)
-        status = buffers.lex(source)
-        if status != Status.FULL:
-            break
-        room *= 4
+def _check(source: bytes, status: Status) -> None:
+    """Raises the error of a status without lexemes."""
     if status == Status.NOT_UTF8:
         source.decode()
     if status == Status.TOO_LONG:
         raise ValueError("the text has more than 4294967295 bytes")
     if status == Status.MEMORY:
         raise MemoryError
-    return buffers
 
 
-def _tokens(source: bytes, buffers: Buffers) -> Iterator[Token]:
-    """The tokens that are in the buffers."""
-    places = _Places(source)
-    for lexeme in buffers.lexemes[: buffers.outcome.lexemes]:
-        begin, end = lexeme.begin, lexeme.end
-        start = places.place(begin)
-        line = places.line()
-        value = _value_of(lexeme, buffers.value(lexeme.value_begin, lexeme.value_len))
-        text = source[begin:end].decode()
-        yield Token(Kind(lexeme.kind), text, start, places.place(end), line, value, (begin, end))
+def _calls(source: bytes, recover: bool) -> Iterator[Tuple[int, Buffers]]:
+    """The calls that lex a text, each with the offset from which it lexes, and its buffers.
+
+    The first one lexes up to the text's fault. Where `recover` is true the others go on, each at the
+    line after a fault. Where the buffers were full, they have four times the room.
+    """
+    text = Text(source)
+    room = len(source) // 2 + 16
+    buffers = Buffers(room, 2 * room)
+    at = 0
+    while True:
+        status = buffers.lex(text, at)
+        _check(source, status)
+        if status == Status.FULL:
+            room *= 4
+            buffers = Buffers(room, 2 * room)
+            continue
+        yield at, buffers
+        if status != Status.FAULT or not recover:
+            return
+        at = buffers.restart(text, at)
 
 
-def _fault(source: bytes, buffers: Buffers) -> Optional[Fault]:
-    """The fault of the text that was lexed last."""
-    outcome = buffers.outcome
-    if outcome.status != Status.FAULT:
-        return None
-    named = buffers.value(outcome.fault_value_begin, outcome.fault_value_len)
-    message = fault_message(outcome.fault_kind, named)
-    places = _Places(source)
-    span = outcome.fault_begin, outcome.fault_end
-    start = places.place(span[0])
-    line = places.line()
-    return Fault(FaultKind(outcome.fault_kind), message, start, places.place(span[1]), line, span)
+class _Found:
+    """What the calls find in a text, in order."""
 
+    def __init__(self, source: Source) -> None:
+        self._source = source.encode() if isinstance(source, str) else bytes(source)
+        self._places = _Places(self._source)
 
-def _bytes_of(source: Source) -> bytes:
-    return source.encode() if isinstance(source, str) else bytes(source)
+    def calls(self, recover: bool) -> Iterator[Tuple[int, Buffers]]:
+        """The calls that lex the text."""
+        return _calls(self._source, recover)
+
+    def tokens(self, at: int, buffers: Buffers) -> Iterator[Token]:
+        """The tokens of a call that lexes from an offset on."""
+        for lexeme in buffers.lexemes[: buffers.outcome.lexemes]:
+            begin, end = at + lexeme.begin, at + lexeme.end
+            start = self._places.place(begin)
+            line = self._places.line()
+            value = _value_of(lexeme, buffers.value(lexeme.value_begin, lexeme.value_len))
+            text = self._source[begin:end].decode()
+            yield Token(Kind(lexeme.kind), text, start, self._places.place(end), line, value, (begin, end))
+
+    def fault(self, at: int, buffers: Buffers) -> Optional[Fault]:
+        """The fault of a call that lexes from an offset on, if it has one."""
+        outcome = buffers.outcome
+        if outcome.status != Status.FAULT:
+            return None
+        named = buffers.value(outcome.fault_value_begin, outcome.fault_value_len)
+        message = fault_message(outcome.fault_kind, named)
+        span = at + outcome.fault_begin, at + outcome.fault_end
+        start = self._places.place(span[0])
+        line = self._places.line()
+        return Fault(FaultKind(outcome.fault_kind), message, start, self._places.place(span[1]), line, span)
 
 
 def lex(source: Source) -> Tuple[List[Token], Optional[Fault]]:
     """All tokens of a text and no fault, or the tokens before its fault and that fault."""
-    text = _bytes_of(source)
-    buffers = _lexed(text)
-    return list(_tokens(text, buffers)), _fault(text, buffers)
+    found = _Found(source)
+    at, buffers = next(found.calls(recover=False))
+    return list(found.tokens(at, buffers)), found.fault(at, buffers)
 
 
-def tokenize(source: Source) -> Iterator[Token]:
+def lex_all(source: Source) -> Tuple[List[Token], List[Fault]]:
+    """All tokens and all faults of a text. After each fault lexing begins again at the next line."""
+    found = _Found(source)
+    tokens: List[Token] = []
+    all_faults: List[Fault] = []
+    for at, buffers in found.calls(recover=True):
+        tokens += found.tokens(at, buffers)
+        fault = found.fault(at, buffers)
+        if fault:
+            all_faults.append(fault)
+    return tokens, all_faults
+
+
+def tokenize(source: Source, recover: bool = False) -> Iterator[Token]:
     """The tokens of a text, in order. Raises `StarlarkFault` after those before its fault.
 
-    Bytes that are no UTF-8 raise `UnicodeDecodeError`, a text of more than 4294967295 bytes
-    `ValueError`.
+    With `recover` it raises no fault: after each one it begins again at the next line, as if that
+    began a text of its own. Bytes that are no UTF-8 raise `UnicodeDecodeError`, a text of more than
+    4294967295 bytes `ValueError`.
     """
-    text = _bytes_of(source)
-    buffers = _lexed(text)
-    yield from _tokens(text, buffers)
-    fault = _fault(text, buffers)
-    if fault:
-        raise StarlarkFault(fault)
+    found = _Found(source)
+    for at, buffers in found.calls(recover):
+        yield from found.tokens(at, buffers)
+        fault = None if recover else found.fault(at, buffers)
+        if fault:
+            raise StarlarkFault(fault)
 
 
 def faults(source: Source) -> List[Fault]:
-    """The faults of a text: none, or the first."""
-    text = _bytes_of(source)
-    fault = _fault(text, _lexed(text))
-    return [fault] if fault else []
+    """All faults of a text, in order. After each one lexing begins again at the next line."""
+    found = _Found(source)
+    return [fault for at, buffers in found.calls(recover=True) if (fault := found.fault(at, buffers))]

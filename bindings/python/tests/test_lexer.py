@@ -1,9 +1,10 @@
-"""Tests of the package, against what the program starlark_lex prints."""
+"""Tests of the package, against what the programs print."""
 
 from __future__ import annotations
 
 import io
 import json
+import re
 import subprocess
 import unittest
 from contextlib import redirect_stderr, redirect_stdout
@@ -11,12 +12,13 @@ from pathlib import Path
 from tempfile import TemporaryDirectory
 from typing import Iterator, Optional, Tuple
 
-from starlark_lexer import FaultKind, Kind, Quotes, StarlarkFault, Token, faults, lex, tokenize
+from starlark_lexer import Fault, FaultKind, Kind, Quotes, StarlarkFault, Token, faults, lex, lex_all, tokenize
 from starlark_lexer.__main__ import main
 from starlark_lexer.library import kind_name, place_of
 
 TOP = Path(__file__).resolve().parents[3]
 STORED = TOP / "crates/starlark_texts"
+RECOVERY = TOP / "crates/starlark_recovery_texts"
 QUOTES = {
     Quotes.SINGLE: "Single",
     Quotes.DOUBLE: "Double",
@@ -58,23 +60,28 @@ def value_text(token: Token) -> str:
     return " " + value
 
 
+def token_line(token: Token) -> str:
+    """The line that the program prints for a token."""
+    place = f"{token.span[0]}-{token.span[1]} {place_text(token.start, token.end)}"
+    return f"{place} {kind_name(token.type)}{value_text(token)}\n"
+
+
+def fault_line(fault: Fault) -> str:
+    """The line that the program prints for a fault."""
+    place = f"{fault.span[0]}-{fault.span[1]} <stdin>:{place_text(fault.start, fault.end)}"
+    return f"fault {place} {fault.message}\n"
+
+
 def lines_of(source: bytes) -> str:
     """The lines that the program prints for a text."""
     tokens, fault = lex(source)
-    lines = [
-        f"{token.span[0]}-{token.span[1]} {place_text(token.start, token.end)} "
-        f"{kind_name(token.type)}{value_text(token)}\n"
-        for token in tokens
-    ]
-    if fault:
-        place = f"<stdin>:{place_text(fault.start, fault.end)}"
-        lines.append(f"fault {fault.span[0]}-{fault.span[1]} {place} {fault.message}\n")
-    return "".join(lines)
+    lines = [token_line(token) for token in tokens]
+    return "".join([*lines, fault_line(fault)] if fault else lines)
 
 
-def stored_texts() -> Iterator[Tuple[int, str, bytes]]:
-    """The stored texts, each with its number and its task."""
-    stored = (STORED / "stdin").read_bytes()
+def stored_texts(folder: Path) -> Iterator[Tuple[int, str, bytes]]:
+    """The stored texts of a folder, each with its number and its task."""
+    stored = (folder / "stdin").read_bytes()
     at = 0
     number = 0
     while at < len(stored):
@@ -91,7 +98,7 @@ class StoredTexts(unittest.TestCase):
     def test_stored_texts(self) -> None:
         printed = (STORED / "stdout").read_bytes().decode()
         at = 0
-        for number, task, source in stored_texts():
+        for number, task, source in stored_texts(STORED):
             if task:
                 continue
             begin = printed.index(f"text {number}: ", at)
@@ -104,6 +111,31 @@ class StoredTexts(unittest.TestCase):
             self.assertEqual(printed[at : at + len(lines)], lines, f"text {number}: {source!r}")
             end = at + len(lines)
             self.assertTrue(end == len(printed) or printed.startswith("text ", end), f"text {number} has more lines")
+
+
+class RecoveredTexts(unittest.TestCase):
+    """Each stored text is lexed on after its faults as RecoveringLexer does."""
+
+    def test_stored_texts(self) -> None:
+        printed = (RECOVERY / "stdout").read_bytes().decode()
+        texts = [source for _, _, source in stored_texts(RECOVERY)]
+        parts = [part.partition("\n")[2] for part in ("\n" + printed).split("\ntext ")[1:]]
+        self.assertEqual((len(texts), len(parts)), (119, 119))
+        for source, part in zip(texts, parts):
+            lines = [line + "\n" for line in re.split(r"\n(?=(?:fault )?\d+-\d+ )", part.rstrip("\n"))]
+            tokens, all_faults = lex_all(source)
+            self.assertEqual(
+                [token_line(token) for token in tokens],
+                [line for line in lines if not line.startswith("fault ")],
+                source,
+            )
+            self.assertEqual(
+                [fault_line(fault) for fault in all_faults],
+                [line for line in lines if line.startswith("fault ")],
+                source,
+            )
+            self.assertEqual(faults(source), all_faults)
+            self.assertEqual(list(tokenize(source, recover=True)), tokens)
 
 
 class Program(unittest.TestCase):
@@ -195,6 +227,22 @@ class Faults(unittest.TestCase):
 
     def test_none(self) -> None:
         self.assertEqual(faults("x = 1\n"), [])
+        self.assertEqual(list(tokenize("x = 1\n", recover=True)), list(tokenize("x = 1\n")))
+
+    def test_all(self) -> None:
+        source = "f(\n  'é\nb\n\tc\nd = 01\n"
+        tokens, all_faults = lex_all(source)
+        self.assertEqual([token.string for token in tokens], ["f", "(", "b", "d", "=", ""])
+        self.assertEqual([fault.type for fault in all_faults], [4, 3, 8])
+        self.assertEqual([fault.start for fault in all_faults], [(2, 2), (3, 1), (5, 4)])
+        self.assertEqual([fault.span for fault in all_faults], [(5, 8), (10, 10), (18, 20)])
+        self.assertEqual([fault.line for fault in all_faults], ["  'é\n", "b\n", "d = 01\n"])
+        self.assertEqual(tokens[3].span, (14, 15))
+
+    def test_a_fault_on_each_line(self) -> None:
+        tokens, all_faults = lex_all("a = !\n" * 1000)
+        self.assertEqual(len(tokens), 2001)
+        self.assertEqual([fault.start for fault in all_faults], [(line, 4) for line in range(1, 1001)])
 
     def test_raised_after_the_tokens_before_it(self) -> None:
         found = []
@@ -226,14 +274,22 @@ class Printed(unittest.TestCase):
     def test_tokens(self) -> None:
         status, out, err = self.run_main(b"x !")
         self.assertEqual((status, err), (1, "BUILD:1:3: Parse error: invalid input `!`\n"))
-        self.assertEqual(out.split(), ["1,0-1,1:", "IDENTIFIER", "'x'"])
+        self.assertEqual(out.split(), ["1,0-1,1:", "IDENTIFIER", "'x'", "1,3-1,3:", "NEWLINE", "''"])
+
+    def test_all_faults(self) -> None:
+        status, out, err = self.run_main(b"x !\ny\n'\n")
+        places = [line.split(" ")[0] for line in err.splitlines()]
+        self.assertEqual((status, places), (1, ["BUILD:1:3:", "BUILD:3:1:"]))
+        self.assertIn("'y'", out)
 
     def test_json(self) -> None:
-        status, out, _ = self.run_main(b"b'\\xff' 01", "--json")
+        status, out, _ = self.run_main(b"b'\\xff' 01\n?", "--json")
         found = json.loads(out)
         self.assertEqual(status, 1)
-        self.assertEqual([(token["type"], token["value"]) for token in found["tokens"]], [("BYTES", [255])])
-        self.assertEqual([(fault["type"], fault["span"]) for fault in found["faults"]], [("STARTS_ZERO", [8, 10])])
+        values = [(token["type"], token["value"]) for token in found["tokens"]]
+        self.assertEqual(values, [("BYTES", [255]), ("NEWLINE", None)])
+        spans = [(fault["type"], fault["span"]) for fault in found["faults"]]
+        self.assertEqual(spans, [("STARTS_ZERO", [8, 10]), ("INVALID_INPUT", [11, 12])])
 
     def test_page_has_the_text(self) -> None:
         status, out, _ = self.run_main(b"x = '<a>'\ny = 01\n", "--html")
@@ -241,6 +297,17 @@ class Printed(unittest.TestCase):
         self.assertIn('x <span class="operator">=</span> <span class="string">&#x27;&lt;a&gt;&#x27;</span>', out)
         self.assertIn(">01</mark>", out)
         self.assertNotIn("http", out)
+
+    def test_page_has_all_faults(self) -> None:
+        status, out, _ = self.run_main(b'# a\n\tb\nc = "d\ne = """f\n\ng\n', "--html")
+        self.assertEqual(status, 1)
+        self.assertIn("3 faults", out)
+        for number in (1, 3, 4):
+            self.assertIn(f'<li><a href="#line-{number}">line {number}, column ', out)
+            self.assertIn(f'<span data-line="{number}" id="line-{number}" class="at-fault">', out)
+        self.assertEqual(out.count('class="at-fault"'), 5)
+        self.assertIn('<span class="comment"># a</span>', out)
+        self.assertIn(">&quot;d</mark>", out)
 
     def test_not_utf8(self) -> None:
         status, out, err = self.run_main(b"\xff")

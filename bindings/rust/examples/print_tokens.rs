@@ -1,6 +1,6 @@
-//! Prints the tokens of standard input, each with its place, and the fault.
+//! Prints the tokens and the faults of standard input, each with its place.
 
-use starlark_lexer::{Lexer, LineIndex, Span};
+use starlark_lexer::{LineIndex, RecoveringLexer, Span};
 use std::error::Error;
 use std::io::{self, Write};
 use std::process::ExitCode;
@@ -16,16 +16,17 @@ fn place(lines: &LineIndex<'_>, span: Span) -> String {
 /// Prints the tokens of a text, and returns whether it has no fault.
 fn print_tokens(text: &str, out: &mut impl Write) -> Result<bool, Box<dyn Error>> {
     let lines = LineIndex::new(text);
-    for lexeme in Lexer::new(text)? {
-        match lexeme {
+    let mut is_clean = true;
+    for item in RecoveringLexer::new(text)? {
+        match item {
             Ok(lexeme) => writeln!(out, "{} {:?}", place(&lines, lexeme.span), lexeme.token)?,
             Err(fault) => {
                 writeln!(out, "{} {fault}", place(&lines, fault.span()))?;
-                return Ok(false);
+                is_clean = false;
             }
         }
     }
-    Ok(true)
+    Ok(is_clean)
 }
 
 fn main() -> Result<ExitCode, Box<dyn Error>> {

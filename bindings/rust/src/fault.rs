@@ -45,7 +45,7 @@ impl FaultKind {
     }
 }
 
-/// The fault that ends a text's lexemes. It prints its message, without its place.
+/// A fault of a text: it ends a `Lexer`. It prints its message, without its place.
 #[derive(Clone, Debug, PartialEq, Eq)]
 pub struct Fault {
     pub(crate) kind: FaultKind,

@@ -1,9 +1,8 @@
 //! The lexer: an iterator over a text's lexemes.
 
-use crate::ffi::{Buffers, Ending, FaultRecord};
+use crate::ffi::{self, Buffers, Ending, FaultRecord};
 use crate::{Fault, FaultKind, Span, Token, TooLong};
 use std::iter::FusedIterator;
-use std::mem;
 
 /// The largest buffers that a lexer makes of itself. A piece that needs more gets more.
 const MOST_LEXEMES: usize = 1 << 22;
@@ -19,12 +18,16 @@ pub struct Lexeme<'a> {
 }
 
 /// What comes after the lexemes in the buffers.
-#[derive(Clone, Debug)]
+#[derive(Clone, Copy, Debug)]
 enum After {
-    /// The text from an offset on, which isn't lexed yet.
-    Rest(usize),
+    /// The text from an offset on, as a text of its own, which isn't lexed yet.
+    Text(usize),
+    /// The next piece of the text, which begins at an offset.
+    Piece(usize),
     /// The text's fault.
-    Fault(Fault),
+    Fault(FaultRecord),
+    /// Nothing, since the text's fault was yielded.
+    Passed(FaultRecord),
     /// Nothing.
     End,
 }
@@ -91,13 +94,24 @@ impl<'a> Lexer<'a> {
             buffers: Buffers::with_capacity(lexemes, values),
             index: 0,
             from: 0,
-            after: After::Rest(0),
+            after: After::Text(0),
         })
     }
 
     /// The text that is lexed.
     pub fn text(&self) -> &'a str {
         self.text
+    }
+
+    /// Goes on after a fault that was yielded: at the next line, as a text of its own.
+    ///
+    /// Nothing changes where none was.
+    #[inline]
+    pub(crate) fn pass_fault(&mut self) {
+        if let After::Passed(record) = self.after {
+            let rest = &self.text[self.from..];
+            self.after = After::Text(self.from + ffi::restart(rest, &record));
+        }
     }
 
     /// The bytes of the text from one offset in the piece to another.
@@ -122,10 +136,17 @@ impl<'a> Lexer<'a> {
     #[cold]
     fn next_after_buffers(&mut self) -> Option<Result<Lexeme<'a>, Fault>> {
         loop {
-            match mem::replace(&mut self.after, After::End) {
-                After::Rest(from) => self.lex(from),
-                After::Fault(fault) => return Some(Err(fault)),
-                After::End => return None,
+            match self.after {
+                After::Text(from) => self.lex(from),
+                After::Piece(from) => {
+                    self.grow(0, 0);
+                    self.lex(from);
+                }
+                After::Fault(record) => {
+                    self.after = After::Passed(record);
+                    return Some(Err(self.fault(&record)));
+                }
+                After::Passed(_) | After::End => return None,
             }
             if let Some(lexeme) = self.next_in_buffers() {
                 return Some(Ok(lexeme));
@@ -136,16 +157,13 @@ impl<'a> Lexer<'a> {
     /// Fills the buffers with the lexemes of the text from an offset on, or of a piece of it.
     fn lex(&mut self, from: usize) {
         let rest = &self.text[from..];
-        if from > 0 {
-            self.grow(0, 0);
-        }
         self.index = 0;
         self.from = from;
         self.after = loop {
             match self.buffers.lex(rest) {
                 Ending::Whole => break After::End,
-                Ending::Fault(record) => break After::Fault(self.fault(&record)),
-                Ending::Piece { next } => break After::Rest(from + next),
+                Ending::Fault(record) => break After::Fault(record),
+                Ending::Piece { next } => break After::Piece(from + next),
                 Ending::Full { lexemes, values } => self.grow(lexemes, values),
             }
         };

@@ -1,7 +1,8 @@
 //! The lexer of Starlark, the language of Bazel's and Buck's files, over the proved library.
 //!
 //! A [`Lexer`] yields the lexemes of a text: each is a [`Token`] with its [`Span`]. The first
-//! [`Fault`] ends it. A [`LineIndex`] tells the line and columns of an offset.
+//! [`Fault`] ends it. A [`RecoveringLexer`] goes on after faults. A [`LineIndex`] tells the line and
+//! columns of an offset.
 //!
 //! ```
 //! use starlark_lexer::{Lexer, LineIndex, Token};
@@ -38,11 +39,13 @@ mod fault;
 mod ffi;
 mod lexer;
 mod places;
+mod recovering_lexer;
 mod span;
 mod token;
 
 pub use crate::fault::{Fault, FaultKind, TooLong};
 pub use crate::lexer::{Lexeme, Lexer};
 pub use crate::places::{LineIndex, Place};
+pub use crate::recovering_lexer::RecoveringLexer;
 pub use crate::span::Span;
 pub use crate::token::{FStringQuote, Token, TokenInt};

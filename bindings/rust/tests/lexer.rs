@@ -1,6 +1,8 @@
 //! What the crate's calls do beside the stored texts: values, faults, places, long texts.
 
-use starlark_lexer::{Fault, FaultKind, Lexeme, Lexer, LineIndex, Place, Token, TokenInt, TooLong};
+use starlark_lexer::{
+    Fault, FaultKind, Lexeme, Lexer, LineIndex, Place, RecoveringLexer, Token, TokenInt, TooLong,
+};
 use std::borrow::Cow;
 use std::error::Error;
 use std::thread;
@@ -118,6 +120,80 @@ fn a_fault_ends_the_lexer() {
     assert!(lexer.next().is_none());
 }
 
+/// The tokens of a text that is lexed on after its faults, and the spans and kinds of the faults.
+fn recovered(text: &str) -> (Vec<Token<'_>>, Vec<(&str, FaultKind)>) {
+    let mut tokens = Vec::new();
+    let mut faults = Vec::new();
+    for item in RecoveringLexer::new(text).unwrap() {
+        match item {
+            Ok(lexeme) => tokens.push(lexeme.token),
+            Err(fault) => faults.push((&text[fault.span().range()], fault.kind())),
+        }
+    }
+    (tokens, faults)
+}
+
+#[test]
+fn all_faults_of_a_text() {
+    let (tokens, faults) = recovered("f(\n  'a\nb\n\tc\nd = 01\n");
+    let names: Vec<_> = tokens
+        .into_iter()
+        .filter(|token| matches!(token, Token::Identifier(_) | Token::Newline))
+        .collect();
+    let wanted = [
+        Token::Identifier("f".into()),
+        Token::Identifier("b".into()),
+        Token::Identifier("d".into()),
+        Token::Newline,
+    ];
+    // The line `b` begins a text of its own. The fault of a tab is at the line end before its line.
+    let kinds = [
+        ("'a", FaultKind::UnfinishedStringLiteral),
+        ("", FaultKind::InvalidTab),
+        ("01", FaultKind::StartsZero),
+    ];
+    assert_eq!(names, wanted);
+    assert_eq!(faults, kinds);
+}
+
+#[test]
+fn a_text_without_fault_stays() {
+    let text = long_text();
+    let lexer = Lexer::new(&text).unwrap();
+    assert!(RecoveringLexer::new(&text).unwrap().eq(lexer));
+    assert_eq!(RecoveringLexer::new(&text).unwrap().text(), text);
+}
+
+#[test]
+fn a_fault_on_each_line() {
+    let text = "a = !\n".repeat(1000);
+    let lexer = Lexer::with_capacity(&text, 1, 1).unwrap();
+    let (mut tokens, mut faults) = (0, Vec::new());
+    for item in RecoveringLexer::from(lexer) {
+        match item {
+            Ok(_) => tokens += 1,
+            Err(fault) => faults.push(fault.span().begin),
+        }
+    }
+    let wanted: Vec<usize> = (0..1000).map(|line| 6 * line + 4).collect();
+    assert_eq!((tokens, faults), (2001, wanted));
+}
+
+#[test]
+fn a_fault_after_a_piece_is_passed() {
+    let mut text = "a = 'é'\n".repeat(200);
+    let begin = text.len() + 4;
+    text.push_str("b = !\nc");
+    let lexer = Lexer::with_capacity(&text, 4, 8).unwrap();
+    let items: Vec<_> = RecoveringLexer::from(lexer).collect();
+    let at = items.iter().position(Result::is_err).unwrap();
+    assert_eq!(items[at].as_ref().unwrap_err().span().begin, begin);
+    let after: Vec<_> = items[at + 1..].iter().flatten().collect();
+    assert_eq!(after[0].token, Token::Identifier("c".into()));
+    assert_eq!(after[0].span.range(), begin + 2..begin + 3);
+    assert_eq!(after.len(), 2);
+}
+
 #[test]
 fn a_message_may_be_long() {
     let word = "0".repeat(5000) + "1";
@@ -209,6 +285,7 @@ fn a_text_of_a_megabyte_in_pieces() {
 fn lexers_run_in_threads() {
     fn is_for_threads<T: Send + Sync>() {}
     is_for_threads::<Lexer<'_>>();
+    is_for_threads::<RecoveringLexer<'_>>();
     is_for_threads::<Result<Lexeme<'_>, Fault>>();
     is_for_threads::<LineIndex<'_>>();
     let text = long_text();

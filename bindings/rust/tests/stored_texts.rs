@@ -1,10 +1,13 @@
-//! Lexes the stored texts, and compares with what the program `starlark_lex` prints of them.
+//! Lexes the stored texts, and compares with what the programs print of them.
 //!
 //! The files are those of `crates/starlark_texts`: texts, and the lines that are printed of each. Of
 //! a record that isn't a plain text (its fronts, a repetition, an edit) nothing is compared. Each
-//! short text is also lexed with buffers of each smaller size.
+//! short text is also lexed with buffers of each smaller size. The texts of
+//! `crates/starlark_recovery_texts` are lexed on after their faults.
 
-use starlark_lexer::{FStringQuote, Fault, Lexeme, Lexer, LineIndex, Place, Span, Token, TokenInt};
+use starlark_lexer::{
+    FStringQuote, Fault, Lexeme, Lexer, LineIndex, Place, RecoveringLexer, Span, Token, TokenInt,
+};
 use std::fs;
 use std::path::PathBuf;
 use std::str;
@@ -22,8 +25,13 @@ struct Stored<'a> {
 
 /// The bytes of a file of the stored texts.
 fn read(name: &str) -> Vec<u8> {
-    let folder = PathBuf::from(env!("CARGO_MANIFEST_DIR")).join("../../crates/starlark_texts");
-    fs::read(folder.join(name)).expect("the stored texts are beside the crate")
+    read_of("starlark_texts", name)
+}
+
+/// The bytes of a file of stored texts in the folder of a crate.
+fn read_of(folder: &str, name: &str) -> Vec<u8> {
+    let crates = PathBuf::from(env!("CARGO_MANIFEST_DIR")).join("../../crates");
+    fs::read(crates.join(folder).join(name)).expect("the stored texts are beside the crate")
 }
 
 /// Splits a file of texts: a line with a length and, where it isn't plain, a task; the bytes; LF.
@@ -156,6 +164,36 @@ fn texts_are_lexed_as_the_program_prints_them() {
         }
     }
     assert!(compared > 1000, "only {compared} texts were compared");
+}
+
+/// The lines of all lexemes and all faults of a text, by buffers with room for so much at first.
+fn recovered_lines(text: &str, lexemes: usize, values: usize) -> String {
+    let lines = LineIndex::new(text);
+    let lexer = Lexer::with_capacity(text, lexemes, values).expect("a stored text is short");
+    RecoveringLexer::from(lexer)
+        .map(|item| item_line(&lines, &item))
+        .collect()
+}
+
+#[test]
+fn texts_are_lexed_on_after_faults() {
+    let file = read_of("starlark_recovery_texts", "stdin");
+    let printed = String::from_utf8(read_of("starlark_recovery_texts", "stdout"))
+        .expect("what is printed is UTF-8");
+    let mut rest = printed.as_str();
+    let texts = stored_texts(&file);
+    for stored in &texts {
+        let text = str::from_utf8(stored.text).expect("the texts are UTF-8");
+        let lines = recovered_lines(text, 16, 16);
+        rest = rest
+            .strip_prefix(&format!("text {}\n{lines}", stored.number))
+            .unwrap_or_else(|| panic!("{text:?} is lexed on as\n{lines}"));
+        for room in 0..=2 * text.len() {
+            assert_eq!(recovered_lines(text, room, 2 * text.len()), lines);
+            assert_eq!(recovered_lines(text, 2 * text.len(), room), lines);
+        }
+    }
+    assert_eq!((rest, texts.len()), ("", 119));
 }
 
 #[test]

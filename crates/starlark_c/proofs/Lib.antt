@@ -7,3 +7,4 @@ pub mod Wanted
 pub mod Lines
 pub mod KindNames
 pub mod ErrorMessages
+pub mod FaultNumbers

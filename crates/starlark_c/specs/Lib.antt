@@ -5,4 +5,5 @@ pub mod Outcomes
 pub mod Written
 pub mod Messages
 pub mod Places
+pub mod Restarts
 pub mod Inner

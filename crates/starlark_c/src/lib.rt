@@ -10,6 +10,7 @@ ghost use Rattle.starlark_c.specs.Kinds.{NamesTokens, kind_name};
 ghost use Rattle.starlark_c.specs.Messages.{TellsErrors, fault_message};
 ghost use Rattle.starlark_c.specs.Outcomes.{outcome_record};
 ghost use Rattle.starlark_c.specs.Places.{TellsPlace};
+ghost use Rattle.starlark_c.specs.Restarts.{IsRestart};
 ghost use Rattle.starlark_c.specs.Written.{IsWritten};
 ghost use Rattle.starlark_c.specs.declared.endings.Ending.{Ending};
 
@@ -22,6 +23,7 @@ mod pieces;
 mod places;
 mod progress;
 mod records;
+mod restarts;
 mod texts;
 
 use crate::kinds::name_of_kind;
@@ -29,6 +31,7 @@ use crate::lexing::lex_into;
 use crate::outcomes::{LexOutcome, outcome_of};
 use crate::places::{PlaceRecord, tell_place};
 use crate::records::LexemeRecord;
+use crate::restarts::restart_of;
 use crate::texts::{write_message, write_text};
 use std::alloc::Global;
 
@@ -86,4 +89,22 @@ pub extern "C" fn starlark_place(text: &[u8], at: usize, place: &mut PlaceRecord
     ensures { TellsPlace text.now at place.old place.new result }
 {
     tell_place(text, at, place)
+}
+
+/// Offset where lexing begins again after a fault of a text: at the start of a later line, or at
+/// the end of the text.
+///
+/// The fault is given by its offsets and the number of its kind, as an outcome tells them of this
+/// text. Where no fault of a text has them, the result is the greatest `usize`: the bytes aren't
+/// UTF-8, an offset is out of order, past the end or inside a character, or no fault has the number.
+#[unsafe(no_mangle)]
+pub extern "C" fn starlark_restart(
+    text: &[u8],
+    fault_begin: u32,
+    fault_end: u32,
+    fault_kind: u32,
+) -> usize
+    ensures { IsRestart text.now fault_begin fault_end fault_kind result }
+{
+    restart_of(text, fault_begin as usize, fault_end as usize, fault_kind)
 }

@@ -11,8 +11,8 @@ use Rattle.starlark_grammar.specs.Gaps.{begins_with_line_end}
 use Rattle.starlark_grammar.specs.Margins.{is_lf}
 use Rattle.starlark_grammar.specs.Words.{Text}
 use Rattle.starlark_grammar.specs.Tokens.{Fault, Spanned}
-use Rattle.starlark_recovery.specs.Inner.Passed.{IsPlaceOf}
 use Rattle.starlark_recovery.specs.Recovery.{is_margin_tab, line_end_len, margin_line, next_line, stopped_at}
+use Rattle.starlark_recovery.specs.Restarts.{IsPlaceOf}
 use Rattle.starlark_recovery.specs.declared.restarts.FaultPlace.{FaultPlace}
 
 abbrev is_other : ℕ → Bool

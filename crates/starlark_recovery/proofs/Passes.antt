@@ -9,8 +9,9 @@ use Rattle.starlark_base.specs.Spans.{ByteSpan}
 use Rattle.starlark_grammar.specs.Tokens as grammar
 use Rattle.starlark_grammar.specs.Tokens.{Fault, Spanned}
 use Rattle.starlark_grammar.specs.Words.{Text}
-use Rattle.starlark_recovery.specs.Inner.Passed.{HasPassed, IsPlaceOf, is_tab_kind}
+use Rattle.starlark_recovery.specs.Inner.Passed.{HasPassed, is_tab_kind}
 use Rattle.starlark_recovery.specs.Recovery.{is_tab, restart}
+use Rattle.starlark_recovery.specs.Restarts.{IsPlaceOf}
 use Rattle.starlark_recovery.specs.declared.restarts.FaultPlace.{FaultPlace}
 use Rattle.starlark_syntax.specs.Exceptions.{IsException}
 use Rattle.starlark_syntax.specs.Lexer.{LexerView}

@@ -7,6 +7,6 @@
 pub mod laws;
 mod passed_faults;
 mod recovering_lexer;
-mod restarts;
+pub mod restarts;
 
 pub use recovering_lexer::RecoveringLexer;

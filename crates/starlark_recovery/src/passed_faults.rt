@@ -5,7 +5,8 @@ ghost use Rattle.std.specs.Str.{IsCharBoundary};
 ghost use Rattle.starlark_base.specs.Diagnostics.{place_in};
 ghost use Rattle.starlark_base.specs.Sources.{SourceFile};
 ghost use Rattle.starlark_grammar.specs.Tokens.{Fault, Spanned};
-ghost use Rattle.starlark_recovery.specs.Inner.Passed.{HasPassed, IsPlaceOf, is_tab_kind};
+ghost use Rattle.starlark_recovery.specs.Inner.Passed.{HasPassed, is_tab_kind};
+ghost use Rattle.starlark_recovery.specs.Restarts.{IsPlaceOf};
 ghost use Rattle.starlark_syntax.specs.Exceptions.{IsException};
 ghost use Rattle.starlark_token.specs.Lexemes.{IsWithin};
 

@@ -6,19 +6,19 @@ ghost use Rattle.std.specs.Str.{IsCharBoundary};
 ghost use Rattle.starlark_grammar.specs.Margins.{is_lf};
 ghost use Rattle.starlark_grammar.specs.Tokens.{Fault, Spanned};
 ghost use Rattle.starlark_recovery.specs.Recovery as spec;
-ghost use Rattle.starlark_recovery.specs.Inner.Passed.{IsPlaceOf};
+ghost use Rattle.starlark_recovery.specs.Restarts.{IsPlaceOf};
 
 use starlark_bytes::reads::Reads;
 use starlark_layout::margin_of;
 
-/// Where a fault is in a text, in bytes, and whether it is `InvalidTab`.
+/// The place of a fault in a text, in bytes, and whether it is the fault of a tab.
 #[derive(Clone, Copy)]
 pub struct FaultPlace {
     /// Offset of its first byte.
     pub begin: usize,
     /// Offset after its last byte.
     pub end: usize,
-    /// Whether it is the fault of a tab.
+    /// Whether its error is `InvalidTab`. One in a margin is told at the line end before its line.
     pub is_tab: bool,
 }
 
@@ -89,8 +89,10 @@ fn stopped_at(text: &str, place: FaultPlace) -> usize
     line.max(place.end.saturating_sub(1))
 }
 
-/// Where lexing begins again after a fault of a text: at the start of a line, or at the end of the
-/// text.
+/// Offset where lexing begins again after a fault of a text: at the start of a line, or at the end
+/// of the text.
+///
+/// `RecoveringLexer` goes on there. It is for callers that lex each part of a text by themselves.
 pub fn restart(text: &str, place: FaultPlace) -> usize
     requires boundary { IsCharBoundary text.now place.begin }
     requires order { place.begin ≤ place.end }

@@ -4,9 +4,8 @@ use Rattle.std.specs.Str.{IsCharBoundary}
 use Rattle.starlark_base.specs.Sources.{SourceFile}
 use Rattle.starlark_grammar.specs.Tokens.{Fault, Spanned, moved}
 use Rattle.starlark_grammar.specs.Words.{Text}
-use Rattle.starlark_recovery.specs.Recovery.{is_tab, restart}
+use Rattle.starlark_recovery.specs.Recovery.{restart}
 use Rattle.starlark_recovery.specs.declared.passed_faults.Passed.{Passed}
-use Rattle.starlark_recovery.specs.declared.restarts.FaultPlace.{FaultPlace}
 use Rattle.starlark_syntax.specs.Exceptions.{IsException}
 use Rattle.starlark_syntax.specs.declared.error.kinds.ErrorKind.{ErrorKind}
 use Rattle.starlark_syntax.specs.declared.error.kinds.ErrorKind.TheVariants.{Parser}
@@ -17,12 +16,6 @@ use Rattle.starlark_token.specs.declared.lexeme_error.LexemeError.TheVariants.{I
 abbrev pub is_tab_kind : ErrorKind → Bool
 is_tab_kind (Parser (Lexeme InvalidTab)) = true
 is_tab_kind kind = false
-
--- the place is that of the fault
-pub record IsPlaceOf (fault : Spanned Fault) (place : FaultPlace) : Type 0 where
-  pub begin : place.begin ≡ fault.begin
-  pub end : place.end ≡ fault.end
-  pub is_tab : place.is_tab ≡ is_tab fault.node
 
 -- a fault of a text's part from byte `begin` on was passed: its exception is moved, and the lexer goes on after its line
 pub record HasPassed (file : SourceFile) (text : Text) (begin : ℕ) (fault : Spanned Fault) (passed : Passed) : Type 0 where

@@ -1,0 +1,86 @@
+//! The lexer that goes on after faults.
+
+use crate::{Fault, Lexeme, Lexer, TooLong};
+use std::iter::FusedIterator;
+
+/// All lexemes and all faults of a text, in order.
+///
+/// It yields what a [`Lexer`] yields up to the first fault. Then it begins again at the next line,
+/// as if that began a text of its own: with no open bracket, f-string or block. So an editor keeps
+/// its colours after an open quote, and a linter shows each fault of a file.
+///
+/// After each fault the rest of the text is tested for UTF-8 twice. So a text with many faults
+/// takes longer, by the number of its faults times its length.
+///
+/// ```
+/// use starlark_lexer::{RecoveringLexer, Token};
+///
+/// let text = "x = 'a\ny = 01\nz\n";
+/// let mut names = Vec::new();
+/// let mut faults = Vec::new();
+/// for item in RecoveringLexer::new(text)? {
+///     match item {
+///         Ok(lexeme) => {
+///             if let Token::Identifier(name) = lexeme.token {
+///                 names.push(name);
+///             }
+///         }
+///         Err(fault) => faults.push(&text[fault.span().range()]),
+///     }
+/// }
+/// assert_eq!(names, ["x", "y", "z"]);
+/// assert_eq!(faults, ["'a", "01"]);
+/// # Ok::<(), starlark_lexer::TooLong>(())
+/// ```
+#[derive(Clone, Debug)]
+pub struct RecoveringLexer<'a> {
+    lexer: Lexer<'a>,
+}
+
+impl<'a> RecoveringLexer<'a> {
+    /// A lexer of a text. Nothing is lexed before the first item is asked for.
+    ///
+    /// # Errors
+    ///
+    /// `TooLong` for a text of more than 4,294,967,295 bytes.
+    pub fn new(text: &'a str) -> Result<Self, TooLong> {
+        Lexer::new(text).map(RecoveringLexer::from)
+    }
+
+    /// The text that is lexed.
+    pub fn text(&self) -> &'a str {
+        self.lexer.text()
+    }
+}
+
+/// Yields what a lexer has left, and then what comes after its fault. A fault that it has yielded
+/// isn't yielded again.
+///
+/// ```
+/// use starlark_lexer::{Lexer, RecoveringLexer};
+///
+/// let mut lexer = Lexer::with_capacity("!\n!\nx", 16, 16)?;
+/// assert!(lexer.by_ref().any(|item| item.is_err()));
+/// assert!(lexer.next().is_none());
+///
+/// let rest = RecoveringLexer::from(lexer);
+/// assert_eq!(rest.filter(Result::is_err).count(), 1);
+/// # Ok::<(), starlark_lexer::TooLong>(())
+/// ```
+impl<'a> From<Lexer<'a>> for RecoveringLexer<'a> {
+    fn from(lexer: Lexer<'a>) -> Self {
+        RecoveringLexer { lexer }
+    }
+}
+
+impl<'a> Iterator for RecoveringLexer<'a> {
+    type Item = Result<Lexeme<'a>, Fault>;
+
+    #[inline]
+    fn next(&mut self) -> Option<Self::Item> {
+        self.lexer.pass_fault();
+        self.lexer.next()
+    }
+}
+
+impl FusedIterator for RecoveringLexer<'_> {}
