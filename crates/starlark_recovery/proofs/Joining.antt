@@ -5,3 +5,5 @@ pub mod MarginTabs
 pub mod DecidedFaults
 pub mod MovedRestarts
 pub mod ClosedTexts
+pub mod ShortenedStops
+pub mod ShortenedFaults

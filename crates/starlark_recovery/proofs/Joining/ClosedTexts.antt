@@ -54,13 +54,13 @@ closed_after_faults (b ∷ bs) fault has =
     ∙ ap (λ closed. is_decided (b ∷ bs) fault && closed) (closed_passed (restart (b ∷ bs) fault - 1) bs ∙ ap is_closed (sym (drop-behind (restart (b ∷ bs) fault) b bs later)))
 
 -- a text without fault is closed exactly where it is a cut between lines
-closed_faultless : (text : Text) → 0 < length text → (outcome text).fault ≡ None → is_closed text ≡ is_line_cut text
+pub closed_faultless : (text : Text) → 0 < length text → (outcome text).fault ≡ None → is_closed text ≡ is_line_cut text
 unfolding is_closed is_closed_from
 closed_faultless [] some none = absurd (omega (arith, some))
 closed_faultless (b ∷ bs) some none = by_none (b ∷ bs) (outcome (b ∷ bs)).fault (λ at. is_closed_from (at - 1) bs) none
 
 -- a closed text ends with an LF
-closed_ends : (text : Text) → 0 < length text → is_closed text ≡ true → ends_with nat_eq text (codes "\n") ≡ true
+pub closed_ends : (text : Text) → 0 < length text → is_closed text ≡ true → ends_with nat_eq text (codes "\n") ≡ true
 unfolding is_line_cut is_decided
 closed_ends text some h = by (outcome text).fault refl
   where
@@ -87,10 +87,10 @@ same_recovered e f = rw (e, f) refl
 -- What is found
 
 -- an outcome with a fault, and what is found in the rest
-abbrev on_fault : List Lexeme → Spanned Fault → ℕ → Recovered → Recovered
+abbrev pub on_fault : List Lexeme → Spanned Fault → ℕ → Recovered → Recovered
 on_fault lexemes fault at rest = record { lexemes = lexemes ++ map (moved at) rest.lexemes; faults = fault ∷ map (moved at) rest.faults }
 
-recovered_on : (text : Text) (fault : Spanned Fault) → (outcome text).fault ≡ Some fault → recovered text ≡ on_fault (outcome text).lexemes fault (restart text fault) (recovered (drop (restart text fault) text))
+pub recovered_on : (text : Text) (fault : Spanned Fault) → (outcome text).fault ≡ Some fault → recovered text ≡ on_fault (outcome text).lexemes fault (restart text fault) (recovered (drop (restart text fault) text))
 unfolding recovered
 recovered_on text fault has =
     let at : ℕ = restart text fault in
@@ -118,7 +118,7 @@ outcome_newline text none = by (read language text).last (outcome_by text (read 
     by (Stands piece) is = ap (λ (o : Outcome). has_newline o.lexemes) is ∙ closes
     by Ends is = ap (λ (o : Outcome). has_newline o.lexemes) is ∙ closes
 
-abbrev NewlineFound : Text → Type 0
+abbrev pub NewlineFound : Text → Type 0
 NewlineFound text = has_newline (recovered text).lexemes ≡ true
 
 found_alone : (text : Text) → (outcome text).fault ≡ None → NewlineFound text
@@ -134,7 +134,7 @@ found_on text fault has found =
 rest_is : (b : ℕ) (bs : Text) (fault : Spanned Fault) → drop (restart (b ∷ bs) fault - 1) bs ≡ drop (restart (b ∷ bs) fault) (b ∷ bs)
 rest_is b bs fault = sym (drop-behind (restart (b ∷ bs) fault) b bs (restart_later (b ∷ bs) fault (omega arith)))
 
-newline_found : (passed : ℕ) (text : Text) → NewlineFound (drop passed text)
+pub newline_found : (passed : ℕ) (text : Text) → NewlineFound (drop passed text)
 newline_found zero [] = found_alone [] empty_faultless
 newline_found (suc passed) [] = found_alone [] empty_faultless
 newline_found (suc passed) (b ∷ bs) = newline_found passed bs

@@ -32,7 +32,7 @@ use Rattle.starlark_recovery.proofs.Joining.FollowedStops.{StopInside, body_sing
 pub same_fault : (one other : Spanned Fault) → Fails one ≡ Fails other → one ≡ other
 same_fault one other e = cc
 
-fault_end : (one other : Spanned Fault) → Fails one ≡ Fails other → one.end ≡ other.end
+pub fault_end : (one other : Spanned Fault) → Fails one ≡ Fails other → one.end ≡ other.end
 fault_end one other e = ap (λ (f : Spanned Fault). f.end) (same_fault one other e)
 
 -- Margins
@@ -68,7 +68,7 @@ plain_ends opening (b ∷ []) h single =
 plain_ends opening (b ∷ c ∷ bs) h single = and_right _ (is_plain opening (c ∷ bs)) (plain_ends opening (c ∷ bs) h single)
 
 -- what an unfinished literal of one line is
-unfinished_followed : (place : Mode) (kind : Kind) (opening : Opening) (behind more : Text) → ends_line behind ≡ true → opening.is_triple ≡ false → unfinished place kind opening (behind ++ more) ≡ unfinished place kind opening behind
+pub unfinished_followed : (place : Mode) (kind : Kind) (opening : Opening) (behind more : Text) → ends_line behind ≡ true → opening.is_triple ≡ false → unfinished place kind opening (behind ++ more) ≡ unfinished place kind opening behind
 unfinished_followed Outside kind opening behind more h single = refl
 unfinished_followed (InText other) OfText opening behind more h single = rw (not_plain opening behind more h single, plain_ends opening behind h single) refl
 unfinished_followed AtTop OfText opening behind more h single = rw (not_plain opening behind more h single, plain_ends opening behind h single) refl
@@ -85,7 +85,7 @@ escape_end begin [] found e = let end = fault_end _ found e in omega (arith, end
 escape_end begin (b ∷ bs) found e = let end = fault_end _ found e in omega (arith, end)
 
 -- the fault of a bad escape ends with the bytes that were read
-escape_reads : (begin used read last : ℕ) (opening : Opening) (behind : Text) (found : Spanned Fault) → used ≤ length behind → StopFits opening (drop used behind) (BadEscape read last) → escape_fault (begin + used) (drop 1 (take read (drop used behind))) ≡ Fails found
+pub escape_reads : (begin used read last : ℕ) (opening : Opening) (behind : Text) (found : Spanned Fault) → used ≤ length behind → StopFits opening (drop used behind) (BadEscape read last) → escape_fault (begin + used) (drop 1 (take read (drop used behind))) ≡ Fails found
     → found.end ≡ begin + used + read
 escape_reads begin used read last opening behind found inside fits e =
     let end = escape_end (begin + used) (drop 1 (take read (drop used behind))) found e in
@@ -146,7 +146,7 @@ chunk_inside opening text body Line found e less = tt
 chunk_inside opening text body (BadEscape read last) found e less = omega (arith, less, fault_end _ found e)
 chunk_inside opening text body Ended found e less = absurd (omega (arith, less, fault_end _ found e))
 
-chunk_same : (opening : Opening) (text other : Text) (body : Body) (stop : Stop) (found : Spanned Fault) → chunk_by opening text body stop ≡ Fails found → found.end < length text → chunk_by opening other body stop ≡ Fails found
+pub chunk_same : (opening : Opening) (text other : Text) (body : Body) (stop : Stop) (found : Spanned Fault) → chunk_by opening text body stop ≡ Fails found → found.end < length text → chunk_by opening other body stop ≡ Fails found
 chunk_same opening text other body OpeningBrace found e less = e
 chunk_same opening text other body Closing found e less = e
 chunk_same opening text other body ClosingBrace found e less = e

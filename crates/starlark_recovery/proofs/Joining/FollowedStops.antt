@@ -151,7 +151,7 @@ StopInside whole used Ended = ⊥
 StopInside whole used (BadEscape read last) = used + read < whole
 StopInside whole used stop = ⊤
 
-inside_later : (whole used other after : ℕ) (stop : Stop) → whole + after ≡ other + used → StopInside whole used stop → StopInside other after stop
+pub inside_later : (whole used other after : ℕ) (stop : Stop) → whole + after ≡ other + used → StopInside whole used stop → StopInside other after stop
 inside_later whole used other after Closing e h = tt
 inside_later whole used other after Line e h = tt
 inside_later whole used other after Ended e h = h

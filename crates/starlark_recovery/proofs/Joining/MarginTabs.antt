@@ -103,7 +103,7 @@ line_of (b ∷ c ∷ bs) (suc (suc n)) some inside (inr is) = go n bs (omega (ar
     go (suc m) [] fits feed = absurd (omega (arith, fits))
     go (suc m) (d ∷ cs) fits feed = cc
 
-word_line : (text : Text) (n : ℕ) → longest_front (class_in language) text ≡ Some (word.LineEnd, n) → BeginsLine text n
+pub word_line : (text : Text) (n : ℕ) → longest_front (class_in language) text ≡ Some (word.LineEnd, n) → BeginsLine text n
 word_line text n front =
     let sound = front_sound (class_in language) text word.LineEnd n front in
     line_of text n sound.0 sound.1 (by (bytes_eq (take n text) (codes "\n")) refl (layout_word (take n text) word.LineEnd sound.2))
