@@ -20,11 +20,10 @@ text_of-append (segment ∷ before) after = ap (λ (text : List ℕ). text_in se
 pub text_of-split : (segments : List Segment) (at : ℕ) → text_of segments ≡ text_of (take at segments) ++ text_of (drop at segments)
 text_of-split segments at = ap text_of (sym (take-append-drop at segments)) ∙ text_of-append (take at segments) (drop at segments)
 
--- segments from one on
-pub drop_at : (segments : List Segment) (at : ℕ) (segment : Segment) → slice_get segments at ≡ Some segment → drop at segments ≡ segment ∷ drop (at + 1) segments
-drop_at segments at segment is =
-    drop_more segments at segment (slice_get_within segments at segment is)
-    ∙ ap (λ (x : Segment). x ∷ drop (at + 1) segments) (get_or_from_slice_get segments at segment segment is)
+-- a list from one of its elements on
+pub drop_at : {X : Type 0} (xs : List X) (at : ℕ) (x : X) → slice_get xs at ≡ Some x → drop at xs ≡ x ∷ drop (at + 1) xs
+drop_at {X = X} xs at x is =
+    drop_more xs at x (slice_get_within xs at x is) ∙ ap (λ (y : X). y ∷ drop (at + 1) xs) (get_or_from_slice_get xs at x x is)
 
 -- the text of segments is what is before a segment, its text, and what is after it
 pub text_of-at : (segments : List Segment) (at : ℕ) (segment : Segment) → slice_get segments at ≡ Some segment
