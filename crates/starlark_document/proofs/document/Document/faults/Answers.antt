@@ -1,0 +1,16 @@
+use Rattle.std.proofs.Common.{◌≡◌, List, ap, subst, sym, ◌∙◌}
+use Rattle.starlark_document.proofs.Found.{bounded_laid, faults_laid}
+use Rattle.starlark_document.specs.Documents.{faults_of}
+use Rattle.starlark_document.specs.Inner.Segments.{AreBounded, text_of, faults_along}
+use Rattle.starlark_document.specs.declared.segments.Segment.{Segment}
+use Rattle.starlark_document.proofs.document.Document.faults.Goals as goal
+
+pub new-requires : goal.new-requires
+new-requires c = subst (λ (xs : List Segment). AreBounded 0 xs) (sym c.deref.ensures.value) (bounded_laid c.self.inside.segments.items c.self.invariant.0 c.self.invariant.2)
+
+pub returns : goal.returns
+returns c =
+    c.new.ensures
+    ∙ ap (λ (xs : List Segment). faults_along 0 xs) c.deref.ensures.value
+    ∙ sym (faults_laid c.self.inside.segments.items c.self.invariant.0)
+    ∙ ap faults_of c.self.view_is
