@@ -1,0 +1,1 @@
+-- The last `Newline` of a list of lexemes.
