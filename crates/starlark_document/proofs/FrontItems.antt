@@ -1,8 +1,10 @@
 -- What a front of a text becomes with one item more.
-use Rattle.std.proofs.Common.{◌≡◌, ℕ, ◌<◌, ◌≤◌, true, false, List, [], ◌∷◌, ◌++◌, map, take, drop, length, refl, ap, sym, subst, ◌∙◌, append_assoc, append-nil, arith}
+use Rattle.std.proofs.Common.{◌≡◌, ℕ, ◌<◌, ◌≤◌, true, false, List, [], ◌∷◌, ◌++◌, map, take, drop, length, refl, ap, sym, subst, ◌∙◌, Err, append_assoc, append-nil, arith}
 use Rattle.std.specs.List.{AllByRecursion}
 use Rattle.std.specs.Str.{IsCharBoundary}
 use Rattle.std.proofs.lemmas.List.{map-append}
+use Rattle.starlark_base.specs.Diagnostics.{Diagnosed}
+use Rattle.starlark_base.specs.Sources.{SourceFile}
 use Rattle.starlark_document.specs.Inner.Fronts.{EndsLine, EndsPlainly, IsFront, IsLineEnd, given_of, is_dedent_item, is_newline_view, refused_of}
 use Rattle.starlark_document.specs.Inner.Segments.{AreFaults, IsPlaced}
 use Rattle.starlark_document.specs.declared.fronts.Front.{Front}
@@ -10,6 +12,10 @@ use Rattle.starlark_document.specs.declared.segments.PlacedFault.{PlacedFault}
 use Rattle.starlark_grammar.specs.Tokens as grammar
 use Rattle.starlark_grammar.specs.Words.{Text}
 use Rattle.starlark_recovery.specs.Joining.{begins_plainly}
+use Rattle.starlark_syntax.specs.Exceptions.{IsException}
+use Rattle.starlark_syntax.specs.Lexer.{Answers}
+use Rattle.starlark_syntax.specs.declared.error.kinds.ErrorKind.{ErrorKind}
+use Rattle.starlark_text.specs.declared.or_memory.OrMemory.TheVariants as refusal
 use Rattle.starlark_token.specs.Lexemes.{lexeme_view}
 use Rattle.starlark_token.specs.TextItems.{LexerItem, Given, Refused}
 use Rattle.starlark_token.specs.TokenViews.{TokenView, Whole, token_view}
@@ -124,3 +130,13 @@ front_fault text items old new fault placed is dedent is_placed lexemes faults l
   boundary = λ l. rw line_end (is.boundary (rw line_end at l));
   cut = λ e. rw line_end (plain_more text items old.line_end (Refused fault) (is.cut (sym is_cut ∙ e)) (dedent (sym is_cut ∙ e)));
 }
+
+-- an exception, which is that of a fault
+pub front_exception : (text : Text) (items : List LexerItem) (old new : Front) (file : SourceFile) (next : LexerItem) (exception : Diagnosed ErrorKind) (placed : PlacedFault) → IsFront text items old
+    → Answers file next (Err (refusal.Error exception)) → (old.is_cut ≡ true → is_dedent_item next ≡ true)
+    → ((file : SourceFile) (fault : grammar.Spanned grammar.Fault) → IsException file fault exception → IsPlaced fault placed)
+    → new.lexemes ≡ old.lexemes → new.faults.items ≡ old.faults.items ++ (placed ∷ []) → new.line_end ≡ old.line_end → new.is_cut ≡ old.is_cut
+    → IsFront text (items ++ (next ∷ [])) new
+front_exception text items old new file (Given lexeme) exception placed is answers dedent are lexemes faults line_end is_cut = absurd answers
+front_exception text items old new file (Refused fault) exception placed is answers dedent are lexemes faults line_end is_cut =
+    front_fault text items old new fault placed is dedent (are file fault answers) lexemes faults line_end is_cut
