@@ -1,6 +1,6 @@
 //! Lexes a text up to the first offset where it can be cut, or to its end.
 
-ghost use Rattle.std.specs.Prelude.{◌≡◌, ◌≤◌, ◌<◌, ◌++◌, ◌||◌, ◌==◌, ◌∷◌, [], IfOk, List, IsSome, OnOk, Some, drop, length, not, true};
+ghost use Rattle.std.specs.Prelude.{◌≡◌, ◌≤◌, ◌<◌, ◌++◌, ◌||◌, ◌==◌, ◌∷◌, [], IfOk, List, IsSome, OnOk, Some, drop, length, false, not, true};
 ghost use Rattle.std.specs.Str.{IsCharBoundary, byte};
 ghost use Rattle.starlark_base.specs.Sources.{SourceFile};
 ghost use Rattle.starlark_document.specs.Inner.Fronts.{IsFront, is_dedent_item, is_dedent_view, is_newline_view};
@@ -67,7 +67,7 @@ fn is_dedent_token(token: &Token) -> bool
 }
 
 /// Whether an item of a lexer is a `Dedent`. Fails where the lexer ran out of memory.
-pub fn is_dedent(item: &Lexeme) -> Result<bool, AllocError>
+fn is_dedent(item: &Lexeme) -> Result<bool, AllocError>
     ensures { IfOk result (λ is. (file : SourceFile) (next : LexerItem) → Answers file next item.now → is ≡ is_dedent_item next) }
 {
     match item {
@@ -143,6 +143,19 @@ impl Front {
             self.is_cut = can_end(text, lexeme.2, self.least_len);
         }
         Ok(self.lexemes.push(lexeme)?)
+    }
+
+    /// Whether the text is to be cut before the next item of a lexer. Fails where the lexer ran out
+    /// of memory.
+    pub fn ends_before(&self, item: &Lexeme) -> Result<bool, AllocError>
+        ensures cut { IfOk result (λ ends. ends ≡ true → self.now.is_cut ≡ true) }
+        ensures ends { IfOk result (λ ends. ends ≡ true → (file : SourceFile) (next : LexerItem) → Answers file next item.now → is_dedent_item next ≡ false) }
+        ensures goes { IfOk result (λ ends. ends ≡ false → self.now.is_cut ≡ true → (file : SourceFile) (next : LexerItem) → Answers file next item.now → is_dedent_item next ≡ true) }
+    {
+        if !self.is_cut {
+            return Ok(false);
+        }
+        Ok(!is_dedent(item)?)
     }
 
     /// Takes the next item of a lexer of the text.

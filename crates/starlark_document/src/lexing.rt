@@ -7,7 +7,7 @@ ghost use Rattle.starlark_document.specs.Inner.Segments.{text_in};
 ghost use Rattle.starlark_recovery.specs.RecoveringLexer.{all_items};
 ghost use Rattle.starlark_token.specs.Lexemes.{lexeme_view};
 
-use crate::fronts::{Front, is_dedent, is_newline};
+use crate::fronts::{Front, is_newline};
 use crate::segments::{Content, PlacedToken, Segment};
 use starlark_recovery::RecoveringLexer;
 use starlark_syntax::codemap::CodeMap;
@@ -114,7 +114,7 @@ pub fn lex_segment(
     let mut lexer = lexer.map_err(|_| AllocError)?;
     let mut front = Front::new(alloc, least_len);
     while let Some(item) = lexer.next() {
-        if front.is_cut && !is_dedent(&item)? {
+        if front.ends_before(&item)? {
             return Ok(Some(cut_segment(alloc, text, front)?));
         }
         front.take(text, item)?;
