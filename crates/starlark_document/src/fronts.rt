@@ -1,17 +1,20 @@
 //! Lexes a text up to the first offset where it can be cut, or to its end.
 
-ghost use Rattle.std.specs.Prelude.{◌≡◌, ◌≤◌, ◌<◌, ◌++◌, ◌∷◌, [], IfOk, List, IsSome, OnOk, Some, drop, length, true};
+ghost use Rattle.std.specs.Prelude.{◌≡◌, ◌≤◌, ◌<◌, ◌++◌, ◌||◌, ◌==◌, ◌∷◌, [], IfOk, List, IsSome, OnOk, Some, drop, length, false, not, true};
+ghost use Rattle.std.specs.Str.{IsCharBoundary, byte};
 ghost use Rattle.starlark_base.specs.Sources.{SourceFile};
-ghost use Rattle.starlark_document.specs.Inner.Fronts.{IsFront, is_dedent_item};
+ghost use Rattle.starlark_document.specs.Inner.Fronts.{IsFront, is_dedent_item, is_dedent_view, is_newline_view};
 ghost use Rattle.starlark_document.specs.Inner.Segments.{IsPlaced};
+ghost use Rattle.starlark_grammar.specs.Margins.{is_blank, is_lf};
 ghost use Rattle.starlark_grammar.specs.Tokens.{Fault, Spanned};
 ghost use Rattle.starlark_grammar.specs.Words.{Text};
 ghost use Rattle.starlark_recovery.specs.Joining as spec;
 ghost use Rattle.starlark_recovery.specs.RecoveringLexer.{left_after};
 ghost use Rattle.starlark_syntax.specs.Exceptions.{IsException};
-ghost use Rattle.starlark_syntax.specs.Lexer.{Answers, AnswersWithin};
+ghost use Rattle.starlark_syntax.specs.Lexer.{Answers, AnswersBetween, AnswersWithin};
 ghost use Rattle.starlark_token.specs.Lexemes.{lexeme_view};
 ghost use Rattle.starlark_token.specs.TextItems.{Given, LexerItem};
+ghost use Rattle.starlark_token.specs.TokenViews.{token_view};
 
 use crate::segments::{PlacedFault, PlacedToken};
 use starlark_syntax::codemap::{FileSpan, OrMemory};
@@ -20,11 +23,22 @@ use starlark_syntax::lexer::Lexeme;
 use starlark_token::tokens::Token;
 use std::alloc::{AllocError, Global};
 
+/// Whether a byte is content, and not a blank, an LF or the start of a comment.
+fn is_plain(b: u8) -> bool
+    ensures { result ≡ not (is_blank b || is_lf b || b == byte "#") }
+{
+    !matches!(b, b' ' | b'\t' | b'\r' | b'\n' | b'#')
+}
+
 /// Whether a text begins with content, and not with a blank, a comment or a newline.
+#[tactic(auto, unfolding(starlark_recovery::specs::Joining::begins_plainly))]
 pub fn begins_plainly(text: &[u8]) -> bool
     ensures { result ≡ spec.begins_plainly text.now }
 {
-    !matches!(text, [] | [b' ' | b'\t' | b'\r' | b'\n' | b'#', ..])
+    match text {
+        [byte, ..] => is_plain(*byte),
+        [] => false,
+    }
 }
 
 /// Whether a segment may end at byte `at` of a text, after a `Newline`. It and what is left get at
@@ -36,12 +50,28 @@ fn can_end(text: &str, at: usize, least_len: usize) -> bool
     at >= least_len && text.len() - at >= least_len && begins_plainly(&text.as_bytes()[at..])
 }
 
+/// Whether a token is `Newline`.
+#[tactic(auto, unfolding(starlark_token::specs::TokenViews::token_view))]
+pub fn is_newline(token: &Token) -> bool
+    ensures { result ≡ is_newline_view (token_view token.now) }
+{
+    matches!(token, Token::Newline)
+}
+
+/// Whether a token is `Dedent`.
+#[tactic(auto, unfolding(starlark_token::specs::TokenViews::token_view))]
+fn is_dedent_token(token: &Token) -> bool
+    ensures { result ≡ is_dedent_view (token_view token.now) }
+{
+    matches!(token, Token::Dedent)
+}
+
 /// Whether an item of a lexer is a `Dedent`. Fails where the lexer ran out of memory.
-pub fn is_dedent(item: &Lexeme) -> Result<bool, AllocError>
+fn is_dedent(item: &Lexeme) -> Result<bool, AllocError>
     ensures { IfOk result (λ is. (file : SourceFile) (next : LexerItem) → Answers file next item.now → is ≡ is_dedent_item next) }
 {
     match item {
-        Ok((_, token, _)) => Ok(matches!(token, Token::Dedent)),
+        Ok((_, token, _)) => Ok(is_dedent_token(token)),
         Err(OrMemory::Error(_)) => Ok(false),
         Err(OrMemory::Memory) => Err(AllocError),
     }
@@ -103,21 +133,36 @@ impl Front {
     /// Takes the next lexeme.
     fn take_lexeme(&mut self, text: &str, lexeme: PlacedToken) -> Result<(), AllocError>
         requires within { lexeme.2 ≤ length text.now }
+        requires boundary { IsCharBoundary text.now lexeme.2 }
         requires front { (items : List LexerItem) × IsFront text.now items self.old }
         requires cut { self.old.is_cut ≡ true → is_dedent_item (Given (lexeme_view lexeme)) ≡ true }
         ensures front { OnOk result ((items : List LexerItem) → IsFront text.now items self.old → IsFront text.now (items ++ (Given (lexeme_view lexeme) ∷ [])) self.new) }
     {
-        if matches!(lexeme.1, Token::Newline) && lexeme.0 < lexeme.2 {
+        if is_newline(&lexeme.1) && lexeme.0 < lexeme.2 {
             self.line_end = lexeme.2;
             self.is_cut = can_end(text, lexeme.2, self.least_len);
         }
         Ok(self.lexemes.push(lexeme)?)
     }
 
+    /// Whether the text is to be cut before the next item of a lexer. Fails where the lexer ran out
+    /// of memory.
+    pub fn ends_before(&self, item: &Lexeme) -> Result<bool, AllocError>
+        ensures cut { IfOk result (λ ends. ends ≡ true → self.now.is_cut ≡ true) }
+        ensures ends { IfOk result (λ ends. ends ≡ true → (file : SourceFile) (next : LexerItem) → Answers file next item.now → is_dedent_item next ≡ false) }
+        ensures goes { IfOk result (λ ends. ends ≡ false → self.now.is_cut ≡ true → (file : SourceFile) (next : LexerItem) → Answers file next item.now → is_dedent_item next ≡ true) }
+    {
+        if !self.is_cut {
+            return Ok(false);
+        }
+        Ok(!is_dedent(item)?)
+    }
+
     /// Takes the next item of a lexer of the text.
     pub fn take(&mut self, text: &str, item: Lexeme) -> Result<(), AllocError>
         requires answered { (file : SourceFile) × (next : LexerItem) × Answers file next item }
         requires within { AnswersWithin text.now (Some item) }
+        requires between { AnswersBetween text.now (Some item) }
         requires front { (items : List LexerItem) × IsFront text.now items self.old }
         requires cut { self.old.is_cut ≡ true → (file : SourceFile) (next : LexerItem) → Answers file next item → is_dedent_item next ≡ true }
         ensures front { OnOk result ((file : SourceFile) (next : LexerItem) (items : List LexerItem) → Answers file next item → IsFront text.now items self.old → IsFront text.now (items ++ (next ∷ [])) self.new) }

@@ -7,12 +7,11 @@ ghost use Rattle.starlark_document.specs.Inner.Segments.{text_in};
 ghost use Rattle.starlark_recovery.specs.RecoveringLexer.{all_items};
 ghost use Rattle.starlark_token.specs.Lexemes.{lexeme_view};
 
-use crate::fronts::{Front, is_dedent};
+use crate::fronts::{Front, is_newline};
 use crate::segments::{Content, PlacedToken, Segment};
 use starlark_recovery::RecoveringLexer;
 use starlark_syntax::codemap::CodeMap;
 use starlark_syntax::dialect::Dialect;
-use starlark_token::tokens::Token;
 use std::alloc::{AllocError, Global};
 use std::boxed::Box;
 
@@ -24,7 +23,7 @@ fn last_newline(lexemes: &[PlacedToken]) -> usize
     let mut at = lexemes.len();
     while at > 0 {
         at -= 1;
-        if matches!(lexemes[at].1, Token::Newline) {
+        if is_newline(&lexemes[at].1) {
             return at;
         }
     }
@@ -115,7 +114,7 @@ pub fn lex_segment(
     let mut lexer = lexer.map_err(|_| AllocError)?;
     let mut front = Front::new(alloc, least_len);
     while let Some(item) = lexer.next() {
-        if front.is_cut && !is_dedent(&item)? {
+        if front.ends_before(&item)? {
             return Ok(Some(cut_segment(alloc, text, front)?));
         }
         front.take(text, item)?;

@@ -1,6 +1,7 @@
 -- What was lexed of the front of a text, and where it can be cut.
 use Rattle.std.specs.Prelude.{◌≡◌, ◌≤◌, ◌<◌, ℕ, suc, Bool, true, false, ◌||◌, List, [], ◌∷◌, ◌++◌, map, length, take, drop, ⊤}
 use Rattle.std.specs.List.{AllByRecursion}
+use Rattle.std.specs.Str.{IsCharBoundary}
 use Rattle.starlark_document.specs.Inner.Segments.{AreFaults, IsOpen, IsWhole, text_in}
 use Rattle.starlark_document.specs.declared.fronts.Front.{Front}
 use Rattle.starlark_document.specs.declared.segments.Segment.{Segment}
@@ -92,6 +93,7 @@ pub record IsFront (text : Text) (items : List LexerItem) (front : Front) : Type
   pub faults : AreFaults (refused_of items) front.faults.items
   pub line_end : 0 < front.line_end → EndsLine items front.line_end
   pub within : front.line_end ≤ length text
+  pub boundary : 0 < front.line_end → IsCharBoundary text front.line_end
   pub cut : front.is_cut ≡ true → EndsPlainly text items front.line_end
 
 -- At a newline of some bytes after which a line begins plainly, the text so far is closed, and what is found in it is
