@@ -1,6 +1,6 @@
 //! Documents: texts that stay lexed while they are edited.
 
-ghost use Rattle.std.specs.Prelude.{◌≡◌, ◌≤◌, ◌<◌, ◌^◌, ◌↔◌, ◌==◌, Err, IfOk, IfSome, IsNone, IsTrue, OnErr, OnOk, drop, length, slice_range, string_bytes};
+ghost use Rattle.std.specs.Prelude.{◌≡◌, ◌≤◌, ◌<◌, ◌^◌, ◌↔◌, ◌==◌, Err, IfOk, IfSome, IsNone, IsTrue, OnErr, OnOk, drop, length, slice_range, string_bytes, true};
 ghost use Rattle.std.specs.List.{prefix_len};
 ghost use Rattle.std.specs.Str.{IsCharBoundary};
 ghost use Rattle.starlark_base.specs.Refusals.{IsRefused};
@@ -82,6 +82,11 @@ impl fmt::Display for EditError {
 }
 
 impl From<AllocError> for EditError {
+    ghost use Rattle.std.specs.Prelude.{◌≡◌};
+    ghost use Rattle.starlark_document.specs.declared.document.EditError.TheVariants.{Memory};
+
+    ghost from_gives = { λ _ error. error ≡ Memory };
+
     fn from(_error: AllocError) -> EditError {
         EditError::Memory
     }
@@ -91,6 +96,37 @@ impl From<AllocError> for EditError {
 fn empty_file(alloc: Global) -> Result<CodeMap, AllocError> {
     let name = String::new(alloc);
     CodeMap::new(alloc, CodeMapId::EMPTY, name, String::new(alloc)).map_err(|_| AllocError)
+}
+
+/// Puts the segments of a part that was lexed anew in the place of the old ones, and says what
+/// changed. The text had `old_len` bytes, and has `len` after it. After an error the segments are the
+/// old ones.
+fn replace(
+    segments: &mut Vec<Segment>,
+    first: SegmentPlace,
+    lexed: LexedPart,
+    old_len: usize,
+    len: usize,
+) -> Result<Change, AllocError>
+    requires part { (new : Text) × (part : Part) × IsPart segments.old.items new part × (part.first ≡ first) × IsLexedPart segments.old.items part lexed × (len ≡ length new) }
+    requires order { first.index < lexed.end }
+    requires laid { AreLaid true segments.old.items }
+    requires old_len { old_len ≡ length (text_of segments.old.items) }
+    requires fits { (old_len < 2 ^ 32) × (len < 2 ^ 32) }
+    ensures text { OnOk result ((new : Text) (part : Part) → IsPart segments.old.items new part → part.first ≡ first → IsLexedPart segments.old.items part lexed → text_of segments.new.items ≡ new) }
+    ensures laid { AreLaid true segments.new.items }
+    ensures change { IfOk result (IsChange (text_of segments.old.items) (text_of segments.new.items)) }
+    ensures refused { OnErr result (text_of segments.new.items ≡ text_of segments.old.items) }
+{
+    let new_end = first.begin + lexed.len;
+    let change = Change {
+        begin: first.begin,
+        old_end: new_end + old_len - len,
+        new_end,
+        lexed: lexed.lexed,
+    };
+    segments.splice(first.index..lexed.end, lexed.segments)?;
+    Ok(change)
 }
 
 impl Document {
@@ -185,33 +221,7 @@ impl Document {
         let first = part.first;
         let lexed = lex_part(self.alloc, &self.file, &self.segments, part, self.least_len)?;
         let len = self.len - (to - from) + text.len();
-        Ok(self.replace(first, lexed, len)?)
-    }
-
-    /// Puts the segments of a part that was lexed anew in the place of the old ones.
-    fn replace(
-        &mut self,
-        first: SegmentPlace,
-        lexed: LexedPart,
-        len: usize,
-    ) -> Result<Change, AllocError>
-        requires parts { (new : Text) × (part : Part) × IsPart self.old.segments.items new part × (part.first ≡ first) × IsLexedPart self.old.segments.items part lexed × (len ≡ length new) × (length new < 2 ^ 32) }
-        requires laid { AreLaid true self.old.segments.items }
-        requires len { self.old.len ≡ length (text_of self.old.segments.items) }
-        ensures text { OnOk result ((new : Text) (part : Part) → IsPart self.old.segments.items new part → part.first ≡ first → IsLexedPart self.old.segments.items part lexed → text_of self.new.segments.items ≡ new) }
-        ensures laid { AreLaid true self.new.segments.items }
-        ensures len { self.new.len ≡ length (text_of self.new.segments.items) }
-        ensures change { IfOk result (IsChange (text_of self.old.segments.items) (text_of self.new.segments.items)) }
-        ensures refused { OnErr result (text_of self.new.segments.items ≡ text_of self.old.segments.items) }
-    {
-        let new_end = first.begin + lexed.len;
-        let change = Change {
-            begin: first.begin,
-            old_end: new_end + self.len - len,
-            new_end,
-            lexed: lexed.lexed,
-        };
-        self.segments.splice(first.index..lexed.end, lexed.segments)?;
+        let change = replace(&mut self.segments, first, lexed, self.len, len)?;
         self.len = len;
         Ok(change)
     }

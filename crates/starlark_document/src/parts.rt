@@ -69,6 +69,7 @@ fn touched_part(
     requires range { IsRange (text_of segments.now) from to }
     ensures part { IfOk result (IsReplaced segments.now (edited from to inserted.now (text_of segments.now))) }
     ensures before { IfOk result (λ part. part.first.begin ≤ from) }
+    ensures some { IfOk result (λ part. part.first.index < part.end) }
 {
     let first = segment_at(segments, from);
     let last = end_at(segments, first, to);
@@ -89,6 +90,7 @@ fn with_earlier(alloc: Global, segments: &[Segment], part: Part) -> Result<Part,
     requires part { (whole : Text) × IsReplaced segments.now whole part }
     ensures part { IfOk result (λ more. (whole : Text) → IsReplaced segments.now whole part → IsPart segments.now whole more) }
     ensures before { IfOk result (λ more. more.first.begin ≤ part.first.begin) }
+    ensures some { IfOk result (λ more. part.first.index < part.end → more.first.index < more.end) }
 {
     if part.first.index == 0 || begins_plainly(part.text.as_bytes()) {
         return Ok(part);
@@ -118,6 +120,7 @@ pub fn part_of_edit(
     requires fits { length (text_of segments.now) < 2 ^ 32 }
     requires range { IsRange (text_of segments.now) from to }
     ensures part { IfOk result (IsPart segments.now (edited from to inserted.now (text_of segments.now))) }
+    ensures some { IfOk result (λ part. part.first.index < part.end) }
 {
     let part = touched_part(alloc, segments, from, to, inserted)?;
     with_earlier(alloc, segments, part)
