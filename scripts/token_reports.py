@@ -3,8 +3,8 @@
 
     scripts/token_reports.py [--count N] [--seed N] [--program PROGRAM] [--write]
 
-It runs the stored runs of each form (crates/starlark_tokens/data has the files and what is wanted of them), N random texts
-in each form (300), rows of options and statuses, a thousand files in one call, a file of 10 MB, whose report may take at
+It runs the stored runs of each form (crates/starlark_tokens/data has the files and what is wanted of them), margins with
+faults, N random texts in each form (300), rows of options and statuses, a thousand files in one call, a file of 10 MB, whose report may take at
 most three times as long as starlark_lex's lines, and what a shell does with a program: a closed pipe, a folder, a missing file,
 bytes that are not UTF-8, names with a line feed and with quotes. `--write` stores the plain reports. Programs that aren't
 built, or are older than a source, are proved and built first. The exit status is 1 where something is not as it has to be.
@@ -130,13 +130,31 @@ def readable_line(prefix, text, item):
     return f"{prefix}{places} {kind}{value}"
 
 
+INDENTATION = "Parse error: incorrect indentation"
+TABS = "Parse error: tabs are not allowed"
+
+
+def shown_at(text, item):
+    """The offset where a fault is shown: an indentation at the start of the line that the fault ends on, a tab at the tab."""
+    begin, end, _, _, message = item
+    if message == INDENTATION:
+        return text.rfind(b"\n", 0, end) + 1
+    if message != TABS or text[begin:begin + 1] == b"\t":
+        return begin
+    line_end = re.match(rb"\r?\n", text[begin:])
+    begin += line_end.end() if line_end else 0
+    comments = re.match(rb"([ \t\r]*#[^\n]*\n)*", text[begin:])
+    return text.index(b"\t", begin + comments.end())
+
+
 def fault_lines(name, text, item):
     """The lines of a fault with its source."""
-    begin, end, _, _, message = item
+    _, end, _, _, message = item
+    begin = shown_at(text, item)
     front = text[text.rfind(b"\n", 0, begin) + 1:begin].decode()
     stop = text.find(b"\n", begin)
     back = text[begin:stop if stop >= 0 else len(text)]
-    marked = len(back[:end - begin].decode())
+    marked = len(back[:max(end - begin, 0)].decode())
     source = front + back.decode().removesuffix("\r")
     line, column = line_and_column(text, begin)
     said = "".join(shown(character) for character in message)
@@ -212,7 +230,7 @@ def ended(form, named_texts):
 
 STORED = [
     ("tokens", "tokens", ["values.star"]), ("named", "named", ["BUILD", "faults.bzl"]), ("json", "json", ["values.star"]),
-    ("check", "check", ["BUILD", "faults.bzl", "quotes.bzl", "zero.bzl"]), ("check_json", "check json", ["faults.bzl"]),
+    ("check", "check", ["BUILD", "faults.bzl", "margins.bzl", "quotes.bzl", "zero.bzl"]), ("check_json", "check json", ["faults.bzl"]),
 ]
 
 
@@ -225,6 +243,23 @@ def stored_runs(tester, is_written):
             path.write_text(wanted.stdout)
         tester.compare(f"what is stored of {stored}", path.read_text(), wanted.stdout)
         tester.compare(f"the run {stored}", tester.run([*OPTIONS[form], *names], cwd=DATA), wanted)
+
+
+# Margins with faults: after line ends, comments and blank lines, at the start of a text and of what is lexed on, in CR LF.
+# The last texts have faults that begin at a line end or at a line's start and are no margin's.
+MARGINS = [
+    b"if x:\n    y\n  z\n", b"if x:\r\n    y\r\n  z\r\n", b"if x:\n    y\n\n  # c\n\n  z", b"if x:\n    y\n\t# c\n  z\n",
+    b"  x\n y\n", b"if x:\n    y\n \xc3\xa9\n", b"if x:\n  y\n z\n w\n if v:\n   u\n  t\n", b"if x:\n\ty\n", b"x\r\n  \ty",
+    b"if x:\n\n  #\tc\n\n \t\tz\n", b"\tx", b"\n\tx\n", b"\n\n# c\n \tx\n", b"!\n\tx\n", b"!\n\n# c\t\n \tx\n", b"!\n# c\n \tx\n",
+    b"x\n\r \ty", b"x\n# \xe2\x80\xa8\n \tx", b"(\n\ty)", b"(\n\t# c\n y)\n", b"x \ty # c\n", b"f'''{x}\n\n", b"f'a{x}\r\ny", b"f'\n x",
+]
+
+
+def margin_runs(tester):
+    """Faults of margins are shown on the line that has to be changed."""
+    for text in MARGINS:
+        for form in ("tokens", "json", "check"):
+            tester.compare(f"{form} of {text!r}", tester.run(OPTIONS[form], text), ended(form, [("<stdin>", text)]))
 
 
 def is_read_back(line, lexeme):
@@ -360,6 +395,7 @@ def main():
     lexer = (options.lexer or built("starlark_lex")).resolve()
     stored_runs(tester, options.write)
     option_runs(tester)
+    margin_runs(tester)
     random_runs(tester, options.count, options.seed)
     with tempfile.TemporaryDirectory() as folder:
         file_runs(tester, Path(folder))

@@ -2,3 +2,4 @@ pub mod Pairs
 pub mod JsonPieces
 pub mod ExactValues
 pub mod Reported
+pub mod Starts

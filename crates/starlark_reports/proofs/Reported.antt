@@ -28,8 +28,10 @@ use Rattle.starlark_token.specs.declared.lexeme_error.LexemeError.{LexemeError}
 use Rattle.starlark_token.specs.declared.lexeme_error.LexemeError.TheVariants as error
 use Rattle.starlark_token.specs.declared.tokens.Token.{Token}
 use Rattle.starlark_reports.specs.declared.form.Form.{Form}
+use Rattle.starlark_reports.specs.Inner.ShownKinds.{shown_of_kind}
 use Rattle.starlark_reports.specs.Positions.{position_at}
 use Rattle.starlark_reports.specs.Reports.{fault_count, fault_report, is_fault, item_report, items_report, prefix_of, report, token_report}
+use Rattle.starlark_reports.specs.ShownPlaces.{shown_at, shown_of}
 
 -- what an error of the lexer is printed as
 message_is : (error : LexemeError) (node : Fault) → fault_view error ≡ Some node → kind_text (Parser (message.Lexeme error)) ≡ message_of node
@@ -47,6 +49,21 @@ message_is error.CommentSpanComputedIncorrectly node e = cc
 message_is (error.CannotParse text base) node e = cc
 message_is error.UnfinishedFStringExpression node e = let same : token.UnfinishedFStringExpression ≡ node = cc in subst (λ n. kind_text (Parser (message.Lexeme error.UnfinishedFStringExpression)) ≡ message_of n) same refl
 
+-- where the fault of an error of the lexer is shown
+shown_is : (error : LexemeError) (node : Fault) → fault_view error ≡ Some node → shown_of_kind (Parser (message.Lexeme error)) ≡ shown_of node
+shown_is error.Indentation node e = let same : token.Indentation ≡ node = cc in ap shown_of same
+shown_is (error.InvalidInput text) node e = let same : token.InvalidInput (string_bytes text) ≡ node = cc in ap shown_of same
+shown_is error.InvalidTab node e = let same : token.InvalidTab ≡ node = cc in ap shown_of same
+shown_is error.UnfinishedStringLiteral node e = let same : token.UnfinishedStringLiteral ≡ node = cc in ap shown_of same
+shown_is (error.InvalidEscapeSequence text) node e = let same : token.InvalidEscapeSequence (string_bytes text) ≡ node = cc in ap shown_of same
+shown_is error.EmptyEscapeSequence node e = let same : token.EmptyEscapeSequence ≡ node = cc in ap shown_of same
+shown_is (error.ReservedKeyword word) node e = let same : token.ReservedKeyword (string_bytes word) ≡ node = cc in ap shown_of same
+shown_is (error.StartsZero word) node e = let same : token.StartsZero (string_bytes word) ≡ node = cc in ap shown_of same
+shown_is (error.IntParse text) node e = cc
+shown_is error.CommentSpanComputedIncorrectly node e = cc
+shown_is (error.CannotParse text base) node e = cc
+shown_is error.UnfinishedFStringExpression node e = let same : token.UnfinishedFStringExpression ≡ node = cc in ap shown_of same
+
 -- what is printed of an item that was answered as a lexeme
 pub given_report : (form : Form) (prefix text : Text) (file : SourceFile) (next : LexerItem) (found : ℕ × Token × ℕ) → Answers file next (Ok found) → item_report form prefix text next ≡ token_report form prefix (position_at text found.0) (position_at text found.2) (token_view found.1)
 unfolding item_report
@@ -58,16 +75,17 @@ given_count file (Given lexeme) found answers = refl
 given_count file (Refused fault) found answers = absurd answers
 
 -- what is printed of an item that was answered as an exception
-fault_is : (form : Form) (prefix text : Text) (file : SourceFile) (fault : Spanned Fault) (exception : Diagnosed ErrorKind) (place : FileSpan) → IsException file fault exception → exception.span ≡ Some place → item_report form prefix text (Refused fault) ≡ fault_report form prefix text (position_at text place.span.begin) (position_at text place.span.end) (kind_text exception.value)
+fault_is : (form : Form) (prefix text : Text) (file : SourceFile) (fault : Spanned Fault) (exception : Diagnosed ErrorKind) (place : FileSpan) → IsException file fault exception → exception.span ≡ Some place → item_report form prefix text (Refused fault) ≡ fault_report form prefix text (position_at text (shown_at text (shown_of_kind exception.value) place.span.begin place.span.end)) (position_at text place.span.begin) (position_at text place.span.end) (kind_text exception.value)
 unfolding item_report
 fault_is form prefix text file fault exception place thrown known =
     let span : ByteSpan = record { begin = fault.begin; end = fault.end } in
     let there : Some place ≡ Some (place_in file span) = sym known ∙ ap (λ (d : Diagnosed ErrorKind). d.span) thrown.2 in
     let at : place ≡ place_in file span = cc in
     let said : kind_text exception.value ≡ message_of fault.node = ap (λ (d : Diagnosed ErrorKind). kind_text d.value) thrown.2 ∙ message_is thrown.0 fault.node thrown.1 in
-    rw (at, said) refl
+    let shown : shown_of_kind exception.value ≡ shown_of fault.node = ap (λ (d : Diagnosed ErrorKind). shown_of_kind d.value) thrown.2 ∙ shown_is thrown.0 fault.node thrown.1 in
+    rw (at, said, shown) refl
 
-pub refused_report : (form : Form) (prefix text : Text) (file : SourceFile) (next : LexerItem) (exception : Diagnosed ErrorKind) (place : FileSpan) → Answers file next (Err (refusal.Error exception)) → exception.span ≡ Some place → item_report form prefix text next ≡ fault_report form prefix text (position_at text place.span.begin) (position_at text place.span.end) (kind_text exception.value)
+pub refused_report : (form : Form) (prefix text : Text) (file : SourceFile) (next : LexerItem) (exception : Diagnosed ErrorKind) (place : FileSpan) → Answers file next (Err (refusal.Error exception)) → exception.span ≡ Some place → item_report form prefix text next ≡ fault_report form prefix text (position_at text (shown_at text (shown_of_kind exception.value) place.span.begin place.span.end)) (position_at text place.span.begin) (position_at text place.span.end) (kind_text exception.value)
 refused_report form prefix text file (Given lexeme) exception place answers known = absurd answers
 refused_report form prefix text file (Refused fault) exception place answers known = fault_is form prefix text file fault exception place answers known
 

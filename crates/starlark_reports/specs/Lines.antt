@@ -78,7 +78,8 @@ unfoldable pub caret_line : (front back : Text) → (len : ℕ) → Text
 caret_line front back len = flat_map below (chars front) ++ (carets (count_by starts_character (take len back)) ++ codes "\n")
 
 -- The lines of a fault: its place and message, the line of the source, and carets. `front` and `back`
--- are that line before the fault and from it on, and `len` is the fault's length.
+-- are that line before the place where the fault is shown and from it on. `len` bytes from there on
+-- belong to the fault.
 unfoldable pub fault_lines : (prefix : Text) → ResolvedPos → (message front back : Text) → (len : ℕ) → Text
 fault_lines prefix place message front back len =
     fault_line prefix place message ++ (source_line front back ++ caret_line front back len)

@@ -2,7 +2,7 @@
 use Rattle.std.specs.Prelude.{ℕ, ◌-◌, Bool, true, false, [], ◌∷◌, ◌++◌, codes, List, count_by}
 use Rattle.std.specs.List.{flat_map}
 use Rattle.starlark_base.specs.Places.{Text}
-use Rattle.starlark_grammar.specs.Tokens as grammar
+use Rattle.starlark_grammar.specs.Tokens.{Fault, Spanned}
 use Rattle.starlark_recovery.specs.RecoveringLexer.{all_items}
 use Rattle.starlark_run.specs.Output.{message_of}
 use Rattle.starlark_token.specs.TextItems.{LexerItem, Given, Refused}
@@ -11,6 +11,7 @@ use Rattle.starlark_token.specs.TokenViews.{TokenView}
 use Rattle.starlark_reports.specs.JsonStrings.{json_string}
 use Rattle.starlark_reports.specs.Lines.{fault_lines, json_line, line_back, line_front, readable_line}
 use Rattle.starlark_reports.specs.Positions.{position_at}
+use Rattle.starlark_reports.specs.ShownPlaces.{shown_at, shown_of}
 use Rattle.starlark_reports.specs.PythonLiterals.{quoted, shown_name}
 use Rattle.starlark_reports.specs.Values.{json_of, readable}
 use Rattle.starlark_reports.specs.declared.position.Position.{Position}
@@ -33,19 +34,24 @@ token_report Json prefix begin end node = json_line prefix begin end (kind_of no
 token_report Faults prefix begin end node = []
 token_report JsonFaults prefix begin end node = []
 
--- what is printed of a fault with this message
-unfoldable pub fault_report : Form → (prefix text : Text) → (begin end : Position) → (message : Text) → Text
-fault_report Tokens prefix text begin end message = readable_line prefix begin end (codes "Fault") (32 ∷ quoted message)
-fault_report NamedTokens prefix text begin end message = readable_line prefix begin end (codes "Fault") (32 ∷ quoted message)
-fault_report Json prefix text begin end message = json_line prefix begin end (codes "Fault") (json_string message)
-fault_report Faults prefix text begin end message =
-    fault_lines prefix begin.place message (line_front text begin.at) (line_back text begin.at) (end.at - begin.at)
-fault_report JsonFaults prefix text begin end message = json_line prefix begin end (codes "Fault") (json_string message)
+-- What is printed of a fault with this message. Only with the line of the source it is printed where it is shown.
+unfoldable pub fault_report : Form → (prefix text : Text) → (shown begin end : Position) → (message : Text) → Text
+fault_report Tokens prefix text shown begin end message = readable_line prefix begin end (codes "Fault") (32 ∷ quoted message)
+fault_report NamedTokens prefix text shown begin end message = readable_line prefix begin end (codes "Fault") (32 ∷ quoted message)
+fault_report Json prefix text shown begin end message = json_line prefix begin end (codes "Fault") (json_string message)
+fault_report Faults prefix text shown begin end message =
+    fault_lines prefix shown.place message (line_front text shown.at) (line_back text shown.at) (end.at - shown.at)
+fault_report JsonFaults prefix text shown begin end message = json_line prefix begin end (codes "Fault") (json_string message)
+
+-- the position where a fault is shown
+abbrev pub shown_position : (text : Text) → Spanned Fault → Position
+shown_position text fault = position_at text (shown_at text (shown_of fault.node) fault.begin fault.end)
 
 -- what is printed of an item of a text
 unfoldable pub item_report : Form → (prefix text : Text) → LexerItem → Text
 item_report form prefix text (Given lexeme) = token_report form prefix (position_at text lexeme.begin) (position_at text lexeme.end) lexeme.node
-item_report form prefix text (Refused fault) = fault_report form prefix text (position_at text fault.begin) (position_at text fault.end) (message_of fault.node)
+item_report form prefix text (Refused fault) =
+    fault_report form prefix text (shown_position text fault) (position_at text fault.begin) (position_at text fault.end) (message_of fault.node)
 
 -- what is printed of items of a text
 unfoldable pub items_report : Form → (prefix text : Text) → List LexerItem → Text

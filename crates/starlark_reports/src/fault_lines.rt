@@ -1,6 +1,6 @@
 //! The lines of a fault: its place and message, the line of the source, and carets.
 
-ghost use Rattle.std.specs.Prelude.{◌≡◌, ◌≤◌, ◌-◌, ◌++◌, OnOk, count_by, string_bytes, take};
+ghost use Rattle.std.specs.Prelude.{◌≡◌, ◌-◌, ◌++◌, OnOk, count_by, string_bytes, take};
 ghost use Rattle.starlark_text.specs.Characters.{starts_character};
 ghost use Rattle.std.specs.List.{flat_map};
 ghost use Rattle.std.specs.Str.{IsCharBoundary, chars};
@@ -12,7 +12,7 @@ use starlark_text::character_starts::count_starts;
 use std::alloc::AllocError;
 
 /// The line before byte `at` of a text.
-fn line_front(text: &str, at: usize) -> &str
+pub fn line_front(text: &str, at: usize) -> &str
     requires { IsCharBoundary text.now at }
     ensures { result.now ≡ spec.line_front text.now at }
 {
@@ -157,40 +157,41 @@ fn push_caret_line(line: &mut String, front: &str, back: &str, len: usize) -> Re
     line.push_str("\n")
 }
 
-/// Appends the lines of a fault of `len` bytes, by its line before it and from it on.
+/// Appends the lines of a fault, by its line before the place where it is shown and from it on.
+/// `len` bytes from there on belong to it.
 #[tactic(auto, unfolding(crate::specs::Lines::fault_lines))]
 fn push_parted_lines(
     line: &mut String,
     prefix: &str,
-    begin: Position,
+    shown: Position,
     message: &str,
     front: &str,
     back: &str,
     len: usize,
 ) -> Result<(), AllocError>
     ensures { OnOk result (string_bytes line.new ≡ string_bytes line.old
-        ++ spec.fault_lines prefix.now begin.place message.now front.now back.now len) }
+        ++ spec.fault_lines prefix.now shown.place message.now front.now back.now len) }
 {
-    push_fault_line(line, prefix, begin, message)?;
+    push_fault_line(line, prefix, shown, message)?;
     push_source_line(line, front, back)?;
     push_caret_line(line, front, back, len)
 }
 
-/// Appends the lines of a fault from a position to byte `end` of a text.
+/// Appends the lines of a fault that is shown from a position on, and ends at byte `end` of a text.
 pub fn push_fault_lines(
     line: &mut String,
     prefix: &str,
     text: &str,
-    begin: Position,
+    shown: Position,
     end: usize,
     message: &str,
 ) -> Result<(), AllocError>
-    requires boundary { IsCharBoundary text.now begin.at }
-    requires order { begin.at ≤ end }
+    requires { IsCharBoundary text.now shown.at }
     ensures { OnOk result (string_bytes line.new ≡ string_bytes line.old
-        ++ spec.fault_lines prefix.now begin.place message.now (spec.line_front text.now begin.at) (spec.line_back text.now begin.at) (end - begin.at)) }
+        ++ spec.fault_lines prefix.now shown.place message.now (spec.line_front text.now shown.at) (spec.line_back text.now shown.at) (end - shown.at)) }
 {
-    let front = line_front(text, begin.at);
-    let back = line_back(text, begin.at);
-    push_parted_lines(line, prefix, begin, message, front, back, end - begin.at)
+    let front = line_front(text, shown.at);
+    let back = line_back(text, shown.at);
+    let len = end.saturating_sub(shown.at);
+    push_parted_lines(line, prefix, shown, message, front, back, len)
 }

@@ -1,6 +1,6 @@
 //! The lines of a token or a fault in each form.
 
-ghost use Rattle.std.specs.Prelude.{◌≡◌, ◌≤◌, ◌++◌, ◌∷◌, OnOk, codes, string_bytes};
+ghost use Rattle.std.specs.Prelude.{◌≡◌, ◌++◌, ◌∷◌, OnOk, codes, string_bytes};
 ghost use Rattle.std.specs.Str.{IsCharBoundary};
 ghost use Rattle.starlark_reports.specs.JsonStrings.{json_string};
 ghost use Rattle.starlark_reports.specs.Lines.{fault_lines, json_line, line_back, line_front, readable_line};
@@ -102,26 +102,37 @@ fn push_json_fault(
     lines.push_str("}\n")
 }
 
-/// Appends what is printed of a fault of a text, between two positions and with a message.
+/// Where a fault of a text is.
+#[derive(Clone, Copy)]
+pub struct FaultPositions {
+    /// Where it begins.
+    pub begin: Position,
+    /// Where it ends.
+    pub end: Position,
+    /// Where it is shown with its line of the source.
+    pub shown: Position,
+}
+
+/// Appends what is printed of a fault of a text, with a message.
 #[tactic(auto, unfolding(crate::specs::Reports::fault_report))]
 pub fn push_fault(
     lines: &mut String,
     form: Form,
     prefix: &str,
     text: &str,
-    begin: Position,
-    end: Position,
+    positions: FaultPositions,
     message: &str,
 ) -> Result<(), AllocError>
-    requires boundary { IsCharBoundary text.now begin.at }
-    requires order { begin.at ≤ end.at }
-    ensures { OnOk result (string_bytes lines.new ≡ string_bytes lines.old ++ fault_report form prefix.now text.now begin end message.now) }
+    requires { IsCharBoundary text.now positions.shown.at }
+    ensures { OnOk result (string_bytes lines.new ≡ string_bytes lines.old
+        ++ fault_report form prefix.now text.now positions.shown positions.begin positions.end message.now) }
 {
+    let FaultPositions { begin, end, shown } = positions;
     match form {
         Form::Tokens => push_readable_fault(lines, prefix, begin, end, message),
         Form::NamedTokens => push_readable_fault(lines, prefix, begin, end, message),
         Form::Json => push_json_fault(lines, prefix, begin, end, message),
-        Form::Faults => push_fault_lines(lines, prefix, text, begin, end.at, message),
+        Form::Faults => push_fault_lines(lines, prefix, text, shown, end.at, message),
         Form::JsonFaults => push_json_fault(lines, prefix, begin, end, message),
     }
 }

@@ -11,6 +11,7 @@ mod position;
 pub mod python_literals;
 mod report;
 mod reporter;
+mod shown_places;
 mod token_lines;
 mod token_values;
 

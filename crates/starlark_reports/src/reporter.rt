@@ -5,16 +5,19 @@ ghost use Rattle.starlark_reports.specs.JsonStrings.{json_string};
 ghost use Rattle.starlark_reports.specs.PythonLiterals.{shown_name};
 ghost use Rattle.std.specs.Str.{IsCharBoundary};
 ghost use Rattle.starlark_reports.specs.Inner.Reporters.{IsReady, Keeps};
+ghost use Rattle.starlark_reports.specs.Inner.ShownKinds.{shown_of_kind};
 ghost use Rattle.starlark_reports.specs.Positions.{IsPosition, position_at};
 ghost use Rattle.starlark_reports.specs.Reports.{fault_report, prefix_of, token_report};
+ghost use Rattle.starlark_reports.specs.ShownPlaces.{shown_at};
 ghost use Rattle.starlark_syntax.specs.Errors.{kind_text};
 ghost use Rattle.starlark_token.specs.TokenViews.{token_view};
 
 use crate::form::Form;
-use crate::item_lines::{push_fault, push_token};
+use crate::item_lines::{FaultPositions, push_fault, push_token};
 use crate::json_strings::push_json_string;
 use crate::position::Position;
 use crate::python_literals::push_name;
+use crate::shown_places::shown_position;
 use starlark_base::codemap::Span;
 use starlark_syntax::error::ErrorKind;
 use starlark_token::tokens::Token;
@@ -128,11 +131,13 @@ impl<'t> Reporter<'t> {
         ensures ready { OnOk result (IsReady self.new) }
         ensures kept { OnOk result (Keeps self.old self.new) }
         ensures lines { OnOk result (string_bytes self.new.lines ≡ fault_report self.old.form (string_bytes self.old.prefix) self.old.text.now
+            (position_at self.old.text.now (shown_at self.old.text.now (shown_of_kind kind.now) span.begin span.end))
             (position_at self.old.text.now span.begin) (position_at self.old.text.now span.end) (kind_text kind.now)) }
     {
         let begin = span.begin().get() as usize;
         let begin = Position::nearest(self.here, self.last_fault, self.text, begin);
         let end = begin.moved(self.text, span.end().get() as usize);
+        let shown = shown_position(self.text, kind, begin, end);
         self.here = end;
         self.last_fault = end;
         self.message.clear();
@@ -143,8 +148,7 @@ impl<'t> Reporter<'t> {
             self.form,
             self.prefix.as_str(),
             self.text,
-            begin,
-            end,
+            FaultPositions { begin, end, shown },
             self.message.as_str(),
         )
     }
