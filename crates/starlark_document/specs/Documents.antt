@@ -1,6 +1,8 @@
 -- Documents, as their users see them: texts that change by edits, what is found in them, and what an edit changed.
-use Rattle.std.specs.Prelude.{◌≡◌, ◌≤◌, ◌<◌, ◌+◌, ℕ, Bool, nat_le, List, ◌++◌, map, length, take, drop, Some}
-use Rattle.std.specs.List.{AllByRecursion}
+use Rattle.std.specs.Prelude.{◌≡◌, ◌≤◌, ◌<◌, ◌+◌, ℕ, Bool, nat_le, List, [], ◌++◌, map, length, take, drop, Option, Some, None, IfSome}
+use Rattle.std.specs.Borrow.{Bor}
+use Rattle.std.specs.Iterator.{Count, at_most}
+use Rattle.std.specs.List.{AllByRecursion, slice_get}
 use Rattle.std.specs.Str.{IsCharBoundary}
 use Rattle.starlark_document.specs.declared.document.Change.{Change}
 use Rattle.starlark_grammar.specs.Tokens as grammar
@@ -11,7 +13,8 @@ use Rattle.starlark_syntax.specs.declared.error.kinds.ErrorKind.TheVariants.{Par
 use Rattle.starlark_syntax.specs.declared.error.kinds.ParserMessage.TheVariants.{Lexeme}
 use Rattle.starlark_token.specs.declared.lexeme_error.LexemeError.{LexemeError}
 use Rattle.starlark_token.specs.Lexemes.{fault_view, shown_lexeme}
-use Rattle.starlark_token.specs.TokenViews.{TokenView}
+use Rattle.starlark_token.specs.TokenViews.{TokenView, token_view}
+use Rattle.starlark_token.specs.declared.tokens.Token.{Token}
 
 -- both offsets lie in the text, in order, and at character boundaries
 abbrev pub IsRange : Text → ℕ → ℕ → Type 0
@@ -63,3 +66,19 @@ pub record IsChange (old new : Text) (change : Change) : Type 0 where
   pub lexemes : SameOutside change.begin change.old_end change.new_end (lexemes_of old) (lexemes_of new)
   pub faults : SameOutside change.begin change.old_end change.new_end (faults_of old) (faults_of new)
   pub lexed : change.new_end ≤ change.begin + change.lexed
+
+-- what a call of an iterator over lexemes returns, and what is left after it
+pub record IsNextLexeme (old : List (grammar.Spanned TokenView)) (answer : Option (ℕ × Bor Token × ℕ)) (new : List (grammar.Spanned TokenView)) : Type 0 where
+  pub some : IfSome answer (λ found. slice_get old 0 ≡ Some (record { begin = found.0; node = token_view found.1.now; end = found.2 }))
+  pub none : answer ≡ None → old ≡ []
+  pub after : new ≡ drop 1 old
+
+-- what a call of an iterator over faults returns, and what is left after it
+pub record IsNextFault (old : List (grammar.Spanned grammar.Fault)) (answer : Option (ℕ × Bor ErrorKind × ℕ)) (new : List (grammar.Spanned grammar.Fault)) : Type 0 where
+  pub some : IfSome answer (λ found. (fault : grammar.Spanned grammar.Fault) × (slice_get old 0 ≡ Some fault) × (found.0 ≡ fault.begin) × IsKindOf fault.node found.1.now × (found.2 ≡ fault.end))
+  pub none : answer ≡ None → old ≡ []
+  pub after : new ≡ drop 1 old
+
+-- the number of items that are left
+abbrev pub left_count : {A : Type 0} → List A → Count
+left_count left = at_most (length left)

@@ -135,6 +135,20 @@ impl<'a> Lexemes<'a> {
     }
 }
 
+impl<'a> Iterator for Lexemes<'a> {
+    ghost use Rattle.starlark_document.specs.Documents.{IsNextLexeme, left_count};
+
+    type Item = (usize, &'a Token, usize);
+
+    ghost next_gives = { IsNextLexeme };
+
+    ghost remaining = { left_count };
+
+    fn next(&mut self) -> Option<(usize, &'a Token, usize)> {
+        Lexemes::next(self)
+    }
+}
+
 /// An iterator over faults of a document, in order: begin in bytes, what it is, end in bytes.
 ///
 /// In a contract it is the faults that are left.
@@ -187,5 +201,19 @@ impl<'a> Faults<'a> {
             self.at = 0;
         }
         None
+    }
+}
+
+impl<'a> Iterator for Faults<'a> {
+    ghost use Rattle.starlark_document.specs.Documents.{IsNextFault, left_count};
+
+    type Item = (usize, &'a ErrorKind, usize);
+
+    ghost next_gives = { IsNextFault };
+
+    ghost remaining = { left_count };
+
+    fn next(&mut self) -> Option<(usize, &'a ErrorKind, usize)> {
+        Faults::next(self)
     }
 }
