@@ -1,7 +1,10 @@
 -- Lists of segments: their texts, where segments begin, and their stored lengths.
-use Rattle.std.proofs.Common.{◌≡◌, ℕ, ◌+◌, ◌<◌, ◌≤◌, suc, Bool, true, false, List, [], ◌∷◌, ◌++◌, length, take, drop, get_or, Some, refl, sym, subst, zero, ap, ◌∙◌, append_assoc, take-append-drop, length-append, arith}
+use Rattle.std.proofs.Common.{◌≡◌, ℕ, ◌+◌, ◌-◌, ◌<◌, ◌≤◌, suc, Bool, true, false, List, [], ◌∷◌, ◌++◌, length, take, drop, get_or, Some, refl, sym, subst, zero, ap, ◌∙◌, append_assoc, take-append-drop, length-append, arith}
 use Rattle.std.specs.List.{AllByRecursion, slice_get}
 use Rattle.std.proofs.lemmas.List.{append-nil, drop_all, drop_more, take_more}
+use Rattle.std.proofs.lemmas.Str.{IsUtf8-append, IsUtf8-nil, IsUtf8-string_bytes}
+use Rattle.std.proofs.Math.Seq.{take-add}
+use Rattle.std.specs.Str.{IsUtf8}
 use Rattle.std.proofs.lemmas.Option.{get_or_from_slice_get, same_Some, slice_get_within}
 use Rattle.starlark_document.specs.Inner.Segments.{AreLaid, HaveLens, IsOpen, text_in, text_of}
 use Rattle.starlark_document.specs.declared.segments.Segment.{Segment}
@@ -68,3 +71,23 @@ pub HaveLens-laid : (is_first : Bool) (segments : List Segment) → AreLaid is_f
 HaveLens-laid is_first [] laid = absurd laid
 HaveLens-laid is_first (segment ∷ []) laid = (laid.1.len, tt)
 HaveLens-laid is_first (segment ∷ (next ∷ more)) laid = (laid.1.lexed.len, HaveLens-laid false (next ∷ more) laid.2)
+
+-- the text of segments up to one is that of segments up to an earlier one, and that of those between
+pub text_of-between : (segments : List Segment) (from to : ℕ) → from ≤ to
+    → text_of (take to segments) ≡ text_of (take from segments) ++ text_of (take (to - from) (drop from segments))
+text_of-between segments from to order =
+    let same : to ≡ from + (to - from) = omega arith in
+    ap (λ (n : ℕ). text_of (take n segments)) same
+    ∙ ap text_of (take-add from (to - from) segments)
+    ∙ text_of-append (take from segments) (take (to - from) (drop from segments))
+
+-- the text of segments is what is before some of them, their text, and what is after them
+pub text_of-part : (segments : List Segment) (from count : ℕ)
+    → text_of segments ≡ text_of (take from segments) ++ (text_of (take count (drop from segments)) ++ text_of (drop count (drop from segments)))
+text_of-part segments from count =
+    text_of-split segments from ∙ ap (λ (text : List ℕ). text_of (take from segments) ++ text) (text_of-split (drop from segments) count)
+
+-- texts of segments are UTF-8
+pub IsUtf8-text_of : (segments : List Segment) → IsUtf8 (text_of segments)
+IsUtf8-text_of [] = IsUtf8-nil
+IsUtf8-text_of (segment ∷ more) = IsUtf8-append (text_in segment) (text_of more) (IsUtf8-string_bytes segment.content.value.text) (IsUtf8-text_of more)

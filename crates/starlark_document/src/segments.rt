@@ -66,6 +66,7 @@ pub fn segment_at(segments: &[Segment], at: usize) -> SegmentPlace
     ensures place { IsPlaceIn segments.now result }
     ensures before { result.begin ≤ at }
     ensures reach { at ≤ length (text_of segments.now) → (segment : Segment) → slice_get segments.now result.index ≡ Some segment → at ≤ result.begin + segment.len }
+    ensures inner { result.index + 1 < length segments.now → (segment : Segment) → slice_get segments.now result.index ≡ Some segment → at < result.begin + segment.len }
 {
     let mut place = SegmentPlace { index: 0, begin: 0 };
     while place.index + 1 < segments.len() && place.begin + segments[place.index].len <= at {

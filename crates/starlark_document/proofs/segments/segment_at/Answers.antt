@@ -30,3 +30,8 @@ pub returns-after-loop-place-clause-reach : goal.returns-after-loop-place-clause
 returns-after-loop-place-clause-reach c = λ within segment is.
     let last = end_last c.args.segments.now c.loop-place.place.index segment c.requires.lens is (omega arith) in
     omega (arith, last, c.loop-place.invariant.place.begin)
+
+pub returns-else-place-segments-clause-inner : goal.returns-else-place-segments-clause-inner
+returns-else-place-segments-clause-inner c = λ more segment is.
+    let len = ap (λ (x : Segment). x.len) (get_or_from_slice_get c.args.segments.now c.loop-place.place.index segment c.index-segments-place.result is) in
+    omega arith
