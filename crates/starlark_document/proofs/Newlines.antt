@@ -1,5 +1,6 @@
 -- The last `Newline` of a list of lexemes, and the lexemes without it.
 use Rattle.std.proofs.Common.{◌≡◌, ℕ, zero, suc, ◌<◌, Bool, true, false, ◌||◌, List, [], ◌∷◌, ◌++◌, map, take, drop, length, refl, ap, sym, ◌∙◌, arith}
+use Rattle.std.proofs.lemmas.List.{map-append}
 use Rattle.std.specs.Prelude.{slice_index_or}
 use Rattle.starlark_document.specs.Inner.Fronts.{has_newline_view, is_newline_view, last_newline_at, without_newline}
 use Rattle.starlark_grammar.specs.Cuts.{is_newline}
@@ -38,12 +39,6 @@ none_more (x ∷ xs) zero d inside is none = rw (is, none) refl
 none_more (x ∷ xs) (suc at) d inside is none = none_more xs at d (omega (arith, inside)) is none
 
 -- where there is none
-last_none_of : (ls : List (grammar.Spanned TokenView)) → has_newline_view ls ≡ false → last_newline_at ls ≡ length ls
-last_none_of [] none = refl
-last_none_of (l ∷ ls) none =
-    let both = or_false (is_newline_view l.node) (has_newline_view ls) none in
-    rw (both.0, both.1) (ap suc (last_none_of ls both.1))
-
 pub last_none : (xs : List (ℕ × Token × ℕ)) → has_newline_view (map lexeme_view xs) ≡ false → last_newline_at (map lexeme_view xs) ≡ length xs
 last_none [] none = refl
 last_none (x ∷ xs) none =
@@ -89,3 +84,17 @@ without_shown (l ∷ ls) = go (has_newline ls) refl (is_newline l.node) refl (wi
     go true e is f again = rw (has_shown ls, e) (ap (λ xs. shown_lexeme l ∷ xs) again)
     go false e true f again = rw (has_shown ls, e, same_newline l.node, f) refl
     go false e false f again = rw (has_shown ls, e, same_newline l.node, f) (ap (λ xs. shown_lexeme l ∷ xs) (again ∙ ap (map shown_lexeme) (none_without ls e)))
+
+-- Lexemes of the code out of which the last `Newline` is taken.
+pub taken_out : (xs ys : List (ℕ × Token × ℕ)) (at : ℕ) → at ≡ last_newline_at (map lexeme_view xs) → ys ≡ take at xs ++ drop (suc at) xs
+    → map lexeme_view ys ≡ without_newline (map lexeme_view xs)
+taken_out xs ys at is out = rw (sym is, out) (map-append lexeme_view (take at xs) (drop (suc at) xs) ∙ ap (λ zs. zs ++ map lexeme_view (drop (suc at) xs)) (map_take at xs) ∙ ap (λ zs. take at (map lexeme_view xs) ++ zs) (map_drop (suc at) xs))
+  where
+    map_take : (n : ℕ) (zs : List (ℕ × Token × ℕ)) → map lexeme_view (take n zs) ≡ take n (map lexeme_view zs)
+    map_take zero zs = refl
+    map_take (suc n) [] = refl
+    map_take (suc n) (z ∷ zs) = ap (λ ls. lexeme_view z ∷ ls) (map_take n zs)
+    map_drop : (n : ℕ) (zs : List (ℕ × Token × ℕ)) → map lexeme_view (drop n zs) ≡ drop n (map lexeme_view zs)
+    map_drop zero zs = refl
+    map_drop (suc n) [] = refl
+    map_drop (suc n) (z ∷ zs) = map_drop n zs

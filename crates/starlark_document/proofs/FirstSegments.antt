@@ -1,0 +1,135 @@
+-- What is found in the first segment of a text.
+use Rattle.std.proofs.Common.{◌≡◌, ℕ, zero, suc, ◌<◌, ◌≤◌, Bool, true, false, List, [], ◌∷◌, ◌++◌, map, take, drop, length, refl, ap, sym, subst, ◌∙◌, Some, None, append_assoc, append-nil, arith, length-drop}
+use Rattle.std.specs.Prelude.{Result, slice_get}
+use Rattle.std.specs.List.{AllByRecursion}
+use Rattle.std.proofs.lemmas.List.{length-take-le, take_all}
+use Rattle.starlark_base.specs.Diagnostics.{Diagnosed}
+use Rattle.starlark_base.specs.Sources.{SourceFile}
+use Rattle.starlark_document.specs.Inner.Fronts.{EndsLine, EndsPlainly, IsFirstSegment, IsFront, given_of, is_dedent_item, refused_of, without_newline}
+use Rattle.starlark_document.specs.Inner.Segments.{AreFaults, IsLexedAs, IsOpen, IsWhole, text_in}
+use Rattle.starlark_document.specs.declared.fronts.Front.{Front}
+use Rattle.starlark_document.specs.declared.segments.Segment.{Segment}
+use Rattle.starlark_document.proofs.FrontItems.{given_both, refused_both}
+use Rattle.starlark_document.proofs.Laws.{items_are_found, items_close, items_cut}
+use Rattle.starlark_document.proofs.Newlines.{without_shown}
+use Rattle.starlark_grammar.specs.Words.{Text}
+use Rattle.starlark_recovery.specs.Joining.{begins_plainly, is_closed, is_closed_from, without_last_newline}
+use Rattle.starlark_recovery.specs.Recovery.{recovered}
+use Rattle.starlark_recovery.specs.RecoveringLexer.{all_items}
+use Rattle.starlark_syntax.specs.Lexer.{Answers, AnswersNext}
+use Rattle.starlark_syntax.specs.declared.error.kinds.ErrorKind.{ErrorKind}
+use Rattle.starlark_text.specs.declared.or_memory.OrMemory.{OrMemory}
+use Rattle.starlark_token.specs.Lexemes.{lexeme_view, shown_lexeme}
+use Rattle.starlark_token.specs.TextItems.{LexerItem, Given, Refused}
+use Rattle.starlark_token.specs.declared.tokens.Token.{Token}
+
+-- the item that was answered, and those after it
+pub record IsNext (file : SourceFile) (left : List LexerItem) (answer : Result (ℕ × Token × ℕ) (OrMemory (Diagnosed ErrorKind))) : Type 0 where
+  pub next : LexerItem
+  pub is : left ≡ next ∷ drop 1 left
+  pub answers : Answers file next answer
+
+pub next_item : (file : SourceFile) (left : List LexerItem) (answer : Result (ℕ × Token × ℕ) (OrMemory (Diagnosed ErrorKind))) → AnswersNext file (slice_get left 0) (Some answer) → IsNext file left answer
+next_item file [] answer answers = absurd answers
+next_item file (item ∷ more) answer answers = record { next = item; is = refl; answers = answers }
+
+-- where nothing is answered nothing is left
+pub next_none : (file : SourceFile) (left : List LexerItem) → AnswersNext file (slice_get left 0) None → left ≡ []
+next_none file [] answers = refl
+next_none file (item ∷ more) answers = absurd answers
+
+-- a text that begins plainly isn't empty
+plain_some : (text : Text) → begins_plainly text ≡ true → 0 < length text
+unfolding begins_plainly
+plain_some [] plain = cc
+plain_some (b ∷ bs) plain = omega arith
+
+plain_below : (text : Text) (at : ℕ) → begins_plainly (drop at text) ≡ true → at < length text
+plain_below text at plain = omega (arith, length-drop at text, plain_some (drop at text) plain)
+
+-- an empty text is closed
+pub empty_closed : is_closed [] ≡ true
+unfolding is_closed is_closed_from
+empty_closed = refl
+
+-- a text that ends with a newline of some bytes is closed
+pub line_closed : (text : Text) (front : Front) → IsFront text (all_items text) front → 0 < length text → front.line_end ≡ length text → is_closed text ≡ true
+line_closed text front is some end =
+    let ends = is.line_end (omega (arith, some, end)) in
+    items_close text ends.front ends.newline ends.more ends.items ends.is_line_end (ends.end ∙ end)
+
+-- `Dedent`s are no faults
+no_faults : (dedents : List LexerItem) → AllByRecursion (λ item. is_dedent_item item ≡ true) dedents → refused_of dedents ≡ []
+no_faults [] all = refl
+no_faults (Given lexeme ∷ more) all = no_faults more all.1
+no_faults (Refused fault ∷ more) all = cc
+
+-- the segment of a whole text that is the last of a document
+pub whole_last : (text : Text) (front : Front) (segment : Segment) → IsFront text (all_items text) front
+    → text_in segment ≡ text → segment.len ≡ length text → segment.content.value.lexemes ≡ front.lexemes → segment.content.value.faults ≡ front.faults
+    → IsFirstSegment text true segment
+whole_last text front segment is same len lexemes faults = record {
+  within = omega (arith, len);
+  text = same ∙ sym (take_all segment.len text (omega (arith, len)));
+  len = len ∙ sym (ap length same);
+  some = λ l. omega (arith, len, l);
+  cut = λ l. absurd (omega (arith, len, l));
+  last = λ e f. record {
+    lexemes = rw (same, lexemes) (is.lexemes ∙ (items_are_found text).0);
+    faults = rw (same, faults) (subst (λ fs. AreFaults fs front.faults.items) (items_are_found text).1 is.faults);
+    len = len ∙ sym (ap length same);
+  };
+  inner = λ e f. cc;
+}
+
+-- the segment of a whole text that others follow
+pub whole_open : (text : Text) (front open : Front) (segment : Segment) → IsFront text (all_items text) front → is_closed text ≡ true
+    → map lexeme_view open.lexemes.items ≡ without_newline (map lexeme_view front.lexemes.items) → open.faults ≡ front.faults
+    → text_in segment ≡ text → segment.len ≡ length text → segment.content.value.lexemes ≡ open.lexemes → segment.content.value.faults ≡ open.faults
+    → IsFirstSegment text false segment
+whole_open text front open segment is closed taken kept same len lexemes faults = record {
+  within = omega (arith, len);
+  text = same ∙ sym (take_all segment.len text (omega (arith, len)));
+  len = len ∙ sym (ap length same);
+  some = λ l. omega (arith, len, l);
+  cut = λ l. absurd (omega (arith, len, l));
+  last = λ e f. cc;
+  inner = λ e f. record {
+    is_closed = rw same closed;
+    lexed = record {
+      lexemes = rw (same, lexemes) (taken ∙ ap without_newline (is.lexemes ∙ (items_are_found text).0) ∙ without_shown (recovered text).lexemes);
+      faults = rw (same, faults, kept) (subst (λ fs. AreFaults fs front.faults.items) (items_are_found text).1 is.faults);
+      len = len ∙ sym (ap length same);
+    };
+  };
+}
+
+-- the segment of a text up to where it can be cut, before an item that isn't a `Dedent`
+pub cut_first : (text : Text) (is_last : Bool) (items : List LexerItem) (item : LexerItem) (more : List LexerItem) (front : Front) (segment : Segment)
+    → all_items text ≡ items ++ (item ∷ more) → IsFront text items front → front.is_cut ≡ true → is_dedent_item item ≡ false
+    → text_in segment ≡ take front.line_end text → segment.len ≡ front.line_end → segment.content.value.lexemes ≡ front.lexemes → segment.content.value.faults ≡ front.faults
+    → IsFirstSegment text is_last segment
+cut_first text is_last items item more front segment all is is_cut other same len lexemes faults =
+    let ends = is.cut is_cut in
+    let below = plain_below text front.line_end ends.plain in
+    let split : all_items text ≡ ends.front ++ (Given ends.newline ∷ (ends.dedents ++ (item ∷ more))) = all ∙ ap (λ xs. xs ++ (item ∷ more)) ends.items ∙ append_assoc ends.front (Given ends.newline ∷ ends.dedents) (item ∷ more) in
+    let found = rw ends.end at (items_cut text ends.front ends.newline ends.dedents (item ∷ more) split ends.is_line_end ends.are_dedents other (rw ends.end ends.plain)) in
+    let len_in : segment.len ≡ length (text_in segment) = len ∙ sym (length-take-le front.line_end text is.within) ∙ sym (ap length same) in
+    let refused : (recovered (take front.line_end text)).faults ≡ refused_of items =
+      found.1.1 ∙ sym (ap refused_of ends.items ∙ refused_both ends.front (Given ends.newline ∷ ends.dedents) ∙ ap (λ fs. refused_of ends.front ++ fs) (no_faults ends.dedents ends.are_dedents) ∙ append-nil (refused_of ends.front)) in
+    record {
+      within = omega (arith, len, is.within);
+      text = rw len same;
+      len = len_in;
+      some = λ l. omega (arith, len, ends.end, ends.is_line_end.1);
+      cut = λ l. (record {
+        is_closed = rw same found.0;
+        lexed = record {
+          lexemes = rw (same, lexemes) (is.lexemes ∙ ap given_of ends.items ∙ sym found.1.0);
+          faults = rw (same, faults) (subst (λ fs. AreFaults fs front.faults.items) (sym refused) is.faults);
+          len = len_in;
+        };
+      }, rw len ends.plain);
+      last = λ e f. absurd (omega (arith, e, len, below));
+      inner = λ e f. absurd (omega (arith, e, len, below));
+    }
