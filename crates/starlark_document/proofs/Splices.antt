@@ -1,11 +1,18 @@
 -- Parts of a document that are lexed anew, and put in their place.
-use Rattle.std.proofs.Common.{◌≡◌, ◌≤◌, ◌<◌, ◌+◌, ◌-◌, ◌^◌, ℕ, zero, suc, inl, inr, Bool, true, false, List, [], ◌∷◌, ◌++◌, ◌∙◌, sym, ap, refl, subst, arith, length, take, drop, get_or, append_assoc, append-nil, take-append-drop, length-append, length-take, length-drop}
+use Rattle.std.proofs.Common.{◌≡◌, ◌≤◌, ◌<◌, ◌+◌, ◌-◌, ◌^◌, ℕ, zero, suc, Some, inl, inr, Bool, true, false, List, [], ◌∷◌, ◌++◌, ◌∙◌, sym, ap, refl, subst, arith, length, take, drop, get_or, append_assoc, append-nil, take-append-drop, length-append, length-take, length-drop}
 use Rattle.std.specs.Prelude.{◌⊎◌, nat_eq, string_bytes}
-use Rattle.std.specs.Str.{IsCharBoundary}
-use Rattle.starlark_document.proofs.Laid.{is_first_after, laid_at, laid_head, len_at, take_one, text_append, text_at, text_split}
+use Rattle.std.specs.Str.{IsCharBoundary, IsUtf8}
+use Rattle.std.proofs.lemmas.Str.{IsCharBoundary-from_take, IsUtf8-append}
+use Rattle.std.proofs.lemmas.List.{drop-append-le, drop-drop, drop_all, get_or-append_right, get_or_append_left, take-append-le}
+use Rattle.std.proofs.lemmas.Option.{slice_get_read}
+use Rattle.std.specs.List.{slice_get, slice_range}
+use Rattle.std.proofs.Math.Seq.{drop-append-add, drop-append_seam, take-append-add, take-append_seam}
+use Rattle.starlark_document.proofs.Laid.{follows_first, is_first_after, laid_append, laid_at, laid_head, len_at, open_append, take_one, text_append, text_at, text_split}
 use Rattle.starlark_document.specs.Documents.{IsRange, edited}
-use Rattle.starlark_document.specs.Inner.Parts.{IsPart, IsPlaceIn, IsReplaced}
+use Rattle.starlark_document.specs.Inner.Fronts.{IsFirstSegment}
+use Rattle.starlark_document.specs.Inner.Parts.{IsLexedPart, IsPart, IsPlaceIn, IsReplaced}
 use Rattle.starlark_document.specs.Inner.Segments.{AreLaid, AreOpen, Follows, HaveLens, IsOpen, IsWhole, text_in, text_of}
+use Rattle.starlark_document.specs.declared.parts.LexedPart.{LexedPart}
 use Rattle.starlark_document.specs.declared.parts.Part.{Part}
 use Rattle.starlark_document.specs.declared.segments.Segment.{Segment}
 use Rattle.starlark_document.specs.declared.segments.SegmentPlace.{SegmentPlace}
@@ -17,6 +24,15 @@ pub plain_append : (front more : Text) → begins_plainly front ≡ true → beg
 unfolding begins_plainly
 plain_append [] more plain = cc
 plain_append (b ∷ bs) more plain = plain
+
+pub utf8_texts : (xs : List Segment) → IsUtf8 (text_of xs)
+utf8_texts [] = ?
+utf8_texts (x ∷ xs) = IsUtf8-append (text_in x) (text_of xs) x.content.value.text.ok (utf8_texts xs)
+
+pub taken : (segments : List Segment) (from to : ℕ) → from ≤ to → text_of (drop from segments) ≡ text_of (slice_range segments from to) ++ text_of (drop to segments)
+taken segments from to order =
+    let e : from + (to - from) ≡ to = omega arith in
+    text_split (to - from) (drop from segments) ∙ ap (λ (xs : List Segment). text_of (slice_range segments from to) ++ text_of xs) (drop-drop (to - from) from segments ∙ ap (λ (n : ℕ). drop n segments) e)
 
 -- The part with the segment before it
 
@@ -67,3 +83,264 @@ module _ (segments : List Segment) (part : Part) (x : Segment) (laid : AreLaid t
       plain_of : (part.first.index - 1 ≡ 0) ⊎ (begins_plainly (text_in x) ≡ true) → (more.first.index ≡ 0) ⊎ (begins_plainly (string_bytes more.text) ≡ true)
       plain_of (inl e) = inl (index ∙ e)
       plain_of (inr e) = inr (ap begins_plainly is_text ∙ plain_append (text_in x) (string_bytes part.text) e)
+
+-- The part that an edit touches
+
+pub front_range : (text : Text) (n : ℕ) → slice_range text 0 n ≡ take n text
+front_range text n =
+    let e : n - 0 ≡ n = omega arith in
+    ap (λ (k : ℕ). take k text) e
+
+-- a place in a part of a text is a character boundary of the part where it is one of the text
+pub boundary_in : (front mid rest : Text) (at : ℕ) → IsCharBoundary (front ++ (mid ++ rest)) at → length front ≤ at → at ≤ length front + length mid → IsCharBoundary mid (at - length front)
+boundary_in front mid rest at is after before = (omega arith, λ less high. lead less high)
+  where
+    byte_at : at - length front < length mid → get_or (front ++ (mid ++ rest)) at 0 ≡ get_or mid (at - length front) 0
+    byte_at less =
+        get_or-append_right front (mid ++ rest) (length front) at 0 refl after ∙ get_or_append_left mid rest 0 (at - length front) less
+
+    lead : at - length front < length mid → 128 ≤ get_or mid (at - length front) 0 → 192 ≤ get_or mid (at - length front) 0
+    lead less high =
+        let e = byte_at less in
+        let inside : at < length (front ++ (mid ++ rest)) = omega (arith, length-append front (mid ++ rest), length-append mid rest) in
+        let big : 128 ≤ get_or (front ++ (mid ++ rest)) at 0 = omega arith in
+        let found = is.1 inside big in
+        omega arith
+
+pub front_of : (front mid rest : Text) (at : ℕ) → length front ≤ at → at ≤ length front + length mid → take at (front ++ (mid ++ rest)) ≡ front ++ take (at - length front) mid
+front_of front mid rest at after before =
+    let e : at ≡ length front + (at - length front) = omega arith in
+    ap (λ (n : ℕ). take n (front ++ (mid ++ rest))) e ∙ take-append-add front (mid ++ rest) (at - length front)
+    ∙ ap (λ (t : Text). front ++ t) (take-append-le (at - length front) mid rest (omega arith))
+
+pub back_of : (front mid rest : Text) (at : ℕ) → length front ≤ at → at ≤ length front + length mid → drop at (front ++ (mid ++ rest)) ≡ drop (at - length front) mid ++ rest
+back_of front mid rest at after before =
+    let e : at ≡ length front + (at - length front) = omega arith in
+    ap (λ (n : ℕ). drop n (front ++ (mid ++ rest))) e ∙ drop-append-add front (mid ++ rest) (at - length front)
+    ∙ drop-append-le (at - length front) mid rest (omega arith)
+
+-- a place in the text, in the segment of an index
+pub record IsIn (segments : List Segment) (place : SegmentPlace) (x : Segment) (at : ℕ) : Type 0 where
+  pub found : IsPlaceIn segments place
+  pub is : x ≡ get_or segments place.index x
+  pub after : place.begin ≤ at
+  pub before : at ≤ place.begin + length (text_in x)
+
+pub is_in : (segments : List Segment) (place : SegmentPlace) (x : Segment) (at : ℕ) → AreLaid true segments → IsPlaceIn segments place → x ≡ get_or segments place.index x → place.begin ≤ at
+    → ((segment : Segment) → slice_get segments place.index ≡ Some segment → at ≤ place.begin + segment.len) → IsIn segments place x at
+is_in segments place x at laid found is after reach =
+    let less = found.inside in
+    let within = reach x (slice_get_read segments (length segments) place.index x refl less is) in
+    record { found = found; is = is; after = after; before = omega (arith, within, len_at segments place.index x laid less is) }
+
+module _ (segments : List Segment) (place : SegmentPlace) (x : Segment) (at : ℕ) (here : IsIn segments place x at) where
+  text_here : text_of segments ≡ text_of (take place.index segments) ++ (text_in x ++ text_of (drop (place.index + 1) segments))
+  text_here = text_at segments place.index x here.found.inside here.is
+
+  pub boundary_here : IsCharBoundary (text_of segments) at → IsCharBoundary (text_in x) (at - place.begin)
+  boundary_here is =
+      subst (λ (n : ℕ). IsCharBoundary (text_in x) (at - n)) (sym here.found.begin)
+      (boundary_in (text_of (take place.index segments)) (text_in x) (text_of (drop (place.index + 1) segments)) at (subst (λ (t : Text). IsCharBoundary t at) text_here is) (omega (arith, here.after, here.found.begin)) (omega (arith, here.before, here.found.begin)))
+
+  front_here : take at (text_of segments) ≡ text_of (take place.index segments) ++ take (at - place.begin) (text_in x)
+  front_here =
+      ap (λ (t : Text). take at t) text_here ∙ front_of (text_of (take place.index segments)) (text_in x) (text_of (drop (place.index + 1) segments)) at (omega (arith, here.after, here.found.begin)) (omega (arith, here.before, here.found.begin))
+      ∙ ap (λ (n : ℕ). text_of (take place.index segments) ++ take (at - n) (text_in x)) (sym here.found.begin)
+
+  back_here : drop at (text_of segments) ≡ drop (at - place.begin) (text_in x) ++ text_of (drop (place.index + 1) segments)
+  back_here =
+      ap (λ (t : Text). drop at t) text_here ∙ back_of (text_of (take place.index segments)) (text_in x) (text_of (drop (place.index + 1) segments)) at (omega (arith, here.after, here.found.begin)) (omega (arith, here.before, here.found.begin))
+      ∙ ap (λ (n : ℕ). drop (at - n) (text_in x) ++ text_of (drop (place.index + 1) segments)) (sym here.found.begin)
+
+pub touched : (segments : List Segment) (from to : ℕ) (inserted : Text) (first last : SegmentPlace) (x y : Segment) (part : Part)
+    → IsIn segments first x from → IsIn segments last y to → first.index ≤ last.index → part.first ≡ first → part.end ≡ last.index + 1
+    → string_bytes part.text ≡ (take (from - first.begin) (text_in x) ++ inserted) ++ drop (to - last.begin) (text_in y)
+    → IsReplaced segments (edited from to inserted (text_of segments)) part
+touched segments from to inserted first last x y part from_here to_here order at end text = record {
+  order = omega (arith, order, end, index);
+  within = omega (arith, to_here.found.inside, end);
+  begin = ap (λ (place : SegmentPlace). place.begin) at ∙ from_here.found.begin ∙ ap (λ (n : ℕ). length (text_of (take n segments))) (sym index);
+  same = same ∙ ap (λ (n : ℕ). text_of (take n segments) ++ (string_bytes part.text ++ text_of (drop (last.index + 1) segments))) (sym index)
+      ∙ ap (λ (n : ℕ). text_of (take part.first.index segments) ++ (string_bytes part.text ++ text_of (drop n segments))) (sym end);
+}
+  where
+    index : part.first.index ≡ first.index
+    index = ap (λ (place : SegmentPlace). place.index) at
+
+    regroup : (a b c d e : Text) → (a ++ b) ++ (c ++ (d ++ e)) ≡ a ++ (((b ++ c) ++ d) ++ e)
+    regroup a b c d e = simp append_assoc
+
+    same : edited from to inserted (text_of segments) ≡ text_of (take first.index segments) ++ (string_bytes part.text ++ text_of (drop (last.index + 1) segments))
+    same =
+        ap (λ (t : Text). t ++ (inserted ++ drop to (text_of segments))) (front_here segments first x from from_here)
+        ∙ ap (λ (t : Text). (text_of (take first.index segments) ++ take (from - first.begin) (text_in x)) ++ (inserted ++ t)) (back_here segments last y to to_here)
+        ∙ regroup (text_of (take first.index segments)) (take (from - first.begin) (text_in x)) inserted (drop (to - last.begin) (text_in y)) (text_of (drop (last.index + 1) segments))
+        ∙ ap (λ (t : Text). text_of (take first.index segments) ++ (t ++ text_of (drop (last.index + 1) segments))) (sym text)
+
+-- What is lexed of a part
+
+-- Segments are cut off the front of a text, to which the segments up to an index were taken in; the rest of it begins
+-- plainly, unless it is the first of the document.
+pub record IsLexing (segments : List Segment) (part : Part) (text : Text) (end len read : ℕ) (done : List Segment) : Type 0 where
+  pub order : part.end ≤ end
+  pub within : end ≤ length segments
+  pub same : text ++ text_of (drop end segments) ≡ string_bytes part.text ++ text_of (drop part.end segments)
+  pub rest : Text
+  pub is_rest : text ≡ text_of done ++ rest
+  pub lens : len ≡ length (text_of done)
+  pub opened : AreOpen (nat_eq part.first.index 0) done
+  pub plain : ((done ≡ []) × (part.first.index ≡ 0)) ⊎ (begins_plainly rest ≡ true)
+  pub least : len ≤ read
+
+module _ (segments : List Segment) (part : Part) (text : Text) (end len read : ℕ) (done : List Segment) (is : IsLexing segments part text end len read done) where
+  pub lexing_within : len ≤ length text
+  lexing_within = omega (arith, is.lens, ap length is.is_rest, length-append (text_of done) is.rest)
+
+  pub lexing_rest : drop len text ≡ is.rest
+  lexing_rest = ap (λ (n : ℕ). drop n text) is.lens ∙ ap (λ (t : Text). drop (length (text_of done)) t) is.is_rest ∙ drop-append_seam (text_of done) is.rest
+
+  pub lexing_taken : take len text ≡ text_of done
+  lexing_taken = ap (λ (n : ℕ). take n text) is.lens ∙ ap (λ (t : Text). take (length (text_of done)) t) is.is_rest ∙ take-append_seam (text_of done) is.rest
+
+  pub lexing_fits : (whole : Text) → IsPart segments whole part → length text ≤ length whole
+  lexing_fits whole parts =
+      let all = length-append (text_of (take part.first.index segments)) (string_bytes part.text ++ text_of (drop part.end segments)) in
+      omega (arith, ap length parts.replaced.same, all, ap length is.same, length-append text (text_of (drop end segments)))
+
+  pub lexing_boundary : IsUtf8 text → IsCharBoundary text len
+  lexing_boundary utf8 = IsCharBoundary-from_take text len utf8 lexing_within (subst IsUtf8 (sym lexing_taken) (utf8_texts done))
+
+-- at the start nothing is lexed
+pub lexing_none : (segments : List Segment) (whole : Text) (part : Part) (done : List Segment) → IsPart segments whole part → done ≡ [] → IsLexing segments part (string_bytes part.text) part.end 0 0 done
+lexing_none segments whole part done parts none = record {
+  order = omega arith;
+  within = parts.replaced.within;
+  same = refl;
+  rest = string_bytes part.text;
+  is_rest = ap (λ (xs : List Segment). text_of xs ++ string_bytes part.text) (sym none);
+  lens = ap (λ (xs : List Segment). length (text_of xs)) (sym none);
+  opened = subst (AreOpen (nat_eq part.first.index 0)) (sym none) tt;
+  plain = plain_of parts.plain;
+  least = omega arith;
+}
+  where
+    plain_of : (part.first.index ≡ 0) ⊎ (begins_plainly (string_bytes part.text) ≡ true) → ((done ≡ []) × (part.first.index ≡ 0)) ⊎ (begins_plainly (string_bytes part.text) ≡ true)
+    plain_of (inl e) = inl (none, e)
+    plain_of (inr e) = inr e
+
+-- the front of a text that begins plainly does so, too
+plain_front : (text : Text) (n : ℕ) → 0 < n → begins_plainly text ≡ true → begins_plainly (take n text) ≡ true
+unfolding begins_plainly
+plain_front text zero some plain = absurd (omega arith)
+plain_front [] (suc n) some plain = cc
+plain_front (b ∷ bs) (suc n) some plain = plain
+
+some_plain : (text : Text) → begins_plainly text ≡ true → 0 < length text
+unfolding begins_plainly
+some_plain [] plain = absurd (the_false plain)
+  where
+    the_false : false ≡ true → ⊥
+    the_false e = cc
+some_plain (b ∷ bs) plain = omega arith
+
+module _ (segments : List Segment) (part : Part) (text : Text) (end len read : ℕ) (done : List Segment) (is : IsLexing segments part text end len read done)
+    (is_last : Bool) (x : Segment) (cut : IsFirstSegment (drop len text) is_last x) where
+  rest_len : length text ≡ len + length is.rest
+  rest_len = ap length is.is_rest ∙ length-append (text_of done) is.rest ∙ omega (arith, is.lens)
+
+  is_cut : IsFirstSegment is.rest is_last x
+  is_cut = subst (λ (t : Text). IsFirstSegment t is_last x) (lexing_rest segments part text end len read done is) cut
+
+  pub next_within : len + x.len ≤ length text
+  next_within = omega (arith, rest_len, is_cut.within)
+
+  pub next_some : len + x.len < length text → 0 < x.len
+  next_some less = is_cut.some (omega (arith, rest_len, less))
+
+  follows : Follows (is_first_after (nat_eq part.first.index 0) done) x
+  follows = by is.plain
+    where
+      by : ((done ≡ []) × (part.first.index ≡ 0)) ⊎ (begins_plainly is.rest ≡ true) → Follows (is_first_after (nat_eq part.first.index 0) done) x
+      by (inl e) = subst (λ (b : Bool). Follows b x) (sym (ap (is_first_after (nat_eq part.first.index 0)) e.0 ∙ ap (λ (n : ℕ). nat_eq n 0) e.1)) tt
+      by (inr e) = follows_first (is_first_after (nat_eq part.first.index 0) done) x (ap begins_plainly is_cut.text ∙ plain_front is.rest x.len (is_cut.some (some_plain is.rest e)) e)
+
+  text_more : text_of (done ++ (x ∷ [])) ≡ text_of done ++ take x.len is.rest
+  text_more = text_append done (x ∷ []) ∙ ap (λ (t : Text). text_of done ++ t) (append-nil (text_in x) ∙ is_cut.text)
+
+  len_more : len + x.len ≡ length (text_of (done ++ (x ∷ [])))
+  len_more = omega (arith, is.lens, ap length (text_append done (x ∷ [])), length-append (text_of done) (text_in x ++ []), length-append (text_in x) [], is_cut.len)
+
+  rest_more : text ≡ text_of (done ++ (x ∷ [])) ++ drop x.len is.rest
+  rest_more = is.is_rest ∙ ap (λ (t : Text). text_of done ++ t) (sym (take-append-drop x.len is.rest)) ∙ sym (append_assoc (text_of done) (take x.len is.rest) (drop x.len is.rest))
+      ∙ ap (λ (t : Text). t ++ drop x.len is.rest) (sym text_more)
+
+  -- where the text goes on, it is cut there
+  pub lexing_next : (more : List Segment) (read_more : ℕ) → more ≡ done ++ (x ∷ []) → len + x.len < length text → len + x.len ≤ read_more → IsLexing segments part text end (len + x.len) read_more more
+  lexing_next more read_more is_more less least =
+      let found = is_cut.cut (omega (arith, rest_len, less)) in
+      subst (λ (xs : List Segment). IsLexing segments part text end (len + x.len) read_more xs) (sym is_more) (record {
+        order = is.order;
+        within = is.within;
+        same = is.same;
+        rest = drop x.len is.rest;
+        is_rest = rest_more;
+        lens = len_more;
+        opened = open_append (nat_eq part.first.index 0) done (x ∷ []) is.opened (follows, found.0, tt);
+        plain = inr found.1;
+        least = least;
+      })
+
+  -- where it ends, all is lexed
+  pub lexing_ends : (more : LexedPart) → (is_last ≡ true → end ≡ length segments) → (is_last ≡ false → end < length segments)
+      → more.segments.items ≡ done ++ (x ∷ []) → more.end ≡ end → more.len ≡ len + x.len → len + x.len ≡ length text → more.len ≤ more.lexed → IsLexedPart segments part more
+  lexing_ends more last inner is_more at_end lens all least = record {
+    order = omega (arith, is.order, at_end);
+    within = omega (arith, is.within, at_end);
+    len = lens ∙ len_more ∙ ap (λ (xs : List Segment). length (text_of xs)) (sym is_more);
+    text = sym is.same ∙ ap (λ (t : Text). t ++ text_of (drop end segments)) whole ∙ ap (λ (n : ℕ). text_of more.segments.items ++ text_of (drop n segments)) (sym at_end);
+    inner = λ less. subst (AreOpen (nat_eq part.first.index 0)) (sym is_more) (by_inner is_last refl (omega (arith, less, at_end)));
+    last = λ e. subst (AreLaid (nat_eq part.first.index 0)) (sym is_more) (by_last is_last refl (sym at_end ∙ e));
+    least = least;
+  }
+    where
+      none_left : drop x.len is.rest ≡ []
+      none_left = drop_all x.len is.rest (omega (arith, all, rest_len))
+
+      whole : text ≡ text_of more.segments.items
+      whole = rest_more ∙ ap (λ (t : Text). text_of (done ++ (x ∷ [])) ++ t) none_left ∙ append-nil (text_of (done ++ (x ∷ []))) ∙ ap text_of (sym is_more)
+
+      by_inner : (b : Bool) → is_last ≡ b → end < length segments → AreOpen (nat_eq part.first.index 0) (done ++ (x ∷ []))
+      by_inner true e less = absurd (omega (arith, last e))
+      by_inner false e less = open_append (nat_eq part.first.index 0) done (x ∷ []) is.opened (follows, is_cut.inner (omega (arith, all, rest_len)) e, tt)
+
+      by_last : (b : Bool) → is_last ≡ b → end ≡ length segments → AreLaid (nat_eq part.first.index 0) (done ++ (x ∷ []))
+      by_last true e at = laid_append (nat_eq part.first.index 0) done (x ∷ []) is.opened (follows, is_cut.last (omega (arith, all, rest_len)) e)
+      by_last false e at = absurd (omega (arith, inner e))
+
+-- segments after the part are taken in
+pub lexing_more : (segments : List Segment) (part : Part) (text more : Text) (end next len read : ℕ) (done : List Segment) → IsLexing segments part text end len read done → (read_more : ℕ) → read ≤ read_more
+    → end ≤ next → next ≤ length segments → more ≡ text ++ text_of (slice_range segments end next) → IsLexing segments part more next len read_more done
+lexing_more segments part text more end next len read done is read_more least after within is_more = record {
+  order = omega (arith, is.order);
+  within = within;
+  same = ap (λ (t : Text). t ++ text_of (drop next segments)) is_more ∙ append_assoc text (text_of (slice_range segments end next)) (text_of (drop next segments)) ∙ ap (λ (t : Text). text ++ t) (sym (taken segments end next after)) ∙ is.same;
+  rest = is.rest ++ text_of (slice_range segments end next);
+  is_rest = is_more ∙ ap (λ (t : Text). t ++ text_of (slice_range segments end next)) is.is_rest ∙ append_assoc (text_of done) is.rest (text_of (slice_range segments end next));
+  lens = is.lens;
+  opened = is.opened;
+  plain = plain_of is.plain;
+  least = omega (arith, is.least);
+}
+  where
+    plain_of : ((done ≡ []) × (part.first.index ≡ 0)) ⊎ (begins_plainly is.rest ≡ true) → ((done ≡ []) × (part.first.index ≡ 0)) ⊎ (begins_plainly (is.rest ++ text_of (slice_range segments end next)) ≡ true)
+    plain_of (inl e) = inl e
+    plain_of (inr e) = inr (plain_append is.rest (text_of (slice_range segments end next)) e)
+
+-- How much is left to do: bytes to cut off, bytes to take in, and segments to take in.
+abbrev pub left_to_lex : List Segment → Text → ℕ → ℕ → ℕ
+left_to_lex segments text end len = (length text - len) + length (text_of (drop end segments)) + (length segments - end)
+
+pub taking_less : (segments : List Segment) (text more : Text) (end next len : ℕ) → len ≤ length text → end < next → next ≤ length segments → more ≡ text ++ text_of (slice_range segments end next)
+    → left_to_lex segments more next len < left_to_lex segments text end len
+taking_less segments text more end next len inside after within is_more =
+    omega (arith, ap length is_more, length-append text (text_of (slice_range segments end next)), ap length (taken segments end next (omega arith)), length-append (text_of (slice_range segments end next)) (text_of (drop next segments)))

@@ -1,6 +1,6 @@
 //! Parts of a document: the segments that an edit touches, with their text after it.
 
-ghost use Rattle.std.specs.Prelude.{◌≡◌, ◌≤◌, ◌<◌, ◌+◌, ◌++◌, ◌^◌, Some, IfOk, OnOk, drop, length, nat_eq, string_bytes, true};
+ghost use Rattle.std.specs.Prelude.{◌≡◌, ◌≤◌, ◌<◌, ◌+◌, ◌++◌, ◌^◌, Some, IfOk, OnOk, drop, length, string_bytes, true};
 ghost use Rattle.std.specs.List.{slice_get};
 ghost use Rattle.starlark_document.specs.Documents.{IsRange, edited};
 ghost use Rattle.starlark_document.specs.Inner.Parts.{IsLexedPart, IsPart, IsPlaceIn, IsReplaced};
@@ -145,7 +145,6 @@ pub fn lex_part(
     part: Part,
     least_len: usize,
 ) -> Result<LexedPart, AllocError>
-    requires laid { part.end < length segments.now → AreLaid (nat_eq part.end 0) (drop part.end segments.now) }
     requires part { (whole : Text) × IsPart segments.now whole part × (length whole < 2 ^ 32) }
     ensures { IfOk result (IsLexedPart segments.now part) }
 {
