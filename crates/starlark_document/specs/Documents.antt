@@ -1,10 +1,13 @@
 -- Documents, as their users see them: texts that change by edits, what is found in them, and what an edit changed.
-use Rattle.std.specs.Prelude.{◌≡◌, ◌≤◌, ◌<◌, ◌+◌, ℕ, Bool, nat_le, List, [], ◌++◌, map, length, take, drop, Option, Some, None, IfSome}
+use Rattle.std.specs.Prelude.{◌≡◌, ◌≤◌, ◌<◌, ◌+◌, ◌^◌, ◌↔◌, ℕ, Bool, nat_le, List, [], ◌∷◌, ◌++◌, map, length, take, drop, Option, Some, None, IfSome, ⊤}
 use Rattle.std.specs.Borrow.{Bor}
 use Rattle.std.specs.Iterator.{Count, at_most}
 use Rattle.std.specs.List.{AllByRecursion, slice_get}
 use Rattle.std.specs.Str.{IsCharBoundary}
 use Rattle.starlark_document.specs.declared.document.Change.{Change}
+use Rattle.starlark_document.specs.declared.document.Edit.{Edit}
+use Rattle.starlark_document.specs.declared.document.EditError.{EditError}
+use Rattle.starlark_document.specs.declared.document.EditError.TheVariants.{BadRange, TooLong}
 use Rattle.starlark_grammar.specs.Tokens as grammar
 use Rattle.starlark_grammar.specs.Words.{Text}
 use Rattle.starlark_recovery.specs.Recovery.{recovered}
@@ -23,6 +26,34 @@ IsRange text from to = (from ≤ to) × IsCharBoundary text from × IsCharBounda
 -- a text of which the bytes from one offset to another are replaced
 abbrev pub edited : ℕ → ℕ → Text → Text → Text
 edited from to inserted text = take from text ++ (inserted ++ drop to text)
+
+-- an edit of the code: its range, and the text in its place
+abbrev pub edit_view : Edit → ℕ × ℕ × Text
+edit_view edit = (edit.from, edit.to, edit.text.now)
+
+-- the text after edits one after another
+abbrev pub text_after : List (ℕ × ℕ × Text) → Text → Text
+text_after [] text = text
+text_after (edit ∷ edits) text = text_after edits (edited edit.0 edit.1 edit.2 text)
+
+-- an edit that can be made: its range is one of the text, which stays shorter than 2^32 bytes
+abbrev pub IsEdit : Text → ℕ × ℕ × Text → Type 0
+IsEdit text edit = IsRange text edit.0 edit.1 × (length (edited edit.0 edit.1 edit.2 text) < 2 ^ 32)
+
+-- each edit can be made in the text after those before it
+abbrev pub AreEdits : Text → List (ℕ × ℕ × Text) → Type 0
+AreEdits text [] = ⊤
+AreEdits text (edit ∷ edits) = IsEdit text edit × AreEdits (edited edit.0 edit.1 edit.2 text) edits
+
+-- All edits before an index were made, and that one is refused: its range isn't one of the text, or the text after it
+-- would be too long, or memory ran out.
+pub record IsStop (text : Text) (edits : List (ℕ × ℕ × Text)) (at : ℕ) (error : EditError) (stopped : Text) : Type 0 where
+  pub edit : ℕ × ℕ × Text
+  pub is_edit : slice_get edits at ≡ Some edit
+  pub before : AreEdits text (take at edits)
+  pub after : stopped ≡ text_after (take at edits) text
+  pub range : (error ≡ BadRange) ↔ (IsRange stopped edit.0 edit.1 → ⊥)
+  pub too_long : (error ≡ TooLong) ↔ (IsRange stopped edit.0 edit.1 × (2 ^ 32 ≤ length (edited edit.0 edit.1 edit.2 stopped)))
 
 -- all lexemes of a text that is lexed on after its faults, as the code shows them
 abbrev pub lexemes_of : Text → List (grammar.Spanned TokenView)

@@ -1,10 +1,10 @@
 //! Documents: texts that stay lexed while they are edited.
 
-ghost use Rattle.std.specs.Prelude.{◌≡◌, ◌≤◌, ◌<◌, ◌^◌, ◌↔◌, ◌==◌, Err, IfOk, IfSome, IsNone, IsTrue, OnErr, OnOk, drop, length, slice_range, string_bytes, true};
+ghost use Rattle.std.specs.Prelude.{◌≡◌, ◌≤◌, ◌<◌, ◌^◌, ◌↔◌, ◌==◌, Err, IfErr, IfOk, IfSome, IsNone, IsTrue, OnErr, OnOk, drop, length, map, slice_range, string_bytes, true};
 ghost use Rattle.std.specs.List.{prefix_len};
 ghost use Rattle.std.specs.Str.{IsCharBoundary};
 ghost use Rattle.starlark_base.specs.Refusals.{IsRefused};
-ghost use Rattle.starlark_document.specs.Documents.{IsChange, IsRange, edited, ends_by, faults_of, lexemes_of};
+ghost use Rattle.starlark_document.specs.Documents.{AreEdits, IsChange, IsRange, IsStop, edit_view, edited, ends_by, faults_of, lexemes_of, text_after};
 ghost use Rattle.starlark_document.specs.Inner.Parts.{IsLexedPart, IsPart};
 ghost use Rattle.starlark_document.specs.Inner.Segments.{AreLaid, text_of};
 ghost use Rattle.starlark_grammar.specs.Words.{Text};
@@ -58,6 +58,17 @@ pub struct Change {
     pub new_end: usize,
     /// Number of bytes that were given to the lexer. A byte that was lexed twice counts twice.
     pub lexed: usize,
+}
+
+/// An edit: the bytes of a range are replaced by a text.
+#[derive(Clone, Copy)]
+pub struct Edit<'a> {
+    /// Start of the range, in bytes.
+    pub from: usize,
+    /// End of the range.
+    pub to: usize,
+    /// The text in its place.
+    pub text: &'a str,
 }
 
 /// Why a document refuses an edit.
@@ -224,6 +235,25 @@ impl Document {
         let change = replace(&mut self.segments, first, lexed, self.len, len)?;
         self.len = len;
         Ok(change)
+    }
+
+    /// Makes edits one after another. The offsets of each are those of the text after the ones
+    /// before it. Returns how many there are.
+    ///
+    /// Stops at the first one that `edit` refuses, and fails with its index. After an error the
+    /// document has the text after the edits before that one.
+    pub fn edit_all(&mut self, edits: &[Edit<'_>]) -> Result<usize, (usize, EditError)>
+        ensures text { OnOk result (self.new ≡ text_after (map edit_view edits.now) self.old) }
+        ensures fit { OnOk result (AreEdits self.old (map edit_view edits.now)) }
+        ensures count { IfOk result (λ count. count ≡ length edits.now) }
+        ensures stopped { IfErr result (λ failure. IsStop self.old (map edit_view edits.now) failure.0 failure.1 self.new) }
+    {
+        for (index, edit) in edits.iter().enumerate() {
+            if let Err(error) = self.edit(edit.from, edit.to, edit.text) {
+                return Err((index, error));
+            }
+        }
+        Ok(edits.len())
     }
 
     /// All lexemes of the text.

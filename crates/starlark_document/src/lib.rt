@@ -10,5 +10,5 @@ mod lexing;
 mod parts;
 mod segments;
 
-pub use document::{Change, Document, EditError};
+pub use document::{Change, Document, Edit, EditError};
 pub use segments::{Faults, Lexemes};
