@@ -59,3 +59,19 @@ range_inside before mid after from to start order end =
     ap (λ (n : ℕ). take n (drop (from - length before) mid)) count
     ∙ sym (take-append-le (to - from) (drop (from - length before) mid) after (omega (arith, length-drop (from - length before) mid)))
     ∙ ap (λ (xs : List ℕ). take (to - from) xs) (sym left)
+
+-- the same of a text that is known to be a part, and where it begins
+pub IsCharBoundary-in_own : (whole before mid after text : List ℕ) (begin at : ℕ) → whole ≡ before ++ (mid ++ after) → text ≡ mid → begin ≡ length before
+    → begin ≤ at → at ≤ length before + length mid → IsCharBoundary whole at → IsCharBoundary text (at - begin)
+IsCharBoundary-in_own whole before mid after text begin at split same start from to cut =
+    let parts = subst (λ (xs : List ℕ). IsCharBoundary xs at) split cut in
+    let own = IsCharBoundary-in_part before mid after at (omega (arith, start, from)) to parts in
+    subst (λ (xs : List ℕ). IsCharBoundary xs (at - begin)) (sym same) (subst (λ (n : ℕ). IsCharBoundary mid (at - n)) (sym start) own)
+
+pub range_in_own : (whole before mid after text : List ℕ) (begin from to : ℕ) → whole ≡ before ++ (mid ++ after) → text ≡ mid → begin ≡ length before
+    → begin ≤ from → from ≤ to → to ≤ length before + length mid → take (to - begin - (from - begin)) (drop (from - begin) text) ≡ take (to - from) (drop from whole)
+range_in_own whole before mid after text begin from to split same start order later end =
+    ap (λ (xs : List ℕ). take (to - begin - (from - begin)) (drop (from - begin) xs)) same
+    ∙ ap (λ (n : ℕ). take (to - n - (from - n)) (drop (from - n) mid)) start
+    ∙ range_inside before mid after from to (omega (arith, start, order)) later end
+    ∙ ap (λ (xs : List ℕ). take (to - from) (drop from xs)) (sym split)
