@@ -58,16 +58,27 @@ begin_after segments at segment lens is =
 pub end_within : (segments : List Segment) (at : ℕ) (segment : Segment) → HaveLens segments → slice_get segments at ≡ Some segment
     → length (text_of (take at segments)) + segment.len ≤ length (text_of segments)
 end_within segments at segment lens is =
-    omega (arith, ap length (text_of-at segments at segment is), length-append (text_of (take at segments)) (text_in segment ++ text_of (drop (at + 1) segments)),
-        length-append (text_in segment) (text_of (drop (at + 1) segments)), len_at segments at segment lens is)
+    omega (
+      arith,
+      ap length (text_of-at segments at segment is),
+      length-append (text_of (take at segments)) (text_in segment ++ text_of (drop (at + 1) segments)),
+      length-append (text_in segment) (text_of (drop (at + 1) segments)),
+      len_at segments at segment lens is,
+    )
 
 -- the last segment ends at the end of the text
 pub end_last : (segments : List Segment) (at : ℕ) (segment : Segment) → HaveLens segments → slice_get segments at ≡ Some segment → length segments ≤ at + 1
     → length (text_of segments) ≡ length (text_of (take at segments)) + segment.len
 end_last segments at segment lens is last =
     let none : length (text_of (drop (at + 1) segments)) ≡ 0 = ap (λ (xs : List Segment). length (text_of xs)) (drop_all (at + 1) segments last) in
-    omega (arith, none, ap length (text_of-at segments at segment is), length-append (text_of (take at segments)) (text_in segment ++ text_of (drop (at + 1) segments)),
-        length-append (text_in segment) (text_of (drop (at + 1) segments)), len_at segments at segment lens is)
+    omega (
+      arith,
+      none,
+      ap length (text_of-at segments at segment is),
+      length-append (text_of (take at segments)) (text_in segment ++ text_of (drop (at + 1) segments)),
+      length-append (text_in segment) (text_of (drop (at + 1) segments)),
+      len_at segments at segment lens is,
+    )
 
 pub HaveLens-laid : (is_first : Bool) (segments : List Segment) → AreLaid is_first segments → HaveLens segments
 HaveLens-laid is_first [] laid = absurd laid
@@ -100,9 +111,9 @@ pub part_reaches : (segments : List Segment) (first last : SegmentPlace) (to : �
     → to ≤ length (text_of (take first.index segments)) + length (text_of (take (last.index + 1 - first.index) (drop first.index segments)))
 part_reaches segments first last to lens at order reach =
     elim ((slice_get_cases segments last.index).1) [
-        inl found ↦
-            let end = begin_after segments last.index found.0 lens found.2 in
-            let parts = ap length (text_of-between segments first.index (last.index + 1) (omega (arith, order))) in
-            omega (arith, end, parts, at.begin, reach found.0 found.2, length-append (text_of (take first.index segments)) (text_of (take (last.index + 1 - first.index) (drop first.index segments))))
-        | inr past ↦ absurd (omega (arith, past.0, at.inside))
+      | inl found ↦
+          let end = begin_after segments last.index found.0 lens found.2 in
+          let parts = ap length (text_of-between segments first.index (last.index + 1) (omega (arith, order))) in
+          omega (arith, end, parts, at.begin, reach found.0 found.2, length-append (text_of (take first.index segments)) (text_of (take (last.index + 1 - first.index) (drop first.index segments))))
+      | inr past ↦ absurd (omega (arith, past.0, at.inside))
     ]

@@ -34,8 +34,8 @@ pub held_cut : (segments : List Segment) (first last : SegmentPlace) (whole text
 held_cut segments first last whole text from to at held later earlier cut =
     let count = last.index + 1 - first.index in
     IsCharBoundary-in_own whole (text_of (take first.index segments)) (text_of (take count (drop first.index segments))) (text_of (drop count (drop first.index segments)))
-        text first.begin at (sym held.whole_is ∙ text_of-part segments first.index count) held.text_is held.is_first.begin
-        (omega (arith, held.before, later)) (omega (arith, earlier, held_end segments first last whole text from to held)) cut
+    text first.begin at (sym held.whole_is ∙ text_of-part segments first.index count) held.text_is held.is_first.begin
+    (omega (arith, held.before, later)) (omega (arith, earlier, held_end segments first last whole text from to held)) cut
 
 -- the range of the text is the range of the whole
 pub held_range : (segments : List Segment) (first last : SegmentPlace) (whole text : Text) (from to : ℕ) → IsHeld segments first last whole text from to
@@ -43,5 +43,5 @@ pub held_range : (segments : List Segment) (first last : SegmentPlace) (whole te
 held_range segments first last whole text from to held =
     let count = last.index + 1 - first.index in
     range_in_own whole (text_of (take first.index segments)) (text_of (take count (drop first.index segments))) (text_of (drop count (drop first.index segments)))
-        text first.begin from to (sym held.whole_is ∙ text_of-part segments first.index count) held.text_is held.is_first.begin
-        held.before held.range.0 (held_end segments first last whole text from to held)
+    text first.begin from to (sym held.whole_is ∙ text_of-part segments first.index count) held.text_is held.is_first.begin
+    held.before held.range.0 (held_end segments first last whole text from to held)
