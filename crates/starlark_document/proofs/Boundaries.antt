@@ -64,7 +64,7 @@ range_inside before mid after from to start order end =
     ∙ sym (take-append-le (to - from) (drop (from - length before) mid) after (omega (arith, length-drop (from - length before) mid)))
     ∙ ap (λ (xs : List ℕ). take (to - from) xs) (sym left)
 
--- the same of a text that is known to be a part, and where it begins
+-- a text that is a part of another may be cut where the other may
 pub IsCharBoundary-in_own : (whole before mid after text : List ℕ) (begin at : ℕ) → whole ≡ before ++ (mid ++ after) → text ≡ mid → begin ≡ length before
     → begin ≤ at → at ≤ length before + length mid → IsCharBoundary whole at → IsCharBoundary text (at - begin)
 IsCharBoundary-in_own whole before mid after text begin at split same start from to cut =
@@ -72,6 +72,7 @@ IsCharBoundary-in_own whole before mid after text begin at split same start from
     let own = IsCharBoundary-in_part before mid after at (omega (arith, start, from)) to parts in
     subst (λ (xs : List ℕ). IsCharBoundary xs (at - begin)) (sym same) (subst (λ (n : ℕ). IsCharBoundary mid (at - n)) (sym start) own)
 
+-- a range of a text, read from a part of it
 pub range_in_own : (whole before mid after text : List ℕ) (begin from to : ℕ) → whole ≡ before ++ (mid ++ after) → text ≡ mid → begin ≡ length before
     → begin ≤ from → from ≤ to → to ≤ length before + length mid → take (to - begin - (from - begin)) (drop (from - begin) text) ≡ take (to - from) (drop from whole)
 range_in_own whole before mid after text begin from to split same start order later end =

@@ -1,8 +1,8 @@
 -- The lexemes of segments that end at or before an offset.
-use Rattle.std.proofs.Common.{◌≡◌, ℕ, zero, suc, ◌+◌, ◌-◌, ◌<◌, ◌≤◌, Bool, true, false, cond, List, [], ◌∷◌, ◌++◌, Some, ap, append_assoc, arith, drop, inl, inr, length, length-append, map, nat_le, refl, subst, sym, take, take-append-drop, ◌∙◌}
+use Rattle.std.proofs.Common.{◌≡◌, ℕ, zero, suc, ◌+◌, ◌-◌, ◌<◌, ◌≤◌, Bool, true, false, List, [], ◌∷◌, ◌++◌, Some, ap, append_assoc, arith, drop, inl, inr, length, length-append, map, nat_le, refl, subst, sym, take, take-append-drop, ◌∙◌}
 use Rattle.std.proofs.lemmas.Bool.{cases_lt, le-leb, lt-leb}
 use Rattle.std.proofs.lemmas.Bool.Decides.{nat_tests}
-use Rattle.std.proofs.lemmas.List.{drop-map, drop_all, map-append}
+use Rattle.std.proofs.lemmas.List.{drop_all}
 use Rattle.std.specs.List.{AllByRecursion, prefix_len, slice_get}
 use Rattle.starlark_document.proofs.Places.{drop_at, text_of-split}
 use Rattle.starlark_document.specs.Documents.{ends_by}

@@ -1,12 +1,12 @@
 -- Lists of segments: their texts, where segments begin, and their stored lengths.
-use Rattle.std.proofs.Common.{◌≡◌, ℕ, ◌+◌, ◌-◌, ◌<◌, ◌≤◌, suc, Bool, true, false, List, [], ◌∷◌, ◌++◌, length, take, drop, get_or, inl, inr, Some, refl, sym, subst, zero, ap, ◌∙◌, append_assoc, take-append-drop, length-append, arith}
+use Rattle.std.proofs.Common.{◌≡◌, ℕ, ◌+◌, ◌-◌, ◌≤◌, suc, Bool, false, List, [], ◌∷◌, ◌++◌, length, take, drop, inl, inr, Some, refl, sym, subst, zero, ap, ◌∙◌, append_assoc, take-append-drop, length-append, arith}
 use Rattle.std.specs.List.{AllByRecursion, slice_get}
 use Rattle.std.proofs.lemmas.List.{append-nil, drop_all, drop_more, take_more}
 use Rattle.std.proofs.lemmas.Str.{IsUtf8-append, IsUtf8-nil, IsUtf8-string_bytes}
 use Rattle.std.proofs.Math.Seq.{take-add}
 use Rattle.std.specs.Str.{IsUtf8}
 use Rattle.std.proofs.lemmas.Option.{get_or_from_slice_get, same_Some, slice_get_cases, slice_get_within}
-use Rattle.starlark_document.specs.Inner.Segments.{AreLaid, HaveLens, IsOpen, text_in, text_of}
+use Rattle.starlark_document.specs.Inner.Segments.{AreLaid, HaveLens, text_in, text_of}
 use Rattle.starlark_document.specs.Inner.Parts.{IsPlaceIn}
 use Rattle.starlark_document.specs.declared.segments.Segment.{Segment}
 use Rattle.starlark_document.specs.declared.segments.SegmentPlace.{SegmentPlace}
