@@ -1,8 +1,8 @@
 -- The lexemes of segments that end at or before an offset.
-use Rattle.std.proofs.Common.{◌≡◌, ℕ, zero, suc, ◌+◌, ◌-◌, ◌<◌, ◌≤◌, Bool, true, false, cond, List, [], ◌∷◌, ◌++◌, Some, ap, append_assoc, arith, drop, inl, inr, length, length-append, map, nat_le, refl, subst, sym, take, take-append-drop, ◌∙◌}
+use Rattle.std.proofs.Common.{◌≡◌, ℕ, zero, suc, ◌+◌, ◌-◌, ◌<◌, ◌≤◌, Bool, true, false, List, [], ◌∷◌, ◌++◌, Some, ap, append_assoc, arith, drop, inl, inr, length, length-append, map, nat_le, refl, subst, sym, take, take-append-drop, ◌∙◌}
 use Rattle.std.proofs.lemmas.Bool.{cases_lt, le-leb, lt-leb}
 use Rattle.std.proofs.lemmas.Bool.Decides.{nat_tests}
-use Rattle.std.proofs.lemmas.List.{drop-map, drop_all, map-append}
+use Rattle.std.proofs.lemmas.List.{drop_all}
 use Rattle.std.specs.List.{AllByRecursion, prefix_len, slice_get}
 use Rattle.starlark_document.proofs.Places.{drop_at, text_of-split}
 use Rattle.starlark_document.specs.Documents.{ends_by}
@@ -72,8 +72,8 @@ along_pass begin at [] all end = tt
 along_pass begin at (segment ∷ more) all end =
     let text = length-append (text_in segment) (text_of more) in
     all-append (λ x. ends_by at x ≡ true) (placed begin segment.content.value.lexemes.items) (lexemes_along (begin + segment.len) more)
-        (placed_pass begin segment.len at segment.content.value.lexemes.items (omega (arith, text, end, all.0.len)) all.0.lexemes)
-        (along_pass (begin + segment.len) at more all.1 (omega (arith, text, end, all.0.len)))
+    (placed_pass begin segment.len at segment.content.value.lexemes.items (omega (arith, text, end, all.0.len)) all.0.lexemes)
+    (along_pass (begin + segment.len) at more all.1 (omega (arith, text, end, all.0.len)))
 
 -- No lexeme ends before its segment begins: where segments begin after an offset, no front of their lexemes ends by it.
 placed_stop : (begin at : ℕ) (items : List (ℕ × Token × ℕ)) (ys : List (Spanned TokenView)) → at < begin → without_front (ends_by at) ys ≡ ys
@@ -113,22 +113,22 @@ lexemes_along-append begin [] after all = ap (λ (n : ℕ). lexemes_along n afte
 lexemes_along-append begin (segment ∷ before) after all =
     let next : begin + segment.len + length (text_of before) ≡ begin + length (text_of (segment ∷ before)) = omega (arith, length-append (text_in segment) (text_of before), all.0.len) in
     ap (λ (xs : List (Spanned TokenView)). placed begin segment.content.value.lexemes.items ++ xs)
-        (lexemes_along-append (begin + segment.len) before after all.1 ∙ ap (λ (n : ℕ). lexemes_along (begin + segment.len) before ++ lexemes_along n after) next)
+    (lexemes_along-append (begin + segment.len) before after all.1 ∙ ap (λ (n : ℕ). lexemes_along (begin + segment.len) before ++ lexemes_along n after) next)
     ∙ sym (append_assoc (placed begin segment.content.value.lexemes.items) (lexemes_along (begin + segment.len) before) (lexemes_along (begin + length (text_of (segment ∷ before))) after))
 
 rest_stop : (segments : List Segment) (index end at : ℕ) → (index + 1 < length segments → at < end)
     → without_front (ends_by at) (lexemes_along end (drop (index + 1) segments)) ≡ lexemes_along end (drop (index + 1) segments)
 rest_stop segments index end at inner =
     elim (cases_lt (index + 1) (length segments)) [
-        inl more ↦ along_stop end at (drop (index + 1) segments) (inner more)
-        | inr last ↦ subst (λ (xs : List Segment). without_front (ends_by at) (lexemes_along end xs) ≡ lexemes_along end xs) (sym (drop_all (index + 1) segments last)) refl
+      | inl more ↦ along_stop end at (drop (index + 1) segments) (inner more)
+      | inr last ↦ subst (λ (xs : List Segment). without_front (ends_by at) (lexemes_along end xs) ≡ lexemes_along end xs) (sym (drop_all (index + 1) segments last)) refl
     ]
 
 -- From the segment that holds an offset on, those of its lexemes are left that end after the offset, and those of the segments after it.
 pub lexemes_left : (segments : List Segment) (index begin at : ℕ) (segment : Segment) → AllByRecursion IsBounded segments → slice_get segments index ≡ Some segment
     → begin ≡ length (text_of (take index segments)) → begin ≤ at → (index + 1 < length segments → at < begin + segment.len)
     → lexemes_from begin (prefix_len (λ lexeme. nat_le lexeme.2 (at - begin)) segment.content.value.lexemes.items) (drop index segments)
-        ≡ drop (prefix_len (ends_by at) (lexemes_along 0 segments)) (lexemes_along 0 segments)
+    ≡ drop (prefix_len (ends_by at) (lexemes_along 0 segments)) (lexemes_along 0 segments)
 lexemes_left segments index begin at segment all is same from inner =
     let front = lexemes_along 0 (take index segments) in
     let items = segment.content.value.lexemes.items in
@@ -136,20 +136,21 @@ lexemes_left segments index begin at segment all is same from inner =
     let rest = lexemes_along (begin + segment.len) more in
     let start : 0 + length (text_of (take index segments)) ≡ begin = omega (arith, same) in
     let parts : lexemes_along 0 segments ≡ front ++ (placed begin items ++ rest) =
-        ap (λ (xs : List Segment). lexemes_along 0 xs) (sym (take-append-drop index segments))
-        ∙ lexemes_along-append 0 (take index segments) (drop index segments) (all-take IsBounded index segments all)
-        ∙ ap (λ (n : ℕ). front ++ lexemes_along n (drop index segments)) start
-        ∙ ap (λ (xs : List Segment). front ++ lexemes_along begin xs) (drop_at segments index segment is) in
+    ap (λ (xs : List Segment). lexemes_along 0 xs) (sym (take-append-drop index segments))
+    ∙ lexemes_along-append 0 (take index segments) (drop index segments) (all-take IsBounded index segments all)
+    ∙ ap (λ (n : ℕ). front ++ lexemes_along n (drop index segments)) start
+    ∙ ap (λ (xs : List Segment). front ++ lexemes_along begin xs) (drop_at segments index segment is) in
     let passed = along_pass 0 at (take index segments) (all-take IsBounded index segments all) (omega (arith, start, from)) in
     let left =
-        ap (λ (xs : List (Spanned TokenView)). without_front (ends_by at) xs) parts
-        ∙ without_front-all (ends_by at) front (placed begin items ++ rest) passed
-        ∙ without_front-before (ends_by at) (placed begin items) rest (rest_stop segments index (begin + segment.len) at inner)
-        ∙ ap (λ (xs : List (Spanned TokenView)). xs ++ rest) (placed_front begin at items from) in
+    ap (λ (xs : List (Spanned TokenView)). without_front (ends_by at) xs) parts
+    ∙ without_front-all (ends_by at) front (placed begin items ++ rest) passed
+    ∙ without_front-before (ends_by at) (placed begin items) rest (rest_stop segments index (begin + segment.len) at inner)
+    ∙ ap (λ (xs : List (Spanned TokenView)). xs ++ rest) (placed_front begin at items from) in
     ap (λ (xs : List Segment). lexemes_from begin (prefix_len (λ lexeme. nat_le lexeme.2 (at - begin)) items) xs) (drop_at segments index segment is) ∙ sym left
 
 -- segments from one on
 pub bounded_from : (segments : List Segment) (index begin : ℕ) → begin ≡ length (text_of (take index segments)) → AreBounded 0 segments → AreBounded begin (drop index segments)
-bounded_from segments index begin same bounded =
-    (all-drop IsBounded index segments bounded.0,
-        omega (arith, same, bounded.1, ap length (text_of-split segments index), length-append (text_of (take index segments)) (text_of (drop index segments))))
+bounded_from segments index begin same bounded = (
+  all-drop IsBounded index segments bounded.0,
+  omega (arith, same, bounded.1, ap length (text_of-split segments index), length-append (text_of (take index segments)) (text_of (drop index segments))),
+)

@@ -1,13 +1,15 @@
 -- Lists of segments: their texts, where segments begin, and their stored lengths.
-use Rattle.std.proofs.Common.{◌≡◌, ℕ, ◌+◌, ◌-◌, ◌<◌, ◌≤◌, suc, Bool, true, false, List, [], ◌∷◌, ◌++◌, length, take, drop, get_or, Some, refl, sym, subst, zero, ap, ◌∙◌, append_assoc, take-append-drop, length-append, arith}
+use Rattle.std.proofs.Common.{◌≡◌, ℕ, ◌+◌, ◌-◌, ◌≤◌, suc, Bool, false, List, [], ◌∷◌, ◌++◌, length, take, drop, inl, inr, Some, refl, sym, subst, zero, ap, ◌∙◌, append_assoc, take-append-drop, length-append, arith}
 use Rattle.std.specs.List.{AllByRecursion, slice_get}
 use Rattle.std.proofs.lemmas.List.{append-nil, drop_all, drop_more, take_more}
 use Rattle.std.proofs.lemmas.Str.{IsUtf8-append, IsUtf8-nil, IsUtf8-string_bytes}
 use Rattle.std.proofs.Math.Seq.{take-add}
 use Rattle.std.specs.Str.{IsUtf8}
-use Rattle.std.proofs.lemmas.Option.{get_or_from_slice_get, same_Some, slice_get_within}
-use Rattle.starlark_document.specs.Inner.Segments.{AreLaid, HaveLens, IsOpen, text_in, text_of}
+use Rattle.std.proofs.lemmas.Option.{get_or_from_slice_get, same_Some, slice_get_cases, slice_get_within}
+use Rattle.starlark_document.specs.Inner.Segments.{AreLaid, HaveLens, text_in, text_of}
+use Rattle.starlark_document.specs.Inner.Parts.{IsPlaceIn}
 use Rattle.starlark_document.specs.declared.segments.Segment.{Segment}
+use Rattle.starlark_document.specs.declared.segments.SegmentPlace.{SegmentPlace}
 
 -- what holds of all of a list holds of each of it
 pub all_at : {X : Type 0} (P : X → Type 0) (xs : List X) (at : ℕ) (x : X) → AllByRecursion P xs → slice_get xs at ≡ Some x → P x
@@ -56,16 +58,27 @@ begin_after segments at segment lens is =
 pub end_within : (segments : List Segment) (at : ℕ) (segment : Segment) → HaveLens segments → slice_get segments at ≡ Some segment
     → length (text_of (take at segments)) + segment.len ≤ length (text_of segments)
 end_within segments at segment lens is =
-    omega (arith, ap length (text_of-at segments at segment is), length-append (text_of (take at segments)) (text_in segment ++ text_of (drop (at + 1) segments)),
-        length-append (text_in segment) (text_of (drop (at + 1) segments)), len_at segments at segment lens is)
+    omega (
+      arith,
+      ap length (text_of-at segments at segment is),
+      length-append (text_of (take at segments)) (text_in segment ++ text_of (drop (at + 1) segments)),
+      length-append (text_in segment) (text_of (drop (at + 1) segments)),
+      len_at segments at segment lens is,
+    )
 
 -- the last segment ends at the end of the text
 pub end_last : (segments : List Segment) (at : ℕ) (segment : Segment) → HaveLens segments → slice_get segments at ≡ Some segment → length segments ≤ at + 1
     → length (text_of segments) ≡ length (text_of (take at segments)) + segment.len
 end_last segments at segment lens is last =
     let none : length (text_of (drop (at + 1) segments)) ≡ 0 = ap (λ (xs : List Segment). length (text_of xs)) (drop_all (at + 1) segments last) in
-    omega (arith, none, ap length (text_of-at segments at segment is), length-append (text_of (take at segments)) (text_in segment ++ text_of (drop (at + 1) segments)),
-        length-append (text_in segment) (text_of (drop (at + 1) segments)), len_at segments at segment lens is)
+    omega (
+      arith,
+      none,
+      ap length (text_of-at segments at segment is),
+      length-append (text_of (take at segments)) (text_in segment ++ text_of (drop (at + 1) segments)),
+      length-append (text_in segment) (text_of (drop (at + 1) segments)),
+      len_at segments at segment lens is,
+    )
 
 pub HaveLens-laid : (is_first : Bool) (segments : List Segment) → AreLaid is_first segments → HaveLens segments
 HaveLens-laid is_first [] laid = absurd laid
@@ -91,3 +104,16 @@ text_of-part segments from count =
 pub IsUtf8-text_of : (segments : List Segment) → IsUtf8 (text_of segments)
 IsUtf8-text_of [] = IsUtf8-nil
 IsUtf8-text_of (segment ∷ more) = IsUtf8-append (text_in segment) (text_of more) (IsUtf8-string_bytes segment.content.value.text) (IsUtf8-text_of more)
+
+-- Where a segment ends after an offset, so do the segments up to it from an earlier one on.
+pub part_reaches : (segments : List Segment) (first last : SegmentPlace) (to : ℕ) → HaveLens segments → IsPlaceIn segments last → first.index ≤ last.index
+    → ((segment : Segment) → slice_get segments last.index ≡ Some segment → to ≤ last.begin + segment.len)
+    → to ≤ length (text_of (take first.index segments)) + length (text_of (take (last.index + 1 - first.index) (drop first.index segments)))
+part_reaches segments first last to lens at order reach =
+    elim ((slice_get_cases segments last.index).1) [
+      | inl found ↦
+          let end = begin_after segments last.index found.0 lens found.2 in
+          let parts = ap length (text_of-between segments first.index (last.index + 1) (omega (arith, order))) in
+          omega (arith, end, parts, at.begin, reach found.0 found.2, length-append (text_of (take first.index segments)) (text_of (take (last.index + 1 - first.index) (drop first.index segments))))
+      | inr past ↦ absurd (omega (arith, past.0, at.inside))
+    ]

@@ -114,7 +114,11 @@ impl<'a> Lexemes<'a> {
         requires { AreBounded begin segments.now }
         ensures { result ≡ inner.lexemes_from begin at segments.now }
     {
-        Lexemes { segments, begin, at }
+        Lexemes {
+            segments,
+            begin,
+            at,
+        }
     }
 
     /// Returns the next lexeme, or `None` after the last one.

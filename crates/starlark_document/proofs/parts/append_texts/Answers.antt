@@ -1,7 +1,7 @@
-use Rattle.std.proofs.Common.{◌≡◌, ◌++◌, List, ℕ, ap, arith, refl, sym, ◌∙◌, string_bytes, append_assoc, take}
+use Rattle.std.proofs.Common.{◌++◌, List, ℕ, ap, arith, refl, sym, ◌∙◌, string_bytes, append_assoc, take}
 use Rattle.std.proofs.lemmas.Option.{slice_get_read}
 use Rattle.std.proofs.lemmas.Slice.{pushed}
-use Rattle.starlark_document.specs.Inner.Segments.{text_in, text_of}
+use Rattle.starlark_document.specs.Inner.Segments.{text_of}
 use Rattle.starlark_document.specs.declared.segments.Content.{Content}
 use Rattle.starlark_document.proofs.Places.{text_of-more}
 use Rattle.starlark_document.proofs.parts.append_texts.Goals as goal

@@ -1,7 +1,7 @@
-use Rattle.std.proofs.Common.{◌≡◌, List, ap, subst, sym, ◌∙◌}
+use Rattle.std.proofs.Common.{List, ap, subst, sym, ◌∙◌}
 use Rattle.starlark_document.proofs.Found.{bounded_laid, faults_laid}
 use Rattle.starlark_document.specs.Documents.{faults_of}
-use Rattle.starlark_document.specs.Inner.Segments.{AreBounded, text_of, faults_along}
+use Rattle.starlark_document.specs.Inner.Segments.{AreBounded, faults_along}
 use Rattle.starlark_document.specs.declared.segments.Segment.{Segment}
 use Rattle.starlark_document.proofs.document.Document.faults.Goals as goal
 

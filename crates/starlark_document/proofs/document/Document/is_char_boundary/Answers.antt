@@ -23,19 +23,18 @@ returns c =
     let is = slice_get_read segments _ place.index segment refl at.inside c.index.ensures in
     let there = subst (λ (xs : List Segment). slice_get xs place.index ≡ Some segment) (sym c.deref.ensures.value) is in
     let whole = text_of-at segments place.index segment is in
-    let text = c.as_str-text.ensures.value ∙ ap (λ (x : Content). string_bytes x.text) c.deref-2.ensures in
-    (
-        λ yes.
-            let cut = subst (λ (n : ℕ). IsCharBoundary (text_in segment) (c.args.at - n)) at.begin (subst (λ (xs : List ℕ). IsCharBoundary xs (c.args.at - place.begin)) text (c.is_char_boundary.ensures.test.0 yes)) in
-            let out = IsCharBoundary-of_part (text_of (take place.index segments)) (text_in segment) (text_of (drop (place.index + 1) segments)) c.args.at
-                (IsUtf8-text_of (drop (place.index + 1) segments)) (omega (arith, at.begin, c.segment_at-place.ensures.before)) cut in
-            subst (λ (xs : List ℕ). IsCharBoundary xs c.args.at) (sym whole ∙ c.self.view_is) out,
-        λ cut.
-            let inside = subst (λ (xs : List ℕ). IsCharBoundary xs c.args.at) (sym c.self.view_is) cut in
-            let parts = subst (λ (xs : List ℕ). IsCharBoundary xs c.args.at) whole inside in
-            let reach = c.segment_at-place.ensures.reach (subst (λ (xs : List Segment). c.args.at ≤ length (text_of xs)) (sym c.deref.ensures.value) inside.0) segment there in
-            let own = IsCharBoundary-in_part (text_of (take place.index segments)) (text_in segment) (text_of (drop (place.index + 1) segments)) c.args.at
-                (omega (arith, at.begin, c.segment_at-place.ensures.before)) (omega (arith, at.begin, reach, len_at segments place.index segment lens is)) parts in
-            c.is_char_boundary.ensures.test.1 (subst (λ (xs : List ℕ). IsCharBoundary xs (c.args.at - place.begin)) (sym text)
-                (subst (λ (n : ℕ). IsCharBoundary (text_in segment) (c.args.at - n)) (sym at.begin) own))
+    let text = c.as_str-text.ensures.value ∙ ap (λ (x : Content). string_bytes x.text) c.deref-2.ensures in (
+      λ yes.
+          let cut = subst (λ (n : ℕ). IsCharBoundary (text_in segment) (c.args.at - n)) at.begin (subst (λ (xs : List ℕ). IsCharBoundary xs (c.args.at - place.begin)) text (c.is_char_boundary.ensures.test.0 yes)) in
+          let out = IsCharBoundary-of_part (text_of (take place.index segments)) (text_in segment) (text_of (drop (place.index + 1) segments)) c.args.at
+          (IsUtf8-text_of (drop (place.index + 1) segments)) (omega (arith, at.begin, c.segment_at-place.ensures.before)) cut in
+          subst (λ (xs : List ℕ). IsCharBoundary xs c.args.at) (sym whole ∙ c.self.view_is) out,
+      λ cut.
+          let inside = subst (λ (xs : List ℕ). IsCharBoundary xs c.args.at) (sym c.self.view_is) cut in
+          let parts = subst (λ (xs : List ℕ). IsCharBoundary xs c.args.at) whole inside in
+          let reach = c.segment_at-place.ensures.reach (subst (λ (xs : List Segment). c.args.at ≤ length (text_of xs)) (sym c.deref.ensures.value) inside.0) segment there in
+          let own = IsCharBoundary-in_part (text_of (take place.index segments)) (text_in segment) (text_of (drop (place.index + 1) segments)) c.args.at
+          (omega (arith, at.begin, c.segment_at-place.ensures.before)) (omega (arith, at.begin, reach, len_at segments place.index segment lens is)) parts in
+          c.is_char_boundary.ensures.test.1 (subst (λ (xs : List ℕ). IsCharBoundary xs (c.args.at - place.begin)) (sym text)
+          (subst (λ (n : ℕ). IsCharBoundary (text_in segment) (c.args.at - n)) (sym at.begin) own)),
     )

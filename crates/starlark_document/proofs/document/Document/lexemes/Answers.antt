@@ -1,8 +1,8 @@
-use Rattle.std.proofs.Common.{◌≡◌, List, ap, subst, sym, ◌∙◌}
+use Rattle.std.proofs.Common.{List, ap, subst, sym, ◌∙◌}
 use Rattle.starlark_document.proofs.Found.{bounded_laid, lexemes_laid}
 use Rattle.starlark_document.proofs.Iterators.{lexemes_from-start}
 use Rattle.starlark_document.specs.Documents.{lexemes_of}
-use Rattle.starlark_document.specs.Inner.Segments.{AreBounded, text_of, lexemes_from}
+use Rattle.starlark_document.specs.Inner.Segments.{AreBounded, lexemes_from}
 use Rattle.starlark_document.specs.declared.segments.Segment.{Segment}
 use Rattle.starlark_document.proofs.document.Document.lexemes.Goals as goal
 

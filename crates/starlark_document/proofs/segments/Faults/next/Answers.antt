@@ -20,13 +20,12 @@ returns-in-Some-clause-some c =
     let at = subst (λ (xs : List PlacedFault). slice_get xs it.at ≡ Some c.in-Some.fault.now) items there in
     let next = next_fault it.begin it.at it.segments.now segment c.in-Some.fault.now first c.loop-self.invariant.bounded.0 at in
     let start = sym (c.loop-self.invariant.same ∙ c.self.view_is) ∙ next.2 in
-    let kind : c.kind-kind.result.now ≡ c.in-Some.fault.now.exception.value = cc (c.kind-kind.ensures, c.error.ensures) in
-    (
-        moved it.begin next.0,
-        ap (λ (xs : List (Spanned Fault)). slice_get xs 0) start,
-        ap (λ (n : ℕ). it.begin + n) next.1.begin,
-        (next.1.kind.0, next.1.kind.1, kind ∙ next.1.kind.2),
-        ap (λ (n : ℕ). it.begin + n) next.1.end
+    let kind : c.kind-kind.result.now ≡ c.in-Some.fault.now.exception.value = cc (c.kind-kind.ensures, c.error.ensures) in (
+      moved it.begin next.0,
+      ap (λ (xs : List (Spanned Fault)). slice_get xs 0) start,
+      ap (λ (n : ℕ). it.begin + n) next.1.begin,
+      (next.1.kind.0, next.1.kind.1, kind ∙ next.1.kind.2),
+      ap (λ (n : ℕ). it.begin + n) next.1.end,
     )
 
 pub returns-in-Some-clause-after : goal.returns-in-Some-clause-after
