@@ -1,7 +1,8 @@
 -- What is found in the first segment of a text.
 use Rattle.std.proofs.Common.{◌≡◌, ℕ, zero, suc, ◌<◌, ◌≤◌, Bool, true, false, List, [], ◌∷◌, ◌++◌, map, take, drop, length, refl, ap, sym, subst, ◌∙◌, Some, None, append_assoc, append-nil, arith, length-drop}
-use Rattle.std.specs.Prelude.{Result, slice_get}
+use Rattle.std.specs.Prelude.{◌==◌, Result, slice_get}
 use Rattle.std.specs.List.{AllByRecursion}
+use Rattle.std.proofs.lemmas.Bool.{eqb-true}
 use Rattle.std.proofs.lemmas.List.{length-take-le, take_all}
 use Rattle.starlark_base.specs.Diagnostics.{Diagnosed}
 use Rattle.starlark_base.specs.Sources.{SourceFile}
@@ -47,16 +48,24 @@ plain_some (b ∷ bs) plain = omega arith
 plain_below : (text : Text) (at : ℕ) → begins_plainly (drop at text) ≡ true → at < length text
 plain_below text at plain = omega (arith, length-drop at text, plain_some (drop at text) plain)
 
+pub zero_of : (n : ℕ) → true ≡ (n == 0) → n ≡ 0
+zero_of n e = eqb-true n 0 (sym e)
+
 -- an empty text is closed
-pub empty_closed : is_closed [] ≡ true
+pub empty_closed : (text : Text) → length text ≡ 0 → is_closed text ≡ true
 unfolding is_closed is_closed_from
-empty_closed = refl
+empty_closed [] e = refl
+empty_closed (b ∷ bs) e = absurd (omega (arith, e))
 
 -- a text that ends with a newline of some bytes is closed
-pub line_closed : (text : Text) (front : Front) → IsFront text (all_items text) front → 0 < length text → front.line_end ≡ length text → is_closed text ≡ true
-line_closed text front is some end =
-    let ends = is.line_end (omega (arith, some, end)) in
-    items_close text ends.front ends.newline ends.more ends.items ends.is_line_end (ends.end ∙ end)
+pub line_closed : (text : Text) (front : Front) → IsFront text (all_items text) front → front.line_end ≡ length text → is_closed text ≡ true
+line_closed text front is end = by_length (length text) refl
+  where
+    by_length : (n : ℕ) → length text ≡ n → is_closed text ≡ true
+    by_length zero e = empty_closed text e
+    by_length (suc n) e =
+        let ends = is.line_end (omega (arith, e, end)) in
+        items_close text ends.front ends.newline ends.more ends.items ends.is_line_end (ends.end ∙ end)
 
 -- `Dedent`s are no faults
 no_faults : (dedents : List LexerItem) → AllByRecursion (λ item. is_dedent_item item ≡ true) dedents → refused_of dedents ≡ []
@@ -83,11 +92,11 @@ whole_last text front segment is same len lexemes faults = record {
 }
 
 -- the segment of a whole text that others follow
-pub whole_open : (text : Text) (front open : Front) (segment : Segment) → IsFront text (all_items text) front → is_closed text ≡ true
-    → map lexeme_view open.lexemes.items ≡ without_newline (map lexeme_view front.lexemes.items) → open.faults ≡ front.faults
-    → text_in segment ≡ text → segment.len ≡ length text → segment.content.value.lexemes ≡ open.lexemes → segment.content.value.faults ≡ open.faults
+pub whole_open : (text : Text) (front rest : Front) (segment : Segment) → IsFront text (all_items text) front → is_closed text ≡ true
+    → map lexeme_view rest.lexemes.items ≡ without_newline (map lexeme_view front.lexemes.items) → rest.faults ≡ front.faults
+    → text_in segment ≡ text → segment.len ≡ length text → segment.content.value.lexemes ≡ rest.lexemes → segment.content.value.faults ≡ rest.faults
     → IsFirstSegment text false segment
-whole_open text front open segment is closed taken kept same len lexemes faults = record {
+whole_open text front rest segment is closed taken kept same len lexemes faults = record {
   within = omega (arith, len);
   text = same ∙ sym (take_all segment.len text (omega (arith, len)));
   len = len ∙ sym (ap length same);
@@ -113,19 +122,22 @@ cut_first text is_last items item more front segment all is is_cut other same le
     let ends = is.cut is_cut in
     let below = plain_below text front.line_end ends.plain in
     let split : all_items text ≡ ends.front ++ (Given ends.newline ∷ (ends.dedents ++ (item ∷ more))) = all ∙ ap (λ xs. xs ++ (item ∷ more)) ends.items ∙ append_assoc ends.front (Given ends.newline ∷ ends.dedents) (item ∷ more) in
-    let found = rw ends.end at (items_cut text ends.front ends.newline ends.dedents (item ∷ more) split ends.is_line_end ends.are_dedents other (rw ends.end ends.plain)) in
+    let found = items_cut text ends.front ends.newline ends.dedents (item ∷ more) split ends.is_line_end ends.are_dedents other (subst (λ n. begins_plainly (drop n text) ≡ true) (sym ends.end) ends.plain) in
+    let closed : is_closed (take front.line_end text) ≡ true = subst (λ n. is_closed (take n text) ≡ true) ends.end found.0 in
+    let given : map shown_lexeme (without_last_newline (recovered (take front.line_end text)).lexemes) ≡ given_of (ends.front ++ (Given ends.newline ∷ ends.dedents)) =
+      subst (λ n. map shown_lexeme (without_last_newline (recovered (take n text)).lexemes) ≡ given_of (ends.front ++ (Given ends.newline ∷ ends.dedents))) ends.end found.1 in
     let len_in : segment.len ≡ length (text_in segment) = len ∙ sym (length-take-le front.line_end text is.within) ∙ sym (ap length same) in
     let refused : (recovered (take front.line_end text)).faults ≡ refused_of items =
-      found.1.1 ∙ sym (ap refused_of ends.items ∙ refused_both ends.front (Given ends.newline ∷ ends.dedents) ∙ ap (λ fs. refused_of ends.front ++ fs) (no_faults ends.dedents ends.are_dedents) ∙ append-nil (refused_of ends.front)) in
+      subst (λ n. (recovered (take n text)).faults ≡ refused_of ends.front) ends.end found.2 ∙ sym (ap refused_of ends.items ∙ refused_both ends.front (Given ends.newline ∷ ends.dedents) ∙ ap (λ fs. refused_of ends.front ++ fs) (no_faults ends.dedents ends.are_dedents) ∙ append-nil (refused_of ends.front)) in
     record {
       within = omega (arith, len, is.within);
       text = rw len same;
       len = len_in;
       some = λ l. omega (arith, len, ends.end, ends.is_line_end.1);
       cut = λ l. (record {
-        is_closed = rw same found.0;
+        is_closed = rw same closed;
         lexed = record {
-          lexemes = rw (same, lexemes) (is.lexemes ∙ ap given_of ends.items ∙ sym found.1.0);
+          lexemes = rw (same, lexemes) (is.lexemes ∙ ap given_of ends.items ∙ sym given);
           faults = rw (same, faults) (subst (λ fs. AreFaults fs front.faults.items) (sym refused) is.faults);
           len = len_in;
         };

@@ -1,0 +1,15 @@
+use Rattle.std.proofs.Common.{◌≡◌, ◌++◌, List, length}
+use Rattle.starlark_document.specs.Inner.Fronts.{IsFront}
+use Rattle.starlark_recovery.specs.RecoveringLexer.{all_items}
+use Rattle.starlark_token.specs.TextItems.{LexerItem}
+use Rattle.starlark_document.proofs.lexing.lex_segment.Given as goal
+
+-- the items of the text are those of the front, and those that are left
+abbrev pub invariant-loop-item : goal.invariant-loop-item
+invariant-loop-item l = record {
+  source : l.lexer.text ≡ l.text;
+  found : (items : List LexerItem) × (all_items l.text ≡ items ++ l.lexer.left) × IsFront l.text items l.front;
+}
+
+abbrev pub decreases-loop-item : goal.decreases-loop-item
+decreases-loop-item l = length l.lexer.left
