@@ -1,8 +1,8 @@
 -- Parts of a document that are lexed anew, and put in their place.
-use Rattle.std.proofs.Common.{◌≡◌, ◌≤◌, ◌<◌, ◌+◌, ◌-◌, ◌^◌, ℕ, zero, suc, Some, inl, inr, Bool, true, false, List, [], ◌∷◌, ◌++◌, ◌∙◌, sym, ap, refl, subst, arith, length, take, drop, get_or, append_assoc, append-nil, take-append-drop, length-append, length-take, length-drop}
-use Rattle.std.specs.Prelude.{◌⊎◌, nat_eq, string_bytes}
+use Rattle.std.proofs.Common.{◌≡◌, ◌≤◌, ◌<◌, ◌+◌, ◌-◌, ◌^◌, ℕ, zero, suc, Option, Some, None, inl, inr, Bool, true, false, List, [], ◌∷◌, ◌++◌, ◌∙◌, sym, ap, refl, subst, arith, length, take, drop, get_or, append_assoc, append-nil, take-append-drop, length-append, length-take, length-drop}
+use Rattle.std.specs.Prelude.{◌⊎◌, IsSome, nat_eq, string_bytes}
 use Rattle.std.specs.Str.{IsCharBoundary, IsUtf8}
-use Rattle.std.proofs.lemmas.Str.{IsCharBoundary-from_take, IsUtf8-append}
+use Rattle.std.proofs.lemmas.Str.{IsCharBoundary-from_take, IsUtf8-append, IsUtf8-had, IsUtf8-nil}
 use Rattle.std.proofs.lemmas.List.{drop-append-le, drop-drop, drop_all, get_or-append_right, get_or_append_left, take-append-le}
 use Rattle.std.proofs.lemmas.Option.{slice_get_read}
 use Rattle.std.specs.List.{slice_get, slice_range}
@@ -26,8 +26,8 @@ plain_append [] more plain = cc
 plain_append (b ∷ bs) more plain = plain
 
 pub utf8_texts : (xs : List Segment) → IsUtf8 (text_of xs)
-utf8_texts [] = ?
-utf8_texts (x ∷ xs) = IsUtf8-append (text_in x) (text_of xs) x.content.value.text.ok (utf8_texts xs)
+utf8_texts [] = IsUtf8-nil
+utf8_texts (x ∷ xs) = IsUtf8-append (text_in x) (text_of xs) (IsUtf8-had (text_in x) x.content.value.text.ok) (utf8_texts xs)
 
 pub taken : (segments : List Segment) (from to : ℕ) → from ≤ to → text_of (drop from segments) ≡ text_of (slice_range segments from to) ++ text_of (drop to segments)
 taken segments from to order =
@@ -318,7 +318,7 @@ module _ (segments : List Segment) (part : Part) (text : Text) (end len read : �
       by_last false e at = absurd (omega (arith, inner e))
 
 -- segments after the part are taken in
-pub lexing_more : (segments : List Segment) (part : Part) (text more : Text) (end next len read : ℕ) (done : List Segment) → IsLexing segments part text end len read done → (read_more : ℕ) → read ≤ read_more
+pub lexing_more : (segments : List Segment) (part : Part) (text more : Text) (end next len read : ℕ) (done : List Segment) → IsLexing segments part text end len read done → (read_more : ℕ) → len ≤ read_more
     → end ≤ next → next ≤ length segments → more ≡ text ++ text_of (slice_range segments end next) → IsLexing segments part more next len read_more done
 lexing_more segments part text more end next len read done is read_more least after within is_more = record {
   order = omega (arith, is.order);
@@ -329,7 +329,7 @@ lexing_more segments part text more end next len read done is read_more least af
   lens = is.lens;
   opened = is.opened;
   plain = plain_of is.plain;
-  least = omega (arith, is.least);
+  least = least;
 }
   where
     plain_of : ((done ≡ []) × (part.first.index ≡ 0)) ⊎ (begins_plainly is.rest ≡ true) → ((done ≡ []) × (part.first.index ≡ 0)) ⊎ (begins_plainly (is.rest ++ text_of (slice_range segments end next)) ≡ true)
@@ -344,3 +344,10 @@ pub taking_less : (segments : List Segment) (text more : Text) (end next len : �
     → left_to_lex segments more next len < left_to_lex segments text end len
 taking_less segments text more end next len inside after within is_more =
     omega (arith, ap length is_more, length-append text (text_of (slice_range segments end next)), ap length (taken segments end next (omega arith)), length-append (text_of (slice_range segments end next)) (text_of (drop next segments)))
+
+-- where the last segment would have been found and none is, it isn't the last
+pub not_last : {X : Type 0} (is_last : Bool) (found : Option X) → (is_last ≡ true → IsSome found) → found ≡ None → is_last ≡ false
+not_last {X} true found some none =
+    let e : IsSome {T = X} None = subst (λ (o : Option X). IsSome o) none (some refl) in
+    cc
+not_last false found some none = refl
