@@ -1,16 +1,16 @@
 -- What is found in the first segment of a text.
-use Rattle.std.proofs.Common.{◌≡◌, ℕ, zero, suc, ◌<◌, ◌≤◌, Bool, true, false, List, [], ◌∷◌, ◌++◌, map, take, drop, length, refl, ap, sym, subst, ◌∙◌, Some, None, append_assoc, append-nil, arith, length-drop}
+use Rattle.std.proofs.Common.{◌≡◌, ℕ, zero, suc, ◌<◌, Bool, true, false, List, [], ◌∷◌, ◌++◌, map, take, drop, length, refl, ap, sym, subst, ◌∙◌, Some, None, append_assoc, append-nil, arith, length-drop}
 use Rattle.std.specs.Prelude.{◌==◌, Result, slice_get}
 use Rattle.std.specs.List.{AllByRecursion}
 use Rattle.std.proofs.lemmas.Bool.{eqb-true}
 use Rattle.std.proofs.lemmas.List.{length-take-le, take_all}
 use Rattle.starlark_base.specs.Diagnostics.{Diagnosed}
 use Rattle.starlark_base.specs.Sources.{SourceFile}
-use Rattle.starlark_document.specs.Inner.Fronts.{EndsLine, EndsPlainly, IsFirstSegment, IsFront, given_of, is_dedent_item, refused_of, without_newline}
-use Rattle.starlark_document.specs.Inner.Segments.{AreFaults, IsLexedAs, IsOpen, IsWhole, text_in}
+use Rattle.starlark_document.specs.Inner.Fronts.{IsFirstSegment, IsFront, given_of, is_dedent_item, refused_of, without_newline}
+use Rattle.starlark_document.specs.Inner.Segments.{AreFaults, text_in}
 use Rattle.starlark_document.specs.declared.fronts.Front.{Front}
 use Rattle.starlark_document.specs.declared.segments.Segment.{Segment}
-use Rattle.starlark_document.proofs.FrontItems.{given_both, refused_both}
+use Rattle.starlark_document.proofs.FrontItems.{refused_both}
 use Rattle.starlark_document.proofs.Laws.{items_are_found, items_close, items_cut}
 use Rattle.starlark_document.proofs.Newlines.{without_shown}
 use Rattle.starlark_grammar.specs.Words.{Text}
@@ -48,6 +48,7 @@ plain_some (b ∷ bs) plain = omega arith
 plain_below : (text : Text) (at : ℕ) → begins_plainly (drop at text) ≡ true → at < length text
 plain_below text at plain = omega (arith, length-drop at text, plain_some (drop at text) plain)
 
+-- a length that was tested
 pub zero_of : (n : ℕ) → true ≡ (n == 0) → n ≡ 0
 zero_of n e = eqb-true n 0 (sym e)
 
@@ -125,23 +126,26 @@ cut_first text is_last items item more front segment all is is_cut other same le
     let found = items_cut text ends.front ends.newline ends.dedents (item ∷ more) split ends.is_line_end ends.are_dedents other (subst (λ n. begins_plainly (drop n text) ≡ true) (sym ends.end) ends.plain) in
     let closed : is_closed (take front.line_end text) ≡ true = subst (λ n. is_closed (take n text) ≡ true) ends.end found.0 in
     let given : map shown_lexeme (without_last_newline (recovered (take front.line_end text)).lexemes) ≡ given_of (ends.front ++ (Given ends.newline ∷ ends.dedents)) =
-      subst (λ n. map shown_lexeme (without_last_newline (recovered (take n text)).lexemes) ≡ given_of (ends.front ++ (Given ends.newline ∷ ends.dedents))) ends.end found.1 in
+    subst (λ n. map shown_lexeme (without_last_newline (recovered (take n text)).lexemes) ≡ given_of (ends.front ++ (Given ends.newline ∷ ends.dedents))) ends.end found.1 in
     let len_in : segment.len ≡ length (text_in segment) = len ∙ sym (length-take-le front.line_end text is.within) ∙ sym (ap length same) in
     let refused : (recovered (take front.line_end text)).faults ≡ refused_of items =
-      subst (λ n. (recovered (take n text)).faults ≡ refused_of ends.front) ends.end found.2 ∙ sym (ap refused_of ends.items ∙ refused_both ends.front (Given ends.newline ∷ ends.dedents) ∙ ap (λ fs. refused_of ends.front ++ fs) (no_faults ends.dedents ends.are_dedents) ∙ append-nil (refused_of ends.front)) in
+    subst (λ n. (recovered (take n text)).faults ≡ refused_of ends.front) ends.end found.2 ∙ sym (ap refused_of ends.items ∙ refused_both ends.front (Given ends.newline ∷ ends.dedents) ∙ ap (λ fs. refused_of ends.front ++ fs) (no_faults ends.dedents ends.are_dedents) ∙ append-nil (refused_of ends.front)) in
     record {
       within = omega (arith, len, is.within);
       text = rw len same;
       len = len_in;
       some = λ l. omega (arith, len, ends.end, ends.is_line_end.1);
-      cut = λ l. (record {
-        is_closed = rw same closed;
-        lexed = record {
-          lexemes = rw (same, lexemes) (is.lexemes ∙ ap given_of ends.items ∙ sym given);
-          faults = rw (same, faults) (subst (λ fs. AreFaults fs front.faults.items) (sym refused) is.faults);
-          len = len_in;
-        };
-      }, rw len ends.plain);
+      cut = λ l. (
+        record {
+          is_closed = rw same closed;
+          lexed = record {
+            lexemes = rw (same, lexemes) (is.lexemes ∙ ap given_of ends.items ∙ sym given);
+            faults = rw (same, faults) (subst (λ fs. AreFaults fs front.faults.items) (sym refused) is.faults);
+            len = len_in;
+          };
+        },
+        rw len ends.plain,
+      );
       last = λ e f. absurd (omega (arith, e, len, below));
       inner = λ e f. absurd (omega (arith, e, len, below));
     }

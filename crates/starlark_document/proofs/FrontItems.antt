@@ -1,11 +1,11 @@
 -- What a front of a text becomes with one item more.
-use Rattle.std.proofs.Common.{◌≡◌, ℕ, ◌<◌, ◌≤◌, true, false, List, [], ◌∷◌, ◌++◌, map, take, drop, length, refl, ap, sym, subst, ◌∙◌, Err, append_assoc, append-nil, arith}
+use Rattle.std.proofs.Common.{◌≡◌, ℕ, ◌<◌, ◌≤◌, true, List, [], ◌∷◌, ◌++◌, map, drop, length, refl, ap, sym, ◌∙◌, Err, append_assoc, append-nil}
 use Rattle.std.specs.List.{AllByRecursion}
 use Rattle.std.specs.Str.{IsCharBoundary}
 use Rattle.std.proofs.lemmas.List.{map-append}
 use Rattle.starlark_base.specs.Diagnostics.{Diagnosed}
 use Rattle.starlark_base.specs.Sources.{SourceFile}
-use Rattle.starlark_document.specs.Inner.Fronts.{EndsLine, EndsPlainly, IsFront, IsLineEnd, given_of, is_dedent_item, is_newline_view, refused_of}
+use Rattle.starlark_document.specs.Inner.Fronts.{EndsLine, EndsPlainly, IsFront, given_of, is_dedent_item, is_newline_view, refused_of}
 use Rattle.starlark_document.specs.Inner.Segments.{AreFaults, IsPlaced}
 use Rattle.starlark_document.specs.declared.fronts.Front.{Front}
 use Rattle.starlark_document.specs.declared.segments.PlacedFault.{PlacedFault}

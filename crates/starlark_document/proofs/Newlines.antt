@@ -7,7 +7,7 @@ use Rattle.starlark_grammar.specs.Cuts.{is_newline}
 use Rattle.starlark_grammar.specs.Tokens as grammar
 use Rattle.starlark_recovery.specs.Joining.{has_newline, without_last_newline}
 use Rattle.starlark_token.specs.Lexemes.{lexeme_view, shown, shown_lexeme}
-use Rattle.starlark_token.specs.TokenViews.{TokenView, Whole, token_view}
+use Rattle.starlark_token.specs.TokenViews.{Whole, token_view}
 use Rattle.starlark_token.specs.declared.tokens.Token.{Token}
 
 or_false : (a b : Bool) → a || b ≡ false → (a ≡ false) × (b ≡ false)
@@ -94,6 +94,7 @@ taken_out xs ys at is out = rw (sym is, out) (map-append lexeme_view (take at xs
     map_take zero zs = refl
     map_take (suc n) [] = refl
     map_take (suc n) (z ∷ zs) = ap (λ ls. lexeme_view z ∷ ls) (map_take n zs)
+
     map_drop : (n : ℕ) (zs : List (ℕ × Token × ℕ)) → map lexeme_view (drop n zs) ≡ drop n (map lexeme_view zs)
     map_drop zero zs = refl
     map_drop (suc n) [] = refl

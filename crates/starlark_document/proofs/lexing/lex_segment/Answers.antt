@@ -20,7 +20,7 @@ loop-item-preserved c =
     let after : c.next.new.self.left ≡ drop 1 old.left = ap (λ (r : RecoveringView). r.left) c.in-Some.ensures.after ∙ c.in_ok-take.ensures.going old.left in
     let source : c.next.new.self.text ≡ c.args.text.now = ap (λ (r : RecoveringView). r.text) c.in-Some.ensures.after ∙ inv.source in
     let whole : all_items c.args.text.now ≡ found.0 ++ (next.next ∷ []) ++ c.next.new.self.left =
-      found.1 ∙ ap (λ xs. found.0 ++ xs) (next.is ∙ ap (λ xs. next.next ∷ xs) (sym after)) ∙ sym (append_assoc found.0 (next.next ∷ []) c.next.new.self.left) in
+    found.1 ∙ ap (λ xs. found.0 ++ xs) (next.is ∙ ap (λ xs. next.next ∷ xs) (sym after)) ∙ sym (append_assoc found.0 (next.next ∷ []) c.next.new.self.left) in
     record {
       source = source;
       found = (found.0 ++ (next.next ∷ []), whole, c.in_ok-take.ensures.front old.code_map next.next found.0 next.answers found.2);
@@ -33,7 +33,7 @@ returns-then-branch-clause-segment c =
     let next = next_item old.code_map old.left c.in-Some.item c.in-Some.ensures.item in
     let cut = c.in_ok-cut_segment.ensures in
     cut_first c.args.text.now c.args.is_last found.0 next.next (drop 1 old.left) c.loop-item.front _
-      (found.1 ∙ ap (λ xs. found.0 ++ xs) next.is) found.2
-      (c.in_ok-ends_before.ensures.cut c.if-branch.true)
-      (c.in_ok-ends_before.ensures.ends c.if-branch.true old.code_map next.next next.answers)
-      cut.text cut.len cut.lexemes cut.faults
+    (found.1 ∙ ap (λ xs. found.0 ++ xs) next.is) found.2
+    (c.in_ok-ends_before.ensures.cut c.if-branch.true)
+    (c.in_ok-ends_before.ensures.ends c.if-branch.true old.code_map next.next next.answers)
+    cut.text cut.len cut.lexemes cut.faults

@@ -14,7 +14,7 @@ returns-then-is_empty-clause-segment c =
     let found = c.in_ok-segment-2.ensures in
     let text = c.args.text.now in
     let closed : is_closed text ≡ true = elim c.then-is_empty.branch [
-        then-is_empty-via-then-is_empty w ↦ empty_closed text (zero_of (length text) w.if-is_empty.ensures)
+      | then-is_empty-via-then-is_empty w ↦ empty_closed text (zero_of (length text) w.if-is_empty.ensures)
       | then-is_empty-via-else-is_empty+then-front-text w ↦ line_closed text c.args.front c.requires.front w.if-front-text.true
-      ] in
+    ] in
     rw c.if-is_last.false (whole_open text c.args.front c.without_closing.result _ c.requires.front closed c.without_closing.ensures.lexemes c.without_closing.ensures.faults found.text found.len found.lexemes found.faults)

@@ -1,4 +1,4 @@
-use Rattle.std.proofs.Common.{◌≡◌, refl}
+use Rattle.std.proofs.Common.{refl}
 use Rattle.starlark_token.specs.Lexemes.{lexeme_view}
 use Rattle.starlark_token.specs.TextItems.{Given}
 use Rattle.starlark_document.proofs.FrontItems.{front_exception}
@@ -10,5 +10,5 @@ take_lexeme-requires-clause-cut c = λ e. c.requires.cut e c.requires.answered.0
 pub returns-in_ok-push-in-Err-Error-clause-front : goal.returns-in_ok-push-in-Err-Error-clause-front
 returns-in_ok-push-in-Err-Error-clause-front c file next items answers is =
     front_exception c.args.text.now items c.args.self.now _ file next c.in-Err-Error.exception c.placed_fault.result is
-      (rw (c.in-Err-Error.is, c.in-Err-Error.field-0-is) at answers) (λ e. c.requires.cut e file next answers) c.placed_fault.ensures
-      refl c.in_ok-push-in-Err-Error.ensures.items refl refl
+    (rw (c.in-Err-Error.is, c.in-Err-Error.field-0-is) at answers) (λ e. c.requires.cut e file next answers) c.placed_fault.ensures
+    refl c.in_ok-push-in-Err-Error.ensures.items refl refl
