@@ -1,6 +1,7 @@
 -- Segments that are laid one after another, and their texts.
 use Rattle.std.proofs.Common.{◌≡◌, ◌≤◌, ◌<◌, ◌+◌, ℕ, zero, suc, Bool, true, false, List, [], ◌∷◌, ◌++◌, ◌∙◌, sym, ap, refl, subst, arith, add-one, length, take, drop, get_or, append_assoc, append-nil, take-append-drop, length-append, length-take, length-drop}
-use Rattle.std.specs.Prelude.{◌⊎◌, ⊤}
+use Rattle.std.specs.Prelude.{◌⊎◌, ⊤, nat_eq}
+use Rattle.std.proofs.lemmas.Bool.{eqb-true, false_from_ne_true}
 use Rattle.std.proofs.lemmas.List.{drop_more, length-take-le}
 use Rattle.std.proofs.Math.Seq.{take-suc}
 use Rattle.std.specs.List.{AllByRecursion}
@@ -86,10 +87,18 @@ lens_laid f (x ∷ (y ∷ xs)) laid = (laid.1.lexed.len, lens_laid false (y ∷ 
 
 -- Segments that are laid, cut at an index
 
-pub first_taken : (xs : List Segment) (n : ℕ) → n < length xs → (m : ℕ) → (n ≡ suc m) → is_first_after true (take n xs) ≡ false
-first_taken [] n less m is = absurd (omega arith)
-first_taken (x ∷ xs) zero less m is = absurd (omega arith)
-first_taken (x ∷ xs) (suc n) less m is = refl
+pub laid_cut : (f : Bool) (xs ys : List Segment) → AreLaid f (xs ++ ys) → 0 < length ys → AreOpen f xs × AreLaid (is_first_after f xs) ys
+laid_cut f xs [] laid some = absurd (omega arith)
+laid_cut f xs (y ∷ ys) laid some = laid_parts f xs y ys laid
+
+pub laid_around : (xs : List Segment) (n : ℕ) → AreLaid true xs → n < length xs → AreOpen true (take n xs) × AreLaid (is_first_after true (take n xs)) (drop n xs)
+laid_around xs n laid less = laid_cut true (take n xs) (drop n xs) (subst (AreLaid true) (sym (take-append-drop n xs)) laid) (omega (arith, length-drop n xs))
+
+-- only the segment of index 0 is the first
+pub first_taken : (xs : List Segment) (n : ℕ) → n < length xs → is_first_after true (take n xs) ≡ nat_eq n 0
+first_taken xs zero less = refl
+first_taken [] (suc n) less = absurd (omega arith)
+first_taken (x ∷ xs) (suc n) less = sym (false_from_ne_true (nat_eq (suc n) 0) (λ e. let zero_is = eqb-true (suc n) 0 e in omega arith))
 
 pub laid_at : (xs : List Segment) (n : ℕ) (x : Segment) → AreLaid true xs → n < length xs → x ≡ get_or xs n x
     → AreOpen true (take n xs) × AreLaid (is_first_after true (take n xs)) (x ∷ drop (n + 1) xs)

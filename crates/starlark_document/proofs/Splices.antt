@@ -5,10 +5,20 @@ use Rattle.std.specs.Str.{IsCharBoundary, IsUtf8}
 use Rattle.std.proofs.lemmas.Str.{IsCharBoundary-from_take, IsUtf8-append, IsUtf8-had, IsUtf8-nil}
 use Rattle.std.proofs.lemmas.List.{drop-append-le, drop-drop, drop_all, get_or-append_right, get_or_append_left, take-append-le}
 use Rattle.std.proofs.lemmas.Option.{slice_get_read}
-use Rattle.std.specs.List.{slice_get, slice_range}
+use Rattle.std.proofs.lemmas.Bool.{eqb-true, false_from_ne_true}
+use Rattle.std.proofs.lemmas.Iterator.{items_from_drains}
+use Rattle.std.proofs.lemmas.Iterator.Adapters.{YieldsList-from_vec}
+use Rattle.std.proofs.lemmas.List.{map-id}
+use Rattle.std.specs.Iterator.{Drains}
+use Rattle.std.specs.declared.vec.IntoIter.{IntoIter}
+use Rattle.std.specs.Vec.Iter.{into_iter_items, into_iter_len, into_iter_steps}
+use Rattle.std.specs.List.{slice_get, slice_range, splice}
 use Rattle.std.proofs.Math.Seq.{drop-append-add, drop-append_seam, take-append-add, take-append_seam}
-use Rattle.starlark_document.proofs.Laid.{follows_first, is_first_after, laid_append, laid_at, laid_head, len_at, open_append, take_one, text_append, text_at, text_split}
-use Rattle.starlark_document.specs.Documents.{IsRange, edited}
+use Rattle.starlark_document.proofs.Laid.{first_taken, follows_first, is_first_after, laid_append, laid_around, laid_at, laid_first, laid_head, len_at, open_append, take_one, text_append, text_at, text_split}
+use Rattle.starlark_document.proofs.Outside.{faults_outside, lexemes_outside}
+use Rattle.starlark_document.specs.Documents.{IsChange, IsRange, SameOutside, edited, faults_of, lexemes_of}
+use Rattle.starlark_document.specs.declared.document.Change.{Change}
+use Rattle.starlark_grammar.specs.Tokens as grammar
 use Rattle.starlark_document.specs.Inner.Fronts.{IsFirstSegment}
 use Rattle.starlark_document.specs.Inner.Parts.{IsLexedPart, IsPart, IsPlaceIn, IsReplaced}
 use Rattle.starlark_document.specs.Inner.Segments.{AreLaid, AreOpen, Follows, HaveLens, IsOpen, IsWhole, text_in, text_of}
@@ -351,3 +361,108 @@ not_last {X} true found some none =
     let e : IsSome {T = X} None = subst (λ (o : Option X). IsSome o) none (some refl) in
     cc
 not_last false found some none = refl
+
+-- What is put in the place of a part
+
+-- the elements that a `Vec` gives are its own
+pub drained : {Z : Type 0} (given : List Segment) (s : IntoIter Segment Z) (xs : List Segment) → into_iter_items s ≡ given → into_iter_len s ≡ length given → Drains (into_iter_steps {X = Segment} {Z = Z}) s xs → xs ≡ given
+drained given s xs is len drains = sym (map-id xs) ∙ items_from_drains xs (drains.1.0, drains.1.1, λ _. (drains.0, drains.1.2)) (YieldsList-from_vec given is len)
+
+outside_at : {A : Type 0} (b b' o o' n n' : ℕ) (xs xs' ys ys' : List (grammar.Spanned A)) → b ≡ b' → o ≡ o' → n ≡ n' → xs ≡ xs' → ys ≡ ys' → SameOutside b o n xs ys → SameOutside b' o' n' xs' ys'
+outside_at {A} b b' o o' n n' xs xs' ys ys' e f g h k same =
+    subst (λ (z : ℕ). SameOutside z o' n' xs' ys') e
+    (subst (λ (z : ℕ). SameOutside b z n' xs' ys') f
+    (subst (λ (z : ℕ). SameOutside b o z xs' ys') g
+    (subst (λ (zs : List (grammar.Spanned A)). SameOutside b o n zs ys') h
+    (subst (λ (zs : List (grammar.Spanned A)). SameOutside b o n xs zs) k same))))
+
+module _ (segments : List Segment) (new : Text) (part : Part) (lexed : LexedPart) (parts : IsPart segments new part) (is : IsLexedPart segments part lexed) where
+  pub replaced_text : text_of (splice segments part.first.index lexed.end lexed.segments.items) ≡ new
+  replaced_text =
+      text_append (take part.first.index segments) (lexed.segments.items ++ drop lexed.end segments)
+      ∙ ap (λ (t : Text). text_of (take part.first.index segments) ++ t) (text_append lexed.segments.items (drop lexed.end segments) ∙ sym is.text)
+      ∙ sym parts.replaced.same
+
+  old_parts : segments ≡ take part.first.index segments ++ (slice_range segments part.first.index lexed.end ++ drop lexed.end segments)
+  old_parts =
+      let e : part.first.index + (lexed.end - part.first.index) ≡ lexed.end = omega (arith, parts.replaced.order, is.order) in
+      sym (take-append-drop part.first.index segments)
+      ∙ ap (λ (xs : List Segment). take part.first.index segments ++ xs)
+        (sym (take-append-drop (lexed.end - part.first.index) (drop part.first.index segments))
+        ∙ ap (λ (xs : List Segment). slice_range segments part.first.index lexed.end ++ xs) (drop-drop (lexed.end - part.first.index) part.first.index segments ∙ ap (λ (n : ℕ). drop n segments) e))
+
+  module _ (laid : AreLaid true segments) (order : part.first.index < lexed.end) where
+    fresh_laid : AreLaid (nat_eq part.first.index 0) (lexed.segments.items ++ drop lexed.end segments)
+    fresh_laid = by (drop lexed.end segments) refl
+      where
+        by : (ys : List Segment) → drop lexed.end segments ≡ ys → AreLaid (nat_eq part.first.index 0) (lexed.segments.items ++ drop lexed.end segments)
+        by [] e =
+            let ends : lexed.end ≡ length segments = omega (arith, is.within, ap length e, length-drop lexed.end segments) in
+            subst (λ (xs : List Segment). AreLaid (nat_eq part.first.index 0) (lexed.segments.items ++ xs)) (sym e) (subst (AreLaid (nat_eq part.first.index 0)) (sym (append-nil lexed.segments.items)) (is.last ends))
+        by (y ∷ ys) e =
+            let less : lexed.end < length segments = omega (arith, ap length e, length-drop lexed.end segments) in
+            let later : nat_eq lexed.end 0 ≡ false = false_from_ne_true (nat_eq lexed.end 0) (λ t. let zero_end = eqb-true lexed.end 0 t in omega arith) in
+            let after : AreLaid false (drop lexed.end segments) = subst (λ (b : Bool). AreLaid b (drop lexed.end segments)) (first_taken segments lexed.end less ∙ later) (laid_around segments lexed.end laid less).1 in
+            laid_append (nat_eq part.first.index 0) lexed.segments.items (drop lexed.end segments) (is.inner less) (laid_first (is_first_after (nat_eq part.first.index 0) lexed.segments.items) (drop lexed.end segments) after)
+
+    pub replaced_laid : AreLaid true (splice segments part.first.index lexed.end lexed.segments.items)
+    replaced_laid =
+        let less : part.first.index < length segments = omega (arith, order, is.within) in
+        laid_append true (take part.first.index segments) (lexed.segments.items ++ drop lexed.end segments) (laid_around segments part.first.index laid less).0
+        (subst (λ (b : Bool). AreLaid b (lexed.segments.items ++ drop lexed.end segments)) (sym (first_taken segments part.first.index less)) fresh_laid)
+
+    old_len : length (text_of segments) ≡ part.first.begin + (length (text_of (slice_range segments part.first.index lexed.end)) + length (text_of (drop lexed.end segments)))
+    old_len =
+        let before = parts.replaced.begin in
+        ap (λ (xs : List Segment). length (text_of xs)) old_parts
+        ∙ ap length (text_append (take part.first.index segments) (slice_range segments part.first.index lexed.end ++ drop lexed.end segments) ∙ ap (λ (t : Text). text_of (take part.first.index segments) ++ t) (text_append (slice_range segments part.first.index lexed.end) (drop lexed.end segments)))
+        ∙ length-append (text_of (take part.first.index segments)) (text_of (slice_range segments part.first.index lexed.end) ++ text_of (drop lexed.end segments))
+        ∙ omega (arith, length-append (text_of (slice_range segments part.first.index lexed.end)) (text_of (drop lexed.end segments)))
+
+    new_len : length new ≡ part.first.begin + (lexed.len + length (text_of (drop lexed.end segments)))
+    new_len =
+        let before = parts.replaced.begin in
+        let fresh = is.len in
+        ap length (parts.replaced.same ∙ ap (λ (t : Text). text_of (take part.first.index segments) ++ t) is.text)
+        ∙ length-append (text_of (take part.first.index segments)) (text_of lexed.segments.items ++ text_of (drop lexed.end segments))
+        ∙ omega (arith, length-append (text_of lexed.segments.items) (text_of (drop lexed.end segments)))
+
+    pub new_end_fits : part.first.begin + lexed.len ≤ length new
+    new_end_fits = omega (arith, new_len)
+
+    pub old_end_fits : length new ≤ part.first.begin + lexed.len + length (text_of segments)
+    old_end_fits = omega (arith, new_len, old_len)
+
+    pub replaced_change : (items : List Segment) (change : Change) → items ≡ splice segments part.first.index lexed.end lexed.segments.items → change.begin ≡ part.first.begin → change.new_end ≡ part.first.begin + lexed.len
+        → change.old_end ≡ part.first.begin + lexed.len + length (text_of segments) - length new → change.lexed ≡ lexed.lexed → IsChange (text_of segments) (text_of items) change
+    replaced_change items change is_items begin new_end old_end read = record {
+      order = omega (arith, begin, new_end);
+      within = omega (arith, same_len, new_end, new_end_fits);
+      lengths = omega (arith, same_len, new_end, old_end, old_end_fits);
+      lexemes = outside_at _ _ _ _ _ _ _ _ _ _ begin_is old_is new_is (ap (λ (xs : List Segment). lexemes_of (text_of xs)) (sym old_parts)) (ap (λ (xs : List Segment). lexemes_of (text_of xs)) (sym is_items))
+          (lexemes_outside (take part.first.index segments) (slice_range segments part.first.index lexed.end) lexed.segments.items (drop lexed.end segments) old_laid replaced_laid);
+      faults = outside_at _ _ _ _ _ _ _ _ _ _ begin_is old_is new_is (ap (λ (xs : List Segment). faults_of (text_of xs)) (sym old_parts)) (ap (λ (xs : List Segment). faults_of (text_of xs)) (sym is_items))
+          (faults_outside (take part.first.index segments) (slice_range segments part.first.index lexed.end) lexed.segments.items (drop lexed.end segments) old_laid replaced_laid);
+      lexed = omega (arith, begin, new_end, read, is.least);
+    }
+      where
+        same_len : length (text_of items) ≡ length new
+        same_len = ap (λ (xs : List Segment). length (text_of xs)) is_items ∙ ap length replaced_text
+
+        old_laid : AreLaid true (take part.first.index segments ++ (slice_range segments part.first.index lexed.end ++ drop lexed.end segments))
+        old_laid = subst (AreLaid true) old_parts laid
+
+        begin_is : length (text_of (take part.first.index segments)) ≡ change.begin
+        begin_is = sym (begin ∙ parts.replaced.begin)
+
+        old_is : length (text_of (take part.first.index segments ++ slice_range segments part.first.index lexed.end)) ≡ change.old_end
+        old_is =
+            let before = parts.replaced.begin in
+            ap length (text_append (take part.first.index segments) (slice_range segments part.first.index lexed.end)) ∙ length-append (text_of (take part.first.index segments)) (text_of (slice_range segments part.first.index lexed.end))
+            ∙ omega (arith, old_end, old_len, new_len)
+
+        new_is : length (text_of (take part.first.index segments ++ lexed.segments.items)) ≡ change.new_end
+        new_is =
+            let before = parts.replaced.begin in
+            let fresh = is.len in
+            ap length (text_append (take part.first.index segments) lexed.segments.items) ∙ length-append (text_of (take part.first.index segments)) (text_of lexed.segments.items) ∙ omega (arith, new_end)
