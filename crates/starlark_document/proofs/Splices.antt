@@ -388,8 +388,8 @@ module _ (segments : List Segment) (new : Text) (part : Part) (lexed : LexedPart
       let e : part.first.index + (lexed.end - part.first.index) ≡ lexed.end = omega (arith, parts.replaced.order, is.order) in
       sym (take-append-drop part.first.index segments)
       ∙ ap (λ (xs : List Segment). take part.first.index segments ++ xs)
-        (sym (take-append-drop (lexed.end - part.first.index) (drop part.first.index segments))
-        ∙ ap (λ (xs : List Segment). slice_range segments part.first.index lexed.end ++ xs) (drop-drop (lexed.end - part.first.index) part.first.index segments ∙ ap (λ (n : ℕ). drop n segments) e))
+      (sym (take-append-drop (lexed.end - part.first.index) (drop part.first.index segments))
+      ∙ ap (λ (xs : List Segment). slice_range segments part.first.index lexed.end ++ xs) (drop-drop (lexed.end - part.first.index) part.first.index segments ∙ ap (λ (n : ℕ). drop n segments) e))
 
   module _ (laid : AreLaid true segments) (order : part.first.index < lexed.end) where
     fresh_laid : AreLaid (nat_eq part.first.index 0) (lexed.segments.items ++ drop lexed.end segments)

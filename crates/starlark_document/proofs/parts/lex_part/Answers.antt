@@ -33,7 +33,7 @@ returns-then-lexed-len c =
     let inside = lexing_within segments c.args.part text at.lexed.end at.lexed.len at.lexed.lexed at.lexed.segments.items is in
     let least : at.lexed.len + x.len ≤ c.saturating_add.result = omega (arith, c.saturating_add.ensures, is.least) in
     lexing_ends segments c.args.part text at.lexed.end at.lexed.len at.lexed.lexed at.lexed.segments.items is is_last x cut _ (λ e. eqb-true at.lexed.end (length segments) e) (λ e. let apart = eqb-false at.lexed.end (length segments) e in omega (arith, is.within))
-      c.in_ok-push-in-Some.ensures.items refl refl whole least
+    c.in_ok-push-in-Some.ensures.items refl refl whole least
 
 pub loop-lexed-preserved-else-lexed-len : goal.loop-lexed-preserved-else-lexed-len
 loop-lexed-preserved-else-lexed-len c =
