@@ -466,3 +466,8 @@ module _ (segments : List Segment) (new : Text) (part : Part) (lexed : LexedPart
             let before = parts.replaced.begin in
             let fresh = is.len in
             ap length (text_append (take part.first.index segments) lexed.segments.items) ∙ length-append (text_of (take part.first.index segments)) (text_of lexed.segments.items) ∙ omega (arith, new_end)
+
+pub edited_len : (text : Text) (from to : ℕ) (inserted : Text) → IsRange text from to → length (edited from to inserted text) ≡ length text - (to - from) + length inserted
+edited_len text from to inserted range =
+    let inside = range.2.0 in
+    length-append (take from text) (inserted ++ drop to text) ∙ omega (arith, range.0, length-take from text, length-append inserted (drop to text), length-drop to text)
