@@ -1,9 +1,7 @@
-use Rattle.std.proofs.Common.{◌≡◌, ◌≤◌, ◌<◌, ◌-◌, ◌+◌, ◌++◌, ◌∙◌, sym, ap, subst, arith, refl, ℕ, length, take, drop, List, true}
+use Rattle.std.proofs.Common.{◌≡◌, ◌<◌, ◌-◌, ◌+◌, ◌∙◌, sym, ap, subst, arith, refl, ℕ, length, List, true}
 use Rattle.std.specs.List.{splice}
-use Rattle.starlark_document.proofs.Splices.{drained, new_end_fits, old_end_fits, replaced_change, replaced_laid, replaced_text}
-use Rattle.starlark_document.specs.Inner.Parts.{IsLexedPart, IsPart}
+use Rattle.starlark_document.proofs.Splices.{drained, old_end_fits, replaced_change, replaced_laid, replaced_text}
 use Rattle.starlark_document.specs.Inner.Segments.{AreLaid, text_of}
-use Rattle.starlark_document.specs.declared.parts.Part.{Part}
 use Rattle.starlark_document.specs.declared.segments.Segment.{Segment}
 use Rattle.starlark_document.specs.declared.segments.SegmentPlace.{SegmentPlace}
 use Rattle.starlark_document.proofs.document.replace.Goals as goal
@@ -35,7 +33,7 @@ returns-clause-laid c =
     let index = ap (λ (place : SegmentPlace). place.index) at in
     let order : part.first.index < c.args.lexed.end = omega (arith, index, c.requires.order) in
     subst (λ (xs : List Segment). AreLaid true xs) (sym (is ∙ ap (λ (n : ℕ). splice c.args.segments.now.items n c.args.lexed.end c.args.lexed.segments.items) (sym index)))
-      (replaced_laid c.args.segments.now.items c.requires.part.0 part c.args.lexed c.requires.part.2 c.requires.part.4 c.requires.laid order)
+    (replaced_laid c.args.segments.now.items c.requires.part.0 part c.args.lexed c.requires.part.2 c.requires.part.4 c.requires.laid order)
 
 pub returns-clause-change : goal.returns-clause-change
 returns-clause-change c =
@@ -51,4 +49,4 @@ returns-clause-change c =
     let new_end : c.args.first.begin + c.args.lexed.len ≡ part.first.begin + c.args.lexed.len = omega (arith, begin) in
     let old_end : c.args.first.begin + c.args.lexed.len + c.args.old_len - c.args.len ≡ part.first.begin + c.args.lexed.len + length (text_of c.args.segments.now.items) - length new = omega (arith, begin, c.requires.part.5, c.requires.old_len) in
     replaced_change c.args.segments.now.items new part c.args.lexed c.requires.part.2 c.requires.part.4 c.requires.laid order c.splice.new.self.items _
-      (is ∙ ap (λ (n : ℕ). splice c.args.segments.now.items n c.args.lexed.end c.args.lexed.segments.items) (sym index)) (sym begin) new_end old_end refl
+    (is ∙ ap (λ (n : ℕ). splice c.args.segments.now.items n c.args.lexed.end c.args.lexed.segments.items) (sym index)) (sym begin) new_end old_end refl

@@ -1,10 +1,9 @@
-use Rattle.std.proofs.Common.{◌≡◌, ◌-◌, ◌+◌, ◌++◌, ◌∙◌, sym, ap, subst, arith, refl, ℕ, get_or, length, take, drop, List}
+use Rattle.std.proofs.Common.{◌≡◌, ◌-◌, ◌++◌, ◌∙◌, sym, ap, subst, arith, refl, ℕ, take, drop, List}
 use Rattle.std.specs.Prelude.{string_bytes}
 use Rattle.std.specs.Str.{IsCharBoundary}
 use Rattle.starlark_document.proofs.Laid.{lens_laid}
 use Rattle.starlark_document.proofs.Splices.{boundary_here, front_range, is_in, touched}
 use Rattle.starlark_document.specs.Inner.Segments.{text_in}
-use Rattle.starlark_document.specs.declared.segments.Segment.{Segment}
 use Rattle.starlark_document.proofs.parts.touched_part.Goals as goal
 
 pub segment_at-first-requires-clause-lens : goal.segment_at-first-requires-clause-lens
@@ -42,5 +41,5 @@ returns-clause-part c =
     let start : string_bytes c.push_str.new.self ≡ take (c.args.from - from.result.begin) (text_in x) = c.in_ok-push_str.ensures.bytes ∙ ap (λ (t : List ℕ). t ++ c.range.result.now) c.new-text.ensures.bytes ∙ at_begin in
     let middle : string_bytes c.push_str-2.new.self ≡ take (c.args.from - from.result.begin) (text_in x) ++ c.args.inserted.now = c.in_ok-push_str-2.ensures.bytes ∙ ap (λ (t : List ℕ). t ++ c.args.inserted.now) start in
     let text : string_bytes c.push_str-3.new.self ≡ (take (c.args.from - from.result.begin) (text_in x) ++ c.args.inserted.now) ++ drop (c.args.to - to.result.begin) (text_in y) =
-      c.in_ok-push_str-3.ensures.bytes ∙ ap (λ (t : List ℕ). t ++ c.range_from.result.now) middle ∙ ap (λ (t : List ℕ). (take (c.args.from - from.result.begin) (text_in x) ++ c.args.inserted.now) ++ t) at_end in
+    c.in_ok-push_str-3.ensures.bytes ∙ ap (λ (t : List ℕ). t ++ c.range_from.result.now) middle ∙ ap (λ (t : List ℕ). (take (c.args.from - from.result.begin) (text_in x) ++ c.args.inserted.now) ++ t) at_end in
     touched c.args.segments.now c.args.from c.args.to c.args.inserted.now from.result to.result x y _ from_here to_here to.ensures.later refl refl text

@@ -1,8 +1,8 @@
-use Rattle.std.proofs.Common.{◌≡◌, ◌≤◌, ◌<◌, ◌-◌, ◌+◌, ◌^◌, ◌∙◌, sym, ap, subst, arith, refl, ℕ, length, List}
+use Rattle.std.proofs.Common.{◌≡◌, ◌-◌, ◌+◌, ◌∙◌, sym, ap, subst, arith, refl, ℕ, length, List}
 use Rattle.starlark_document.proofs.Splices.{edited_len}
 use Rattle.starlark_document.specs.Documents.{IsRange, edited}
 use Rattle.starlark_document.specs.Inner.Parts.{IsLexedPart, IsPart}
-use Rattle.starlark_document.specs.Inner.Segments.{AreLaid, text_of}
+use Rattle.starlark_document.specs.Inner.Segments.{text_of}
 use Rattle.starlark_document.specs.declared.segments.Segment.{Segment}
 use Rattle.starlark_document.proofs.document.Document.edit.Goals as goal
 
