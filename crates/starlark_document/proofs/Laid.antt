@@ -1,11 +1,10 @@
 -- Segments that are laid one after another, and their texts.
-use Rattle.std.proofs.Common.{◌≡◌, ◌≤◌, ◌<◌, ◌+◌, ℕ, zero, suc, Bool, true, false, List, [], ◌∷◌, ◌++◌, ◌∙◌, sym, ap, refl, subst, arith, add-one, length, take, drop, get_or, append_assoc, append-nil, take-append-drop, length-append, length-take, length-drop}
-use Rattle.std.specs.Prelude.{◌⊎◌, ⊤, nat_eq}
+use Rattle.std.proofs.Common.{◌≡◌, ◌<◌, ◌+◌, ℕ, zero, suc, Bool, true, false, List, [], ◌∷◌, ◌++◌, ◌∙◌, sym, ap, refl, subst, arith, add-one, length, take, drop, get_or, append_assoc, take-append-drop, length-drop}
+use Rattle.std.specs.Prelude.{nat_eq}
 use Rattle.std.proofs.lemmas.Bool.{eqb-true, false_from_ne_true}
-use Rattle.std.proofs.lemmas.List.{drop_more, length-take-le}
+use Rattle.std.proofs.lemmas.List.{drop_more}
 use Rattle.std.proofs.Math.Seq.{take-suc}
-use Rattle.std.specs.List.{AllByRecursion}
-use Rattle.starlark_document.specs.Inner.Segments.{AreLaid, AreOpen, Follows, HaveLens, IsOpen, IsWhole, text_in, text_of}
+use Rattle.starlark_document.specs.Inner.Segments.{AreLaid, AreOpen, Follows, HaveLens, text_in, text_of}
 use Rattle.starlark_document.specs.declared.segments.Segment.{Segment}
 use Rattle.starlark_grammar.specs.Words.{Text}
 
@@ -46,10 +45,6 @@ laid_first f [] laid = laid
 laid_first f (x ∷ []) laid = (follows_first f x laid.0, laid.1)
 laid_first f (x ∷ (y ∷ xs)) laid = (follows_first f x laid.0, laid.1, laid.2)
 
-pub open_first : (f : Bool) (xs : List Segment) → AreOpen false xs → AreOpen f xs
-open_first f [] are_open = tt
-open_first f (x ∷ xs) are_open = (follows_first f x are_open.0, are_open.1, are_open.2)
-
 pub laid_parts : (f : Bool) (xs : List Segment) (y : Segment) (ys : List Segment) → AreLaid f (xs ++ (y ∷ ys)) → AreOpen f xs × AreLaid (is_first_after f xs) (y ∷ ys)
 laid_parts f [] y ys laid = (tt, laid)
 laid_parts f (x ∷ []) y ys laid = ((laid.0, laid.1, tt), laid.2)
@@ -75,10 +70,6 @@ open_append f (x ∷ xs) ys are_open more = (are_open.0, are_open.1, open_append
 pub laid_head : (f : Bool) (x : Segment) (xs : List Segment) → AreLaid f (x ∷ xs) → Follows f x × (x.len ≡ length (text_in x))
 laid_head f x [] laid = (laid.0, laid.1.len)
 laid_head f x (y ∷ xs) laid = (laid.0, laid.1.lexed.len)
-
-pub some_laid : (f : Bool) (xs : List Segment) → AreLaid f xs → 0 < length xs
-some_laid f [] laid = absurd laid
-some_laid f (x ∷ xs) laid = omega arith
 
 pub lens_laid : (f : Bool) (xs : List Segment) → AreLaid f xs → HaveLens xs
 lens_laid f [] laid = tt

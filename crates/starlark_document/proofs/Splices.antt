@@ -1,5 +1,5 @@
 -- Parts of a document that are lexed anew, and put in their place.
-use Rattle.std.proofs.Common.{◌≡◌, ◌≤◌, ◌<◌, ◌+◌, ◌-◌, ◌^◌, ℕ, zero, suc, Option, Some, None, inl, inr, Bool, true, false, List, [], ◌∷◌, ◌++◌, ◌∙◌, sym, ap, refl, subst, arith, length, take, drop, get_or, append_assoc, append-nil, take-append-drop, length-append, length-take, length-drop}
+use Rattle.std.proofs.Common.{◌≡◌, ◌≤◌, ◌<◌, ◌+◌, ◌-◌, ℕ, zero, suc, Option, Some, None, inl, inr, Bool, true, false, List, [], ◌∷◌, ◌++◌, ◌∙◌, sym, ap, refl, subst, arith, length, take, drop, get_or, append_assoc, append-nil, take-append-drop, length-append, length-take, length-drop}
 use Rattle.std.specs.Prelude.{◌⊎◌, IsSome, nat_eq, string_bytes}
 use Rattle.std.specs.Str.{IsCharBoundary, IsUtf8}
 use Rattle.std.proofs.lemmas.Str.{IsCharBoundary-from_take, IsUtf8-append, IsUtf8-had, IsUtf8-nil}
@@ -21,7 +21,7 @@ use Rattle.starlark_document.specs.declared.document.Change.{Change}
 use Rattle.starlark_grammar.specs.Tokens as grammar
 use Rattle.starlark_document.specs.Inner.Fronts.{IsFirstSegment}
 use Rattle.starlark_document.specs.Inner.Parts.{IsLexedPart, IsPart, IsPlaceIn, IsReplaced}
-use Rattle.starlark_document.specs.Inner.Segments.{AreLaid, AreOpen, Follows, HaveLens, IsOpen, IsWhole, text_in, text_of}
+use Rattle.starlark_document.specs.Inner.Segments.{AreLaid, AreOpen, Follows, text_in, text_of}
 use Rattle.starlark_document.specs.declared.parts.LexedPart.{LexedPart}
 use Rattle.starlark_document.specs.declared.parts.Part.{Part}
 use Rattle.starlark_document.specs.declared.segments.Segment.{Segment}
@@ -264,9 +264,6 @@ module _ (segments : List Segment) (part : Part) (text : Text) (end len read : �
   pub next_within : len + x.len ≤ length text
   next_within = omega (arith, rest_len, is_cut.within)
 
-  pub next_some : len + x.len < length text → 0 < x.len
-  next_some less = is_cut.some (omega (arith, rest_len, less))
-
   follows : Follows (is_first_after (nat_eq part.first.index 0) done) x
   follows = by is.plain
     where
@@ -466,3 +463,8 @@ module _ (segments : List Segment) (new : Text) (part : Part) (lexed : LexedPart
             let before = parts.replaced.begin in
             let fresh = is.len in
             ap length (text_append (take part.first.index segments) lexed.segments.items) ∙ length-append (text_of (take part.first.index segments)) (text_of lexed.segments.items) ∙ omega (arith, new_end)
+
+pub edited_len : (text : Text) (from to : ℕ) (inserted : Text) → IsRange text from to → length (edited from to inserted text) ≡ length text - (to - from) + length inserted
+edited_len text from to inserted range =
+    let inside = range.2.0 in
+    length-append (take from text) (inserted ++ drop to text) ∙ omega (arith, range.0, length-take from text, length-append inserted (drop to text), length-drop to text)

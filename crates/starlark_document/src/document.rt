@@ -110,7 +110,9 @@ fn empty_file(alloc: Global) -> Result<CodeMap, AllocError> {
 }
 
 /// Puts the segments of a part that was lexed anew in the place of the old ones, and says what
-/// changed. The text had `old_len` bytes, and has `len` after it. After an error the segments are the
+/// changed.
+///
+/// The text had `old_len` bytes, and has `len` bytes after it. After an error the segments are the
 /// old ones.
 fn replace(
     segments: &mut Vec<Segment>,

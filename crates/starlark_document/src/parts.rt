@@ -1,6 +1,6 @@
 //! Parts of a document: the segments that an edit touches, with their text after it.
 
-ghost use Rattle.std.specs.Prelude.{◌≡◌, ◌≤◌, ◌<◌, ◌+◌, ◌++◌, ◌^◌, Some, IfOk, OnOk, drop, length, string_bytes, true};
+ghost use Rattle.std.specs.Prelude.{◌≡◌, ◌≤◌, ◌<◌, ◌+◌, ◌++◌, ◌^◌, Some, IfOk, OnOk, length, string_bytes, true};
 ghost use Rattle.std.specs.List.{slice_get};
 ghost use Rattle.starlark_document.specs.Documents.{IsRange, edited};
 ghost use Rattle.starlark_document.specs.Inner.Parts.{IsLexedPart, IsPart, IsPlaceIn, IsReplaced};

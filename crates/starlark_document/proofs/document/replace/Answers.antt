@@ -1,9 +1,7 @@
-use Rattle.std.proofs.Common.{◌≡◌, ◌≤◌, ◌<◌, ◌-◌, ◌+◌, ◌++◌, ◌∙◌, sym, ap, subst, arith, refl, ℕ, length, take, drop, List, true}
+use Rattle.std.proofs.Common.{◌≡◌, ◌<◌, ◌-◌, ◌+◌, ◌∙◌, sym, ap, subst, arith, refl, ℕ, length, List, true}
 use Rattle.std.specs.List.{splice}
-use Rattle.starlark_document.proofs.Splices.{drained, new_end_fits, old_end_fits, replaced_change, replaced_laid, replaced_text}
-use Rattle.starlark_document.specs.Inner.Parts.{IsLexedPart, IsPart}
+use Rattle.starlark_document.proofs.Splices.{drained, old_end_fits, replaced_change, replaced_laid, replaced_text}
 use Rattle.starlark_document.specs.Inner.Segments.{AreLaid, text_of}
-use Rattle.starlark_document.specs.declared.parts.Part.{Part}
 use Rattle.starlark_document.specs.declared.segments.Segment.{Segment}
 use Rattle.starlark_document.specs.declared.segments.SegmentPlace.{SegmentPlace}
 use Rattle.starlark_document.proofs.document.replace.Goals as goal

@@ -1,12 +1,12 @@
-use Rattle.std.proofs.Common.{◌≡◌, ◌≤◌, ◌<◌, ◌-◌, ◌+◌, ◌++◌, ◌^◌, ◌∙◌, Option, Some, length-drop, sym, ap, subst, arith, refl, ℕ, Bool, true, false, get_or, length, take, drop, List, nat_eq}
+use Rattle.std.proofs.Common.{◌≡◌, ◌≤◌, ◌<◌, ◌-◌, ◌+◌, ◌++◌, ◌^◌, ◌∙◌, Option, Some, length-drop, sym, ap, subst, arith, refl, ℕ, Bool, length, drop, List, nat_eq}
 use Rattle.std.specs.Prelude.{IfSome, string_bytes}
 use Rattle.std.specs.Str.{IsCharBoundary, IsUtf8}
 use Rattle.std.proofs.lemmas.Bool.{eqb-false, eqb-true}
 use Rattle.std.proofs.lemmas.Grind.{common_steps}
 use Rattle.std.specs.List.{slice_range}
-use Rattle.starlark_document.proofs.Splices.{left_to_lex, lexing_boundary, lexing_ends, lexing_fits, lexing_more, lexing_next, lexing_rest, lexing_within, next_some, next_within, not_last, taking_less}
+use Rattle.starlark_document.proofs.Splices.{lexing_boundary, lexing_ends, lexing_fits, lexing_more, lexing_next, lexing_within, next_within, not_last, taking_less}
 use Rattle.starlark_document.specs.Inner.Fronts.{IsFirstSegment}
-use Rattle.starlark_document.specs.Inner.Segments.{text_in, text_of}
+use Rattle.starlark_document.specs.Inner.Segments.{text_of}
 use Rattle.starlark_document.specs.declared.segments.Segment.{Segment}
 use Rattle.starlark_document.proofs.parts.lex_part.Goals as goal
 

@@ -1,4 +1,4 @@
-use Rattle.std.proofs.Common.{◌<◌, ℕ, string_bytes}
+use Rattle.std.proofs.Common.{◌<◌, string_bytes}
 use Rattle.starlark_document.proofs.Splices.{IsLexing, left_to_lex}
 use Rattle.starlark_document.proofs.parts.lex_part.Given as goal
 

@@ -1,10 +1,9 @@
-use Rattle.std.proofs.Common.{◌≡◌, ◌-◌, ◌+◌, ◌++◌, ◌∙◌, sym, ap, subst, arith, refl, ℕ, get_or, length, take, drop, List}
+use Rattle.std.proofs.Common.{◌≡◌, ◌-◌, ◌++◌, ◌∙◌, sym, ap, subst, arith, refl, ℕ, take, drop, List}
 use Rattle.std.specs.Prelude.{string_bytes}
 use Rattle.std.specs.Str.{IsCharBoundary}
 use Rattle.starlark_document.proofs.Laid.{lens_laid}
 use Rattle.starlark_document.proofs.Splices.{boundary_here, front_range, is_in, touched}
 use Rattle.starlark_document.specs.Inner.Segments.{text_in}
-use Rattle.starlark_document.specs.declared.segments.Segment.{Segment}
 use Rattle.starlark_document.proofs.parts.touched_part.Goals as goal
 
 pub segment_at-first-requires-clause-lens : goal.segment_at-first-requires-clause-lens

@@ -1,0 +1,40 @@
+use Rattle.std.proofs.Common.{◌≡◌, ◌-◌, ◌+◌, ◌∙◌, sym, ap, subst, arith, refl, ℕ, length, List}
+use Rattle.starlark_document.proofs.Splices.{edited_len}
+use Rattle.starlark_document.specs.Documents.{IsRange, edited}
+use Rattle.starlark_document.specs.Inner.Parts.{IsLexedPart, IsPart}
+use Rattle.starlark_document.specs.Inner.Segments.{text_of}
+use Rattle.starlark_document.specs.declared.segments.Segment.{Segment}
+use Rattle.starlark_document.proofs.document.Document.edit.Goals as goal
+
+pub replace-requires-clause-part : goal.replace-requires-clause-part
+replace-requires-clause-part c =
+    let segments = c.self.inside.segments.items in
+    let new = edited c.args.from c.args.to c.args.text.now (text_of segments) in
+    let part = c.in_ok-part.part in
+    let parts : IsPart segments new part = subst (λ (xs : List Segment). IsPart xs (edited c.args.from c.args.to c.args.text.now (text_of xs)) part) c.deref.ensures.value c.in_ok-part.ensures.part in
+    let lexed : IsLexedPart segments part c.in_ok-lexed.lexed = subst (λ (xs : List Segment). IsLexedPart xs part c.in_ok-lexed.lexed) c.deref-2.ensures.value c.in_ok-lexed.ensures in
+    let range : IsRange (text_of segments) c.args.from c.args.to = subst (λ (t : List ℕ). IsRange t c.args.from c.args.to) (sym c.self.view_is) (c.has_range.ensures.0 c.if-not-has_range.false) in
+    let len : c.self.inside.len - (c.args.to - c.args.from) + length c.args.text.now ≡ length new = omega (arith, edited_len (text_of segments) c.args.from c.args.to c.args.text.now range, c.self.invariant.1) in
+    (new, part, parts, refl, lexed, len)
+
+pub invariant_of-self-2 : goal.invariant_of-self-2
+invariant_of-self-2 c =
+    let segments = c.self.inside.segments.items in
+    let new = edited c.args.from c.args.to c.args.text.now (text_of segments) in
+    let part = c.in_ok-part.part in
+    let parts : IsPart segments new part = subst (λ (xs : List Segment). IsPart xs (edited c.args.from c.args.to c.args.text.now (text_of xs)) part) c.deref.ensures.value c.in_ok-part.ensures.part in
+    let lexed : IsLexedPart segments part c.in_ok-lexed.lexed = subst (λ (xs : List Segment). IsLexedPart xs part c.in_ok-lexed.lexed) c.deref-2.ensures.value c.in_ok-lexed.ensures in
+    let range : IsRange (text_of segments) c.args.from c.args.to = subst (λ (t : List ℕ). IsRange t c.args.from c.args.to) (sym c.self.view_is) (c.has_range.ensures.0 c.if-not-has_range.false) in
+    let len : c.self.inside.len - (c.args.to - c.args.from) + length c.args.text.now ≡ length new = omega (arith, edited_len (text_of segments) c.args.from c.args.to c.args.text.now range, c.self.invariant.1) in
+    let text : text_of c.replace.new.segments.items ≡ new = c.in_ok-change.ensures.text new part parts refl lexed in
+    let same_len = ap length text in
+    (c.in_ok-change.ensures.laid, omega (arith, len, same_len), omega (arith, len, same_len, c.if-text-self.false))
+
+pub returns-clause-text : goal.returns-clause-text
+returns-clause-text c =
+    let segments = c.self.inside.segments.items in
+    let new = edited c.args.from c.args.to c.args.text.now (text_of segments) in
+    let part = c.in_ok-part.part in
+    let parts : IsPart segments new part = subst (λ (xs : List Segment). IsPart xs (edited c.args.from c.args.to c.args.text.now (text_of xs)) part) c.deref.ensures.value c.in_ok-part.ensures.part in
+    let lexed : IsLexedPart segments part c.in_ok-lexed.lexed = subst (λ (xs : List Segment). IsLexedPart xs part c.in_ok-lexed.lexed) c.deref-2.ensures.value c.in_ok-lexed.ensures in
+    c.in_ok-change.ensures.text new part parts refl lexed ∙ ap (λ (t : List ℕ). edited c.args.from c.args.to c.args.text.now t) c.self.view_is
