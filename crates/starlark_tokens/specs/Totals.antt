@@ -42,7 +42,7 @@ abbrev pub with_source : Totals → Option Text → Totals
 with_source totals (Some text) = with_file totals (in_64_bits (fault_count text))
 with_source totals None = record totals { has_failed = true }
 
--- Each named file was one source, or standard input was where none is named. The totals are those of all sources.
+-- The totals are those of as many sources as files are named, or of one, standard input, where none is named.
 pub record AreTotalsOf (names : ℕ) (totals : Totals) : Type 0 where
   pub sources : List (Option Text)
   pub each : length sources ≡ max 1 names
