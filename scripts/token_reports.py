@@ -6,18 +6,22 @@
 It runs the stored runs of each form (crates/starlark_tokens/data has the files and what is wanted of them), margins with
 faults, N random texts in each form (300), rows of options and statuses, a thousand files in one call, a file of 10 MB, whose report may take at
 most three times as long as starlark_lex's lines, and what a shell does with a program: a closed pipe, a folder, a missing file,
-bytes that are not UTF-8, names with a line feed and with quotes. `--write` stores the plain reports. Programs that aren't
+bytes that are not UTF-8, names with a line feed and with quotes, progress at a terminal. `--write` stores the plain reports. Programs that aren't
 built, or are older than a source, are proved and built first. The exit status is 1 where something is not as it has to be.
 """
 
 import argparse
 import ast
 import json
+import os
+import pty
 import re
 import resource
 import subprocess
 import sys
 import tempfile
+import threading
+import time
 from pathlib import Path
 from typing import NamedTuple
 
@@ -358,6 +362,64 @@ def shell_runs(tester, folder):
     tester.compare("| head -1", (made.stdout, made.stderr), (b"1:1-1:2 Identifier 'x'\n141\n", b""))
 
 
+SEVERAL = 400
+PROGRESS = re.compile(r"(?<![^\n])((?:\r\d+ of %d files)+)\r\x1b\[K" % (SEVERAL + 2))
+
+
+def fed_slowly(path, text):
+    """Writes a text to a named pipe more than a second after its reader has opened it, so that the run takes that long."""
+    end = time.monotonic() + 60
+    while time.monotonic() < end:
+        try:
+            writer = os.open(path, os.O_WRONLY | os.O_NONBLOCK)
+        except OSError:
+            time.sleep(0.01)
+            continue
+        time.sleep(1.2)
+        os.write(writer, text)
+        os.close(writer)
+        return
+
+
+def at_terminal(command, folder):
+    """What a program writes where standard output and standard error are a terminal."""
+    terminal, inner = pty.openpty()
+    with subprocess.Popen(command, cwd=folder, stdin=subprocess.DEVNULL, stdout=inner, stderr=inner) as running:
+        os.close(inner)
+        seen = b""
+        try:
+            while piece := os.read(terminal, 65536):
+                seen += piece
+        except OSError:
+            pass
+        running.wait(60)
+    os.close(terminal)
+    return running.returncode, seen.decode().replace("\r\n", "\n")
+
+
+def progress_runs(tester, folder):
+    """A run over many files that takes more than a second: at a terminal its progress is shown, and cleared before all else."""
+    os.mkfifo(folder / "slow.star")
+    names = [f"f{number}.star" for number in range(SEVERAL)]
+    names.insert(SEVERAL // 2, "slow.star")
+    texts = [(name, b"z = 01\n" if name == "slow.star" else (folder / name).read_bytes()) for name in names]
+    wanted = ended("check", texts)
+    said = "starlark_tokens: missing.star: No such file or directory (os error 2)\n" + wanted.stderr
+    arguments = ["--check", *names, "missing.star"]
+    for is_terminal in (False, True):
+        feeder = threading.Thread(target=fed_slowly, args=(folder / "slow.star", b"z = 01\n"), daemon=True)
+        feeder.start()
+        if is_terminal:
+            status, seen = at_terminal([tester.program, *arguments], folder)
+            counts = [int(count) for shown_counts in PROGRESS.findall(seen) for count in re.findall(r"\r(\d+)", shown_counts)]
+            is_shown = counts != [] and counts[0] == SEVERAL // 2 + 1 and counts == sorted(set(counts))
+            tester.compare("progress at a terminal", (status, is_shown), (2, True))
+            tester.compare("what a terminal shows besides", PROGRESS.sub("", seen), wanted.stdout + said)
+        else:
+            tester.compare("progress at no terminal", tester.run(arguments, cwd=folder), Ended(2, wanted.stdout, said))
+        feeder.join(60)
+
+
 def seconds(program, arguments, folder):
     """The least processor time of three runs of a program over the long file."""
     least = None
@@ -400,6 +462,7 @@ def main():
     with tempfile.TemporaryDirectory() as folder:
         file_runs(tester, Path(folder))
         shell_runs(tester, Path(folder))
+        progress_runs(tester, Path(folder))
         timed_runs(tester, lexer, Path(folder))
     print(f"{tester.runs} comparisons, {tester.wrong} of them failed")
     return 1 if tester.wrong else 0

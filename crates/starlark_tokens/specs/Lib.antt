@@ -1,2 +1,4 @@
+pub mod Progress
 pub mod Requests
 pub mod Statuses
+pub mod Totals

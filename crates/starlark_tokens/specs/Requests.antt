@@ -1,8 +1,10 @@
 -- What the arguments of the program ask for.
-use Rattle.std.specs.Prelude.{◌≡◌, ℕ, Bool, true, false, map, ◌++◌, ◌&&◌, ◌||◌, not, nat_eq, codes, List, [], ◌∷◌, Option, Some, None, if◌then◌else◌}
+use Rattle.std.specs.Prelude.{◌≡◌, ℕ, Bool, true, false, map, ◌++◌, ◌&&◌, ◌||◌, not, nat_eq, nat_lt, length, codes, List, [], ◌∷◌, Option, Some, None, if◌then◌else◌}
 use Rattle.std.specs.List.{list_any, prefix_len, starts_with}
 use Rattle.std.specs.Str.{bytes_eq}
 use Rattle.starlark_base.specs.Places.{Text}
+use Rattle.starlark_reports.specs.declared.form.Form.{Form}
+use Rattle.starlark_reports.specs.declared.form.Form.TheVariants.{Tokens, NamedTokens, Json, Faults, JsonFaults}
 use Rattle.starlark_tokens.specs.declared.requests.Reports.{Reports as ReportsRecord}
 use Rattle.starlark_tokens.specs.declared.requests.Request.{Request}
 use Rattle.starlark_tokens.specs.declared.requests.Request.TheVariants.{Unknown, Help, Version, Reports}
@@ -53,6 +55,17 @@ pub record Wants (leading trailing : List Text) (reports : ReportsRecord) : Type
   pub json : reports.json ≡ is_among (codes "--json") leading
   pub quiet : reports.quiet ≡ is_among (codes "--quiet") leading
   pub files : map (λ name. name.now) reports.names.items ≡ names leading trailing
+
+-- the form of reports: a line of a token has the name of its file only where several files are named
+abbrev pub form : (check json : Bool) → (files : ℕ) → Form
+form true true files = JsonFaults
+form true false files = Faults
+form false true files = Json
+form false false files = if nat_lt 1 files then NamedTokens else Tokens
+
+-- the form of the reports that are asked for
+abbrev pub form_of : ReportsRecord → Form
+form_of reports = form reports.check reports.json (length reports.names.items)
 
 -- what arguments ask for: an unknown option comes before all else, then `--help`, then `--version`
 abbrev pub Asks : (leading trailing : List Text) → Request → Type 0

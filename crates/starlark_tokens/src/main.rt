@@ -6,6 +6,7 @@
 
 mod requests;
 mod runs;
+mod screen;
 mod sources;
 mod totals;
 

@@ -1,23 +1,26 @@
 //! Goes over the files of a run.
 
-ghost use Rattle.std.specs.Prelude.{◌≤◌, IfOk, length, string_bytes};
+ghost use Rattle.std.specs.IoError.{error_kind};
+ghost use Rattle.std.specs.Prelude.{◌≡◌, ◌≤◌, IfOk, OnOk, Option, length, string_bytes};
+ghost use Rattle.starlark_base.specs.Places.{Text};
 ghost use Rattle.starlark_run.specs.declared.ends.TheConstants.{GREATEST_LEN};
+ghost use Rattle.starlark_tokens.specs.Requests as requests;
+ghost use Rattle.starlark_tokens.specs.Statuses.{EndsRun, status_of_output};
+ghost use Rattle.starlark_tokens.specs.Totals.{AreTotalsOf, with_source};
 
 use crate::requests::Reports;
+use crate::screen::Screen;
 use crate::sources::{SourceFault, read_text};
 use crate::totals::{TROUBLE, Totals};
 use starlark_reports::python_literals::push_name;
 use starlark_reports::{Form, report_text};
 use std::alloc::AllocError;
 use std::fmt::Display;
-use std::io::{BufWriter, ErrorKind, Stdout, Write};
+use std::io::{ErrorKind, Write};
 use std::{fs, io};
 
 /// The exit status where nobody reads the output, by the shell's convention for a closed pipe.
 const CLOSED_PIPE: u8 = 141;
-
-/// Bytes that are kept before they are written.
-const BUFFER_LEN: usize = 65_536;
 
 /// The name that stands for standard input.
 const STDIN: &str = "<stdin>";
@@ -39,7 +42,9 @@ pub fn say<D: Display>(rt: &HostRuntime, name: &str, what: &D) {
 
 /// The exit status where the output can't be written, or memory ran out for it; says which, unless
 /// the output's pipe is closed.
-pub fn unwritable(rt: &HostRuntime, error: &io::Error) -> u8 {
+pub fn unwritable(rt: &HostRuntime, error: &io::Error) -> u8
+    ensures { result ≡ status_of_output (error_kind error.now) }
+{
     if error.kind() == ErrorKind::BrokenPipe {
         return CLOSED_PIPE;
     }
@@ -52,7 +57,9 @@ pub fn unwritable(rt: &HostRuntime, error: &io::Error) -> u8 {
 }
 
 /// The form of the reports.
-fn form_of(wanted: &Reports<'_>) -> Form {
+fn form_of(wanted: &Reports<'_>) -> Form
+    ensures { result ≡ requests.form_of wanted.now }
+{
     match (wanted.check, wanted.json) {
         (true, true) => Form::JsonFaults,
         (true, false) => Form::Faults,
@@ -78,50 +85,77 @@ fn report_file(
     form: Form,
     name: &str,
     totals: &mut Totals,
-    writer: &mut BufWriter<Stdout>,
-) -> io::Result<()> {
+    screen: &mut Screen<'_>,
+) -> io::Result<()>
+    ensures { OnOk result ((source : Option Text) × (totals.new ≡ with_source totals.old source)) }
+{
     let shown = if name == "-" { STDIN } else { name };
     match text_of(rt, name) {
         Ok(text) => {
-            let faults = report_text(rt.alloc(), form, shown, text.as_str(), writer)?;
+            let faults = report_text(rt.alloc(), form, shown, text.as_str(), screen)?;
             totals.add(faults);
         }
         Err(fault) => {
-            totals.has_failed = true;
-            writer.flush()?;
+            totals.add_failure();
+            screen.flush()?;
             say(rt, shown, &fault);
         }
     }
     Ok(())
 }
 
-/// Reports all files, and returns what was found in them.
-fn report_all(rt: &HostRuntime, wanted: &Reports<'_>) -> io::Result<Totals> {
-    let mut writer = BufWriter::with_capacity(rt.alloc(), BUFFER_LEN, rt.stdout())?;
+/// Reports the named files one after another, or standard input if none is named.
+fn report_each(
+    rt: &HostRuntime,
+    wanted: &Reports<'_>,
+    screen: &mut Screen<'_>,
+) -> io::Result<Totals>
+    ensures { IfOk result (AreTotalsOf (length wanted.now.names.items)) }
+{
     let form = form_of(wanted);
     let mut totals = Totals::NONE;
     if wanted.names.is_empty() {
-        report_file(rt, form, "-", &mut totals, &mut writer)?;
+        report_file(rt, form, "-", &mut totals, screen)?;
+        return Ok(totals);
     }
-    for name in wanted.names.iter() {
-        report_file(rt, form, name, &mut totals, &mut writer)?;
+    for (done, name) in wanted.names.iter().enumerate() {
+        screen.show(done);
+        report_file(rt, form, name, &mut totals, screen)?;
     }
-    writer.flush()?;
     Ok(totals)
 }
 
+/// Reports all files, and returns what was found in them.
+fn report_all(rt: &HostRuntime, wanted: &Reports<'_>) -> io::Result<Totals>
+    ensures { IfOk result (AreTotalsOf (length wanted.now.names.items)) }
+{
+    let mut screen = Screen::new(rt, wanted.names.len())?;
+    let found = report_each(rt, wanted, &mut screen);
+    screen.clear();
+    let totals = found?;
+    screen.flush()?;
+    Ok(totals)
+}
+
+/// Says how many faults were found, in how many files.
+fn say_count(rt: &HostRuntime, totals: Totals) {
+    let Totals {
+        files,
+        faulty_files,
+        faults,
+        ..
+    } = totals;
+    let _ = eprintln!(rt; "{faults} faults in {faulty_files} of {files} files");
+}
+
 /// Reports all files, and returns the exit status.
-pub fn run(rt: &HostRuntime, wanted: &Reports<'_>) -> u8 {
+pub fn run(rt: &HostRuntime, wanted: &Reports<'_>) -> u8
+    ensures { EndsRun (length wanted.now.names.items) result }
+{
     match report_all(rt, wanted) {
         Ok(totals) => {
             if wanted.check && !wanted.quiet {
-                let Totals {
-                    files,
-                    faulty_files,
-                    faults,
-                    ..
-                } = totals;
-                let _ = eprintln!(rt; "{faults} faults in {faulty_files} of {files} files");
+                say_count(rt, totals);
             }
             totals.status()
         }

@@ -1,7 +1,8 @@
 //! What was found in all files of a run.
 
-ghost use Rattle.std.specs.Prelude.{◌≡◌};
+ghost use Rattle.std.specs.Prelude.{◌≡◌, None};
 ghost use Rattle.starlark_tokens.specs.Statuses.{status_of};
+ghost use Rattle.starlark_tokens.specs.Totals.{with_file, with_source};
 
 /// The exit status where something failed.
 pub const TROUBLE: u8 = 2;
@@ -32,12 +33,21 @@ impl Totals {
     };
 
     /// Counts a file with this many faults.
-    pub fn add(&mut self, faults: usize) {
+    pub fn add(&mut self, faults: usize)
+        ensures { self.new ≡ with_file self.old faults }
+    {
         self.files = self.files.saturating_add(1);
         self.faults = self.faults.saturating_add(faults);
         if faults > 0 {
             self.faulty_files = self.faulty_files.saturating_add(1);
         }
+    }
+
+    /// Counts a file that couldn't be read.
+    pub fn add_failure(&mut self)
+        ensures { self.new ≡ with_source self.old None }
+    {
+        self.has_failed = true;
     }
 
     /// The exit status.
