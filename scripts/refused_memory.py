@@ -2,13 +2,14 @@
 """Refuses each request for memory of the built programs in turn, and looks at what they answer.
 
 One run has one request refused: the first, then the second, and so on, until a run has no such request. It takes rows
-of `starlark_rows`, one row a run, texts behind edits for `starlark_texts`, and texts for
-`starlark_lex`. For each run one of these has to hold:
+of `starlark_rows`, one row a run, texts behind edits for `starlark_texts`, texts for `starlark_lex`, and texts and files
+for `starlark_tokens` in each form. For each run one of these has to hold:
 
 - the answer is that of a run with no request refused;
 - the answer is want of memory. A row of the group `refusals` answers that only where the refused call left things as
   they were, and a row of lexemes prints those before it, which have to be a beginning of all of them. What
-  `starlark_lex` has printed, and `starlark_texts` behind edits, has to be a beginning of all its lines.
+  `starlark_lex` has printed, and `starlark_texts` behind edits, has to be a beginning of all its lines. `starlark_tokens`
+  ends with status 2 then, and leaves out at most the file for whose text there was no memory.
 
 With no request refused a row has the answer that is stored, a text behind edits prints what the plain lexer of fuzz.py does,
 and no run ends in want of memory. Two texts of many words
@@ -76,6 +77,16 @@ EDITED = [
 ]
 
 
+TOKEN_TEXTS = [
+    b"",
+    b"def f(a):\n\treturn 0x1f\n",
+    b"if x:\n    y = 'a\\n'\n  z = 01  # c\n",
+    'f"a{x!r}b" + b"\xff" + 12345678901234567890 "é\n!\n'.encode(),
+]
+TOKEN_OPTIONS = [[], ["--json"], ["--check"], ["--check", "--json"], ["--check", "--quiet"]]
+TOKEN_FILES = [b"x = 'a'\ny = 01\n", b"!\n"]
+
+
 def give_up(why, status=1):
     """Ends where nothing could be tried."""
     print(why, file=sys.stderr)
@@ -85,7 +96,7 @@ def give_up(why, status=1):
 class Run:
     """What a program answered with one request refused, and how many requests it made."""
 
-    def __init__(self, program, allocator, stdin, refused):
+    def __init__(self, program, allocator, stdin, refused, arguments=()):
         count, write_end = os.pipe()
         environment = {
             "LD_PRELOAD": str(allocator),
@@ -93,7 +104,7 @@ class Run:
             "COUNT_DESCRIPTOR": str(write_end),
         }
         ran = subprocess.run(
-            [program], input=stdin, capture_output=True, env=environment, pass_fds=[write_end], timeout=60
+            [program, *arguments], input=stdin, capture_output=True, env=environment, pass_fds=[write_end], timeout=60
         )
         os.close(write_end)
         self.status, self.output, self.message = ran.returncode, ran.stdout, ran.stderr
@@ -136,6 +147,16 @@ def is_text_kept(run, whole):
     if run.status != 2 or not whole.output.startswith(run.output):
         return False
     return WANT_OF_MEMORY in run.message or (run.output == b"" and run.message.startswith(b"usage: "))
+
+
+def is_report_kept(run, whole, others=b""):
+    """Whether a run of starlark_tokens printed all, or said that memory ran out and printed a beginning: of all, or of what
+    there is without the first file."""
+    if (run.status, run.output, run.message) == (whole.status, whole.output, whole.message):
+        return True
+    if run.status != 2 or WANT_OF_MEMORY not in run.message:
+        return False
+    return whole.output.startswith(run.output) or others.startswith(run.output)
 
 
 def is_current(program):
@@ -199,17 +220,17 @@ def tried_rows(most):
 class Tries:
     """Runs of a program over one input, with each of its requests refused in turn, and what was found."""
 
-    def __init__(self, allocator, program, stdin):
-        self.allocator, self.program, self.stdin = allocator, program, stdin
+    def __init__(self, allocator, program, stdin, arguments=()):
+        self.allocator, self.program, self.stdin, self.arguments = allocator, program, stdin, arguments
         self.runs = self.refused = 0
         self.wrong = []
 
     def run(self, number):
-        return Run(self.program, self.allocator, self.stdin, number)
+        return Run(self.program, self.allocator, self.stdin, number, self.arguments)
 
     def report(self, number, run):
         self.wrong.append(
-            f"{self.stdin[:200]!r}, request {number} refused: status {run.status}, "
+            f"{[*self.arguments]} {self.stdin[:200]!r}, request {number} refused: status {run.status}, "
             f"printed {run.output[-200:]!r}, {run.message!r}"
         )
 
@@ -280,18 +301,52 @@ def tried_text(allocator, program, text):
     return tries
 
 
+def tried_report(allocator, program, arguments, text):
+    """A report of a text with each of the program's requests refused in turn. With none refused no memory may be wanting."""
+    tries = Tries(allocator, program, text, arguments)
+    whole = tries.run(0)
+    if WANT_OF_MEMORY in whole.message or whole.status not in (0, 1):
+        tries.report(0, whole)
+    tries.each_request(whole, lambda run: is_report_kept(run, whole))
+    return tries
+
+
+def tried_files(allocator, program, options, paths):
+    """Two files with each of the program's requests refused in turn. Where there is no memory for the first one, the other
+    one is still reported, as where the first one is missing."""
+    tries = Tries(allocator, program, b"", [*options, *paths])
+    whole = tries.run(0)
+    if WANT_OF_MEMORY in whole.message or whole.status != 1:
+        tries.report(0, whole)
+    last = Run(program, allocator, b"", 0, [*options, f"{paths[0]}.missing", paths[1]])
+    tries.each_request(whole, lambda run: is_report_kept(run, whole, last.output))
+    return tries
+
+
+def started_reports(pool, allocator, program, folder):
+    """The tries of starlark_tokens: each text in each form, and two files in each form."""
+    paths = [folder / f"{number}.star" for number in range(len(TOKEN_FILES))]
+    for path, text in zip(paths, TOKEN_FILES):
+        path.write_bytes(text)
+    for options in TOKEN_OPTIONS:
+        for text in TOKEN_TEXTS:
+            yield pool.submit(tried_report, allocator, program, options, text)
+        yield pool.submit(tried_files, allocator, program, options, paths)
+
+
 def main():
     arguments = argparse.ArgumentParser(description=__doc__.splitlines()[0])
     arguments.add_argument("--rows", type=int, default=1, metavar="N")
     most = arguments.parse_args().rows
     compiler()
-    rows, texts, lex = built("starlark_rows"), built("starlark_texts"), built("starlark_lex")
+    rows, texts, lex, tokens = (built(f"starlark_{name}") for name in ("rows", "texts", "lex", "tokens"))
     with tempfile.TemporaryDirectory() as folder, ThreadPoolExecutor(os.cpu_count()) as pool:
         allocator = built_allocator(folder)
         started = [pool.submit(tried_row, allocator, rows, row, answer) for row, answer in tried_rows(most)]
         started += [pool.submit(tried_join, allocator, rows)]
         started += [pool.submit(tried_edited, allocator, texts, stored) for stored in EDITED]
         started += [pool.submit(tried_text, allocator, lex, text) for text in TEXTS]
+        started += started_reports(pool, allocator, tokens, Path(folder))
         tried = [it.result() for it in started]
     wrong = [line for tries in tried for line in tries.wrong]
     for line in wrong:
