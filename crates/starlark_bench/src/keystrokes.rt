@@ -18,7 +18,9 @@ impl From<EditError> for BenchFault {
 
 /// The next of a list of numbers that look random.
 fn next_number(number: u64) -> u64 {
-    number.wrapping_mul(6364136223846793005).wrapping_add(1442695040888963407)
+    number
+        .wrapping_mul(6364136223846793005)
+        .wrapping_add(1442695040888963407)
 }
 
 /// An offset in the middle half of a document, at a character boundary, for a number that looks
@@ -66,7 +68,13 @@ pub fn print_keystrokes(rt: &HostRuntime, text: &str, count: u32) -> Result<(), 
         let at = offset_in(&document, number);
         let change = timed_edit(rt, &mut document, (at, at), typed, &mut times)?;
         lexed = lexed.saturating_add(change.lexed);
-        timed_edit(rt, &mut document, (at, at.saturating_add(1)), "", &mut times)?;
+        timed_edit(
+            rt,
+            &mut document,
+            (at, at.saturating_add(1)),
+            "",
+            &mut times,
+        )?;
     }
     times.sort_unstable();
     let (median, most) = (percentile(&times, 50), percentile(&times, 99));

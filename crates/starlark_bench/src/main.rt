@@ -135,7 +135,9 @@ fn bench(rt: &HostRuntime, request: Request) -> Result<(), BenchFault> {
 
 fn main(rt: HostRuntime) -> ExitCode {
     let Some(request) = read_request(&rt) else {
-        let _ = eprintln!(rt; "usage: starlark_bench [--bench N | --keystrokes N | --places N | --relex N]");
+        let _ = eprintln!(rt;
+            "usage: starlark_bench [--bench N | --keystrokes N | --places N | --relex N]"
+        );
         return ExitCode::from(TROUBLE);
     };
     match bench(&rt, request) {

@@ -72,11 +72,7 @@ fn edit_line(
 }
 
 /// Runs a command, and returns its lines.
-fn run(
-    alloc: Global,
-    document: &mut Document,
-    command: Command<'_>,
-) -> Result<String, AllocError> {
+fn run(alloc: Global, document: &mut Document, command: Command<'_>) -> Result<String, AllocError> {
     let mut lines = String::new(alloc);
     match command {
         Command::New(least, text) => {

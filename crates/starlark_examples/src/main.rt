@@ -144,7 +144,11 @@ fn typed(alloc: Global, texts: &str) -> Result<String, SourceError> {
     let mut document = Document::new(alloc, file)?;
     let mut lines = document_lines(alloc, &document)?;
     match editor::typed(&mut document, 0, text) {
-        Ok(change) => write!(lines, "painted again: {}-{}\n", change.begin, change.new_end)?,
+        Ok(change) => write!(
+            lines,
+            "painted again: {}-{}\n",
+            change.begin, change.new_end
+        )?,
         Err(error) => write!(lines, "{error}\n")?,
     }
     lines.push_str(document_lines(alloc, &document)?.as_str())?;
