@@ -36,6 +36,8 @@ SPAN = re.compile(rb"(fault )?([0-9]+)-([0-9]+)(.*)")
 TYPED = [b'"""', b"(", b")", b"'", b"f'{", b"\\", b"#", b"if x:\n  ", b"\n", b" ", b"\t", b"$", b"is ", b"f'\n"]
 STORED = b'load("a", "b")\nx = [\n  1,\n]\n\ndef f(x):\n  # c\n  return f"{x}"\n\n# d\ny = \'\'\'e\n\'\'\'\nz = 2\n'
 
+PLACED = "# é \N{GRINNING FACE} e\nx = 'é\N{GRINNING FACE}\N{GRINNING FACE}' # é\n\nif x:\n  y = '''\N{GRINNING FACE}\n\N{GRINNING FACE}'''\nz = 'é'\n# \N{GRINNING FACE} é".encode()
+
 
 def random_edit(dice, text):
     """Offsets of characters and a new text, which fit the text."""
@@ -76,6 +78,13 @@ def stored_commands():
     yield edit_command(0, 0, "é".encode()), "é".encode() + STORED
     yield b"edit 1 2 0\n\n", "é".encode() + STORED
     yield edit_command(0, len(STORED) + 2, b""), b""
+    yield edit_command(0, 0, PLACED), PLACED
+    yield b"lines\n", PLACED
+    for at in range(len(PLACED) + 2):
+        yield f"place {at}\n".encode(), PLACED
+    yield edit_command(0, len(PLACED), b""), b""
+    yield b"lines\n", b""
+    yield b"place 0\n", b""
     yield b"show\n", b""
 
 
@@ -125,6 +134,18 @@ def spans_from(text, at):
     return list(itertools.dropwhile(lambda span: span[1] <= at, spans))
 
 
+def place_text(text, at):
+    """The line, the column and the column in units of UTF-16 of a byte, or `none`."""
+    try:
+        before, _ = text[:at].decode(), text[at:].decode()
+    except UnicodeDecodeError:
+        return b"none"
+    if at > len(text):
+        return b"none"
+    line = before[before.rfind("\n") + 1 :]
+    return f"{before.count(chr(10))} {len(line)} {len(line.encode('utf-16-le')) // 2}".encode()
+
+
 def is_unchanged(change, before, after):
     """Whether what is found before and after an edit is the same outside of what it says that it changed."""
     begin, old_end, new_end, _ = map(int, change.split()[:4])
@@ -140,6 +161,10 @@ def fault_at(commands, texts, outputs):
         if command.startswith((b"new", b"edit")) and not output.endswith(b"same"):
             return number
         if command.startswith(b"from") and [span[:2] for span in found_spans(output)] != spans_from(text, int(command.split()[1])):
+            return number
+        if command == b"lines\n" and output != str(text.count(b"\n") + 1).encode():
+            return number
+        if command.startswith(b"place") and output != place_text(text, int(command.split()[1])):
             return number
         if command == b"show\n":
             shown[number] = list(found_spans(output))

@@ -1,10 +1,11 @@
 -- What is found in the first segment of a text.
-use Rattle.std.proofs.Common.{◌≡◌, ℕ, zero, suc, ◌<◌, Bool, true, false, List, [], ◌∷◌, ◌++◌, map, take, drop, length, refl, ap, sym, subst, ◌∙◌, Some, None, append_assoc, append-nil, arith, length-drop}
+use Rattle.std.proofs.Common.{◌≡◌, ℕ, zero, suc, ◌<◌, Bool, true, false, List, [], ◌∷◌, ◌++◌, map, take, drop, length, refl, ap, sym, subst, ◌∙◌, Some, None, append_assoc, append-nil, arith, count_by, length-drop}
 use Rattle.std.specs.Prelude.{◌==◌, Result, slice_get}
 use Rattle.std.specs.List.{AllByRecursion}
 use Rattle.std.proofs.lemmas.Bool.{eqb-true}
 use Rattle.std.proofs.lemmas.List.{length-take-le, take_all}
 use Rattle.starlark_base.specs.Diagnostics.{Diagnosed}
+use Rattle.starlark_base.specs.Places.{is_lf}
 use Rattle.starlark_base.specs.Sources.{SourceFile}
 use Rattle.starlark_document.specs.Inner.Fronts.{IsFirstSegment, IsFront, given_of, is_dedent_item, refused_of, without_newline}
 use Rattle.starlark_document.specs.Inner.Segments.{AreFaults, text_in}
@@ -76,9 +77,9 @@ no_faults (Refused fault ∷ more) all = cc
 
 -- the segment of a whole text that is the last of a document
 pub whole_last : (text : Text) (front : Front) (segment : Segment) → IsFront text (all_items text) front
-    → text_in segment ≡ text → segment.len ≡ length text → segment.content.value.lexemes ≡ front.lexemes → segment.content.value.faults ≡ front.faults
+    → text_in segment ≡ text → segment.len ≡ length text → segment.lines ≡ count_by is_lf text → segment.content.value.lexemes ≡ front.lexemes → segment.content.value.faults ≡ front.faults
     → IsFirstSegment text true segment
-whole_last text front segment is same len lexemes faults = record {
+whole_last text front segment is same len lines lexemes faults = record {
   within = omega (arith, len);
   text = same ∙ sym (take_all segment.len text (omega (arith, len)));
   len = len ∙ sym (ap length same);
@@ -88,6 +89,7 @@ whole_last text front segment is same len lexemes faults = record {
     lexemes = rw (same, lexemes) (is.lexemes ∙ (items_are_found text).0);
     faults = rw (same, faults) (subst (λ fs. AreFaults fs front.faults.items) (items_are_found text).1 is.faults);
     len = len ∙ sym (ap length same);
+    lines = lines ∙ sym (ap (count_by is_lf) same);
   };
   inner = λ e f. cc;
 }
@@ -95,9 +97,9 @@ whole_last text front segment is same len lexemes faults = record {
 -- the segment of a whole text that others follow
 pub whole_open : (text : Text) (front rest : Front) (segment : Segment) → IsFront text (all_items text) front → is_closed text ≡ true
     → map lexeme_view rest.lexemes.items ≡ without_newline (map lexeme_view front.lexemes.items) → rest.faults ≡ front.faults
-    → text_in segment ≡ text → segment.len ≡ length text → segment.content.value.lexemes ≡ rest.lexemes → segment.content.value.faults ≡ rest.faults
+    → text_in segment ≡ text → segment.len ≡ length text → segment.lines ≡ count_by is_lf text → segment.content.value.lexemes ≡ rest.lexemes → segment.content.value.faults ≡ rest.faults
     → IsFirstSegment text false segment
-whole_open text front rest segment is closed taken kept same len lexemes faults = record {
+whole_open text front rest segment is closed taken kept same len lines lexemes faults = record {
   within = omega (arith, len);
   text = same ∙ sym (take_all segment.len text (omega (arith, len)));
   len = len ∙ sym (ap length same);
@@ -110,6 +112,7 @@ whole_open text front rest segment is closed taken kept same len lexemes faults 
       lexemes = rw (same, lexemes) (taken ∙ ap without_newline (is.lexemes ∙ (items_are_found text).0) ∙ without_shown (recovered text).lexemes);
       faults = rw (same, faults, kept) (subst (λ fs. AreFaults fs front.faults.items) (items_are_found text).1 is.faults);
       len = len ∙ sym (ap length same);
+      lines = lines ∙ sym (ap (count_by is_lf) same);
     };
   };
 }
@@ -117,9 +120,9 @@ whole_open text front rest segment is closed taken kept same len lexemes faults 
 -- the segment of a text up to where it can be cut, before an item that isn't a `Dedent`
 pub cut_first : (text : Text) (is_last : Bool) (items : List LexerItem) (item : LexerItem) (more : List LexerItem) (front : Front) (segment : Segment)
     → all_items text ≡ items ++ (item ∷ more) → IsFront text items front → front.is_cut ≡ true → is_dedent_item item ≡ false
-    → text_in segment ≡ take front.line_end text → segment.len ≡ front.line_end → segment.content.value.lexemes ≡ front.lexemes → segment.content.value.faults ≡ front.faults
+    → text_in segment ≡ take front.line_end text → segment.len ≡ front.line_end → segment.lines ≡ count_by is_lf (take front.line_end text) → segment.content.value.lexemes ≡ front.lexemes → segment.content.value.faults ≡ front.faults
     → IsFirstSegment text is_last segment
-cut_first text is_last items item more front segment all is is_cut other same len lexemes faults =
+cut_first text is_last items item more front segment all is is_cut other same len lines lexemes faults =
     let ends = is.cut is_cut in
     let below = plain_below text front.line_end ends.plain in
     let split : all_items text ≡ ends.front ++ (Given ends.newline ∷ (ends.dedents ++ (item ∷ more))) = all ∙ ap (λ xs. xs ++ (item ∷ more)) ends.items ∙ append_assoc ends.front (Given ends.newline ∷ ends.dedents) (item ∷ more) in
@@ -142,6 +145,7 @@ cut_first text is_last items item more front segment all is is_cut other same le
             lexemes = rw (same, lexemes) (is.lexemes ∙ ap given_of ends.items ∙ sym given);
             faults = rw (same, faults) (subst (λ fs. AreFaults fs front.faults.items) (sym refused) is.faults);
             len = len_in;
+            lines = lines ∙ sym (ap (count_by is_lf) same);
           };
         },
         rw len ends.plain,

@@ -3,13 +3,16 @@
 ghost use Rattle.std.specs.Prelude.{◌≡◌, ◌≤◌, ◌<◌, ◌^◌, ◌↔◌, ◌==◌, Err, IfErr, IfOk, IfSome, IsNone, IsTrue, OnErr, OnOk, drop, length, map, slice_range, string_bytes, true};
 ghost use Rattle.std.specs.List.{prefix_len};
 ghost use Rattle.std.specs.Str.{IsCharBoundary};
+ghost use Rattle.starlark_base.specs.Lines.{line_count};
 ghost use Rattle.starlark_base.specs.Refusals.{IsRefused};
 ghost use Rattle.starlark_document.specs.Documents.{AreEdits, IsChange, IsRange, IsStop, edit_view, edited, ends_by, faults_of, lexemes_of, text_after};
 ghost use Rattle.starlark_document.specs.Inner.Parts.{IsLexedPart, IsPart};
 ghost use Rattle.starlark_document.specs.Inner.Segments.{AreLaid, text_of};
+ghost use Rattle.starlark_document.specs.Places.{place_of};
 ghost use Rattle.starlark_grammar.specs.Words.{Text};
 
 use crate::parts::{LexedPart, Part, append_texts, end_at, lex_part, part_of_edit};
+use crate::line_places::{Place, newline_count, place_in};
 use crate::segments::{Faults, Lexemes, Segment, SegmentPlace, passed_len, segment_at};
 use starlark_syntax::codemap::{CodeMap, CodeMapId, OrMemory, SourceTooLong};
 use std::alloc::{AllocError, Global};
@@ -279,6 +282,22 @@ impl Document {
         ensures { result ≡ faults_of self.now }
     {
         Faults::new(&self.segments)
+    }
+
+    /// Number of lines of the text: one more than it has LF.
+    pub fn line_count(&self) -> usize
+        ensures { result ≡ line_count self.now }
+    {
+        newline_count(&self.segments) + 1
+    }
+
+    /// The place of an offset: its line, and its columns in characters and in units of UTF-16.
+    /// `None` where it is no character boundary of the text.
+    pub fn place(&self, at: usize) -> Option<Place>
+        ensures place { IfSome result (λ place. place ≡ place_of self.now at) }
+        ensures none { IsNone result ↔ (IsCharBoundary self.now at → ⊥) }
+    {
+        place_in(&self.segments, at)
     }
 
     /// The text from byte `from` to byte `to`; `None` where the range isn't one of the text.

@@ -1,9 +1,10 @@
 //! Makes segments: lexes a text from the start of a segment on.
 
-ghost use Rattle.std.specs.Prelude.{◌≡◌, ◌≤◌, ◌<◌, ◌^◌, IfOk, IfSome, IsSome, length, map, take, true};
+ghost use Rattle.std.specs.Prelude.{◌≡◌, ◌≤◌, ◌<◌, ◌^◌, IfOk, IfSome, IsSome, count_by, length, map, take, true};
 ghost use Rattle.starlark_document.specs.Inner.Fronts.{IsFirstSegment, IsFront, last_newline_at, without_newline};
 ghost use Rattle.std.specs.Str.{IsCharBoundary};
 ghost use Rattle.starlark_document.specs.Inner.Segments.{text_in};
+ghost use Rattle.starlark_base.specs.Places.{is_lf};
 ghost use Rattle.starlark_recovery.specs.RecoveringLexer.{all_items};
 ghost use Rattle.starlark_token.specs.Lexemes.{lexeme_view};
 
@@ -30,10 +31,18 @@ fn last_newline(lexemes: &[PlacedToken]) -> usize
     lexemes.len()
 }
 
+/// Number of LF in a text.
+fn newline_count(text: &str) -> usize
+    ensures { result ≡ count_by is_lf text.now }
+{
+    text.as_bytes().iter().filter(|byte| **byte == b'\n').count()
+}
+
 /// A segment of a text, with what was found in it.
 fn segment(alloc: Global, text: &str, front: Front) -> Result<Segment, AllocError>
     ensures text { IfOk result (λ segment. text_in segment ≡ text.now) }
     ensures len { IfOk result (λ segment. segment.len ≡ length text.now) }
+    ensures lines { IfOk result (λ segment. segment.lines ≡ count_by is_lf text.now) }
     ensures lexemes { IfOk result (λ segment. segment.content.value.lexemes ≡ front.lexemes) }
     ensures faults { IfOk result (λ segment. segment.content.value.faults ≡ front.faults) }
 {
@@ -44,6 +53,7 @@ fn segment(alloc: Global, text: &str, front: Front) -> Result<Segment, AllocErro
     };
     Ok(Segment {
         len: text.len(),
+        lines: newline_count(text),
         content: Box::new(alloc, content).map_err(|_| AllocError)?,
     })
 }
@@ -54,6 +64,7 @@ fn cut_segment(alloc: Global, text: &str, front: Front) -> Result<Segment, Alloc
     requires boundary { IsCharBoundary text.now front.line_end }
     ensures text { IfOk result (λ segment. text_in segment ≡ take front.line_end text.now) }
     ensures len { IfOk result (λ segment. segment.len ≡ front.line_end) }
+    ensures lines { IfOk result (λ segment. segment.lines ≡ count_by is_lf (take front.line_end text.now)) }
     ensures lexemes { IfOk result (λ segment. segment.content.value.lexemes ≡ front.lexemes) }
     ensures faults { IfOk result (λ segment. segment.content.value.faults ≡ front.faults) }
 {

@@ -7,8 +7,10 @@
 mod document;
 mod fronts;
 mod lexing;
+mod line_places;
 mod parts;
 mod segments;
 
 pub use document::{Change, Document, Edit, EditError};
+pub use line_places::Place;
 pub use segments::{Faults, Lexemes};

@@ -45,6 +45,8 @@ pub struct Content {
 pub struct Segment {
     /// Length of the text in bytes. It is stored here so that a search reads few cache lines.
     pub len: usize,
+    /// Number of LF in the text, stored like its length.
+    pub lines: usize,
     /// The text, and what is found in it.
     pub content: Box<Content>,
 }

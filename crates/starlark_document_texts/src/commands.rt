@@ -13,6 +13,10 @@ pub enum Command<'a> {
     Show,
     /// Prints the lexemes from one offset on.
     From(usize),
+    /// Prints the number of lines.
+    Lines,
+    /// Prints the place of an offset.
+    Place(usize),
     /// Prints a range of the text.
     Slice(usize, usize),
 }
@@ -35,6 +39,8 @@ pub fn read_command(stored: &[u8]) -> Option<(Command<'_>, &[u8])> {
         }
         "show" => Some((Command::Show, after)),
         "from" => Some((Command::From(words.next()?.parse().ok()?), after)),
+        "lines" => Some((Command::Lines, after)),
+        "place" => Some((Command::Place(words.next()?.parse().ok()?), after)),
         "slice" => {
             let from = words.next()?.parse().ok()?;
             Some((Command::Slice(from, words.next()?.parse().ok()?), after))

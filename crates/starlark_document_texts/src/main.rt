@@ -6,6 +6,8 @@
 //! - `edit FROM TO LEN`: replaces the bytes from FROM to TO by the text;
 //! - `show`: prints all lexemes, and then all faults;
 //! - `from AT`: prints the lexemes from the first one on that ends after byte AT;
+//! - `lines`: prints the number of lines;
+//! - `place AT`: prints the line, the column and the column in units of UTF-16 of byte AT;
 //! - `slice FROM TO`: prints the bytes from FROM to TO.
 //!
 //! After `new` and `edit` the document is compared with what lexing its whole text finds. The program
@@ -83,6 +85,13 @@ fn run(alloc: Global, document: &mut Document, command: Command<'_>) -> Result<S
         Command::Edit(from, to, text) => lines = edit_line(alloc, document, from, to, text)?,
         Command::Show => lines = lines_of(alloc, document)?,
         Command::From(at) => add_lexemes(&mut lines, document.lexemes_from(at))?,
+        Command::Lines => write!(lines, "{}", document.line_count())?,
+        Command::Place(at) => match document.place(at) {
+            Some(place) => {
+                write!(lines, "{} {} {}", place.line, place.column, place.utf16_column)?;
+            }
+            None => lines.push_str("none")?,
+        },
         Command::Slice(from, to) => match document.slice(from, to)? {
             Some(text) => lines = text,
             None => lines.push_str("none")?,

@@ -1,6 +1,7 @@
 -- Segments of a document, what is found in them, and lists of them.
-use Rattle.std.specs.Prelude.{◌≡◌, ◌≤◌, ◌<◌, ◌+◌, ◌^◌, ℕ, Bool, true, false, List, [], ◌∷◌, ◌++◌, map, drop, length, string_bytes, ⊤}
+use Rattle.std.specs.Prelude.{◌≡◌, ◌≤◌, ◌<◌, ◌+◌, ◌^◌, ℕ, Bool, true, false, List, [], ◌∷◌, ◌++◌, map, count_by, drop, length, string_bytes, ⊤}
 use Rattle.std.specs.List.{AllByRecursion}
+use Rattle.starlark_base.specs.Places.{is_lf}
 use Rattle.starlark_document.specs.Documents.{IsKindOf}
 use Rattle.starlark_document.specs.declared.segments.PlacedFault.{PlacedFault}
 use Rattle.starlark_document.specs.declared.segments.Segment.{Segment}
@@ -38,6 +39,7 @@ pub record IsLexedAs (found : List grammar.Lexeme) (segment : Segment) : Type 0 
   pub lexemes : map lexeme_view segment.content.value.lexemes.items ≡ map shown_lexeme found
   pub faults : AreFaults (recovered (text_in segment)).faults segment.content.value.faults.items
   pub len : segment.len ≡ length (text_in segment)
+  pub lines : segment.lines ≡ count_by is_lf (text_in segment)
 
 -- the last segment of a text: it has all lexemes of its text
 abbrev pub IsWhole : Segment → Type 0
@@ -67,6 +69,10 @@ AreLaid is_first (segment ∷ (next ∷ more)) = Follows is_first segment × IsO
 -- the stored lengths are those of the texts
 abbrev pub HaveLens : List Segment → Type 0
 HaveLens segments = AllByRecursion (λ (segment : Segment). segment.len ≡ length (text_in segment)) segments
+
+-- the stored numbers of LF are those of the texts
+abbrev pub HaveLines : List Segment → Type 0
+HaveLines segments = AllByRecursion (λ (segment : Segment). segment.lines ≡ count_by is_lf (text_in segment)) segments
 
 -- The segments have the faults of their texts; their lexemes and faults end in them; and they end before byte 2^32, where
 -- the first begins at an offset.

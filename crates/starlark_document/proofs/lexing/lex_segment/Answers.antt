@@ -36,4 +36,4 @@ returns-then-branch-clause-segment c =
     (found.1 ∙ ap (λ xs. found.0 ++ xs) next.is) found.2
     (c.in_ok-ends_before.ensures.cut c.if-branch.true)
     (c.in_ok-ends_before.ensures.ends c.if-branch.true old.code_map next.next next.answers)
-    cut.text cut.len cut.lexemes cut.faults
+    cut.text cut.len cut.lines cut.lexemes cut.faults

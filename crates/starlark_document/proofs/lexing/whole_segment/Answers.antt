@@ -7,7 +7,7 @@ use Rattle.starlark_document.proofs.lexing.whole_segment.Goals.{then-is_empty-vi
 pub returns-then-is_last-clause-segment : goal.returns-then-is_last-clause-segment
 returns-then-is_last-clause-segment c =
     let found = c.in_ok-segment.ensures in
-    rw c.if-is_last.true (whole_last c.args.text.now c.args.front _ c.requires.front found.text found.len found.lexemes found.faults)
+    rw c.if-is_last.true (whole_last c.args.text.now c.args.front _ c.requires.front found.text found.len found.lines found.lexemes found.faults)
 
 pub returns-then-is_empty-clause-segment : goal.returns-then-is_empty-clause-segment
 returns-then-is_empty-clause-segment c =
@@ -17,4 +17,4 @@ returns-then-is_empty-clause-segment c =
       | then-is_empty-via-then-is_empty w ↦ empty_closed text (zero_of (length text) w.if-is_empty.ensures)
       | then-is_empty-via-else-is_empty+then-front-text w ↦ line_closed text c.args.front c.requires.front w.if-front-text.true
     ] in
-    rw c.if-is_last.false (whole_open text c.args.front c.without_closing.result _ c.requires.front closed c.without_closing.ensures.lexemes c.without_closing.ensures.faults found.text found.len found.lexemes found.faults)
+    rw c.if-is_last.false (whole_open text c.args.front c.without_closing.result _ c.requires.front closed c.without_closing.ensures.lexemes c.without_closing.ensures.faults found.text found.len found.lines found.lexemes found.faults)

@@ -1,0 +1,206 @@
+-- Lines and columns in segments: those of the earlier segments, and those in one.
+use Rattle.std.proofs.Common.{◌≡◌, ℕ, ◌+◌, ◌-◌, ◌≤◌, suc, Bool, true, false, cond, not, List, [], ◌∷◌, ◌++◌, length, take, drop, inl, inr, ◌⊎◌, Some, refl, sym, subst, zero, ap, ◌∙◌, append_assoc, append-nil, length-append, take-append-drop, reverse, count_by, arith}
+use Rattle.std.specs.Str.{IsCharBoundary, IsUtf8}
+use Rattle.std.specs.List.{after_last, prefix_len, slice_get, suffix_len}
+use Rattle.std.proofs.lemmas.List.{drop_at, drop-drop, reverse-append, take-append-le}
+use Rattle.std.proofs.lemmas.List.Sums.{count_by-le-length, suffix_len-le-length, sum_by-append}
+use Rattle.std.proofs.lemmas.Bool.{eqb-true}
+use Rattle.starlark_base.specs.Places.{is_lf, place_after, place_at}
+use Rattle.starlark_document.specs.Inner.Segments.{AreLaid, AreOpen, HaveLines, text_in, text_of}
+use Rattle.starlark_document.specs.Places.{place_of}
+use Rattle.starlark_document.specs.declared.line_places.Place.{Place}
+use Rattle.starlark_document.specs.declared.segments.Segment.{Segment}
+use Rattle.std.proofs.lemmas.Str.{IsUtf8-take}
+use Rattle.starlark_document.specs.Inner.Parts.{IsPlaceIn}
+use Rattle.starlark_document.specs.declared.segments.SegmentPlace.{SegmentPlace}
+use Rattle.starlark_document.proofs.Boundaries.{IsCharBoundary-in_own, IsCharBoundary-of_part}
+use Rattle.starlark_document.proofs.Laid.{laid_around}
+use Rattle.starlark_document.proofs.Places.{HaveLens-laid, IsUtf8-text_of, all_at, len_at, text_of-at, text_of-more}
+use Rattle.starlark_grammar.specs.Words.{Text}
+use Rattle.starlark_grammar.proofs.Joining.Followed.{ends_line, ends_line_of}
+use Rattle.starlark_recovery.specs.Joining.{is_closed}
+use Rattle.starlark_recovery.proofs.Joining.ClosedTexts.{closed_ends}
+use Rattle.starlark_reports.specs.Positions.{pairs_before, position_at}
+use Rattle.starlark_reports.specs.declared.position.Position.{Position}
+use Rattle.starlark_reports.proofs.Pairs.{pairs_bound}
+use Rattle.starlark_run.proofs.Places.{column_bound, line_bound}
+
+-- the number of LF in two texts
+pub lines-append : (front more : Text) → count_by is_lf (front ++ more) ≡ count_by is_lf front + count_by is_lf more
+lines-append front more = sum_by-append (λ x. cond (is_lf x) 1 0) front more
+
+-- the stored numbers of lines are those of the texts
+pub HaveLines-open : (is_first : Bool) (segments : List Segment) → AreOpen is_first segments → HaveLines segments
+HaveLines-open is_first [] are_open = tt
+HaveLines-open is_first (segment ∷ more) are_open = (are_open.1.lexed.lines, HaveLines-open false more are_open.2)
+
+pub HaveLines-laid : (is_first : Bool) (segments : List Segment) → AreLaid is_first segments → HaveLines segments
+HaveLines-laid is_first [] laid = absurd laid
+HaveLines-laid is_first (segment ∷ []) laid = (laid.1.lines, tt)
+HaveLines-laid is_first (segment ∷ (next ∷ more)) laid = (laid.1.lexed.lines, HaveLines-laid false (next ∷ more) laid.2)
+
+-- the lines of segments up to one, and of that one
+pub lines-more : (segments : List Segment) (at : ℕ) (segment : Segment) → HaveLines segments → slice_get segments at ≡ Some segment
+    → count_by is_lf (text_of (take (at + 1) segments)) ≡ count_by is_lf (text_of (take at segments)) + segment.lines
+lines-more segments at segment lines is =
+    ap (count_by is_lf) (text_of-more segments at segment is)
+    ∙ lines-append (text_of (take at segments)) (text_in segment)
+    ∙ ap (λ (n : ℕ). count_by is_lf (text_of (take at segments)) + n) (sym (all_at (λ (x : Segment). x.lines ≡ count_by is_lf (text_in x)) segments at segment lines is))
+
+-- they are no more than the bytes of the text
+pub lines-within : (segments : List Segment) (at : ℕ) (segment : Segment) → HaveLines segments → slice_get segments at ≡ Some segment
+    → count_by is_lf (text_of (take at segments)) + segment.lines ≤ length (text_of segments)
+lines-within segments at segment lines is =
+    let whole = ap (count_by is_lf) (text_of-at segments at segment is) in
+    let own = all_at (λ (x : Segment). x.lines ≡ count_by is_lf (text_in x)) segments at segment lines is in
+    omega (
+      arith,
+      whole,
+      own,
+      lines-append (text_of (take at segments)) (text_in segment ++ text_of (drop (at + 1) segments)),
+      lines-append (text_in segment) (text_of (drop (at + 1) segments)),
+      count_by-le-length is_lf (text_of segments),
+    )
+
+-- a text that is empty or ends with an LF
+pub EndsLines : Text → Type 0
+EndsLines text = (text ≡ []) ⊎ ((front : Text) × (text ≡ front ++ 10 ∷ []))
+
+ends_line_front : (text : Text) → ends_line text ≡ true → (front : Text) × (text ≡ front ++ 10 ∷ [])
+ends_line_front [] ends = cc
+ends_line_front (b ∷ []) ends = ([], ap (λ (n : ℕ). n ∷ []) (eqb-true b 10 ends))
+ends_line_front (b ∷ (c ∷ bs)) ends =
+    let more = ends_line_front (c ∷ bs) ends in
+    (b ∷ more.0, ap (λ (t : Text). b ∷ t) more.1)
+
+-- a closed text does
+pub closed_lines : (text : Text) → is_closed text ≡ true → EndsLines text
+unfolding EndsLines
+closed_lines [] closed = inl refl
+closed_lines (b ∷ bs) closed = inr (ends_line_front (b ∷ bs) (ends_line_of (b ∷ bs) (closed_ends (b ∷ bs) (omega arith) closed)))
+
+lines_joined : (first second : Text) → EndsLines first → EndsLines second → EndsLines (first ++ second)
+unfolding EndsLines
+lines_joined first second ends (inl none) = subst EndsLines (sym (append-nil first) ∙ ap (λ (t : Text). first ++ t) (sym none)) ends
+lines_joined first second ends (inr more) =
+    inr (first ++ more.0, ap (λ (t : Text). first ++ t) more.1 ∙ sym (append_assoc first more.0 (10 ∷ [])))
+
+-- segments that others follow end with a line
+pub open_lines : (is_first : Bool) (segments : List Segment) → AreOpen is_first segments → EndsLines (text_of segments)
+unfolding EndsLines
+open_lines is_first [] are_open = inl refl
+open_lines is_first (segment ∷ more) are_open =
+    lines_joined (text_in segment) (text_of more) (closed_lines (text_in segment) are_open.1.is_closed) (open_lines false more are_open.2)
+
+-- what passes a test before an element that doesn't
+prefix_stopped : (p : ℕ → Bool) (xs ys : Text) (y : ℕ) → p y ≡ false → prefix_len p (xs ++ y ∷ ys) ≡ prefix_len p xs
+prefix_stopped p [] ys y stops = rw stops refl
+prefix_stopped p (x ∷ xs) ys y stops = rw (prefix_stopped p xs ys y stops) refl
+
+-- after an LF a new line begins
+line_of_more : (front more : Text) → after_last is_lf ((front ++ 10 ∷ []) ++ more) ≡ after_last is_lf more
+line_of_more front more =
+    let feed = front ++ 10 ∷ [] in
+    let s = suffix_len (λ x. not (is_lf x)) more in
+    let within : s ≤ length more = suffix_len-le-length _ more in
+    let turned : reverse (feed ++ more) ≡ reverse more ++ 10 ∷ reverse front =
+    reverse-append feed more ∙ ap (λ (t : Text). reverse more ++ t) (reverse-append front (10 ∷ [])) in
+    let same : suffix_len (λ x. not (is_lf x)) (feed ++ more) ≡ s =
+    ap (prefix_len (λ x. not (is_lf x))) turned ∙ prefix_stopped (λ x. not (is_lf x)) (reverse more) (reverse front) 10 refl in
+    let count : length (feed ++ more) - s ≡ length feed + (length more - s) = omega (arith, length-append feed more) in
+    ap (λ (n : ℕ). drop (length (feed ++ more) - n) (feed ++ more)) same
+    ∙ ap (λ (n : ℕ). drop n (feed ++ more)) count
+    ∙ sym (drop-drop (length more - s) (length feed) (feed ++ more))
+    ∙ ap (λ (t : Text). drop (length more - s) t) (drop_at feed more (length feed) refl)
+
+pub line_after : (front more : Text) → EndsLines front → after_last is_lf (front ++ more) ≡ after_last is_lf more
+unfolding EndsLines
+line_after front more (inl none) = ap (λ (t : Text). after_last is_lf (t ++ more)) none
+line_after front more (inr ends) = ap (λ (t : Text). after_last is_lf (t ++ more)) ends.1 ∙ line_of_more ends.0 more
+
+-- a text up to an offset in a part of it
+pub take_in_part : (before mid after : Text) (at : ℕ) → length before ≤ at → at ≤ length before + length mid
+    → take at (before ++ (mid ++ after)) ≡ before ++ take (at - length before) mid
+take_in_part [] mid after at from to =
+    let same : at ≡ at - 0 = omega arith in
+    take-append-le at mid after (omega (arith, to)) ∙ ap (λ (n : ℕ). take n mid) same
+take_in_part (b ∷ bs) mid after zero from to = absurd (omega (arith, from))
+take_in_part (b ∷ bs) mid after (suc n) from to =
+    let same : n - length bs ≡ suc n - length (b ∷ bs) = omega arith in
+    ap (λ (t : Text). b ∷ t) (take_in_part bs mid after n (omega (arith, from)) (omega (arith, to))) ∙ ap (λ (k : ℕ). (b ∷ bs) ++ take k mid) same
+
+-- the place of an offset in a text, by a part that begins with a line
+pub place_in_part : (before mid after : Text) (at : ℕ) → EndsLines before → length before ≤ at → at ≤ length before + length mid
+    → place_of (before ++ (mid ++ after)) at
+    ≡ record {
+      line = count_by is_lf before + (place_at mid (at - length before)).line;
+      column = (place_at mid (at - length before)).column;
+      utf16_column = (place_at mid (at - length before)).column + pairs_before mid (at - length before);
+    }
+unfolding place_after
+place_in_part before mid after at ends from to =
+    let more = take (at - length before) mid in
+    rw (take_in_part before mid after at from to, line_after before more ends, lines-append before more) refl
+
+-- A segment holds an offset of the text: its text is known, and it begins before the offset.
+pub record Holds (segments : List Segment) (place : SegmentPlace) (segment : Segment) (text : Text) (at : ℕ) : Type 0 where
+  pub laid : AreLaid true segments
+  pub is_place : IsPlaceIn segments place
+  pub is : slice_get segments place.index ≡ Some segment
+  pub same : text ≡ text_in segment
+  pub before : place.begin ≤ at
+
+-- the offset is a boundary of the text where it is one in the segment, …
+pub boundary_out : (segments : List Segment) (place : SegmentPlace) (segment : Segment) (text : Text) (at : ℕ) → Holds segments place segment text at
+    → IsCharBoundary text (at - place.begin) → IsCharBoundary (text_of segments) at
+boundary_out segments place segment text at holds cut =
+    let own = subst (λ (t : Text). IsCharBoundary t (at - place.begin)) holds.same cut in
+    let inner = subst (λ (n : ℕ). IsCharBoundary (text_in segment) (at - n)) holds.is_place.begin own in
+    subst (λ (t : Text). IsCharBoundary t at) (sym (text_of-at segments place.index segment holds.is))
+    (IsCharBoundary-of_part (text_of (take place.index segments)) (text_in segment) (text_of (drop (place.index + 1) segments)) at
+    (IsUtf8-text_of (drop (place.index + 1) segments)) (omega (arith, holds.is_place.begin, holds.before)) inner)
+
+-- … and in the segment where it is one in the text
+pub boundary_in : (segments : List Segment) (place : SegmentPlace) (segment : Segment) (text : Text) (at : ℕ) → Holds segments place segment text at
+    → at ≤ place.begin + segment.len → IsCharBoundary (text_of segments) at → IsCharBoundary text (at - place.begin)
+boundary_in segments place segment text at holds reach cut =
+    IsCharBoundary-in_own (text_of segments) (text_of (take place.index segments)) (text_in segment) (text_of (drop (place.index + 1) segments)) text place.begin at
+    (text_of-at segments place.index segment holds.is) holds.same holds.is_place.begin holds.before
+    (omega (arith, holds.is_place.begin, reach, len_at segments place.index segment (HaveLens-laid true segments holds.laid) holds.is)) cut
+
+-- the place of the offset, by its position in the segment
+pub place_held : (segments : List Segment) (place : SegmentPlace) (segment : Segment) (text : Text) (at lines : ℕ) (position : Position)
+    → Holds segments place segment text at → IsCharBoundary text (at - place.begin) → lines ≡ count_by is_lf (text_of (take place.index segments))
+    → position ≡ position_at text (at - place.begin)
+    → record { line = lines + position.place.line; column = position.place.column; utf16_column = position.place.column + position.pairs } ≡ place_of (text_of segments) at
+place_held segments place segment text at lines position holds cut counted moved =
+    let before = text_of (take place.index segments) in
+    let after = text_of (drop (place.index + 1) segments) in
+    let ends = open_lines true (take place.index segments) (laid_around segments place.index holds.laid holds.is_place.inside).0 in
+    let within = cut.0 in
+    let len = ap length holds.same in
+    let in_part = place_in_part before (text_in segment) after at ends (omega (arith, holds.is_place.begin, holds.before)) (omega (arith, holds.is_place.begin, within, len)) in
+    let begin = holds.is_place.begin in
+    ap (λ (p : Position). shown lines p) moved
+    ∙ ap (λ (n : ℕ). shown n (position_at text (at - place.begin))) counted
+    ∙ ap (λ (t : Text). shown (count_by is_lf before) (position_at t (at - place.begin))) holds.same
+    ∙ ap (λ (n : ℕ). shown (count_by is_lf before) (position_at (text_in segment) (at - n))) begin
+    ∙ sym in_part
+    ∙ ap (λ (t : Text). place_of t at) (sym (text_of-at segments place.index segment holds.is))
+  where
+    shown : ℕ → Position → Place
+    shown n p = record { line = n + p.place.line; column = p.place.column; utf16_column = p.place.column + p.pairs }
+
+-- a position counts no more than the bytes before it
+pub position_bounds : (text : Text) (to : ℕ) (position : Position) → IsUtf8 text → IsCharBoundary text to → position ≡ position_at text to
+    → (position.place.line ≤ length text) × (position.place.column ≤ length text) × (position.pairs ≤ length text)
+position_bounds text to position utf8 cut is =
+    let front = take to text in
+    let within : length front ≤ length text = length-take-within text to in (
+      omega (arith, within, ap (λ (p : Position). p.place.line) is, line_bound front),
+      omega (arith, within, ap (λ (p : Position). p.place.column) is, column_bound front (IsUtf8-take text to utf8 cut)),
+      omega (arith, within, ap (λ (p : Position). p.pairs) is, pairs_bound front),
+    )
+  where
+    length-take-within : (xs : Text) (n : ℕ) → length (take n xs) ≤ length xs
+    length-take-within xs n = omega (arith, length-append (take n xs) (drop n xs), ap length (take-append-drop n xs))
