@@ -11,8 +11,8 @@ ghost use Rattle.starlark_document.specs.Inner.Segments.{AreLaid, text_of};
 ghost use Rattle.starlark_document.specs.Places.{place_of};
 ghost use Rattle.starlark_grammar.specs.Words.{Text};
 
-use crate::parts::{LexedPart, Part, append_texts, end_at, lex_part, part_of_edit};
 use crate::line_places::{Place, newline_count, place_in};
+use crate::parts::{LexedPart, Part, append_texts, end_at, lex_part, part_of_edit};
 use crate::segments::{Faults, Lexemes, Segment, SegmentPlace, passed_len, segment_at};
 use starlark_syntax::codemap::{CodeMap, CodeMapId, OrMemory, SourceTooLong};
 use std::alloc::{AllocError, Global};
@@ -49,8 +49,8 @@ impl Model for Document {
 /// The least length of a segment in bytes, unless it is the only one.
 const SEGMENT_LEN: usize = 2048;
 
-/// What an edit changed. Outside of these ranges all lexemes and faults are the old ones; those after
-/// them are moved.
+/// What an edit changed. Outside of these ranges all lexemes and faults are the old ones, and those
+/// after them are moved.
 #[derive(Clone, Copy)]
 pub struct Change {
     /// Start of the range, in bytes of either text.
@@ -156,7 +156,7 @@ impl Document {
         Document::with_segment_len(alloc, text, SEGMENT_LEN)
     }
 
-    /// A document of a text, which is kept in segments of at least `least_len` bytes where it can be.
+    /// A document of a text, in segments of at least `least_len` bytes where it can be cut so.
     ///
     /// Shorter segments make an edit faster, and take more memory. Fails as `new` does.
     pub fn with_segment_len(

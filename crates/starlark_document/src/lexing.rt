@@ -35,7 +35,10 @@ fn last_newline(lexemes: &[PlacedToken]) -> usize
 fn newline_count(text: &str) -> usize
     ensures { result ≡ count_by is_lf text.now }
 {
-    text.as_bytes().iter().filter(|byte| **byte == b'\n').count()
+    text.as_bytes()
+        .iter()
+        .filter(|byte| **byte == b'\n')
+        .count()
 }
 
 /// A segment of a text, with what was found in it.

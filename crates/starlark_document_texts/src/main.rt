@@ -88,7 +88,11 @@ fn run(alloc: Global, document: &mut Document, command: Command<'_>) -> Result<S
         Command::Lines => write!(lines, "{}", document.line_count())?,
         Command::Place(at) => match document.place(at) {
             Some(place) => {
-                write!(lines, "{} {} {}", place.line, place.column, place.utf16_column)?;
+                write!(
+                    lines,
+                    "{} {} {}",
+                    place.line, place.column, place.utf16_column
+                )?;
             }
             None => lines.push_str("none")?,
         },
