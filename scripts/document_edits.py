@@ -82,6 +82,9 @@ def stored_commands():
     yield b"lines\n", PLACED
     for at in range(len(PLACED) + 2):
         yield f"place {at}\n".encode(), PLACED
+    for line in range(PLACED.count(b"\n") + 2):
+        for column in range(20):
+            yield f"offset {line} {column}\n".encode(), PLACED
     yield edit_command(0, len(PLACED), b""), b""
     yield b"lines\n", b""
     yield b"place 0\n", b""
@@ -146,6 +149,13 @@ def place_text(text, at):
     return f"{before.count(chr(10))} {len(line)} {len(line.encode('utf-16-le')) // 2}".encode()
 
 
+def offset_text(text, line, column):
+    """The byte at a line and a column in units of UTF-16, or `none`."""
+    wanted = f"{line} ".encode(), f" {column}".encode()
+    places = ((at, place_text(text, at)) for at in range(len(text) + 1))
+    return next((str(at).encode() for at, place in places if place.startswith(wanted[0]) and place.endswith(wanted[1])), b"none")
+
+
 def is_unchanged(change, before, after):
     """Whether what is found before and after an edit is the same outside of what it says that it changed."""
     begin, old_end, new_end, _ = map(int, change.split()[:4])
@@ -163,6 +173,8 @@ def fault_at(commands, texts, outputs):
         if command.startswith(b"from") and [span[:2] for span in found_spans(output)] != spans_from(text, int(command.split()[1])):
             return number
         if command == b"lines\n" and output != str(text.count(b"\n") + 1).encode():
+            return number
+        if command.startswith(b"offset") and output != offset_text(text, *map(int, command.split()[1:])):
             return number
         if command.startswith(b"place") and output != place_text(text, int(command.split()[1])):
             return number

@@ -1,13 +1,14 @@
 -- Lines and columns in segments: those of the earlier segments, and those in one.
-use Rattle.std.proofs.Common.{◌≡◌, ℕ, ◌+◌, ◌-◌, ◌≤◌, suc, Bool, true, false, cond, not, List, [], ◌∷◌, ◌++◌, length, take, drop, inl, inr, ◌⊎◌, Some, refl, sym, subst, zero, ap, ◌∙◌, append_assoc, append-nil, length-append, take-append-drop, reverse, count_by, arith}
+use Rattle.std.proofs.Common.{◌≡◌, ◌<◌, ℕ, ◌+◌, ◌-◌, ◌≤◌, suc, Bool, true, false, cond, not, List, [], ◌∷◌, ◌++◌, length, take, drop, inl, inr, ◌⊎◌, Some, refl, sym, subst, zero, ap, ◌∙◌, append_assoc, append-nil, length-append, take-append-drop, reverse, count_by, arith}
 use Rattle.std.specs.Str.{IsCharBoundary, IsUtf8}
 use Rattle.std.specs.List.{after_last, prefix_len, slice_get, suffix_len}
 use Rattle.std.proofs.lemmas.List.{drop_at, drop-drop, reverse-append, take-append-le}
 use Rattle.std.proofs.lemmas.List.Sums.{count_by-le-length, suffix_len-le-length, sum_by-append}
-use Rattle.std.proofs.lemmas.Bool.{eqb-true}
+use Rattle.std.proofs.lemmas.Bool.{cases_lt, eqb-true}
+use Rattle.std.proofs.lemmas.Option.{slice_get_within}
 use Rattle.starlark_base.specs.Places.{is_lf, place_after, place_at}
 use Rattle.starlark_document.specs.Inner.Segments.{AreLaid, AreOpen, HaveLines, text_in, text_of}
-use Rattle.starlark_document.specs.Places.{place_of}
+use Rattle.starlark_document.specs.Places.{StandsAt, place_of}
 use Rattle.starlark_document.specs.declared.line_places.Place.{Place}
 use Rattle.starlark_document.specs.declared.segments.Segment.{Segment}
 use Rattle.std.proofs.lemmas.Str.{IsUtf8-take}
@@ -204,3 +205,99 @@ position_bounds text to position utf8 cut is =
   where
     length-take-within : (xs : Text) (n : ℕ) → length (take n xs) ≤ length xs
     length-take-within xs n = omega (arith, length-append (take n xs) (drop n xs), ap length (take-append-drop n xs))
+
+-- a position stands where its counts say, …
+pub stands_of : (text : Text) (position : Position) (at : ℕ) → IsCharBoundary text at → position ≡ position_at text at
+    → StandsAt text position.place.line (position.place.column + position.pairs) at
+stands_of text position at cut is = record {
+  boundary = cut;
+  line = ap (λ (p : Position). p.place.line) (sym is);
+  column = ap (λ (p : Position). p.place.column + p.pairs) (sym is);
+}
+
+-- … and nowhere else
+pub stands_same : (text : Text) (position : Position) (on column at : ℕ) → position ≡ position_at text at → StandsAt text on column at
+    → (position.place.line ≡ on) × (position.place.column + position.pairs ≡ column)
+stands_same text position on column at is stands =
+    (ap (λ (p : Position). p.place.line) is ∙ stands.line, ap (λ (p : Position). p.place.column + p.pairs) is ∙ stands.column)
+
+-- an offset of a text is on one of its lines
+line_within : (text : Text) (at : ℕ) → (place_at text at).line ≤ count_by is_lf text
+unfolding place_after
+line_within text at =
+    omega (arith, lines-append (take at text) (drop at text), ap (count_by is_lf) (take-append-drop at text))
+
+-- what stands in a segment stands in the text, …
+pub stands_out : (segments : List Segment) (place : SegmentPlace) (segment : Segment) (text : Text) (at lines on column : ℕ)
+    → Holds segments place segment text at → lines ≡ count_by is_lf (text_of (take place.index segments)) → lines ≤ on
+    → StandsAt text (on - lines) column (at - place.begin) → StandsAt (text_of segments) on column at
+stands_out segments place segment text at lines on column holds counted order stands =
+    let held = place_held segments place segment text at lines (position_at text (at - place.begin)) holds stands.boundary counted refl in
+    record {
+      boundary = boundary_out segments place segment text at holds stands.boundary;
+      line = omega (arith, ap (λ (p : Place). p.line) held, stands.line, order);
+      column = omega (arith, ap (λ (p : Place). p.utf16_column) held, stands.column);
+    }
+
+-- … and the other way round
+pub stands_in : (segments : List Segment) (place : SegmentPlace) (segment : Segment) (text : Text) (at lines on column : ℕ)
+    → Holds segments place segment text at → lines ≡ count_by is_lf (text_of (take place.index segments)) → at ≤ place.begin + segment.len
+    → StandsAt (text_of segments) on column at
+    → StandsAt text (on - lines) column (at - place.begin) × (lines ≤ on) × (on ≤ lines + segment.lines)
+stands_in segments place segment text at lines on column holds counted reach stands =
+    let cut = boundary_in segments place segment text at holds reach stands.boundary in
+    let held = place_held segments place segment text at lines (position_at text (at - place.begin)) holds cut counted refl in
+    let line = ap (λ (p : Place). p.line) held in
+    let own = all_at (λ (x : Segment). x.lines ≡ count_by is_lf (text_in x)) segments place.index segment (HaveLines-laid true segments holds.laid) holds.is in
+    let within = line_within text (at - place.begin) in (
+      record {
+        boundary = cut;
+        line = omega (arith, line, stands.line);
+        column = omega (arith, ap (λ (p : Place). p.utf16_column) held, stands.column);
+      },
+      omega (arith, line, stands.line),
+      omega (arith, line, stands.line, own, within, ap (count_by is_lf) holds.same),
+    )
+
+-- where a segment begins after some bytes, it isn't the first
+begin_positive : (segments : List Segment) (index begin at : ℕ) → begin ≡ length (text_of (take index segments)) → at < begin → 0 < index
+begin_positive segments zero begin at is less = absurd (omega (arith, is, less))
+begin_positive segments (suc n) begin at is less = omega arith
+
+-- where nothing stands in the segments up to one, and in that one, nothing stands up to its end
+pub none_onward : (segments : List Segment) (index begin lines on column : ℕ) (segment : Segment) → AreLaid true segments → slice_get segments index ≡ Some segment
+    → begin ≡ length (text_of (take index segments)) → lines ≡ count_by is_lf (text_of (take index segments))
+    → ((at : ℕ) → 0 < index → at ≤ begin → StandsAt (text_of segments) on column at → ⊥)
+    → ((at : ℕ) → lines ≤ on → on ≤ lines + segment.lines → StandsAt (text_in segment) (on - lines) column at → ⊥)
+    → (at : ℕ) → at ≤ begin + segment.len → StandsAt (text_of segments) on column at → ⊥
+none_onward segments index begin lines on column segment laid is start counted earlier own at reach stands =
+    elim (cases_lt at begin) [
+      | inl less ↦ earlier at (begin_positive segments index begin at start less) (omega (arith, less)) stands
+      | inr from ↦
+          let place : SegmentPlace = record { index = index; begin = begin } in
+          let holds : Holds segments place segment (text_in segment) at = record {
+            laid = laid;
+            is_place = record { inside = slice_get_within segments index segment is; begin = start };
+            is = is;
+            same = refl;
+            before = from;
+          } in
+          let found = stands_in segments place segment (text_in segment) at lines on column holds counted reach stands in
+          own (at - begin) found.1 found.2 found.0
+    ]
+
+-- an offset that stands in a segment, from its start
+pub stands_onward : (segments : List Segment) (index begin lines on column at : ℕ) (segment : Segment) (text : Text) → AreLaid true segments
+    → slice_get segments index ≡ Some segment → begin ≡ length (text_of (take index segments)) → lines ≡ count_by is_lf (text_of (take index segments))
+    → text ≡ text_in segment → lines ≤ on → StandsAt text (on - lines) column at → StandsAt (text_of segments) on column (begin + at)
+stands_onward segments index begin lines on column at segment text laid is start counted same order stands =
+    let place : SegmentPlace = record { index = index; begin = begin } in
+    let holds : Holds segments place segment text (begin + at) = record {
+      laid = laid;
+      is_place = record { inside = slice_get_within segments index segment is; begin = start };
+      is = is;
+      same = same;
+      before = omega arith;
+    } in
+    let back : at ≡ begin + at - begin = omega arith in
+    stands_out segments place segment text (begin + at) lines on column holds counted order (subst (λ (n : ℕ). StandsAt text (on - lines) column n) back stands)

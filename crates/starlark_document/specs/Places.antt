@@ -1,5 +1,6 @@
 -- Places of a text: lines, columns in characters, and columns in units of UTF-16.
-use Rattle.std.specs.Prelude.{ℕ, ◌+◌}
+use Rattle.std.specs.Prelude.{◌≡◌, ℕ, ◌+◌}
+use Rattle.std.specs.Str.{IsCharBoundary}
 use Rattle.starlark_base.specs.Places.{place_at}
 use Rattle.starlark_document.specs.declared.line_places.Place.{Place}
 use Rattle.starlark_grammar.specs.Words.{Text}
@@ -13,3 +14,9 @@ place_of text at = record {
   column = (place_at text at).column;
   utf16_column = (place_at text at).column + pairs_before text at;
 }
+
+-- an offset is a character boundary on a line, at a column in units of UTF-16
+pub record StandsAt (text : Text) (on at_column at : ℕ) : Type 0 where
+  pub boundary : IsCharBoundary text at
+  pub line : (place_of text at).line ≡ on
+  pub column : (place_of text at).utf16_column ≡ at_column

@@ -1,6 +1,6 @@
 //! Documents: texts that stay lexed while they are edited.
 
-ghost use Rattle.std.specs.Prelude.{◌≡◌, ◌≤◌, ◌<◌, ◌^◌, ◌↔◌, ◌==◌, Err, IfErr, IfOk, IfSome, IsNone, IsTrue, OnErr, OnOk, drop, length, map, slice_range, string_bytes, true};
+ghost use Rattle.std.specs.Prelude.{◌≡◌, ◌≤◌, ◌<◌, ◌^◌, ◌↔◌, ◌==◌, Err, IfErr, IfOk, IfSome, IsNone, IsTrue, None, OnErr, OnOk, drop, length, map, slice_range, string_bytes, true, ℕ};
 ghost use Rattle.std.specs.List.{prefix_len};
 ghost use Rattle.std.specs.Str.{IsCharBoundary};
 ghost use Rattle.starlark_base.specs.Lines.{line_count};
@@ -8,10 +8,10 @@ ghost use Rattle.starlark_base.specs.Refusals.{IsRefused};
 ghost use Rattle.starlark_document.specs.Documents.{AreEdits, IsChange, IsRange, IsStop, edit_view, edited, ends_by, faults_of, lexemes_of, text_after};
 ghost use Rattle.starlark_document.specs.Inner.Parts.{IsLexedPart, IsPart};
 ghost use Rattle.starlark_document.specs.Inner.Segments.{AreLaid, text_of};
-ghost use Rattle.starlark_document.specs.Places.{place_of};
+ghost use Rattle.starlark_document.specs.Places.{StandsAt, place_of};
 ghost use Rattle.starlark_grammar.specs.Words.{Text};
 
-use crate::line_places::{Place, newline_count, place_in};
+use crate::line_places::{Place, newline_count, offset_in_segments, place_in};
 use crate::parts::{LexedPart, Part, append_texts, end_at, lex_part, part_of_edit};
 use crate::segments::{Faults, Lexemes, Segment, SegmentPlace, passed_len, segment_at};
 use starlark_syntax::codemap::{CodeMap, CodeMapId, OrMemory, SourceTooLong};
@@ -298,6 +298,15 @@ impl Document {
         ensures none { IsNone result ↔ (IsCharBoundary self.now at → ⊥) }
     {
         place_in(&self.segments, at)
+    }
+
+    /// The offset of a line and a column in units of UTF-16, both from 0. `None` where no character
+    /// boundary stands there.
+    pub fn offset_at_utf16(&self, line: usize, column: usize) -> Option<usize>
+        ensures some { IfSome result (StandsAt self.now line column) }
+        ensures none { result ≡ None → (at : ℕ) → StandsAt self.now line column at → ⊥ }
+    {
+        offset_in_segments(&self.segments, line, column)
     }
 
     /// The text from byte `from` to byte `to`; `None` where the range isn't one of the text.

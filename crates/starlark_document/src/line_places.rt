@@ -1,10 +1,10 @@
 //! Places of a text in segments: lines and columns.
 
-ghost use Rattle.std.specs.Prelude.{◌≡◌, ◌<◌, ◌^◌, ◌↔◌, IfSome, IsNone, count_by, length, true};
+ghost use Rattle.std.specs.Prelude.{◌≡◌, ◌<◌, ◌^◌, ◌↔◌, IfSome, IsNone, None, ℕ, count_by, length, true};
 ghost use Rattle.std.specs.Str.{IsCharBoundary};
 ghost use Rattle.starlark_base.specs.Places.{is_lf};
 ghost use Rattle.starlark_document.specs.Inner.Segments.{AreLaid, HaveLines, text_of};
-ghost use Rattle.starlark_document.specs.Places.{place_of};
+ghost use Rattle.starlark_document.specs.Places.{StandsAt, place_of};
 
 use crate::segments::{Segment, segment_at};
 use starlark_reports::Position;
@@ -52,4 +52,46 @@ pub fn place_in(segments: &[Segment], at: usize) -> Option<Place>
         column: position.place.column,
         utf16_column: position.place.column + position.pairs,
     })
+}
+
+/// The offset of a text that stands on a line at a column in units of UTF-16; `None` where none does.
+fn offset_in(text: &str, line: usize, column: usize) -> Option<usize>
+    requires { length text.now < 2 ^ 32 }
+    ensures some { IfSome result (StandsAt text.now line column) }
+    ensures none { result ≡ None → (at : ℕ) → StandsAt text.now line column at → ⊥ }
+{
+    let mut position = Position::START;
+    for at in 0..text.len() + 1 {
+        if text.is_char_boundary(at) {
+            position = position.moved(text, at);
+            let utf16_column = position.place.column + position.pairs;
+            if position.place.line == line && utf16_column == column {
+                return Some(at);
+            }
+        }
+    }
+    None
+}
+
+/// The offset of the text of segments that stands on a line at a column in units of UTF-16; `None`
+/// where none does.
+pub fn offset_in_segments(segments: &[Segment], line: usize, column: usize) -> Option<usize>
+    requires laid { AreLaid true segments.now }
+    requires fits { length (text_of segments.now) < 2 ^ 32 }
+    ensures some { IfSome result (StandsAt (text_of segments.now) line column) }
+    ensures none { result ≡ None → (at : ℕ) → StandsAt (text_of segments.now) line column at → ⊥ }
+{
+    let mut begin = 0;
+    let mut lines = 0;
+    for segment in segments {
+        if lines <= line && line <= lines + segment.lines {
+            let text = segment.content.text.as_str();
+            if let Some(at) = offset_in(text, line - lines, column) {
+                return Some(begin + at);
+            }
+        }
+        begin += segment.len;
+        lines += segment.lines;
+    }
+    None
 }

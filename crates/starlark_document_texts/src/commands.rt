@@ -17,6 +17,8 @@ pub enum Command<'a> {
     Lines,
     /// Prints the place of an offset.
     Place(usize),
+    /// Prints the offset of a line and a column in units of UTF-16.
+    Offset(usize, usize),
     /// Prints a range of the text.
     Slice(usize, usize),
 }
@@ -41,6 +43,10 @@ pub fn read_command(stored: &[u8]) -> Option<(Command<'_>, &[u8])> {
         "from" => Some((Command::From(words.next()?.parse().ok()?), after)),
         "lines" => Some((Command::Lines, after)),
         "place" => Some((Command::Place(words.next()?.parse().ok()?), after)),
+        "offset" => {
+            let line = words.next()?.parse().ok()?;
+            Some((Command::Offset(line, words.next()?.parse().ok()?), after))
+        }
         "slice" => {
             let from = words.next()?.parse().ok()?;
             Some((Command::Slice(from, words.next()?.parse().ok()?), after))

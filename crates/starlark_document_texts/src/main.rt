@@ -8,6 +8,7 @@
 //! - `from AT`: prints the lexemes from the first one on that ends after byte AT;
 //! - `lines`: prints the number of lines;
 //! - `place AT`: prints the line, the column and the column in units of UTF-16 of byte AT;
+//! - `offset LINE COLUMN`: prints the offset of a line and a column in units of UTF-16;
 //! - `slice FROM TO`: prints the bytes from FROM to TO.
 //!
 //! After `new` and `edit` the document is compared with what lexing its whole text finds. The program
@@ -94,6 +95,10 @@ fn run(alloc: Global, document: &mut Document, command: Command<'_>) -> Result<S
                     place.line, place.column, place.utf16_column
                 )?;
             }
+            None => lines.push_str("none")?,
+        },
+        Command::Offset(line, column) => match document.offset_at_utf16(line, column) {
+            Some(at) => write!(lines, "{at}")?,
             None => lines.push_str("none")?,
         },
         Command::Slice(from, to) => match document.slice(from, to)? {
