@@ -4,8 +4,9 @@
 #
 #     scripts/vendor.sh [--run] DIR
 #
-# The crates are `starlark_document`, `starlark_recovery`, `starlark_syntax` and those below them; with --run, or where an
-# earlier call did so, `starlark_run` too. Edits, tests and what checks left are no part of a copy.
+# The crates are `starlark_document`, `starlark_recovery`, `starlark_syntax` and those below them,
+# `starlark_run` among them, since documents count columns by `starlark_reports`. So --run changes
+# nothing now. Edits, tests and what checks left are no part of a copy.
 # Crates and lines of DIR/crates.txt that this script didn't write stay as they are.
 set -eu
 
