@@ -172,9 +172,12 @@ def is_report_kept(run, whole, others=b""):
 
 
 def is_document_kept(run, whole):
-    """Whether a run over an edit of a document printed all, or that the edit wanted memory and the document is as before."""
-    if is_all_or_nothing(run, whole):
-        return True
+    """Whether a run over an edit of a document printed all, or a beginning and that it wants memory, or that the edit wanted
+    memory and the document is as before."""
+    if run.status == 1:
+        return b"OutOfMemory" in run.message and whole.startswith(run.output)
+    if run.output == whole:
+        return run.status == 0
     made, shown, _, _ = document_parts(whole)
     return run.status == 0 and document_parts(run.output) == [made, shown, WANT_OF_MEMORY_OF_AN_EDIT, shown]
 
