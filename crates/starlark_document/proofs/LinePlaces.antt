@@ -1,17 +1,20 @@
 -- Lines and columns in segments: those of the earlier segments, and those in one.
-use Rattle.std.proofs.Common.{◌≡◌, ◌<◌, ℕ, ◌+◌, ◌-◌, ◌≤◌, suc, Bool, true, false, cond, not, List, [], ◌∷◌, ◌++◌, length, take, drop, inl, inr, ◌⊎◌, Some, refl, sym, subst, zero, ap, ◌∙◌, append_assoc, append-nil, length-append, take-append-drop, reverse, count_by, arith}
-use Rattle.std.specs.Str.{IsCharBoundary, IsUtf8}
+use Rattle.std.proofs.Common.{◌≡◌, ◌<◌, ◌↔◌, take-add, length-take-le, length-drop, None, ℕ, ◌+◌, ◌-◌, ◌≤◌, suc, Bool, true, false, cond, not, List, [], ◌∷◌, ◌++◌, length, take, drop, inl, inr, ◌⊎◌, Some, refl, sym, subst, zero, ap, ◌∙◌, append_assoc, append-nil, length-append, take-append-drop, reverse, count_by, arith}
+use Rattle.std.specs.Str.{IsCharBoundary, IsUtf8, chars}
 use Rattle.std.specs.List.{after_last, prefix_len, slice_get, suffix_len}
 use Rattle.std.proofs.lemmas.List.{drop_at, drop-drop, reverse-append, take-append-le}
 use Rattle.std.proofs.lemmas.List.Sums.{count_by-le-length, suffix_len-le-length, sum_by-append}
-use Rattle.std.proofs.lemmas.Bool.{cases_lt, eqb-true}
-use Rattle.std.proofs.lemmas.Option.{slice_get_within}
+use Rattle.std.proofs.lemmas.Bool.{and_from, cases_lt, eqb-true}
+use Rattle.std.proofs.lemmas.Option.{same_Some, slice_get_within}
 use Rattle.starlark_base.specs.Places.{is_lf, place_after, place_at}
+use Rattle.starlark_base.specs.declared.codemap.resolved.ResolvedPos.{ResolvedPos}
 use Rattle.starlark_document.specs.Inner.Segments.{AreLaid, AreOpen, HaveLines, text_in, text_of}
 use Rattle.starlark_document.specs.Places.{StandsAt, place_of}
 use Rattle.starlark_document.specs.declared.line_places.Place.{Place}
 use Rattle.starlark_document.specs.declared.segments.Segment.{Segment}
-use Rattle.std.proofs.lemmas.Str.{IsUtf8-take}
+use Rattle.std.proofs.lemmas.Str.{IsUtf8-between, IsUtf8-take, encodes-chars}
+use Rattle.std.proofs.Math.Utf8.{encodes}
+use Rattle.std.specs.Prelude.{IfSome, Option}
 use Rattle.starlark_document.specs.Inner.Parts.{IsPlaceIn}
 use Rattle.starlark_document.specs.declared.segments.SegmentPlace.{SegmentPlace}
 use Rattle.starlark_document.proofs.Boundaries.{IsCharBoundary-in_own, IsCharBoundary-of_part}
@@ -21,10 +24,10 @@ use Rattle.starlark_grammar.specs.Words.{Text}
 use Rattle.starlark_grammar.proofs.Joining.Followed.{ends_line, ends_line_of}
 use Rattle.starlark_recovery.specs.Joining.{is_closed}
 use Rattle.starlark_recovery.proofs.Joining.ClosedTexts.{closed_ends}
-use Rattle.starlark_reports.specs.Positions.{pairs_before, position_at}
+use Rattle.starlark_reports.specs.Positions.{pairs_before, pairs_in_line, position_at}
 use Rattle.starlark_reports.specs.declared.position.Position.{Position}
-use Rattle.starlark_reports.proofs.Pairs.{pairs_bound}
-use Rattle.starlark_run.proofs.Places.{column_bound, line_bound}
+use Rattle.starlark_reports.proofs.Pairs.{pairs_along, pairs_bound}
+use Rattle.starlark_run.proofs.Places.{column_bound, is_one_line, line_bound, place_along}
 
 -- the number of LF in two texts
 pub lines-append : (front more : Text) → count_by is_lf (front ++ more) ≡ count_by is_lf front + count_by is_lf more
@@ -301,3 +304,60 @@ stands_onward segments index begin lines on column at segment text laid is start
     } in
     let back : at ≡ begin + at - begin = omega arith in
     stands_out segments place segment text (begin + at) lines on column holds counted order (subst (λ (n : ℕ). StandsAt text (on - lines) column n) back stands)
+
+-- Offsets on a line
+
+-- bytes without an LF are of one line
+one_line_of_none : (text : Text) → count_by is_lf text ≡ 0 → is_one_line text ≡ true
+one_line_of_none [] none = refl
+one_line_of_none (b ∷ bs) none = go (is_lf b) refl (λ left. one_line_of_none bs left)
+  where
+    parts : count_by is_lf (b ∷ bs) ≡ count_by is_lf (b ∷ []) + count_by is_lf bs
+    parts = lines-append (b ∷ []) bs
+
+    go : (test : Bool) → is_lf b ≡ test → (count_by is_lf bs ≡ 0 → is_one_line bs ≡ true) → is_one_line (b ∷ bs) ≡ true
+    go true feed rest = absurd (omega (arith, parts, none, ap (λ (n : ℕ). count_by is_lf (n ∷ [])) (eqb-true b 10 feed)))
+    go false other rest = and_from (not (is_lf b)) (is_one_line bs) (ap not other) (rest (omega (arith, parts, none)))
+
+-- a text of some bytes has a character
+some_characters : (text : Text) → IsUtf8 text → 0 < length text → 0 < length (chars text)
+some_characters text utf8 some = go (chars text) refl
+  where
+    go : (found : List ℕ) → chars text ≡ found → 0 < length (chars text)
+    go [] none = absurd (omega (arith, some, ap length (sym (encodes-chars text utf8) ∙ ap encodes none)))
+    go (c ∷ cs) is = omega (arith, ap length is)
+
+-- of two offsets on a line the second has the larger column
+stands_apart : (text : Text) (on column first second : ℕ) → IsUtf8 text → first < second → StandsAt text on column first → StandsAt text on column second → ⊥
+unfolding place_after
+stands_apart text on column first second utf8 less one two =
+    let front = take first text in
+    let mid = take (second - first) (drop first text) in
+    let joined : take second text ≡ front ++ mid = ap (λ (n : ℕ). take n text) (omega arith) ∙ take-add first (second - first) text in
+    let front_utf8 = IsUtf8-take text first utf8 one.boundary in
+    let lines = ap (count_by is_lf) joined in
+    let none : count_by is_lf mid ≡ 0 = omega (arith, lines, lines-append front mid, one.line, two.line) in
+    let single = one_line_of_none mid none in
+    let column_is = ap (λ (t : Text). (place_after t).column) joined ∙ ap (λ (p : ResolvedPos). p.column) (place_along front mid front_utf8 single) in
+    let pairs = ap pairs_in_line joined ∙ pairs_along front mid single in
+    let mid_utf8 : IsUtf8 mid = IsUtf8-between text first second utf8 (omega (arith, less)) one.boundary two.boundary in
+    let len : length mid ≡ second - first = length-take-le (second - first) (drop first text) (omega (arith, length-drop first text, two.boundary.0)) in
+    omega (arith, column_is, pairs, one.column, two.column, some_characters mid mid_utf8 (omega (arith, len, less)))
+
+-- an offset stands on one line at one column
+pub stands_once : (text : Text) (on column first second : ℕ) → IsUtf8 text → StandsAt text on column first → StandsAt text on column second → first ≡ second
+stands_once text on column first second utf8 one two =
+    elim (cases_lt first second) [
+      | inl less ↦ absurd (stands_apart text on column first second utf8 less one two)
+      | inr from ↦ elim (cases_lt second first) [
+        | inl less ↦ absurd (stands_apart text on column second first utf8 less two one)
+        | inr to ↦ omega (arith, from, to)
+      ]
+    ]
+
+-- an answer that stands at a line and column, and is there wherever something stands, is the offset that does
+pub stands_exactly : (text : Text) (on column at : ℕ) (answer : Option ℕ) → IsUtf8 text → IfSome answer (StandsAt text on column)
+    → (answer ≡ None → (k : ℕ) → StandsAt text on column k → ⊥) → (answer ≡ Some at) ↔ StandsAt text on column at
+stands_exactly text on column at None utf8 some none = (λ e. cc, λ stands. absurd (none refl at stands))
+stands_exactly text on column at (Some found) utf8 some none =
+    (λ e. subst (StandsAt text on column) (same_Some found at e) some, λ stands. ap Some (stands_once text on column found at utf8 some stands))

@@ -1,6 +1,6 @@
 //! Documents: texts that stay lexed while they are edited.
 
-ghost use Rattle.std.specs.Prelude.{◌≡◌, ◌≤◌, ◌<◌, ◌^◌, ◌↔◌, ◌==◌, Err, IfErr, IfOk, IfSome, IsNone, IsTrue, None, OnErr, OnOk, drop, length, map, slice_range, string_bytes, true, ℕ};
+ghost use Rattle.std.specs.Prelude.{◌≡◌, ◌≤◌, ◌<◌, ◌^◌, ◌↔◌, ◌==◌, Err, IfErr, IfOk, IfSome, IsNone, IsTrue, OnErr, OnOk, Some, drop, length, map, slice_range, string_bytes, true, ℕ};
 ghost use Rattle.std.specs.List.{prefix_len};
 ghost use Rattle.std.specs.Str.{IsCharBoundary};
 ghost use Rattle.starlark_base.specs.Lines.{line_count};
@@ -303,8 +303,7 @@ impl Document {
     /// The offset of a line and a column in units of UTF-16, both from 0. `None` where no character
     /// boundary stands there.
     pub fn offset_at_utf16(&self, line: usize, column: usize) -> Option<usize>
-        ensures some { IfSome result (StandsAt self.now line column) }
-        ensures none { result ≡ None → (at : ℕ) → StandsAt self.now line column at → ⊥ }
+        ensures { (at : ℕ) → (result ≡ Some at) ↔ StandsAt self.now line column at }
     {
         offset_in_segments(&self.segments, line, column)
     }
