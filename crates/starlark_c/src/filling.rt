@@ -283,7 +283,7 @@ pub fn fill(
     lexemes: &mut [LexemeRecord],
     values: &mut [u8],
 ) -> Ending
-    requires fresh { lexer.old ≡ record { text = text.now; code_map = lexer.old.code_map; yielded_count = 0; has_ended = false } }
+    requires fresh { lexer.old ≡ record { text = text.now; code_map = lexer.old.code_map; yielded_count = 0; has_ended = false; reads = 0 } }
     requires text { IsText text.now }
     ensures { Ends text.now (record { lexemes = lexemes.old; values = values.old }) (record { lexemes = lexemes.new; values = values.new }) result }
 {

@@ -16,7 +16,7 @@ use std::alloc::Global;
 /// `None` where memory runs out.
 fn lexer_of(alloc: Global, text: &str) -> Option<Lexer<'_>>
     requires { length text.now < 2 ^ 32 }
-    ensures { IfSome result (λ lexer. lexer ≡ record { text = text.now; code_map = record { id = 0; filename = []; source = [] }; yielded_count = 0; has_ended = false }) }
+    ensures { IfSome result (λ lexer. lexer ≡ record { text = text.now; code_map = record { id = 0; filename = []; source = [] }; yielded_count = 0; has_ended = false; reads = 0 }) }
 {
     let file = empty_file(alloc).ok()?;
     Lexer::new(alloc, text, &Dialect::Extended, file).ok()

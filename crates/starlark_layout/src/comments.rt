@@ -43,11 +43,12 @@ pub fn first_comment(
     requires some { from < to }
     requires comments { IsComments text.now from to }
     ensures comment { IfOk result (λ found. IsFirstComment text.now from to found.0 found.1) }
-    ensures reads { IfOk result (λ found. AreReads 0 (6 * found.1) reads.old reads.new) }
+    ensures reads { IfOk result (λ found. AreReads 0 (5 * found.1) reads.old reads.new) }
 {
     let lines = &text.as_bytes()[from..to];
-    let begin = from + blanks_len(reads, lines);
-    let feed = before_lf_len(reads, lines);
+    let blanks = blanks_len(reads, lines);
+    let begin = from + blanks;
+    let feed = blanks + before_lf_len(reads, &lines[blanks..]);
     let len = line_len(lines, feed);
     let end = from + comment_end(reads, lines, feed);
     let comment = String::from_str(alloc, &text[begin + 1..end])?;

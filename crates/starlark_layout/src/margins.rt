@@ -134,7 +134,7 @@ fn is_content(text: &[u8]) -> bool
 pub fn margin_of(reads: &mut Reads, text: &str) -> Margin
     ensures margin { IsMargin (grammar.margin_of text.now) result }
     ensures within { result.at + result.blanks.len ≤ length text.now }
-    ensures reads { AreReads (result.at + result.blanks.len) (6 * result.at + result.blanks.len + 2) reads.old reads.new }
+    ensures reads { AreReads (result.at + result.blanks.len) (5 * result.at + result.blanks.len + 2) reads.old reads.new }
 {
     let bytes = text.as_bytes();
     let blanks = blanks_of(reads, bytes);

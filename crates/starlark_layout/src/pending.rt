@@ -142,7 +142,7 @@ impl Pending {
         ensures next { IfOk result (λ first. IsFirst text.now self.old self.new (Some first)) }
         ensures lines { IfOk result (λ first. IsLinePassed text.now self.old self.new (Some first)) }
         ensures flat { OnOk result (self.new.is_flat ≡ self.old.is_flat) }
-        ensures reads { IfOk result (λ first. (more_reads reads.old 0 ≤ reads.new) × (reads.new + 6 * owed self.new ≤ reads.old + 6 * owed self.old)) }
+        ensures reads { IfOk result (λ first. (more_reads reads.old 0 ≤ reads.new) × (reads.new + 5 * owed self.new ≤ reads.old + 5 * owed self.old)) }
     {
         let (comment, len) = first_comment(reads, alloc, text, self.from, self.to)?;
         self.from += len;
@@ -178,7 +178,7 @@ impl Pending {
         ensures memory { OnErr result (pending_lexemes text.now self.old ≡ [] → ⊥) }
         ensures lines { IfOk result (λ first. IsLinePassed text.now self.old self.new first) }
         ensures flat { OnOk result (self.old.from < self.old.to → self.new.is_flat ≡ self.old.is_flat) }
-        ensures reads { IfOk result (λ first. (more_reads reads.old 0 ≤ reads.new) × (reads.new + 6 * owed self.new ≤ reads.old + 6 * owed self.old)) }
+        ensures reads { IfOk result (λ first. (more_reads reads.old 0 ≤ reads.new) × (reads.new + 5 * owed self.new ≤ reads.old + 5 * owed self.old)) }
     {
         if self.has_comments() {
             Ok(Some(self.next_comment(reads, alloc, text)?))

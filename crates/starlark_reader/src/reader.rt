@@ -1,6 +1,6 @@
 //! Reads a text piece by piece, and keeps what later pieces depend on.
 
-ghost use Rattle.std.specs.Prelude.{◌≡◌, ◌≢◌, if◌then◌else◌, true, false, ◌<◌, ◌≤◌, ◌+◌, ◌-◌, ◌*◌, ◌^◌, [], ℕ, None, Some, List, Option, codes, drop, length, map, nat_eq, nat_lt, OnErr, OnOk, IfErr, IfOk, IfSome};
+ghost use Rattle.std.specs.Prelude.{◌≡◌, ◌≢◌, true, false, ◌<◌, ◌≤◌, ◌+◌, ◌-◌, ◌*◌, ◌^◌, [], ℕ, None, Some, List, Option, codes, drop, length, map, nat_eq, nat_lt, take, OnErr, OnOk, IfErr, IfOk, IfSome};
 ghost use Rattle.std.specs.List.{ends_with};
 ghost use Rattle.std.specs.Str.{IsCharBoundary};
 ghost use Rattle.starlark_bytes.specs.Inner.Reads.{more_reads};
@@ -115,6 +115,7 @@ impl Reader {
     pub fn new(alloc: Global) -> Self
         ensures ahead { (text : Text) → IsAhead text result result.stage (map shown_lexeme (outcome text).lexemes) (outcome text).fault }
         ensures reads { (text : Text) → HasRead text 0 result }
+        ensures unread { result.reads ≡ 0 }
     {
         Reader {
             alloc,
@@ -533,21 +534,33 @@ impl Reader {
         word_after(&mut self.reads, gap, &text[self.at..])
     }
 
-    /// The word that comes next, where it is a symbol of two bytes or an integer of one digit, and the byte behind it tells
-    /// so. `None` where something else comes. For places of code, behind their spaces.
+    /// The first three bytes from the offset on, or all that are left.
     #[inline(always)]
-    pub fn short_word(&mut self, text: &str) -> Option<ShortWord>
+    pub fn front<'a>(&mut self, text: &'a str) -> &'a [u8]
         requires fits { length text.now < 2 ^ 32 }
         requires ready { IsReady text.now self.old self.old.stage }
         requires code { IsAtCode text.now self.old }
         ensures ahead { (lexemes : List (Spanned TokenView)) (fault : Option (Spanned Fault)) → IsAhead text.now self.old self.old.stage lexemes fault → IsAhead text.now self.new self.new.stage lexemes fault }
         ensures onward { left_to_read text.now self.new self.new.stage ≤ left_to_read text.now self.old self.old.stage }
         ensures code { IsAtCode text.now self.new }
-        ensures stands { IfSome result (λ short. IsWordHere text.now self.new (short_view short)) }
-        ensures digit { IfSome result (λ short. HasDigit short (drop self.new.at text.now)) }
+        ensures bytes { result.now ≡ take 3 (drop self.new.at text.now) }
         ensures looked { HasLookedHere 3 3 self.old self.new }
     {
-        short_word(&mut self.reads, &text[self.at..])
+        self.reads.front(text[self.at..].as_bytes(), 3)
+    }
+
+    /// The word that comes next if it is a symbol of two bytes or an integer of one digit, and the
+    /// byte after it tells so; `None` if something else comes. For places of code, after their spaces.
+    #[inline(always)]
+    pub fn short_word(&self, front: &[u8], text: &str) -> Option<ShortWord>
+        requires fits { length text.now < 2 ^ 32 }
+        requires ready { IsReady text.now self.now self.now.stage }
+        requires code { IsAtCode text.now self.now }
+        requires front { front.now ≡ take 3 (drop self.now.at text.now) }
+        ensures stands { IfSome result (λ short. IsWordHere text.now self.now (short_view short)) }
+        ensures digit { IfSome result (λ short. HasDigit short (drop self.now.at text.now)) }
+    {
+        short_word(front, &text[self.at..])
     }
 
     /// The opener of a text literal that comes next. `None` where something else comes. For places of code, behind their
@@ -566,65 +579,57 @@ impl Reader {
         text_opener(&mut self.reads, &text[self.at..])
     }
 
-    /// The quote of the f-string that comes next, where its opener is an `f` and that quote. `None` where something else comes.
-    /// For places of code, behind their spaces.
+    /// The quote of the f-string that comes next if its opener is an `f` and that quote. For places of
+    /// code, after their spaces.
     #[inline(always)]
-    pub fn fstring_opener(&mut self, text: &str) -> Option<Quote>
+    pub fn fstring_opener(&self, front: &[u8], text: &str) -> Option<Quote>
         requires fits { length text.now < 2 ^ 32 }
-        requires ready { IsReady text.now self.old self.old.stage }
-        requires code { IsAtCode text.now self.old }
-        ensures ahead { (lexemes : List (Spanned TokenView)) (fault : Option (Spanned Fault)) → IsAhead text.now self.old self.old.stage lexemes fault → IsAhead text.now self.new self.new.stage lexemes fault }
-        ensures code { IsAtCode text.now self.new }
-        ensures stands { IfSome result (λ quote. IsWordHere text.now self.new (record { class = class.Opener kind.FString false quote; len = 2 })) }
-        ensures looked { HasLookedHere 2 2 self.old self.new }
+        requires ready { IsReady text.now self.now self.now.stage }
+        requires code { IsAtCode text.now self.now }
+        requires front { front.now ≡ take 3 (drop self.now.at text.now) }
+        ensures stands { IfSome result (λ quote. IsWordHere text.now self.now (record { class = class.Opener kind.FString false quote; len = 2 })) }
     {
-        fstring_opener(&mut self.reads, &text[self.at..])
+        fstring_opener(front, &text[self.at..])
     }
 
-    /// The quote of the bytes literal that comes next, where its opener is a `b` and that quote. `None` where something else comes.
-    /// For places of code, behind their spaces.
+    /// The quote of the bytes literal that comes next if its opener is a `b` and that quote. For places
+    /// of code, after their spaces.
     #[inline(always)]
-    pub fn bytes_opener(&mut self, text: &str) -> Option<Quote>
+    pub fn bytes_opener(&self, front: &[u8], text: &str) -> Option<Quote>
         requires fits { length text.now < 2 ^ 32 }
-        requires ready { IsReady text.now self.old self.old.stage }
-        requires code { IsAtCode text.now self.old }
-        ensures ahead { (lexemes : List (Spanned TokenView)) (fault : Option (Spanned Fault)) → IsAhead text.now self.old self.old.stage lexemes fault → IsAhead text.now self.new self.new.stage lexemes fault }
-        ensures code { IsAtCode text.now self.new }
-        ensures stands { IfSome result (λ quote. IsWordHere text.now self.new (record { class = class.Opener kind.Bytes false quote; len = 2 })) }
-        ensures looked { HasLookedHere 2 2 self.old self.new }
+        requires ready { IsReady text.now self.now self.now.stage }
+        requires code { IsAtCode text.now self.now }
+        requires front { front.now ≡ take 3 (drop self.now.at text.now) }
+        ensures stands { IfSome result (λ quote. IsWordHere text.now self.now (record { class = class.Opener kind.Bytes false quote; len = 2 })) }
     {
-        bytes_opener(&mut self.reads, &text[self.at..])
+        bytes_opener(front, &text[self.at..])
     }
 
     /// Whether the bang of an f-string's expression comes next. For places of code.
     #[inline(always)]
-    pub fn bang_stands(&mut self, text: &str) -> bool
-        requires fits { length text.now < 2 ^ 32 }
-        requires ready { IsReady text.now self.old self.old.stage }
-        requires code { IsAtCode text.now self.old }
-        ensures ahead { (lexemes : List (Spanned TokenView)) (fault : Option (Spanned Fault)) → IsAhead text.now self.old self.old.stage lexemes fault → IsAhead text.now self.new self.new.stage lexemes fault }
-        ensures code { IsAtCode text.now self.new }
-        ensures stands { result ≡ true → IsBangHere text.now self.new }
-        ensures looked { HasLookedHere (if result then 1 else 0) 2 self.old self.new }
+    pub fn bang_stands(&self, front: &[u8], text: &str) -> bool
+        requires code { IsAtCode text.now self.now }
+        requires front { front.now ≡ take 3 (drop self.now.at text.now) }
+        ensures stands { result ≡ true → IsBangHere text.now self.now }
     {
-        let place = self.nesting.place();
-        let follows_gap = self.follows_gap();
-        bang_stands(&mut self.reads, place, follows_gap, &text[self.at..])
+        bang_stands(self.nesting.place(), self.follows_gap(), front)
     }
 
-    /// The length of the comment that comes next. `None` where something else comes. For places of code, behind their spaces.
+    /// Length of the comment that comes next; `None` if something else comes. For places of code, after
+    /// their spaces.
     #[inline(always)]
-    pub fn comment_len(&mut self, text: &str) -> Option<usize>
+    pub fn comment_len(&mut self, front: &[u8], text: &str) -> Option<usize>
         requires fits { length text.now < 2 ^ 32 }
         requires ready { IsReady text.now self.old self.old.stage }
         requires code { IsAtCode text.now self.old }
+        requires front { front.now ≡ take 3 (drop self.old.at text.now) }
         ensures ahead { (lexemes : List (Spanned TokenView)) (fault : Option (Spanned Fault)) → IsAhead text.now self.old self.old.stage lexemes fault → IsAhead text.now self.new self.new.stage lexemes fault }
         ensures code { IsAtCode text.now self.new }
         ensures stands { IfSome result (λ len. IsWordHere text.now self.new (record { class = class.Comment; len = len })) }
-        ensures looked { IfSome result (λ len. HasLookedHere len (5 * len + 3) self.old self.new) }
-        ensures none { result ≡ None → HasLookedHere 1 1 self.old self.new }
+        ensures looked { IfSome result (λ len. HasLookedHere len (5 * len + 2) self.old self.new) }
+        ensures none { result ≡ None → HasLookedHere 0 0 self.old self.new }
     {
-        comment_len(&mut self.reads, &text[self.at..])
+        comment_len(&mut self.reads, front, &text[self.at..])
     }
 
     /// The place up to which the text is read, in bytes.
@@ -752,7 +757,7 @@ impl Reader {
         ensures stands { IsWordHere text.now self.new (record { class = class.Opener kind is_raw quote; len = len }) }
         ensures plain { IfOk result (λ body. IsPlainBody kind is_raw quote (drop len (drop self.new.at text.now)) body) }
         ensures looked { IfOk result (λ body. HasLookedHere (body + 1) (2 * body + 3) self.old self.new) }
-        ensures other { IfErr result (λ run. (run ≤ length text.now) × HasLookedHere 0 (2 * run + 3) self.old self.new) }
+        ensures other { IfErr result (λ run. (self.new.at + len + run ≤ length text.now) × HasLookedHere 0 (2 * run + 3) self.old self.new) }
     {
         let rest = &text[self.at..];
         plain_body_len(&mut self.reads, kind, is_raw, quote, &rest[len..])
@@ -875,7 +880,7 @@ impl Reader {
         ensures stands { IfOk result (λ found. IsPlainTextHere text.now self.new found) }
         ensures some { IfOk result (λ found. (0 < found.stop_len) × (found.stop_len ≤ 3)) }
         ensures looked { IfOk result (λ found. HasLookedHere (found.len + 3) (2 * found.len + 4) self.old self.new) }
-        ensures other { IfErr result (λ run. (run ≤ length text.now) × HasLookedHere 0 (2 * run + 4) self.old self.new) }
+        ensures other { IfErr result (λ run. (self.new.at + run ≤ length text.now) × HasLookedHere 0 (2 * run + 4) self.old self.new) }
     {
         if !self.reads_on() {
             return Err(0);

@@ -1,10 +1,10 @@
 //! Reads the one piece that stands at a place behind the text's first margin, or the fault there.
 
-ghost use Rattle.std.specs.Prelude.{◌≡◌, ℕ, ◌+◌, ◌<◌, ◌^◌, ◌&&◌, if◌then◌else◌, Some, drop, length, IfOk};
+ghost use Rattle.std.specs.Prelude.{◌≡◌, ℕ, ◌+◌, ◌<◌, ◌^◌, ◌&&◌, None, Some, drop, length, IfOk};
 ghost use Rattle.std.specs.Str.{IsCharBoundary};
 ghost use Rattle.starlark_grammar.specs.Front.{language_front};
 ghost use Rattle.starlark_bytes.specs.Inner.Reads.{AreReads, more_reads};
-ghost use Rattle.starlark_reader.specs.Inner.Reads.{ArePieceReads, AreReadsAfter, AreStepReads};
+ghost use Rattle.starlark_reader.specs.Inner.Reads.{ArePieceReads, AreReadsAfter, AreStepReads, AreWordlessReads};
 ghost use Rattle.starlark_reader.specs.Inner.Steps.{IsStep};
 ghost use Rattle.starlark_grammar.specs.Cuts.{is_outside};
 ghost use Rattle.starlark_nesting.specs.Inner.Nesting.{mode_view};
@@ -183,30 +183,55 @@ fn is_bang(text: &[u8]) -> bool
     }
 }
 
-/// Whether a bang stands at the front of a text, by where that is and what stands before.
+/// Whether a bang stands at the start of a text, by where that is and what stands before.
+///
+/// `front` is the text's first two bytes, or more of them.
 #[inline(always)]
-pub fn bang_stands(reads: &mut Reads, place: LexerMode, follows_gap: bool, text: &str) -> bool
-    ensures reads { AreReads (if result then 1 else 0) 2 reads.old reads.new }
-    ensures value { (before : grammar.Before) → IsAfter follows_gap before → result ≡ (grammar.takes_bang (mode_view place) before && grammar.is_bang text.now) }
+pub fn bang_stands(place: LexerMode, follows_gap: bool, front: &[u8]) -> bool
+    ensures { (before : grammar.Before) → IsAfter follows_gap before → result ≡ (grammar.takes_bang (mode_view place) before && grammar.is_bang front.now) }
 {
-    takes_bang(place, follows_gap) && is_bang(reads.front(text.as_bytes(), 2))
+    takes_bang(place, follows_gap) && is_bang(front)
 }
 
-/// The piece at the front of a text that is no text of an f-string.
+/// The piece at the start of a text where no word stands: a bang, or the fault of its first character.
+fn wordless_piece(
+    reads: &mut Reads,
+    alloc: Global,
+    place: LexerMode,
+    follows_gap: bool,
+    text: &str,
+) -> Result<Piece, AllocError>
+    requires some { 0 < length text.now }
+    requires none { language_front text.now ≡ None }
+    ensures reads { IfOk result (λ piece. AreWordlessReads (length text.now) piece reads.old reads.new) }
+    ensures piece { IfOk result (λ piece. (s : grammar.Situation) → s.place ≡ mode_view place → IsAfter follows_gap s.before →
+        IsPiece s.levels text.now (grammar.in_code language s text.now) piece) }
+{
+    if bang_stands(place, follows_gap, reads.front(text.as_bytes(), 2)) {
+        return Ok(Piece::Lexed(Step::Token {
+            token: Token::FStringBang,
+            len: 1,
+        }));
+    }
+    Ok(Piece::Lexed(invalid_input(reads, alloc, text)?))
+}
+
+/// The piece at the start of a text that is no text of an f-string.
 fn code_piece(
     reads: &mut Reads,
     alloc: Global,
     place: LexerMode,
     is_balanced: bool,
+    follows_gap: bool,
     text: &str,
 ) -> Result<Piece, AllocError>
     requires some { 0 < length text.now }
-    ensures reads { IfOk result (λ piece. ArePieceReads 14 (length text.now) 7 piece reads.old reads.new) }
-    ensures piece { IfOk result (λ piece. (s : grammar.Situation) → s.place ≡ mode_view place → s.is_balanced ≡ is_balanced →
-        IsPiece s.levels text.now (grammar.front_step s text.now (language_front text.now)) piece) }
+    ensures reads { IfOk result (λ piece. ArePieceReads 10 (length text.now) 7 piece reads.old reads.new) }
+    ensures piece { IfOk result (λ piece. (s : grammar.Situation) → s.place ≡ mode_view place → s.is_balanced ≡ is_balanced → IsAfter follows_gap s.before →
+        IsPiece s.levels text.now (grammar.in_code language s text.now) piece) }
 {
     match first_word(reads, text) {
-        None => Ok(Piece::Lexed(invalid_input(reads, alloc, text)?)),
+        None => wordless_piece(reads, alloc, place, follows_gap, text),
         Some(word) => {
             let (front, behind) = text.split_at(word.len);
             word_piece(reads, alloc, place, is_balanced, word.class, front, behind)
@@ -214,8 +239,8 @@ fn code_piece(
     }
 }
 
-/// The piece at the front of a text, by where that is, whether brackets are balanced there, and whether a skipped piece
-/// stands right before it.
+/// The piece at the start of a text, by where that is, whether brackets are balanced there, and
+/// whether a skipped piece is right before it.
 pub fn piece_at(
     reads: &mut Reads,
     alloc: Global,
@@ -224,7 +249,7 @@ pub fn piece_at(
     follows_gap: bool,
     text: &str,
 ) -> Result<Piece, AllocError>
-    ensures reads { IfOk result (λ piece. ArePieceReads 16 (length text.now) 8 piece reads.old reads.new) }
+    ensures reads { IfOk result (λ piece. ArePieceReads 10 (length text.now) 7 piece reads.old reads.new) }
     ensures piece { IfOk result (λ piece. (s : grammar.Situation) → s.place ≡ mode_view place → s.is_balanced ≡ is_balanced → IsAfter follows_gap s.before →
         IsPiece s.levels text.now (grammar.step_at language s text.now) piece) }
 {
@@ -234,11 +259,5 @@ pub fn piece_at(
     if text.is_empty() {
         return Ok(Piece::End);
     }
-    if bang_stands(reads, place, follows_gap, text) {
-        return Ok(Piece::Lexed(Step::Token {
-            token: Token::FStringBang,
-            len: 1,
-        }));
-    }
-    code_piece(reads, alloc, place, is_balanced, text)
+    code_piece(reads, alloc, place, is_balanced, follows_gap, text)
 }

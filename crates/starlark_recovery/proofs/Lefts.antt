@@ -54,7 +54,7 @@ left_at : (begin : ℕ) (text : Text) (k : ℕ) (item : LexerItem) → slice_get
 left_at begin text k item is = ap (map (moved_item begin)) (next_left text k item is)
 
 -- a lexer of a whole text has all of its items left
-pub left_at_start : (text : Text) (file : SourceFile) → left_of 0 (record { text = text; code_map = file; yielded_count = 0; has_ended = false }) ≡ all_items text
+pub left_at_start : (text : Text) (file : SourceFile) → left_of 0 (record { text = text; code_map = file; yielded_count = 0; has_ended = false; reads = 0 }) ≡ all_items text
 left_at_start text file = all_moved_by_none (all_items text)
 
 -- what is left, of a lexer that no error has ended
@@ -65,14 +65,14 @@ pub left_ended : (begin : ℕ) (rest : LexerView) → rest.has_ended ≡ true �
 left_ended begin rest ended = rw ended refl
 
 -- before a lexeme and after it
-pub left_at_lexeme : (begin : ℕ) (rest : LexerView) (x : Spanned TokenView) → rest.has_ended ≡ false → slice_get (items rest.text) rest.yielded_count ≡ Some (Given x)
-    → left_of begin rest ≡ Given (moved begin x) ∷ left_of begin (record rest { yielded_count = rest.yielded_count + 1; has_ended = false })
-left_at_lexeme begin rest x goes is = left_is begin rest goes ∙ left_at begin rest.text rest.yielded_count (Given x) is
+pub left_at_lexeme : (begin : ℕ) (rest : LexerView) (x : Spanned TokenView) (reads : ℕ) → rest.has_ended ≡ false → slice_get (items rest.text) rest.yielded_count ≡ Some (Given x)
+    → left_of begin rest ≡ Given (moved begin x) ∷ left_of begin (record rest { yielded_count = rest.yielded_count + 1; has_ended = false; reads = reads })
+left_at_lexeme begin rest x reads goes is = left_is begin rest goes ∙ left_at begin rest.text rest.yielded_count (Given x) is
 
 -- before a fault, and after it where lexing begins again
 pub left_at_fault : (begin : ℕ) (rest : LexerView) (fault : Spanned Fault) (file : SourceFile) (next : ℕ) → rest.has_ended ≡ false → slice_get (items rest.text) rest.yielded_count ≡ Some (Refused fault)
     → next ≡ begin + restart rest.text fault
-    → left_of begin rest ≡ Refused (moved begin fault) ∷ left_of next (record { text = drop (restart rest.text fault) rest.text; code_map = file; yielded_count = 0; has_ended = false })
+    → left_of begin rest ≡ Refused (moved begin fault) ∷ left_of next (record { text = drop (restart rest.text fault) rest.text; code_map = file; yielded_count = 0; has_ended = false; reads = 0 })
 left_at_fault begin rest fault file next goes is at =
     let counts = refused_counts rest.text rest.yielded_count fault is in
     left_is begin rest goes ∙ left_at begin rest.text rest.yielded_count (Refused fault) is
@@ -91,9 +91,9 @@ left_some begin rest item goes is = ap (λ l. slice_get l 0) (left_is begin rest
 
 -- Invariants and spans
 
-pub rest_after_lexeme : (text : Text) (begin : ℕ) (rest : LexerView) (x : Spanned TokenView) → IsRest text begin rest → slice_get (items rest.text) rest.yielded_count ≡ Some (Given x)
-    → IsRest text begin (record rest { yielded_count = rest.yielded_count + 1; has_ended = false })
-rest_after_lexeme text begin rest x inside is = record {
+pub rest_after_lexeme : (text : Text) (begin : ℕ) (rest : LexerView) (x : Spanned TokenView) (reads : ℕ) → IsRest text begin rest → slice_get (items rest.text) rest.yielded_count ≡ Some (Given x)
+    → IsRest text begin (record rest { yielded_count = rest.yielded_count + 1; has_ended = false; reads = reads })
+rest_after_lexeme text begin rest x reads inside is = record {
   boundary = inside.boundary;
   same = inside.same;
   fits = inside.fits;
@@ -113,9 +113,9 @@ boundary_of_text text rest begin at is inside boundary = IsCharBoundary-from_res
 
 -- The whole text
 
-pub rest_at_start : (text : Text) (file : SourceFile) (rest : LexerView) → IsUtf8 text → rest ≡ record { text = text; code_map = file; yielded_count = 0; has_ended = false } → (2 ^ 32 ≤ length text → ⊥) → IsRest text 0 rest
+pub rest_at_start : (text : Text) (file : SourceFile) (rest : LexerView) → IsUtf8 text → rest ≡ record { text = text; code_map = file; yielded_count = 0; has_ended = false; reads = 0 } → (2 ^ 32 ≤ length text → ⊥) → IsRest text 0 rest
 rest_at_start text file rest utf8 is short =
-    let view : LexerView = record { text = text; code_map = file; yielded_count = 0; has_ended = false } in
+    let view : LexerView = record { text = text; code_map = file; yielded_count = 0; has_ended = false; reads = 0 } in
     let inside : IsRest text 0 view = record {
       boundary = IsCharBoundary-start text utf8;
       same = refl;
@@ -131,7 +131,7 @@ rest_at_start text file rest utf8 is short =
 abbrev view_of : Text → ℕ → LexerView → RecoveringView
 view_of text begin rest = record { text = text; code_map = rest.code_map; left = left_of begin rest }
 
-pub view_at_start : (text : Text) (file : SourceFile) (rest : LexerView) → rest ≡ record { text = text; code_map = file; yielded_count = 0; has_ended = false } → view_of text 0 rest ≡ record { text = text; code_map = file; left = all_items text }
+pub view_at_start : (text : Text) (file : SourceFile) (rest : LexerView) → rest ≡ record { text = text; code_map = file; yielded_count = 0; has_ended = false; reads = 0 } → view_of text 0 rest ≡ record { text = text; code_map = file; left = all_items text }
 view_at_start text file rest is = ap (view_of text 0) is ∙ ap (λ l. record { text = text; code_map = file; left = l }) (left_at_start text file)
 
 -- Each answer of the lexer of the rest
@@ -143,7 +143,7 @@ Answer = Option (Result (ℕ × Token × ℕ) (OrMemory (Diagnosed ErrorKind)))
 pub record HasAnswered (old : LexerView) (answer : Answer) (new : LexerView) : Type 0 where
   pub ended : old.has_ended ≡ true → AnswersNext old.code_map None answer
   pub item : old.has_ended ≡ false → AnswersNext old.code_map (slice_get (items old.text) old.yielded_count) answer
-  pub after : new ≡ record old { yielded_count = old.yielded_count + yielded_by answer; has_ended = old.has_ended || is_ended_by answer }
+  pub after : new ≡ record old { yielded_count = old.yielded_count + yielded_by answer; has_ended = old.has_ended || is_ended_by answer; reads = new.reads }
 
 -- a lexer that answers something had not ended
 goes_on : (old : LexerView) (answer : Result (ℕ × Token × ℕ) (OrMemory (Diagnosed ErrorKind))) → (old.has_ended ≡ true → AnswersNext old.code_map None (Some answer)) → old.has_ended ≡ false
@@ -156,28 +156,28 @@ goes_on old answer ended = by old.has_ended refl
 -- a lexeme
 
 lexeme_is : (old new : LexerView) (found : ℕ × Token × ℕ) → HasAnswered old (Some (Ok found)) new
-    → (old.has_ended ≡ false) × (slice_get (items old.text) old.yielded_count ≡ Some (Given (lexeme_view found))) × (new ≡ record old { yielded_count = old.yielded_count + 1; has_ended = false })
+    → (old.has_ended ≡ false) × (slice_get (items old.text) old.yielded_count ≡ Some (Given (lexeme_view found))) × (new ≡ record old { yielded_count = old.yielded_count + 1; has_ended = false; reads = new.reads })
 lexeme_is old new found h =
     let goes = goes_on old (Ok found) h.ended in
     let on : (old.has_ended || false) ≡ false = ap (λ b. b || false) goes in
-    (goes, ok_item old.code_map (slice_get (items old.text) old.yielded_count) found (h.item goes), h.after ∙ ap (λ b. record old { yielded_count = old.yielded_count + 1; has_ended = b }) on)
+    (goes, ok_item old.code_map (slice_get (items old.text) old.yielded_count) found (h.item goes), h.after ∙ ap (λ b. record old { yielded_count = old.yielded_count + 1; has_ended = b; reads = new.reads }) on)
 
 pub lexeme_item : (text : Text) (begin : ℕ) (old new : LexerView) (found : ℕ × Token × ℕ) → HasAnswered old (Some (Ok found)) new
     → AnswersNext old.code_map (slice_get (left_of begin old) 0) (Some (Ok (begin + found.0, found.1, begin + found.2)))
 lexeme_item text begin old new found h =
     let is = lexeme_is old new found h in
-    subst (λ (l : List LexerItem). AnswersNext old.code_map (slice_get l 0) (Some (Ok (begin + found.0, found.1, begin + found.2)))) (sym (left_at_lexeme begin old (lexeme_view found) is.0 is.1)) refl
+    subst (λ (l : List LexerItem). AnswersNext old.code_map (slice_get l 0) (Some (Ok (begin + found.0, found.1, begin + found.2)))) (sym (left_at_lexeme begin old (lexeme_view found) new.reads is.0 is.1)) refl
 
 pub lexeme_after : (text : Text) (begin : ℕ) (old new : LexerView) (found : ℕ × Token × ℕ) → HasAnswered old (Some (Ok found)) new
     → view_of text begin new ≡ record { text = text; code_map = old.code_map; left = drop 1 (left_of begin old) }
 lexeme_after text begin old new found h =
     let is = lexeme_is old new found h in
-    ap (view_of text begin) is.2 ∙ sym (ap (λ (l : List LexerItem). record { text = text; code_map = old.code_map; left = drop 1 l }) (left_at_lexeme begin old (lexeme_view found) is.0 is.1))
+    ap (view_of text begin) is.2 ∙ sym (ap (λ (l : List LexerItem). record { text = text; code_map = old.code_map; left = drop 1 l }) (left_at_lexeme begin old (lexeme_view found) new.reads is.0 is.1))
 
 pub lexeme_inside : (text : Text) (begin : ℕ) (old new : LexerView) (found : ℕ × Token × ℕ) → IsRest text begin old → HasAnswered old (Some (Ok found)) new → IsRest text begin new
 lexeme_inside text begin old new found inside h =
     let is = lexeme_is old new found h in
-    subst (IsRest text begin) (sym is.2) (rest_after_lexeme text begin old (lexeme_view found) inside is.1)
+    subst (IsRest text begin) (sym is.2) (rest_after_lexeme text begin old (lexeme_view found) new.reads inside is.1)
 
 -- nothing
 
@@ -188,10 +188,10 @@ nothing_left text begin old new inside h = by old.has_ended refl
     by true is = left_ended begin old is
     by false is = left_at_end text begin old inside is (no_item old.code_map (slice_get (items old.text) old.yielded_count) (h.item is))
 
-same_after_nothing : (old new : LexerView) → new ≡ record old { yielded_count = old.yielded_count + 0; has_ended = old.has_ended || false } → new ≡ old
+same_after_nothing : (old new : LexerView) → new ≡ record old { yielded_count = old.yielded_count + 0; has_ended = old.has_ended || false; reads = new.reads } → new ≡ record old { reads = new.reads }
 same_after_nothing old new is =
     let count : old.yielded_count + 0 ≡ old.yielded_count = omega arith in
-    is ∙ ap (λ n. record old { yielded_count = n; has_ended = old.has_ended || false }) count ∙ ap (λ b. record old { has_ended = b }) (or_false old.has_ended)
+    is ∙ ap (λ n. record old { yielded_count = n; has_ended = old.has_ended || false; reads = new.reads }) count ∙ ap (λ b. record old { has_ended = b; reads = new.reads }) (or_false old.has_ended)
   where
     or_false : (b : Bool) → (b || false) ≡ b
     or_false true = refl
@@ -207,7 +207,8 @@ nothing_after text begin old new inside h =
     ∙ ap (λ (l : List LexerItem). record { text = text; code_map = old.code_map; left = l }) (none ∙ sym (ap (λ (l : List LexerItem). drop 1 l) none))
 
 pub nothing_inside : (text : Text) (begin : ℕ) (old new : LexerView) → IsRest text begin old → HasAnswered old None new → IsRest text begin new
-nothing_inside text begin old new inside h = subst (IsRest text begin) (sym (same_after_nothing old new h.after)) inside
+nothing_inside text begin old new inside h =
+    subst (IsRest text begin) (sym (same_after_nothing old new h.after)) (record { boundary = inside.boundary; same = inside.same; fits = inside.fits; yielded = inside.yielded })
 
 -- an error, after which the lexer has ended
 
@@ -260,8 +261,8 @@ was_passed text begin old new exception passed inside h pass =
     let from : passed.begin ≡ begin + restart old.text fault = has.from ∙ ap (λ (t : Text). begin + restart t fault) (sym inside.same) in
     let later : drop passed.begin text ≡ drop (restart old.text fault) old.text =
     ap (λ n. drop n text) from ∙ drop-sum begin (restart old.text fault) text ∙ ap (λ (t : Text). drop (restart old.text fault) t) (sym inside.same) in
-    let rest : passed.rest ≡ record { text = drop (restart old.text fault) old.text; code_map = old.code_map; yielded_count = 0; has_ended = false } =
-    has.rest ∙ ap (λ (t : Text). record { text = t; code_map = old.code_map; yielded_count = 0; has_ended = false }) later in
+    let rest : passed.rest ≡ record { text = drop (restart old.text fault) old.text; code_map = old.code_map; yielded_count = 0; has_ended = false; reads = 0 } =
+    has.rest ∙ ap (λ (t : Text). record { text = t; code_map = old.code_map; yielded_count = 0; has_ended = false; reads = 0 }) later in
     record {
       fault = fault;
       left = left_at_fault begin old fault old.code_map passed.begin is.0 is.1.1 from ∙ sym (ap (λ (v : LexerView). Refused (moved begin fault) ∷ left_of passed.begin v) rest);

@@ -48,7 +48,7 @@ pub passes : (file : SourceFile) (text : Text) (begin at : ℕ) (fault : Spanned
     → IfSome exception.span (λ it. (place.begin ≡ it.span.begin) × (place.end ≡ it.span.end)) → place.is_tab ≡ is_tab_kind exception.value
     → IfSome exception.span (λ it. code_map ≡ it.file) → copy ≡ code_map
     → part ≡ drop begin text → ((fault : Spanned Fault) → IsPlaceOf fault place → at ≡ restart part fault) → IsCharBoundary part at → IsCharBoundary text begin
-    → later ≡ drop (begin + at) text → rest ≡ record { text = later; code_map = copy; yielded_count = 0; has_ended = false }
+    → later ≡ drop (begin + at) text → rest ≡ record { text = later; code_map = copy; yielded_count = 0; has_ended = false; reads = 0 }
     → span ≡ record { begin = begin + place.begin; end = begin + place.end } → given ≡ record { value = exception.value; span = Some (place_in code_map span); call_stack = [] }
     → HasPassed file text begin fault (record { fault = given; begin = begin + at; rest = rest })
 passes file text begin at fault exception given place code_map copy span rest part later is places tab of_file copied part_is restarts boundary start later_is rest_is span_is given_is =
@@ -69,5 +69,5 @@ passes file text begin at fault exception given place code_map copy span rest pa
       );
       from = ap (λ n. begin + n) restarted;
       boundary = IsCharBoundary-from_rest text begin at start.0 (subst (λ (t : Text). IsCharBoundary t at) part_is boundary);
-      rest = rest_is ∙ ap (λ (t : Text). record { text = t; code_map = copy; yielded_count = 0; has_ended = false }) later_is ∙ ap (λ (f : SourceFile). record { text = drop (begin + at) text; code_map = f; yielded_count = 0; has_ended = false }) (copied ∙ its_file);
+      rest = rest_is ∙ ap (λ (t : Text). record { text = t; code_map = copy; yielded_count = 0; has_ended = false; reads = 0 }) later_is ∙ ap (λ (f : SourceFile). record { text = drop (begin + at) text; code_map = f; yielded_count = 0; has_ended = false; reads = 0 }) (copied ∙ its_file);
     }

@@ -29,7 +29,7 @@ fn put_items<W: WriteDevice>(
     lexer: &mut Lexer<'_>,
 ) -> Result<RunStatus, RunFault>
     requires sound { writer.old.failed ≡ false }
-    requires fresh { lexer.old ≡ record { text = text.now; code_map = lexer.old.code_map; yielded_count = 0; has_ended = false } }
+    requires fresh { lexer.old ≡ record { text = text.now; code_map = lexer.old.code_map; yielded_count = 0; has_ended = false; reads = 0 } }
     ensures writes { Writes W.calls writer.old writer.new (printer.old.buffer ++ output name.now text.now) printer.new.buffer result }
     ensures status { IfOk result (λ status. status ≡ status_of (outcome text.now).fault) }
 {
@@ -50,7 +50,7 @@ fn put_items<W: WriteDevice>(
 /// A lexer of a text, with a code map of an empty text, so that no index of lines is made.
 fn lexer_of(alloc: Global, text: &str) -> Result<Lexer<'_>, RunFault>
     requires { length text.now ≤ GREATEST_LEN }
-    ensures made { IfOk result (λ lexer. lexer ≡ record { text = text.now; code_map = record { id = 0; filename = []; source = [] }; yielded_count = 0; has_ended = false }) }
+    ensures made { IfOk result (λ lexer. lexer ≡ record { text = text.now; code_map = record { id = 0; filename = []; source = [] }; yielded_count = 0; has_ended = false; reads = 0 }) }
     ensures refused { IfErr result (λ fault. fault ≡ Memory) }
 {
     let file = empty_file(alloc)?;

@@ -6,5 +6,6 @@ pub mod Marks
 pub mod ReadFronts
 pub mod Numbers
 pub mod ByFirst
+pub mod Bangs
 pub mod ShortMarks
 pub mod Openers

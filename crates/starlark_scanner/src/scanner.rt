@@ -137,16 +137,15 @@ pub fn word_after(reads: &mut Reads, gap: usize, text: &str) -> Option<Word>
     word_by_front(reads, front, text)
 }
 
-/// The longest word at the front of a text, where that is a symbol of two bytes or an integer of one digit, and the byte
-/// behind it tells so. `None` where it doesn't.
+/// The longest word at the start of a text if it is a symbol of two bytes or an integer of one digit,
+/// and the byte after it tells so. `front` is the text's first three bytes.
 #[inline(always)]
-pub fn short_word(reads: &mut Reads, text: &str) -> Option<ShortWord>
+pub fn short_word(front: &[u8], text: &str) -> Option<ShortWord>
+    requires { front.now ≡ take 3 text.now }
     ensures word { IfSome result (λ short. Some (word_view (short_view short)) ≡ language_front text.now) }
     ensures digit { IfSome result (λ short. HasDigit short text.now) }
     ensures bang { IfSome result (λ short. is_bang text.now ≡ false) }
-    ensures reads { reads.new ≡ more_reads reads.old 3 }
 {
-    let front = reads.front(text.as_bytes(), 3);
     let first = *front.first()?;
     if numbers::is_digit_alone(front) {
         return Some(ShortWord::Digit(first - b'0'));
@@ -168,39 +167,40 @@ pub fn text_opener(reads: &mut Reads, text: &str) -> Option<TextOpener>
     openers::text_opener(front)
 }
 
-/// The quote of the opener at the front of a text, where that is an `f` and a quote.
+/// The quote of the opener at the start of a text if that is an `f` and a quote. `front` is the text's
+/// first three bytes.
 #[inline(always)]
-pub fn fstring_opener(reads: &mut Reads, text: &str) -> Option<Quote>
+pub fn fstring_opener(front: &[u8], text: &str) -> Option<Quote>
+    requires { front.now ≡ take 3 text.now }
     ensures word { IfSome result (λ quote. Some (class.Opener kind.FString false quote, 2) ≡ language_front text.now) }
     ensures bang { IfSome result (λ quote. is_bang text.now ≡ false) }
-    ensures reads { reads.new ≡ more_reads reads.old 2 }
 {
-    let front = reads.front(text.as_bytes(), 2);
     openers::quote_after(b'f', front)
 }
 
-/// The quote of the opener at the front of a text, where that is a `b` and a quote.
+/// The quote of the opener at the start of a text if that is a `b` and a quote. `front` is the text's
+/// first three bytes.
 #[inline(always)]
-pub fn bytes_opener(reads: &mut Reads, text: &str) -> Option<Quote>
+pub fn bytes_opener(front: &[u8], text: &str) -> Option<Quote>
+    requires { front.now ≡ take 3 text.now }
     ensures word { IfSome result (λ quote. Some (class.Opener kind.Bytes false quote, 2) ≡ language_front text.now) }
     ensures bang { IfSome result (λ quote. is_bang text.now ≡ false) }
-    ensures reads { reads.new ≡ more_reads reads.old 2 }
 {
-    let front = reads.front(text.as_bytes(), 2);
     openers::quote_after(b'b', front)
 }
 
-/// The length of the comment at the front of a text. `None` where something else stands there.
+/// Length of the comment at the start of a text; `None` if something else is there. `front` is the
+/// text's first three bytes.
 #[inline(always)]
-pub fn comment_len(reads: &mut Reads, text: &str) -> Option<usize>
+pub fn comment_len(reads: &mut Reads, front: &[u8], text: &str) -> Option<usize>
+    requires { front.now ≡ take 3 text.now }
     ensures word { IfSome result (λ len. Some (class.Comment, len) ≡ language_front text.now) }
     ensures bang { IfSome result (λ len. is_bang text.now ≡ false) }
-    ensures reads { IfSome result (λ len. AreReads len (5 * len + 3) reads.old reads.new) }
-    ensures none { result ≡ None → reads.new ≡ more_reads reads.old 1 }
+    ensures reads { IfSome result (λ len. AreReads len (5 * len + 2) reads.old reads.new) }
+    ensures none { result ≡ None → reads.new ≡ reads.old }
 {
-    let bytes = text.as_bytes();
-    match reads.at(bytes, 0) {
-        Some(b'#') => Some(front_len(reads, bytes, b'\r')),
+    match front {
+        [b'#', ..] => Some(front_len(reads, text.as_bytes(), b'\r')),
         _ => None,
     }
 }
@@ -210,7 +210,8 @@ pub fn comment_len(reads: &mut Reads, text: &str) -> Option<usize>
 pub fn unnamed_word(reads: &mut Reads, text: &str) -> Option<Word>
     requires { grammar.begins grammar.is_name_start text.now ≡ false }
     ensures word { option_map word_view result ≡ language_front text.now }
-    ensures reads { AreReads (word_len result - 2) (word_len result + 7) reads.old reads.new }
+    ensures bang { IfSome result (λ word. is_bang text.now ≡ false) }
+    ensures reads { AreReads (word_len result - 2) (5 * word_len result + 1) reads.old reads.new }
 {
     let bytes = text.as_bytes();
     let front = reads.more_front(bytes, 2, 3);
@@ -231,7 +232,8 @@ pub fn unnamed_word(reads: &mut Reads, text: &str) -> Option<Word>
 /// The longest word at the front of a text, or `None` where no word stands there.
 pub fn first_word(reads: &mut Reads, text: &str) -> Option<Word>
     ensures word { option_map word_view result ≡ language_front text.now }
-    ensures reads { AreReads (word_len result) ((5 * word_len result - 4) + 9) reads.old reads.new }
+    ensures bang { IfSome result (λ word. is_bang text.now ≡ false) }
+    ensures reads { AreReads (word_len result) (5 * word_len result + 3) reads.old reads.new }
 {
     match common_word(reads, text) {
         Some(word) => Some(word),

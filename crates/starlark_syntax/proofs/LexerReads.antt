@@ -1,6 +1,7 @@
 -- What a lexer's quick ways read is paid for by the place up to which they have looked.
-use Rattle.std.proofs.Common.{◌≡◌, ◌≤◌, ◌+◌, ◌*◌, Bool, List, Option, Some, true, false, ℕ, drop, length, leb, nat_eq, refl, subst, sym, take, arith}
-use Rattle.std.proofs.lemmas.Bool.{leb-true}
+use Rattle.std.proofs.Common.{◌∙◌, ◌==◌, ◌≡◌, ◌≤◌, ◌+◌, ◌*◌, Bool, List, Option, Some, true, false, ℕ, drop, ap, length, leb, nat_eq, refl, subst, sym, take, arith}
+use Rattle.std.specs.Prelude.{if◌then◌else◌}
+use Rattle.std.proofs.lemmas.Bool.{eqb-true, leb-true}
 use Rattle.std.proofs.lemmas.List.{length-drop, length-take}
 use Rattle.starlark_grammar.specs.Front.{language_front}
 use Rattle.starlark_grammar.specs.Tokens.{Fault, Spanned}
@@ -21,14 +22,14 @@ use Rattle.starlark_reader.specs.Inner.Reads.{HasLookedHere, HasRead, HasReadAt,
 use Rattle.starlark_reader.specs.declared.reader.LineEnd.{LineEnd}
 use Rattle.starlark_reader.specs.declared.reader.LineEnd.TheVariants as line_end
 use Rattle.starlark_reader.specs.declared.reader.Reader.{Reader}
-use Rattle.starlark_syntax.specs.Inner.Looked.{GoesOn, HasSpared, IsFoundBehindMargin, IsFoundFurther, IsFoundFurtherInCode, IsFoundInCode, IsFoundOut, IsLooked, is_front, is_nothing}
-use Rattle.starlark_syntax.specs.declared.lexemes.Looked.{Looked}
-use Rattle.starlark_syntax.specs.declared.lexemes.Looked.TheVariants as looked
+use Rattle.starlark_syntax.specs.Inner.Looked.{GoesOn, HasSpared, IsFoundBehindMargin, IsFoundFurther, IsFoundFurtherInCode, IsFoundInCode, IsFoundOut, IsLooked, HasOpened, is_front, is_nothing, is_text_opener, looked_len}
+use Rattle.starlark_syntax.specs.declared.lexer_state.Looked.{Looked}
+use Rattle.starlark_syntax.specs.declared.lexer_state.Looked.TheVariants as looked
 
 -- whatever is still to come, what was read is paid for
 pub spared : (text : Text) (reader : Reader) (to : ℕ) (it : Looked) → IsLooked text reader to it → HasSpared text 0 reader to
 spared text reader to looked.Nothing is = is.2
-spared text reader to looked.Front is = (is.2.0, omega (arith, is.2.1), is.2.2)
+spared text reader to looked.Front is = (is.3.0, omega (arith, is.3.1), is.3.2)
 spared text reader to looked.All is = is
 
 pub goes_on : (it : Looked) (has_ended : Bool) → has_ended ≡ false → GoesOn it has_ended
@@ -43,38 +44,74 @@ nothing_looked text reader to has_ended looked.Nothing quick goes is = (goes, (i
 nothing_looked text reader to has_ended looked.Front quick goes is = cc
 nothing_looked text reader to has_ended looked.All quick goes is = cc
 
-pub nothing_kept : (text : Text) (reader : Reader) (to beside : ℕ) (it : Looked) → is_nothing it ≡ true → IsAtCode text reader → to ≤ reader.at → beside ≤ 16 * to → HasRead text beside reader → IsLooked text reader to it
+pub nothing_kept : (text : Text) (reader : Reader) (to beside : ℕ) (it : Looked) → is_nothing it ≡ true → IsAtCode text reader → to ≤ reader.at → beside ≤ 6 * to → HasRead text beside reader → IsLooked text reader to it
 nothing_kept text reader to beside looked.Nothing quick code behind paid has = (code, behind, (beside, omega (arith, paid), has))
 nothing_kept text reader to beside looked.Front quick code behind paid has = cc
 nothing_kept text reader to beside looked.All quick code behind paid has = cc
 
-pub front_looked : (text : Text) (reader : Reader) (to : ℕ) (it : Looked) → is_front it ≡ true → IsLooked text reader to it → IsAtCode text reader × (to ≤ length text + 1) × HasSpared text 11 reader to
+pub front_looked : (text : Text) (reader : Reader) (to : ℕ) (it : Looked) → is_front it ≡ true → IsLooked text reader to it → IsAtCode text reader × (to ≤ length text + 1) × ((class : Class) (len : ℕ) → language_front (drop reader.at text) ≡ Some (class, len) → 2 ≤ len → is_text_opener class ≡ false → to ≤ reader.at + len) × HasSpared text 3 reader to
 front_looked text reader to looked.Nothing quick is = cc
 front_looked text reader to looked.Front quick is = is
 front_looked text reader to looked.All quick is = cc
 
+pub front_is : (text : Text) (reader : Reader) (to : ℕ) (it : Looked) → it ≡ looked.Front → IsLooked text reader to it → IsAtCode text reader × (to ≤ length text + 1) × ((class : Class) (len : ℕ) → language_front (drop reader.at text) ≡ Some (class, len) → 2 ≤ len → is_text_opener class ≡ false → to ≤ reader.at + len) × HasSpared text 3 reader to
+front_is text reader to it front is = front_looked text reader to it (ap is_front front) is
+
+-- what a look at a word has cost is paid for by the bytes that were looked at
+pub record IsLookedLen (is_text : Bool) (len looked : ℕ) : Type 0 where
+  pub least : len ≤ looked
+  pub most : looked ≤ len + 1
+  pub paid : 5 * len + 2 ≤ 6 * looked
+  pub text : is_text ≡ true → looked ≡ len + 1
+  pub other : is_text ≡ false → 2 ≤ len → looked ≡ len
+
+pub look_paid : (is_text : Bool) (len looked : ℕ) → 1 ≤ len → looked ≡ looked_len is_text len → IsLookedLen is_text len looked
+look_paid true len looked some is = record { least = omega (arith, is); most = omega (arith, is); paid = omega (arith, is); text = λ h. is; other = λ h two. cc }
+look_paid false len looked some is = by (len == 1) refl is
+  where
+    by : (one : Bool) → (len == 1) ≡ one → looked ≡ (if one then len + 1 else len) → IsLookedLen false len looked
+    by true e is = let same : len ≡ 1 = eqb-true len 1 e in record { least = omega (arith, is); most = omega (arith, is); paid = omega (arith, is, same); text = λ h. cc; other = λ h two. absurd (omega (arith, two, same)) }
+    by false e is =
+        let several : 2 ≤ len = more len some e in
+        record { least = omega (arith, is); most = omega (arith, is); paid = omega (arith, is, several); text = λ h. cc; other = λ h two. is }
+      where
+        more : (n : ℕ) → 1 ≤ n → (n == 1) ≡ false → 2 ≤ n
+        more n some e = grind (arith, some, e)
+
+-- a word is told in one way
+pub same_word : (text : Text) (one other : Class) (a b : ℕ) → Some (one, a) ≡ language_front text → language_front text ≡ Some (other, b) → (other ≡ one) × (b ≡ a)
+same_word text one other a b found again =
+    let both : Some (one, a) ≡ Some (other, b) = found ∙ again in
+    let pair : (one, a) ≡ (other, b) = cc in
+    (sym (ap (λ (word : Class × ℕ). word.0) pair), sym (ap (λ (word : Class × ℕ). word.1) pair))
+
+-- what was looked at of a word, for the looks to come
+pub word_opened : (text : Text) (reader : Reader) (class : Class) (len to beside : ℕ) → Some (class, len) ≡ language_front (drop reader.at text) → to ≡ reader.at + (len + 1) → beside + 5 ≤ 6 * to → HasRead text beside reader → HasOpened text reader to
+word_opened text reader class len to beside front is paid has =
+    (λ other n again. let same = same_word (drop reader.at text) class other len n front again in omega (arith, is, same.1), (beside, paid, has))
+
 -- what is found out behind a lexeme
-pub found_out : (text : Text) (reader : Reader) (to beside : ℕ) (it : Looked) → IsFoundOut reader to it → IsPending text reader.pending → beside ≤ 16 * to → HasRead text beside reader → IsLooked text reader to it
+pub found_out : (text : Text) (reader : Reader) (to beside : ℕ) (it : Looked) → IsFoundOut reader to it → IsPending text reader.pending → beside ≤ 6 * to → HasRead text beside reader → IsLooked text reader to it
 found_out text reader to beside looked.Nothing is pending paid has = (is.1 text pending, is.0, (beside, omega (arith, paid), has))
 found_out text reader to beside looked.Front is pending paid has = absurd is
 found_out text reader to beside looked.All is pending paid has = (beside, omega (arith, paid), has)
 
-pub found_in_code : (text : Text) (reader : Reader) (to beside : ℕ) (it : Looked) → IsFoundInCode reader it → (is_in_code : IsFoundInCode reader looked.Nothing → IsAtCode text reader) → to ≤ reader.at → beside ≤ 16 * to → HasRead text beside reader → IsLooked text reader to it
+pub found_in_code : (text : Text) (reader : Reader) (to beside : ℕ) (it : Looked) → IsFoundInCode reader it → (is_in_code : IsFoundInCode reader looked.Nothing → IsAtCode text reader) → to ≤ reader.at → beside ≤ 6 * to → HasRead text beside reader → IsLooked text reader to it
 found_in_code text reader to beside looked.Nothing is code behind paid has = (code is, behind, (beside, omega (arith, paid), has))
 found_in_code text reader to beside looked.Front is code behind paid has = absurd is
 found_in_code text reader to beside looked.All is code behind paid has = (beside, omega (arith, paid), has)
 
-pub found_further : (text : Text) (reader : Reader) (to beside : ℕ) (it : Looked) → IsFoundFurther reader to it → IsAtCode text reader → beside ≤ 16 * to → HasRead text beside reader → IsLooked text reader to it
+pub found_further : (text : Text) (reader : Reader) (to beside : ℕ) (it : Looked) → IsFoundFurther reader to it → IsAtCode text reader → beside ≤ 6 * to → HasRead text beside reader → IsLooked text reader to it
 found_further text reader to beside looked.Nothing is code paid has = (code, is, (beside, omega (arith, paid), has))
 found_further text reader to beside looked.Front is code paid has = absurd is
 found_further text reader to beside looked.All is code paid has = (beside, omega (arith, paid), has)
 
-pub found_further_in_code : (text : Text) (reader : Reader) (to beside : ℕ) (it : Looked) → IsFoundFurtherInCode reader to it → (IsInCode reader → IsAtCode text reader) → beside ≤ 16 * to → HasRead text beside reader → IsLooked text reader to it
+pub found_further_in_code : (text : Text) (reader : Reader) (to beside : ℕ) (it : Looked) → IsFoundFurtherInCode reader to it → (IsInCode reader → IsAtCode text reader) → beside ≤ 6 * to → HasRead text beside reader → IsLooked text reader to it
 found_further_in_code text reader to beside looked.Nothing is code paid has = (code is.1, is.0, (beside, omega (arith, paid), has))
 found_further_in_code text reader to beside looked.Front is code paid has = absurd is
 found_further_in_code text reader to beside looked.All is code paid has = (beside, omega (arith, paid), has)
 
-pub found_behind_margin : (text : Text) (reader : Reader) (to beside : ℕ) (it : Looked) → IsFoundBehindMargin reader to it → (reader.stage ≡ stages.Onward) × IsInCode reader → IsPending text reader.pending → beside ≤ 16 * to → HasRead text beside reader → IsLooked text reader to it
+pub found_behind_margin : (text : Text) (reader : Reader) (to beside : ℕ) (it : Looked) → IsFoundBehindMargin reader to it → (reader.stage ≡ stages.Onward) × IsInCode reader → IsPending text reader.pending → beside ≤ 6 * to → HasRead text beside reader → IsLooked text reader to it
 found_behind_margin text reader to beside looked.Nothing is code pending paid has = (record { stage = code.0; idle = is.1 text pending; code = code.1 }, is.0, (beside, omega (arith, paid), has))
 found_behind_margin text reader to beside looked.Front is code pending paid has = absurd is
 found_behind_margin text reader to beside looked.All is code pending paid has = (beside, omega (arith, paid), has)
@@ -137,10 +174,10 @@ text_opener_len text is_raw quote len front =
     let fits : leb (length (take len text)) 2 ≡ true = language_all_fit fits_two openers_fit line_ends_fit symbols_fit names_fit patterns_fit (take len text) it known in
     (word_some text it len (sym front), omega (arith, leb-true (length (take len text)) 2 fits, word_len text it len (sym front)))
 
--- a plain text literal, of which the opener and the body were looked at
-pub plain_reads : (text : Text) (beside len body : ℕ) (old mid behind new : Reader) → old.stage ≡ stages.Onward → HasRead text beside old → HasLookedHere 2 2 old mid → HasLookedHere (body + 1) (2 * body + 3) mid behind
-    → (1 ≤ len) × (len ≤ 2) → IsPassedBy (behind.at + (len + body + 1)) behind new × (new.stage ≡ stages.Onward) → HasRead text beside new
-plain_reads text beside len body old mid behind new onward has opened looked short passed =
+-- a plain literal, of which the opener and the body were looked at
+pub plain_reads : (text : Text) (beside least most len body : ℕ) (old mid behind new : Reader) → old.stage ≡ stages.Onward → HasRead text beside old → HasLookedHere least most old mid → (2 ≤ least) × (most ≤ 3)
+    → HasLookedHere (body + 1) (2 * body + 3) mid behind → (1 ≤ len) × (len ≤ 2) → IsPassedBy (behind.at + (len + body + 1)) behind new × (new.stage ≡ stages.Onward) → HasRead text beside new
+plain_reads text beside least most len body old mid behind new onward has opened few looked short passed =
     let on : HasReadAt text beside old stages.Onward = subst (HasReadAt text beside old) onward has in
     subst (HasReadAt text beside new) (sym passed.1)
-    (omega (arith, short.1, opened.0, opened.3.0, looked.0, looked.3.0, on.0, passed.0.0, passed.0.1), omega (arith, short.0, opened.0, opened.2, opened.3.1, looked.0, looked.2, looked.3.1, on.1, passed.0.0, passed.0.1, passed.0.2))
+    (omega (arith, few.0, short.1, opened.0, opened.3.0, looked.0, looked.3.0, on.0, passed.0.0, passed.0.1), omega (arith, few.1, short.0, opened.0, opened.2, opened.3.1, looked.0, looked.2, looked.3.1, on.1, passed.0.0, passed.0.1, passed.0.2))

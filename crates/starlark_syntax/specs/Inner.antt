@@ -1,3 +1,4 @@
 -- What only contracts of inner functions, and proofs, speak of.
+pub mod LexerStates
 pub mod Looked
 pub mod LexedTexts

@@ -1,5 +1,5 @@
 -- Lexers, as their users see them, and the items that they yield.
-use Rattle.std.specs.Prelude.{◌≡◌, IfSome, ℕ, ◌+◌, ◌-◌, ◌||◌, if◌then◌else◌, Bool, true, false, length, Option, Some, None, Result, Ok, Err, ⊤}
+use Rattle.std.specs.Prelude.{◌≡◌, ◌≤◌, IfSome, ℕ, ◌+◌, ◌-◌, ◌*◌, ◌||◌, if◌then◌else◌, Bool, true, false, length, Option, Some, None, Result, Ok, Err, ⊤}
 use Rattle.std.specs.Iterator.{Count, at_most}
 use Rattle.std.specs.List.{slice_get}
 use Rattle.std.specs.Str.{IsCharBoundary}
@@ -15,13 +15,18 @@ use Rattle.starlark_token.specs.Lexemes.{lexeme_view}
 pub use Rattle.starlark_token.specs.TextItems.{LexerItem, Given, Refused, items}
 use Rattle.starlark_token.specs.declared.tokens.Token.{Token}
 
--- a lexer: its text, the code map of its fault, how many items it has yielded, and whether an error
--- has ended it
+-- a lexer: its text, the code map of its fault, how many items it has yielded, whether an error has
+-- ended it, and how often it has read bytes
 pub record LexerView : Type 0 where
   pub text : Text
   pub code_map : SourceFile
   pub yielded_count : ℕ
   pub has_ended : Bool
+  pub reads : ℕ
+
+-- how often the bytes of a text are read at most
+abbrev pub most_reads : Text → ℕ
+most_reads text = 16 * (length text + 1)
 
 -- what a call returns for an item: a lexeme, the fault's exception, or out of memory in their place
 abbrev pub Answers : SourceFile → LexerItem → Result (ℕ × Token × ℕ) (OrMemory (Diagnosed ErrorKind)) → Type 0
@@ -60,12 +65,20 @@ abbrev pub is_ended_by : Option (Result (ℕ × Token × ℕ) (OrMemory (Diagnos
 is_ended_by (Some (Err refused)) = true
 is_ended_by answer = false
 
+-- after a call that doesn't run out of memory there were at most so many reads; and if it returns
+-- `None`, each byte was read
+abbrev pub HasReadFor : Text → Option (Result (ℕ × Token × ℕ) (OrMemory (Diagnosed ErrorKind))) → ℕ → Type 0
+HasReadFor text None reads = (length text ≤ reads) × (reads ≤ most_reads text)
+HasReadFor text (Some (Err refusal.Memory)) reads = ⊤
+HasReadFor text (Some answer) reads = reads ≤ most_reads text
+
 -- what one call of a lexer returns, and the lexer after it; after an error a call returns `None`
 pub record IsNextOf (old : LexerView) (answer : Option (Result (ℕ × Token × ℕ) (OrMemory (Diagnosed ErrorKind)))) (new : LexerView) : Type 0 where
   pub item : AnswersNext old.code_map (if old.has_ended then None else slice_get (items old.text) old.yielded_count) answer
   pub within : AnswersWithin old.text answer
   pub between : AnswersBetween old.text answer
-  pub after : new ≡ record old { yielded_count = old.yielded_count + yielded_by answer; has_ended = old.has_ended || is_ended_by answer }
+  pub after : new ≡ record old { yielded_count = old.yielded_count + yielded_by answer; has_ended = old.has_ended || is_ended_by answer; reads = new.reads }
+  pub reads : old.has_ended ≡ false → HasReadFor old.text answer new.reads
 
 -- the greatest number of items that are left
 abbrev pub items_left : LexerView → Count

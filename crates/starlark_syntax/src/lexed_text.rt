@@ -8,8 +8,8 @@ ghost use Rattle.starlark_base.specs.Sources.{SourceFile};
 ghost use Rattle.starlark_grammar.specs.Cuts.{is_clean_cut};
 ghost use Rattle.starlark_grammar.specs.Reading.{outcome};
 ghost use Rattle.starlark_grammar.specs.Words.{Text};
-ghost use Rattle.starlark_reader.specs.Inner.Reader.{IsAhead};
-ghost use Rattle.starlark_reader.specs.Inner.Reads.{HasRead};
+ghost use Rattle.starlark_syntax.specs.Inner.LexerStates.{IsBegun, IsLexing};
+ghost use Rattle.starlark_syntax.specs.Lexer.{most_reads};
 ghost use Rattle.starlark_syntax.specs.LexedTexts.{IsLexed, IsReadFrom};
 ghost use Rattle.starlark_syntax.specs.LexedTexts as texts;
 ghost use Rattle.starlark_token.specs.Lexemes.{lexeme_view, shown_lexeme};
@@ -17,12 +17,12 @@ ghost use Rattle.starlark_token.specs.Lexemes.{IsWithin};
 
 use crate::cuts::{Cut, append_cuts, begin_of, is_cut_after};
 use crate::eval_exception::EvalException;
+use crate::lexer_state::LexerState;
 use crate::parts::{exception_of, read_part};
 use crate::tails::{append_later, given_after, kept_of, make_room};
 use starlark_base::codemap::{CodeMap, OrMemory, SourceTooLong};
 use starlark_base::dialect::Dialect;
 use starlark_reader::PlacedToken;
-use starlark_reader::reader::Reader;
 use starlark_token::tokens::Token;
 use std::alloc::{AllocError, Global};
 use std::marker::Model;
@@ -80,35 +80,29 @@ impl<'a> LexedText<'a> {
         if input.len() > u32::MAX as usize {
             return Err(OrMemory::Error(SourceTooLong));
         }
-        let mut reader = Reader::new(alloc);
-        Ok(LexedText::lex_with(alloc, &mut reader, input, &code_map)?)
+        let mut state = LexerState::new(alloc, input, code_map);
+        Ok(LexedText::lex_with(alloc, &mut state)?)
     }
 
-    /// Lexes a text with a new reader, whose count of reads is that of the lexed text.
-    fn lex_with(
-        alloc: Global,
-        reader: &mut Reader,
-        input: &'a str,
-        code_map: &CodeMap,
-    ) -> Result<LexedText<'a>, AllocError>
-        requires fits { length input.now < 2 ^ 32 }
-        requires ahead { IsAhead input.now reader.old reader.old.stage (map shown_lexeme (outcome input.now).lexemes) (outcome input.now).fault }
-        requires unread { HasRead input.now 0 reader.old }
-        ensures text { IfOk result (λ lexed. lexed.text ≡ input.now) }
-        ensures lexed { IfOk result (λ lexed. IsLexed code_map.now lexed) }
-        ensures counted { IfOk result (λ lexed. lexed.reads ≡ reader.new.reads) }
-        ensures most_reads { IfOk result (λ lexed. lexed.reads ≤ 16 * (length input.now + 1)) }
-        ensures least_reads { IfOk result (λ lexed. lexed.fault ≡ None → length input.now ≤ lexed.reads) }
+    /// Lexes a text from a state that has just begun, whose count of reads is that of the lexed text.
+    fn lex_with(alloc: Global, state: &mut LexerState<'a>) -> Result<LexedText<'a>, AllocError>
+        requires lexing { IsLexing state.old }
+        requires begun { IsBegun state.old.text.now state.old.code_map state.old }
+        ensures text { IfOk result (λ lexed. lexed.text ≡ state.old.text.now) }
+        ensures lexed { IfOk result (λ lexed. IsLexed state.old.code_map lexed) }
+        ensures counted { IfOk result (λ lexed. lexed.reads ≡ state.new.reader.reads) }
+        ensures most_reads { IfOk result (λ lexed. lexed.reads ≤ most_reads state.old.text.now) }
+        ensures least_reads { IfOk result (λ lexed. lexed.fault ≡ None → length state.old.text.now ≤ lexed.reads) }
     {
-        let part = read_part(alloc, reader, input)?;
-        let fault = exception_of(alloc, part.fault, 0, code_map)?;
+        let text = state.text();
+        let part = read_part(alloc, state)?;
         Ok(LexedText {
-            text: input,
+            text,
             lexemes: part.lexemes,
-            fault,
+            fault: part.fault,
             cuts: part.cuts,
             is_cut: part.is_cut,
-            reads: reader.reads(),
+            reads: part.reads,
         })
     }
 
@@ -241,15 +235,18 @@ impl<'a> LexedText<'a> {
         ensures reads { IfOk result (IsReadFrom self.entry edited.now from) }
         ensures refused { IfErr result (λ lexed. lexed ≡ self.entry) }
     {
-        let mut reader = Reader::new(*self.lexemes.allocator());
-        self.relex_with(&mut reader, from, edited, code_map)
+        let Ok(file) = code_map.dupe() else {
+            return Err(self);
+        };
+        let mut state = LexerState::new(*self.lexemes.allocator(), edited, file);
+        self.relex_with(&mut state, from, edited, code_map)
     }
 
-    /// Lexes the text again after an edit, with a new reader, whose count of reads is that of the
-    /// lexed text. It does what `relex` says.
+    /// Lexes the text again after an edit, from a state that has just begun, whose count of reads is
+    /// that of the lexed text. It does what `relex` says.
     fn relex_with(
         self,
-        reader: &mut Reader,
+        state: &mut LexerState<'a>,
         from: usize,
         edited: &'a str,
         code_map: &CodeMap,
@@ -258,11 +255,11 @@ impl<'a> LexedText<'a> {
         requires new { IsCharBoundary edited.now from }
         requires same { take from self.text ≡ take from edited.now }
         requires fits { length edited.now < 2 ^ 32 }
-        requires ahead { (text : Text) → IsAhead text reader.old reader.old.stage (map shown_lexeme (outcome text).lexemes) (outcome text).fault }
-        requires unread { (text : Text) → HasRead text 0 reader.old }
+        requires lexing { IsLexing state.old }
+        requires begun { IsBegun edited.now code_map.now state.old }
         ensures text { IfOk result (λ lexed. lexed.text ≡ edited.now) }
         ensures lexed { IfOk result (λ lexed. IsLexed code_map.now lexed) }
-        ensures counted { IfOk result (λ lexed. lexed.reads ≡ reader.new.reads) }
+        ensures counted { IfOk result (λ lexed. lexed.reads ≡ state.new.reader.reads) }
         ensures reads { IfOk result (IsReadFrom self.entry edited.now from) }
         ensures refused { IfErr result (λ lexed. lexed ≡ self.entry) }
     {
@@ -270,7 +267,8 @@ impl<'a> LexedText<'a> {
         let alloc = *old.lexemes.allocator();
         let begin = begin_of(&old.cuts, from);
         let rest = &edited[begin.at..];
-        let Ok(part) = read_part(alloc, reader, rest) else {
+        state.set_text(rest);
+        let Ok(part) = read_part(alloc, state) else {
             return Err(old);
         };
         let kept = kept_of(&old.lexemes, &old.cuts, begin, part.has_tab);

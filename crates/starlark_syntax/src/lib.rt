@@ -11,6 +11,7 @@ pub mod laws;
 mod lexed_text;
 mod lexemes;
 pub mod lexer;
+mod lexer_state;
 mod parts;
 mod tails;
 

@@ -1,25 +1,20 @@
 //! Lexes a whole text, or the rest of one.
 
-ghost use Rattle.std.specs.Prelude.{◌≡◌, ◌<◌, ◌≤◌, ◌+◌, ◌*◌, ◌^◌, ◌++◌, Option, None, IfOk, IfSome, OnOk, length, map, option_map};
-ghost use Rattle.starlark_grammar.specs.Reading.{outcome};
+ghost use Rattle.std.specs.Prelude.{◌≡◌, ◌<◌, ◌≤◌, ◌+◌, ◌^◌, ◌++◌, Option, None, IfOk, IfSome, IsSome, OnOk, length, option_map};
+ghost use Rattle.starlark_base.specs.Sources.{SourceFile};
 ghost use Rattle.starlark_grammar.specs.Tokens.{Fault, Spanned, moved};
-ghost use Rattle.starlark_reader.specs.Inner.Reader.{IsAhead};
-ghost use Rattle.starlark_reader.specs.Inner.Reads.{HasRead};
-ghost use Rattle.starlark_token.specs.Lexemes.{shown_lexeme};
-ghost use Rattle.starlark_syntax.specs.Inner.LexedTexts.{IsPart, IsPlacedFault, cuts_at, end_cuts};
-ghost use Rattle.starlark_syntax.specs.Exceptions.{IsFaultIn};
+ghost use Rattle.starlark_syntax.specs.Exceptions.{IsException, IsFaultIn};
+ghost use Rattle.starlark_syntax.specs.Inner.LexedTexts.{IsPart, cuts_at, end_cuts};
+ghost use Rattle.starlark_syntax.specs.Inner.LexerStates.{IsBegun, IsLexing};
+ghost use Rattle.starlark_syntax.specs.Lexer.{most_reads};
 
 use crate::cuts::Cut;
 use crate::eval_exception::EvalException;
-use crate::fault_exception::exception;
-use starlark_base::codemap::CodeMap;
+use crate::lexer_state::LexerState;
+use starlark_base::codemap::{CodeMap, FileSpan, OrMemory, Pos, Span};
+use starlark_base::diagnostic::WithDiagnostic;
 use starlark_reader::PlacedToken;
-use starlark_reader::reader::{Next, Reader};
-use starlark_token::lexeme_error::LexemeError;
 use std::alloc::{AllocError, Global};
-
-/// A fault with its begin and end in bytes.
-pub type PlacedFault = (usize, LexemeError, usize);
 
 /// The result of lexing a text: lexemes, fault, cuts, and number of reads.
 ///
@@ -28,8 +23,8 @@ pub type PlacedFault = (usize, LexemeError, usize);
 pub struct Part {
     /// The lexemes up to the fault, or all.
     pub lexemes: Vec<PlacedToken>,
-    /// The first fault, if there is one.
-    pub fault: Option<PlacedFault>,
+    /// The exception of the first fault, if there is one.
+    pub fault: Option<EvalException>,
     /// The offsets where the text can be cut, in order.
     pub cuts: Vec<Cut>,
     /// Whether the text is a clean cut.
@@ -70,68 +65,100 @@ fn with_end_cut(
     Ok(all)
 }
 
-/// Lexes a text up to its end or its first fault, with a new reader. Offsets count from the start of
-/// that text.
-///
-/// The reads of the part are those that the reader has counted. After an error the reader isn't to be
-/// used again.
-pub fn read_part(alloc: Global, reader: &mut Reader, text: &str) -> Result<Part, AllocError>
-    requires fits { length text.now < 2 ^ 32 }
-    requires ahead { IsAhead text.now reader.old reader.old.stage (map shown_lexeme (outcome text.now).lexemes) (outcome text.now).fault }
-    requires unread { HasRead text.now 0 reader.old }
-    ensures part { IfOk result (IsPart text.now) }
-    ensures counted { IfOk result (λ part. part.reads ≡ reader.new.reads) }
-    ensures most { IfOk result (λ part. part.reads ≤ 16 * (length text.now + 1)) }
-    ensures least { IfOk result (λ part. part.fault ≡ None → length text.now ≤ part.reads) }
+/// The span of an exception that has one.
+fn span_of(exception: &EvalException) -> Span
+    requires { IsSome exception.now.span }
+    ensures { IfSome exception.now.span (λ place. result ≡ place.span) }
 {
+    let Some(FileSpan { span, .. }) = exception.error().span() else {
+        unreachable!()
+    };
+    *span
+}
+
+/// Lexes a text up to its end or its first fault, from a state that has just begun.
+///
+/// The reads of the part are those that the state has counted. After an error the state isn't to be
+/// used again.
+pub fn read_part(alloc: Global, state: &mut LexerState<'_>) -> Result<Part, AllocError>
+    requires lexing { IsLexing state.old }
+    requires begun { IsBegun state.old.text.now state.old.code_map state.old }
+    ensures part { IfOk result (IsPart state.old.code_map state.old.text.now) }
+    ensures counted { IfOk result (λ part. part.reads ≡ state.new.reader.reads) }
+    ensures most { IfOk result (λ part. part.reads ≤ most_reads state.old.text.now) }
+    ensures least { IfOk result (λ part. part.fault ≡ None → length state.old.text.now ≤ part.reads) }
+{
+    let text = state.text();
     let mut cuts = Vec::new(alloc);
     let mut lexemes = Vec::new(alloc);
-    loop {
-        match reader.next(text)? {
-            Next::Lexeme(lexeme) => {
+    while let Some(item) = state.next() {
+        match item {
+            Ok(lexeme) => {
                 lexemes.push(lexeme)?;
-                push_cut(&mut cuts, reader.cut(text), lexemes.len())?;
+                push_cut(&mut cuts, state.cut(), lexemes.len())?;
             }
-            Next::Fault { begin, fault, end } => {
+            Err(OrMemory::Memory) => return Err(AllocError),
+            Err(OrMemory::Error(exception)) => {
                 return Ok(Part {
                     lexemes,
-                    fault: Some((begin, fault, end)),
+                    fault: Some(exception),
                     cuts,
                     is_cut: false,
-                    has_tab: reader.has_read_none(),
-                    reads: reader.reads(),
-                });
-            }
-            Next::Nothing => {
-                let is_cut = reader.is_settled() && reader.ends_with_lf(text);
-                let cuts = with_end_cut(cuts, text, &lexemes, is_cut)?;
-                let reads = reader.reads();
-                return Ok(Part {
-                    lexemes,
-                    fault: None,
-                    cuts,
-                    is_cut,
-                    has_tab: false,
-                    reads,
+                    has_tab: state.has_read_none(),
+                    reads: state.reads(),
                 });
             }
         }
     }
+    let is_cut = state.is_clean_cut();
+    let cuts = with_end_cut(cuts, text, &lexemes, is_cut)?;
+    let reads = state.reads();
+    Ok(Part {
+        lexemes,
+        fault: None,
+        cuts,
+        is_cut,
+        has_tab: false,
+        reads,
+    })
 }
 
-/// The exception of a fault that is moved by `len` bytes, with its span in a code map.
+/// The exception of a fault, moved by `len` bytes into a code map. Its place counts from where lexing
+/// began.
+fn moved_exception(
+    alloc: Global,
+    exception: EvalException,
+    len: usize,
+    code_map: &CodeMap,
+) -> Result<EvalException, AllocError>
+    requires near { IfSome exception.span (λ place. (place.span.begin ≤ place.span.end) × (len + place.span.end < 2 ^ 32)) }
+    requires placed { IsSome exception.span }
+    ensures { IfOk result (λ it. (file : SourceFile) (fault : Spanned Fault) → IsException file fault exception → IsException code_map.now (moved len fault) it) }
+{
+    let place = span_of(&exception);
+    let span = Span::new(
+        Pos::new((len + place.begin().get() as usize) as u32),
+        Pos::new((len + place.end().get() as usize) as u32),
+    );
+    match WithDiagnostic::new_spanned(alloc, exception.into_error(), span, code_map) {
+        Ok(diagnostic) => Ok(EvalException::from(diagnostic)),
+        Err(_) => Err(AllocError),
+    }
+}
+
+/// The exception of a part's fault, if it has one, moved by `len` bytes into a code map.
 pub fn exception_of(
     alloc: Global,
-    fault: Option<PlacedFault>,
+    fault: Option<EvalException>,
     len: usize,
     code_map: &CodeMap,
 ) -> Result<Option<EvalException>, AllocError>
-    requires near { IfSome fault (λ placed. (placed.0 ≤ placed.2) × (len + placed.2 < 2 ^ 32)) }
+    requires near { IfSome fault (λ exception. IsSome exception.span × IfSome exception.span (λ place. (place.span.begin ≤ place.span.end) × (len + place.span.end < 2 ^ 32))) }
     ensures none { IfOk result (λ exception. exception ≡ None → fault ≡ None) }
-    ensures exception { IfOk result (λ exception. (found : Option (Spanned Fault)) → IsPlacedFault found fault → IsFaultIn code_map.now (option_map (moved len) found) exception) }
+    ensures exception { IfOk result (λ exception. (file : SourceFile) (found : Option (Spanned Fault)) → IsFaultIn file found fault → IsFaultIn code_map.now (option_map (moved len) found) exception) }
 {
-    let Some((begin, fault, end)) = fault else {
-        return Ok(None);
-    };
-    Ok(Some(exception(alloc, len + begin, fault, len + end, code_map)?))
+    match fault {
+        Some(exception) => Ok(Some(moved_exception(alloc, exception, len, code_map)?)),
+        None => Ok(None),
+    }
 }

@@ -53,12 +53,9 @@ front_taken (b ∷ []) = go (b == 13)
     go false = refl
 front_taken (b ∷ c ∷ t) = ap (λ (s : Text). b ∷ s) (front_taken (c ∷ t))
 
--- a part is a front of its line
-part_taken : (line : Text) → comment_part line ≡ take (length (comment_part line)) line
-part_taken line =
-    let n : ℕ = prefix_len is_other line in
-    let least : length (comment_part line) ≤ n = omega (arith, returned_less (take n line), (take_fits n line).1) in
-    front_taken (take n line) ∙ take-take (length (comment_part line)) n line least
+-- a part ends before its line's LF
+pub part_before_feed : (line : Text) → length (comment_part line) ≤ prefix_len is_other line
+part_before_feed line = omega (arith, returned_less (take (prefix_len is_other line) line), (take_fits (prefix_len is_other line) line).1)
   where
     returned_less : (t : Text) → length (without_return t) ≤ length t
     returned_less [] = omega arith
@@ -68,6 +65,10 @@ part_taken line =
         go true = omega arith
         go false = omega arith
     returned_less (b ∷ c ∷ t) = let more = returned_less (c ∷ t) in omega (arith, more)
+
+-- a part is a front of its line
+part_taken : (line : Text) → comment_part line ≡ take (length (comment_part line)) line
+part_taken line = front_taken (take (prefix_len is_other line) line) ∙ take-take (length (comment_part line)) (prefix_len is_other line) line (part_before_feed line)
 
 -- a line that lies in a text
 abbrev line_at : Text → ℕ → ℕ → Text

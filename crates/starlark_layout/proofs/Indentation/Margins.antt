@@ -66,6 +66,24 @@ behind_blanks (b ∷ bs) n rest h = go (is_blank b) refl h (behind_blanks bs n r
         let one : 1 + blanks_len bs + n ≡ suc (blanks_len bs + n) = omega arith in
         rw (blank_other b e, one) (ap (onto_first b) (more (rw one-add at h)))
 
+-- no blank is the LF that ends the line
+feed_after_blanks : (text : Text) → blanks_len text + prefix_len is_other (drop (blanks_len text) text) ≡ prefix_len is_other text
+feed_after_blanks [] = refl
+feed_after_blanks (b ∷ bs) = go (is_blank b) refl (feed_after_blanks bs)
+  where
+    go : (blank : Bool) → is_blank b ≡ blank → blanks_len bs + prefix_len is_other (drop (blanks_len bs) bs) ≡ prefix_len is_other bs
+        → cond blank (1 + blanks_len bs) 0 + prefix_len is_other (drop (cond blank (1 + blanks_len bs) 0) (b ∷ bs)) ≡ prefix_len is_other (b ∷ bs)
+    go false e more = zero-add _
+    go true e more =
+        let one : 1 + blanks_len bs ≡ suc (blanks_len bs) = omega arith in
+        rw (blank_other b e, one) (omega (arith, more))
+
+-- the length of a line without its LF, of which the blanks were passed before
+pub feed_measured : (text behind : Text) (k n : ℕ) → k ≡ blanks_len text → behind ≡ drop k text → n ≡ prefix_len is_other behind → k + n ≡ prefix_len is_other text
+feed_measured text behind k n e f h =
+    let there : n ≡ prefix_len is_other (drop (blanks_len text) text) = h ∙ ap (prefix_len is_other) (f ∙ ap (λ i. drop i text) e) in
+    omega (arith, e, there, feed_after_blanks text)
+
 -- a line that is cut off behind its blanks
 cut_blanks : (text : Text) (n : ℕ) → drop (blanks_len (take (blanks_len text + suc n) text)) (take (blanks_len text + suc n) text) ≡ take (suc n) (drop (blanks_len text) text)
 cut_blanks [] n = rw zero-add refl
@@ -190,11 +208,3 @@ comment_some (b ∷ rest) e = let other : is_other b ≡ true = no_feed b e in r
   where
     no_feed : (b : ℕ) → begins_comment (b ∷ []) ≡ true → is_other b ≡ true
     no_feed b e = grind (arith, nat_tests)
-
--- the blanks of a comment-only line are not all of it
-pub comment_inside : (line : Text) → is_comment_only line ≡ true → blanks_len line < length line
-comment_inside line e = omega (arith, begins_some (drop (blanks_len line) line) e, length-drop (blanks_len line) line)
-  where
-    begins_some : (text : Text) → begins_comment text ≡ true → 0 < length text
-    begins_some [] e = absurd (false≢true e)
-    begins_some (b ∷ rest) e = omega arith

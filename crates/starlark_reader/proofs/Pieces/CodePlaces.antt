@@ -1,10 +1,10 @@
 -- What stands at a place: in an f-string's text its next part, and at a place of code what the word there says.
-use Rattle.std.proofs.Common.{◌≡◌, ℕ, ◌≤◌, Bool, true, false, ◌&&◌, [], ◌∷◌, length, take, drop, refl, ap, ◌∙◌, Some}
+use Rattle.std.proofs.Common.{◌≡◌, ℕ, ◌≤◌, ◌<◌, Bool, true, false, ◌&&◌, [], ◌∷◌, length, take, drop, refl, ap, sym, ◌∙◌, arith, None, Some}
 use Rattle.std.proofs.lemmas.List.{length-take-le}
 use Rattle.std.specs.Str.{IsUtf8, IsCharBoundary}
 use Rattle.starlark_grammar.specs.Depths.{Mode, Outside, InText, AtTop, Deeper}
 use Rattle.starlark_grammar.specs.Front.{language_front, longest_front}
-use Rattle.starlark_grammar.specs.Pieces.{Situation, Before, Nothing, Layout, Gap, Other, by_place, by_before, chunk, in_code, is_bang, takes_bang, token, step_at, word_step}
+use Rattle.starlark_grammar.specs.Pieces.{Situation, Before, Nothing, Layout, Gap, Other, by_place, by_before, chunk, front_step, in_code, is_bang, takes_bang, token, step_at, word_step}
 use Rattle.starlark_grammar.specs.Tokens.{FStringBang, Opening}
 use Rattle.starlark_grammar.specs.Words.{Text, class_in, language}
 use Rattle.starlark_grammar.specs.declared.class.Class.{Class}
@@ -41,14 +41,35 @@ both_false : (x : Bool) → (x && false) ≡ false
 both_false true = refl
 both_false false = refl
 
-in_code_front : (s : Situation) (text : Text) (class : Class) (len : ℕ) → language_front text ≡ Some (class, len) → is_bang text ≡ false → in_code language s text ≡ word_step s class (take len text) (drop len text)
+pub in_code_front : (s : Situation) (text : Text) (class : Class) (len : ℕ) → language_front text ≡ Some (class, len) → is_bang text ≡ false → in_code language s text ≡ word_step s class (take len text) (drop len text)
 unfolding language_front longest_front
 in_code_front s [] class len front bang = cc
 in_code_front s (b ∷ bs) class len front bang = rw (bang, both_false (takes_bang s.place s.before), front) refl
 
-bang_in_code : (s : Situation) (text : Text) → (takes_bang s.place s.before && is_bang text) ≡ true → in_code language s text ≡ token 1 FStringBang
+pub bang_in_code : (s : Situation) (text : Text) → (takes_bang s.place s.before && is_bang text) ≡ true → in_code language s text ≡ token 1 FStringBang
 bang_in_code s [] bang = cc (both_false (takes_bang s.place s.before), bang)
 bang_in_code s (b ∷ bs) bang = rw bang refl
+
+-- where neither a bang nor a word stands, the first character is a fault
+pub in_code_none : (s : Situation) (text : Text) → 0 < length text → language_front text ≡ None → (takes_bang s.place s.before && is_bang text) ≡ false → in_code language s text ≡ front_step s text None
+unfolding language_front longest_front
+in_code_none s [] some front bang = absurd (omega (arith, some))
+in_code_none s (b ∷ bs) some front bang = rw (bang, front) refl
+
+-- whether a bang stands is told by two bytes
+pub bang_in_two : (text : Text) → is_bang (take 2 text) ≡ is_bang text
+bang_in_two [] = refl
+bang_in_two (b ∷ []) = refl
+bang_in_two (b ∷ c ∷ bs) = refl
+
+pub bang_in_three : (text : Text) → is_bang (take 3 text) ≡ is_bang text
+bang_in_three [] = refl
+bang_in_three (b ∷ []) = refl
+bang_in_three (b ∷ c ∷ bs) = refl
+
+-- whether a bang stands, by the situation
+pub bang_by : (s : Situation) (text : Text) (at : Mode) (stands known : Bool) → s.place ≡ at → stands ≡ (takes_bang at s.before && is_bang text) → stands ≡ known → (takes_bang s.place s.before && is_bang text) ≡ known
+bang_by s text at stands known here is e = ap (λ p. takes_bang p s.before && is_bang text) here ∙ sym is ∙ e
 
 -- a bang that may stand there is the piece
 pub bang_at : (follows_gap : Bool) (s : Situation) (text : Text) (at : Mode) → is_code at ≡ true → IsAfter follows_gap s.before → s.place ≡ at → (takes_bang at s.before && is_bang text) ≡ true → step_at language s text ≡ token 1 FStringBang
@@ -65,6 +86,10 @@ unfolding language_front
 word_len text class len front =
     let inside : len ≤ length text = (front_sound (class_in language) text class len front).1 in
     length-take-le len text inside
+
+pub word_inside : (text : Text) (class : Class) (len : ℕ) → language_front text ≡ Some (class, len) → len ≤ length text
+unfolding language_front
+word_inside text class len front = (front_sound (class_in language) text class len front).1
 
 -- it has a byte at least
 pub word_some : (text : Text) (class : Class) (len : ℕ) → language_front text ≡ Some (class, len) → 1 ≤ len

@@ -29,8 +29,18 @@ use Rattle.std.proofs.lemmas.List.Sums.{sum_by-cons}
 pub same_left : (text : Text) (old new : Reader) (stage : Stage) (left : Outcome) → IsHere old new → IsLeft text old stage left → IsLeft text new stage left
 same_left text old new stage.Begin left here h = (h.0, here.at ∙ h.1, rw here.nesting h.2, here.levels ∙ h.3, ap bracket_count here.nesting ∙ h.4, here.before ∙ h.5)
 same_left text old new stage.Onward left here h = (h.0, kept_here text h.0 old new here h.1, h.2 ∙ ap (λ at. remaining_outcome h.0 at (drop at text)) (sym here.at))
-same_left text old new (stage.Fault begin fault end) left here h = (h.0, h.1, h.2, rw (here.at, here.before) h.3)
+same_left text old new (stage.Fault begin fault end) left here h = (h.0, h.1, h.2, rw (here.at, here.before) h.3, rw here.at h.4)
 same_left text old new stage.Closed left here h = (h.0, kept_here text (history_of text) old new here h.1)
+
+-- whatever is still to be read, a reader lies inside of its text
+left_inside : (text : Text) (reader : Reader) (stage : Stage) (left : Outcome) → IsLeft text reader stage left → reader.at ≤ length text
+left_inside text reader stage.Begin left is = omega (arith, is.1)
+left_inside text reader stage.Onward left is = is.1.inside
+left_inside text reader (stage.Fault begin fault end) left is = is.4
+left_inside text reader stage.Closed left is = is.1.inside
+
+pub ready_inside : (text : Text) (reader : Reader) → IsReady text reader reader.stage → reader.at ≤ length text
+ready_inside text reader ready = left_inside text reader reader.stage ready.2.left ready.2.is_left
 
 flat_here : (old new : Reader) (now later : Stage) → IsHere old new → new.pending ≡ old.pending → later ≡ now → IsInFlatMargin old now → IsInFlatMargin new later
 flat_here old new now later here pending same is = (same ∙ is.0, here.before ∙ is.1, ap (λ (p : Pending). p.is_flat) pending ∙ is.2)

@@ -1,7 +1,7 @@
 -- How often the bytes of a piece are read.
-use Rattle.std.proofs.Common.{◌≡◌, ◌≤◌, ◌<◌, ◌+◌, ◌-◌, ◌*◌, ℕ, arith}
+use Rattle.std.proofs.Common.{◌≡◌, ◌≤◌, ◌<◌, ◌+◌, ◌*◌, ℕ, arith}
 use Rattle.starlark_bytes.specs.Inner.Reads.{AreReads, more_reads}
-use Rattle.starlark_reader.specs.Inner.Reads.{ArePieceReads, AreReadsAfter, AreStepReads, AreWordReads, IsOfWord}
+use Rattle.starlark_reader.specs.Inner.Reads.{ArePieceReads, AreReadsAfter, AreStepReads, AreWordlessReads, AreWordReads, IsOfWord}
 use Rattle.starlark_reader.specs.declared.literal.pieces.Step.{Step}
 use Rattle.starlark_reader.specs.declared.literal.pieces.Step.TheVariants as steps
 use Rattle.starlark_reader.specs.declared.reading.Piece.{Piece}
@@ -14,8 +14,8 @@ word_reads len rest (steps.Text text text_len stop taken) before after least mos
 word_reads len rest (steps.Fault begin fault end) before after least most is = omega (arith, most)
 
 -- a piece behind its word
-pub piece_reads : (passed behind rest : ℕ) (piece : Piece) (before between after : ℕ) → 0 < passed → rest ≡ passed + behind → AreReads passed ((5 * passed - 4) + 9) before between
-    → AreReadsAfter passed 9 behind 9 piece between after → ArePieceReads 14 rest 7 piece before after
+pub piece_reads : (passed behind rest : ℕ) (piece : Piece) (before between after : ℕ) → 0 < passed → rest ≡ passed + behind → AreReads passed (5 * passed + 3) before between
+    → AreReadsAfter passed 9 behind 9 piece between after → ArePieceReads 10 rest 7 piece before after
 piece_reads passed behind rest (piece.Nothing len is_gap) before between after some whole word reads =
     ((omega (arith, word.0, reads.0, reads.1), omega (arith, some, word.1, reads.0, reads.1)), omega (arith, some, reads.0))
 piece_reads passed behind rest (piece.LineEnd len) before between after some whole word reads =
@@ -24,33 +24,33 @@ piece_reads passed behind rest (piece.FString opening len) before between after 
     ((omega (arith, word.0, reads.1, reads.2), omega (arith, some, word.1, reads.0, reads.2.1)), omega (arith, some, reads.0))
 piece_reads passed behind rest (piece.Lexed step) before between after some whole word reads = by_step step reads
   where
-    by_step : (step : Step) → AreWordReads passed 9 2 behind 9 step between after → AreStepReads 0 14 rest 7 step before after
+    by_step : (step : Step) → AreWordReads passed 9 2 behind 9 step between after → AreStepReads 0 10 rest 7 step before after
     by_step (steps.Token token len) reads = ((omega (arith, word.0, reads.0.0, reads.1), omega (arith, some, word.1, reads.0.1, reads.1)), omega (arith, some, reads.1))
     by_step (steps.Text text text_len stop len) reads = absurd reads
     by_step (steps.Fault begin fault end) reads = omega (arith, some, whole, word.1, reads)
 piece_reads passed behind rest piece.End before between after some whole word reads = absurd reads
 
--- a fault where no word stands
-pub none_reads : (rest : ℕ) (step : Step) (before between after : ℕ) → 0 < rest → AreReads 0 9 before between → AreStepReads 0 1 rest 0 step between after → AreStepReads 0 14 rest 7 step before after
-none_reads rest (steps.Token token len) before between after some none reads = ((omega (arith, none.0, reads.0.0), omega (arith, none.1, reads.0.1, reads.1)), omega (arith, reads.1))
-none_reads rest (steps.Text text text_len stop len) before between after some none reads = ((omega (arith, none.0, reads.0.0), omega (arith, none.1, reads.0.1, reads.1)), omega (arith, reads.1))
-none_reads rest (steps.Fault begin fault end) before between after some none reads = omega (arith, some, none.1, reads)
-
--- a piece of code behind the look for a bang
-pub code_reads : (rest : ℕ) (piece : Piece) (before between after : ℕ) → 0 < rest → AreReads 0 2 before between → ArePieceReads 14 rest 7 piece between after → ArePieceReads 16 rest 8 piece before after
-code_reads rest (piece.Nothing len is_gap) before between after some bang reads = ((omega (arith, bang.0, reads.0.0), omega (arith, bang.1, reads.0.1, reads.1)), reads.1)
-code_reads rest (piece.LineEnd len) before between after some bang reads = ((omega (arith, bang.0, reads.0.0), omega (arith, bang.1, reads.0.1, reads.1)), reads.1)
-code_reads rest (piece.FString opening len) before between after some bang reads = ((omega (arith, bang.0, reads.0.0), omega (arith, bang.1, reads.0.1, reads.1)), reads.1)
-code_reads rest (piece.Lexed step) before between after some bang reads = by_step step reads
+-- a bang, or a fault, where no word stands
+pub none_reads : (rest : ℕ) (piece : Piece) (before between after : ℕ) → 0 < rest → AreReads 0 3 before between → AreWordlessReads rest piece between after → ArePieceReads 10 rest 7 piece before after
+none_reads rest (piece.Nothing len is_gap) before between after some none reads = absurd reads
+none_reads rest (piece.LineEnd len) before between after some none reads = absurd reads
+none_reads rest (piece.FString opening len) before between after some none reads = absurd reads
+none_reads rest (piece.Lexed step) before between after some none reads = by_step step reads
   where
-    by_step : (step : Step) → AreStepReads 0 14 rest 7 step between after → AreStepReads 0 16 rest 8 step before after
-    by_step (steps.Token token len) reads = ((omega (arith, bang.0, reads.0.0), omega (arith, bang.1, reads.0.1, reads.1)), reads.1)
-    by_step (steps.Text text text_len stop len) reads = ((omega (arith, bang.0, reads.0.0), omega (arith, bang.1, reads.0.1, reads.1)), reads.1)
-    by_step (steps.Fault begin fault end) reads = omega (arith, some, bang.1, reads)
-code_reads rest piece.End before between after some bang reads = absurd (omega (arith, some, reads.1))
+    by_step : (step : Step) → AreStepReads 0 3 rest 2 step between after → AreStepReads 0 10 rest 7 step before after
+    by_step (steps.Token token len) reads = ((omega (arith, none.0, reads.0.0), omega (arith, none.1, reads.0.1, reads.1)), reads.1)
+    by_step (steps.Text text text_len stop len) reads = ((omega (arith, none.0, reads.0.0), omega (arith, none.1, reads.0.1, reads.1)), reads.1)
+    by_step (steps.Fault begin fault end) reads = omega (arith, some, none.1, reads)
+none_reads rest piece.End before between after some none reads = absurd reads
+
+-- a fault, after the look for a bang
+pub wordless_reads : (rest : ℕ) (step : Step) (before between after : ℕ) → between ≡ more_reads before 2 → AreStepReads 0 1 rest 0 step between after → AreStepReads 0 3 rest 2 step before after
+wordless_reads rest (steps.Token token len) before between after bang reads = ((omega (arith, bang, reads.0.0), omega (arith, bang, reads.0.1, reads.1)), reads.1)
+wordless_reads rest (steps.Text text text_len stop len) before between after bang reads = ((omega (arith, bang, reads.0.0), omega (arith, bang, reads.0.1, reads.1)), reads.1)
+wordless_reads rest (steps.Fault begin fault end) before between after bang reads = omega (arith, bang, reads)
 
 -- a text of an f-string
-pub chunk_reads : (rest : ℕ) (step : Step) (before after : ℕ) → AreStepReads 0 8 rest 6 step before after → AreStepReads 0 16 rest 8 step before after
+pub chunk_reads : (rest : ℕ) (step : Step) (before after : ℕ) → AreStepReads 0 8 rest 6 step before after → AreStepReads 0 10 rest 7 step before after
 chunk_reads rest (steps.Token token len) before after reads = ((reads.0.0, omega (arith, reads.0.1)), reads.1)
 chunk_reads rest (steps.Text text text_len stop len) before after reads = ((reads.0.0, omega (arith, reads.0.1)), reads.1)
 chunk_reads rest (steps.Fault begin fault end) before after reads = omega (arith, reads)

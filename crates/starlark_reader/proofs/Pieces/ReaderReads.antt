@@ -1,5 +1,6 @@
 -- How often a reader has read bytes, behind each of its steps.
-use Rattle.std.proofs.Common.{◌≡◌, ◌≤◌, ◌<◌, ◌+◌, ◌-◌, ◌*◌, ◌∙◌, ℕ, List, Option, length, subst, sym, arith}
+use Rattle.std.proofs.Common.{◌≡◌, ◌≤◌, ◌<◌, ◌+◌, ◌-◌, ◌*◌, ◌∙◌, ℕ, List, Option, drop, length, refl, subst, sym, arith}
+use Rattle.std.specs.Prelude.{IfErr, Result, Ok, Err}
 use Rattle.starlark_grammar.specs.Reading.{History}
 use Rattle.starlark_grammar.specs.Words.{Text}
 use Rattle.starlark_grammar.specs.Tokens.{Fault, Spanned}
@@ -8,6 +9,7 @@ use Rattle.starlark_reader.specs.Inner.Reader.{IsAhead, IsLeft, IsStateAfter, hi
 use Rattle.starlark_bytes.specs.Inner.Reads.{AreReads, more_reads}
 use Rattle.starlark_layout.specs.Inner.Pending.{owed}
 use Rattle.starlark_reader.specs.Inner.Reads.{AreStepReads, HasStarted, HasLooked, HasLookedHere, HasRead, HasReadAt, IsMarginRead, IsPassed, IsPassedBy}
+use Rattle.starlark_reader.proofs.Pieces.Here.{run_inside}
 use Rattle.starlark_reader.specs.declared.literal.pieces.Step.{Step}
 use Rattle.starlark_reader.specs.declared.literal.pieces.Step.TheVariants as steps
 use Rattle.starlark_reader.specs.declared.reader.Reader.{Reader}
@@ -16,24 +18,24 @@ use Rattle.starlark_reader.specs.declared.reader.Stage.TheVariants as stages
 
 -- what a reader has read before a place, as numbers
 abbrev pub IsReadBefore : (beside before at owes : ℕ) → Type 0
-IsReadBefore beside before at owes = (more_reads 0 at ≤ before) × (before + 6 * owes ≤ beside + 16 * at + 8)
+IsReadBefore beside before at owes = (more_reads 0 at ≤ before) × (before + 5 * owes ≤ beside + 10 * at + 2)
 
 -- behind a piece of so many bytes
-pub onward_reads : (text : Text) (beside len before : ℕ) (old new : Reader) → IsReadBefore beside before old.at (owed old.pending) → AreReads len (16 * len) before old.reads
+pub onward_reads : (text : Text) (beside len before : ℕ) (old new : Reader) → IsReadBefore beside before old.at (owed old.pending) → AreReads len (10 * len) before old.reads
     → IsPassedBy (old.at + len) old new × (new.stage ≡ stages.Onward) → HasRead text beside new
 onward_reads text beside len before old new has read passed =
     subst (HasReadAt text beside new) (sym passed.1) (omega (arith, has.0, read.0, passed.0.0, passed.0.1), omega (arith, has.1, read.1, passed.0.0, passed.0.1, passed.0.2))
 
 -- behind a token, a text of an f-string, or at a fault
 pub step_reads : (text : Text) (beside rest before : ℕ) (step : Step) (old new : Reader) → length text ≡ old.at + rest → IsReadBefore beside before old.at (owed old.pending)
-    → AreStepReads 0 16 rest 8 step before old.reads → IsPassed old step new → HasRead text beside new
+    → AreStepReads 0 10 rest 7 step before old.reads → IsPassed old step new → HasRead text beside new
 step_reads text beside rest before (steps.Token token len) old new whole has read passed = onward_reads text beside len before old new has (omega (arith, read.0.0), omega (arith, read.0.1)) passed
 step_reads text beside rest before (steps.Text chunk chunk_len stop len) old new whole has read passed = onward_reads text beside (chunk_len + len) before old new has (omega (arith, read.0.0), omega (arith, read.0.1)) passed
 step_reads text beside rest before (steps.Fault begin fault end) old new whole has read passed =
     subst (HasReadAt text beside new) (sym passed.1) (omega (arith, whole, has.1, read, passed.0.1, passed.0.2))
 
 -- behind a line end and its margin
-pub line_reads : (text : Text) (beside len before : ℕ) (old new : Reader) → old.at + len ≤ length text → IsReadBefore beside before old.at (owed old.pending) → AreReads len (16 * len - 2) before old.reads → 0 < len
+pub line_reads : (text : Text) (beside len before : ℕ) (old new : Reader) → old.at + len ≤ length text → IsReadBefore beside before old.at (owed old.pending) → AreReads len (10 * len - 2) before old.reads → 0 < len
     → IsMarginRead text len old new new.stage → HasRead text beside new
 line_reads text beside len before old new inside has read some margin = go new.stage margin
   where
@@ -50,7 +52,7 @@ end_reads text beside rest before old new whole has read passed =
     subst (HasReadAt text beside new) (sym passed.1) (omega (arith, whole, has.0, read.0, read.1, passed.0.1), omega (arith, whole, has.1, read.0, passed.0.1, passed.0.2))
 
 -- behind a lexeme that was handed out
-pub pending_reads : (text : Text) (beside : ℕ) (old new : Reader) → new.at ≡ old.at → more_reads old.reads 0 ≤ new.reads → new.reads + 6 * owed new.pending ≤ old.reads + 6 * owed old.pending
+pub pending_reads : (text : Text) (beside : ℕ) (old new : Reader) → new.at ≡ old.at → more_reads old.reads 0 ≤ new.reads → new.reads + 5 * owed new.pending ≤ old.reads + 5 * owed old.pending
     → (stage : Stage) → HasReadAt text beside old stage → HasReadAt text beside new stage
 pending_reads text beside old new same least most stages.Begin has = (omega (arith, same, has.0), omega (arith, has.1, most))
 pending_reads text beside old new same least most stages.Onward has = (omega (arith, same, has.0, least), omega (arith, same, has.1, most))
@@ -79,15 +81,21 @@ here_reads text beside least most old new has looked = subst (HasReadAt text (be
     by_stage (stages.Fault begin fault end) has = omega (arith, looked.2, looked.3.1, has)
     by_stage stages.Closed has = (omega (arith, looked.3.0, has.0), omega (arith, looked.2, looked.3.1, has.1))
 
+-- where something else stands, what was looked at of it lies inside of the text
+pub other_reads : {A : Type 0} (text rest : Text) (from extra reads : ℕ) (reader : Reader) (found : Result A ℕ) → rest ≡ drop from text → from ≤ length text → IfErr found (λ run. (run ≤ length rest) × AreReads 0 (2 * run + extra) reader.reads reads)
+    → IfErr found (λ run. (from + run ≤ length text) × HasLookedHere 0 (2 * run + extra) reader (record reader { reads = reads }))
+other_reads text rest from extra reads reader (Ok value) cut inside other = tt
+other_reads text rest from extra reads reader (Err run) cut inside other = (run_inside text from run inside (subst (λ (t : Text). run ≤ length t) cut other.0), (refl, refl, omega arith, other.1))
+
 -- what is looked at and then taken is part of it
-pub taken_reads : (text : Text) (beside least most len : ℕ) (old mid new : Reader) → old.stage ≡ stages.Onward → HasRead text beside old → HasLooked least most old mid → len ≤ least → most ≤ 16 * len
+pub taken_reads : (text : Text) (beside least most len : ℕ) (old mid new : Reader) → old.stage ≡ stages.Onward → HasRead text beside old → HasLooked least most old mid → len ≤ least → most ≤ 10 * len
     → IsPassedBy (mid.at + len) mid new × (new.stage ≡ stages.Onward) → HasRead text beside new
 taken_reads text beside least most len old mid new onward has looked enough few passed =
     let on : HasReadAt text beside old stages.Onward = subst (HasReadAt text beside old) onward has in
     subst (HasReadAt text beside new) (sym passed.1)
     (omega (arith, enough, looked.0, looked.3.0, on.0, passed.0.0, passed.0.1), omega (arith, few, looked.0, looked.2, looked.3.1, on.1, passed.0.0, passed.0.1, passed.0.2))
 
-pub here_taken_reads : (text : Text) (beside least most len : ℕ) (old mid new : Reader) → old.stage ≡ stages.Onward → HasRead text beside old → HasLookedHere least most old mid → len ≤ least → most ≤ 16 * len
+pub here_taken_reads : (text : Text) (beside least most len : ℕ) (old mid new : Reader) → old.stage ≡ stages.Onward → HasRead text beside old → HasLookedHere least most old mid → len ≤ least → most ≤ 10 * len
     → IsPassedBy (mid.at + len) mid new × (new.stage ≡ stages.Onward) → HasRead text beside new
 here_taken_reads text beside least most len old mid new onward has looked enough few passed =
     let on : HasReadAt text beside old stages.Onward = subst (HasReadAt text beside old) onward has in
@@ -95,7 +103,7 @@ here_taken_reads text beside least most len old mid new onward has looked enough
     (omega (arith, enough, looked.0, looked.3.0, on.0, passed.0.0, passed.0.1), omega (arith, few, looked.0, looked.2, looked.3.1, on.1, passed.0.0, passed.0.1, passed.0.2))
 
 -- and so is the start of an f-string, whose opener was looked at
-pub begun_reads : (text : Text) (beside : ℕ) (old mid new : Reader) → old.stage ≡ stages.Onward → HasRead text beside old → HasLookedHere 2 2 old mid → HasStarted mid new → HasRead text beside new
+pub begun_reads : (text : Text) (beside : ℕ) (old mid new : Reader) → old.stage ≡ stages.Onward → HasRead text beside old → HasLookedHere 3 3 old mid → HasStarted mid new → HasRead text beside new
 begun_reads text beside old mid new onward has looked begun =
     let on : HasReadAt text beside old stages.Onward = subst (HasReadAt text beside old) onward has in
     subst (HasReadAt text beside new) (sym begun.2)
@@ -107,7 +115,7 @@ pub margin_reads : (text : Text) (beside len : ℕ) (old mid new : Reader) → m
 margin_reads text beside len old mid new inside some onward has looked margin =
     let on : HasReadAt text beside old stages.Onward = subst (HasReadAt text beside old) onward has in
     let before : IsReadBefore beside (old.reads + (mid.at - old.at)) mid.at (owed mid.pending) = (omega (arith, looked.0, on.0), omega (arith, looked.0, looked.2, on.1)) in
-    let read : AreReads len (16 * len - 2) (old.reads + (mid.at - old.at)) mid.reads = (omega (arith, looked.0, looked.3.0), omega (arith, some, looked.0, looked.3.1)) in
+    let read : AreReads len (10 * len - 2) (old.reads + (mid.at - old.at)) mid.reads = (omega (arith, looked.0, looked.3.0), omega (arith, some, looked.0, looked.3.1)) in
     line_reads text beside len (old.reads + (mid.at - old.at)) mid new inside before read some margin
 
 -- what is kept of a history doesn't speak of reads

@@ -286,11 +286,11 @@ same_place old new at before = ap (λ n. n == 0 && not (is_layout (before_view n
 -- a fault was read, by the lexemes before it
 read_fault : (text : Text) (whole : Outcome) (at : ℕ) (lexemes : List Lexeme) (new : Reader) (fault : Spanned grammar.Fault) (error : LexemeError) → whole ≡ record { lexemes = lexemes; fault = Some (moved at fault) }
     → fault_view error ≡ Some fault.node → new.stage ≡ stage.Fault (at + fault.begin) error (at + fault.end) → Hands text None new.pending lexemes → has_read_none new ≡ begins_with_tab text
-    → ((x behind : ℕ) → IsCutBefore text x behind → behind < length lexemes → ⊥) → IsRead text whole None new
-read_fault text whole at lexemes new fault error left view is hands place none = record {
+    → new.at ≤ length text → ((x behind : ℕ) → IsCutBefore text x behind → behind < length lexemes → ⊥) → IsRead text whole None new
+read_fault text whole at lexemes new fault error left view is hands place inside none = record {
   lexemes = lexemes;
   left = record { lexemes = []; fault = Some (moved at fault) };
-  is_left = subst (λ now. IsLeft text new now (record { lexemes = []; fault = Some (moved at fault) })) (sym is) (fault.node, view, refl, place);
+  is_left = subst (λ now. IsLeft text new now (record { lexemes = []; fault = Some (moved at fault) })) (sym is) (fault.node, view, refl, place, inside);
   parts = ap (λ (o : Outcome). o.lexemes) left ∙ sym (append-nil lexemes);
   fault = ap (λ (o : Outcome). o.fault) left;
   is_pending = hands.0;
@@ -302,7 +302,7 @@ read_fault text whole at lexemes new fault error left view is hands place none =
 pub failed : (text : Text) (history : History) (old new : Reader) (fault : Spanned grammar.Fault) (error : LexemeError) → IsStateAfter text history old → step_here text history old ≡ Fails fault → fault_view error ≡ Some fault.node
     → new.stage ≡ stage.Fault (old.at + fault.begin) error (old.at + fault.end) → Hands text None new.pending [] → new.at ≡ old.at → new.before ≡ old.before → IsRead text (left_here text history old) None new
 failed text history old new fault error kept fails view is hands at before =
-    read_fault text (left_here text history old) old.at [] new fault error (onward_fails history old.at (drop old.at text) fault (begun text history old kept) fails) view is hands (same_place old new at before ∙ state_begun text history old kept) (λ x behind cut most. omega (arith, most))
+    read_fault text (left_here text history old) old.at [] new fault error (onward_fails history old.at (drop old.at text) fault (begun text history old kept) fails) view is hands (same_place old new at before ∙ state_begun text history old kept) (omega (arith, at, kept.inside)) (λ x behind cut most. omega (arith, most))
 
 pub failed_first : (text : Text) (new : Reader) (fault : Spanned grammar.Fault) (error : LexemeError) → first_margin text ≡ Fails fault → fault_view error ≡ Some fault.node
     → new.stage ≡ stage.Fault (0 + fault.begin) error (0 + fault.end) → Hands text None new.pending (margin_of text).comments → new.at ≡ 0 → new.before ≡ sort.Other → IsRead text (outcome text) None new
@@ -310,7 +310,7 @@ failed_first text new fault error fails view is hands at before =
     let has = tab_of (margin_of text) fault fails in
     let tabbed : begins_with_tab text ≡ true = rw (has.content, has.is) refl in
     let none : has_read_none new ≡ true = rw (at, before) refl in
-    read_fault text (outcome text) 0 (margin_of text).comments new fault error (first_fails text fault fails) view is hands (none ∙ sym tabbed) (λ x behind cut most. none_at_fault text fault fails x behind cut)
+    read_fault text (outcome text) 0 (margin_of text).comments new fault error (first_fails text fault fails) view is hands (none ∙ sym tabbed) (omega (arith, at)) (λ x behind cut most. none_at_fault text fault fails x behind cut)
 
 -- The text's end
 

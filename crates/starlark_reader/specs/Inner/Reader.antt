@@ -90,11 +90,12 @@ begins_with_tab text = is_content (margin_of text).behind && has_tab (margin_of 
 abbrev pub has_read_none : Reader → Bool
 has_read_none reader = reader.at == 0 && not (is_layout (before_view reader.before))
 
--- What is still to be read at a stage: the whole text, the rest from a place on, a fault, or nothing.
+-- What is still to be read at a stage: the whole text, the rest from a place on, a fault, or nothing. The place lies
+-- inside of the text.
 abbrev pub IsLeft : Text → Reader → Stage → grammar.Outcome → Type 0
 IsLeft text reader stage.Begin left = (left ≡ outcome text) × (reader.at ≡ 0) × (Represents [] reader.nesting) × (reader.levels ≡ []) × (bracket_count reader.nesting ≡ 0) × (reader.before ≡ before.Other)
 IsLeft text reader stage.Onward left = (history : History) × IsStateAfter text history reader × (left ≡ remaining_outcome history reader.at (drop reader.at text))
-IsLeft text reader (stage.Fault begin fault end) left = (node : grammar.Fault) × (fault_view fault ≡ Some node) × (left ≡ record { lexemes = []; fault = Some (record { begin = begin; node = node; end = end }) }) × (has_read_none reader ≡ begins_with_tab text)
+IsLeft text reader (stage.Fault begin fault end) left = (node : grammar.Fault) × (fault_view fault ≡ Some node) × (left ≡ record { lexemes = []; fault = Some (record { begin = begin; node = node; end = end }) }) × (has_read_none reader ≡ begins_with_tab text) × (reader.at ≤ length text)
 IsLeft text reader stage.Closed left = (left ≡ record { lexemes = []; fault = None }) × IsStateAfter text (history_of text) reader
 
 -- Whether the place that is reached in a margin is one where the text may be cut, where so many lexemes are ahead.

@@ -44,6 +44,11 @@ ArePieceReads factor rest extra (piece.FString opening len) before after = AreRe
 ArePieceReads factor rest extra (piece.Lexed step) before after = AreStepReads 0 factor rest extra step before after
 ArePieceReads factor rest extra piece.End before after = (after ≡ before) × (rest ≡ 0)
 
+-- Reads of a piece where no word stands: of a bang, or of a character that no word begins with.
+abbrev pub AreWordlessReads : (rest : ℕ) → Piece → (before after : ℕ) → Type 0
+AreWordlessReads rest (piece.Lexed step) before after = AreStepReads 0 3 rest 2 step before after
+AreWordlessReads rest piece before after = ⊥
+
 -- Reads of a piece behind its word of so many bytes, which were read before.
 abbrev pub AreReadsAfter : (passed factor rest extra : ℕ) → Piece → (before after : ℕ) → Type 0
 AreReadsAfter passed factor rest extra (piece.Nothing len is_gap) before after = (len ≡ passed) × (after ≡ before)
@@ -82,17 +87,17 @@ IsPassed old (step.Fault begin fault end) new = IsPassedBy old.at old new × (ne
 -- A margin behind a line end of so many bytes was read.
 abbrev pub IsMarginRead : Text → ℕ → Reader → Reader → Stage → Type 0
 IsMarginRead text len old new stage.Onward =
-    AreReads (new.at - (old.at + len)) (6 * (new.at - (old.at + len)) + 2) old.reads new.reads × (old.at + len + owed new.pending ≤ new.at)
-IsMarginRead text len old new (stage.Fault begin fault end) = (new.reads ≤ old.reads + 6 * (length text - (old.at + len)) + 2) × (owed new.pending ≤ length text - (old.at + len))
+    AreReads (new.at - (old.at + len)) (5 * (new.at - (old.at + len)) + 2) old.reads new.reads × (old.at + len + owed new.pending ≤ new.at)
+IsMarginRead text len old new (stage.Fault begin fault end) = (new.reads ≤ old.reads + 5 * (length text - (old.at + len)) + 2) × (owed new.pending ≤ length text - (old.at + len))
 IsMarginRead text len old new stage = ⊥
 
--- How often a reader has read bytes at a stage: at least once each byte that it passed, and at most sixteen times, and so
--- many times beside. What it owes, it may read six times more.
+-- How often a reader has read bytes at a stage: at least once each byte that it passed, and at most ten times, and so
+-- many times beside. What it owes, it may read five times more.
 abbrev pub HasReadAt : (text : Text) (beside : ℕ) → Reader → Stage → Type 0
-HasReadAt text beside reader stage.Begin = (reader.at ≡ 0) × (reader.reads + 6 * owed reader.pending ≤ beside)
-HasReadAt text beside reader stage.Onward = (more_reads 0 reader.at ≤ reader.reads) × (reader.reads + 6 * owed reader.pending ≤ beside + 16 * reader.at + 8)
-HasReadAt text beside reader (stage.Fault begin fault end) = reader.reads + 6 * owed reader.pending ≤ beside + 16 * length text + 16
-HasReadAt text beside reader stage.Closed = (more_reads 0 (length text) ≤ reader.reads) × (reader.reads + 6 * owed reader.pending ≤ beside + 16 * length text + 15)
+HasReadAt text beside reader stage.Begin = (reader.at ≡ 0) × (reader.reads + 5 * owed reader.pending ≤ beside)
+HasReadAt text beside reader stage.Onward = (more_reads 0 reader.at ≤ reader.reads) × (reader.reads + 5 * owed reader.pending ≤ beside + 10 * reader.at + 2)
+HasReadAt text beside reader (stage.Fault begin fault end) = reader.reads + 5 * owed reader.pending ≤ beside + 10 * length text + 10
+HasReadAt text beside reader stage.Closed = (more_reads 0 (length text) ≤ reader.reads) × (reader.reads + 5 * owed reader.pending ≤ beside + 10 * length text + 9)
 
 abbrev pub HasRead : (text : Text) (beside : ℕ) → Reader → Type 0
 HasRead text beside reader = HasReadAt text beside reader reader.stage
@@ -100,5 +105,5 @@ HasRead text beside reader = HasReadAt text beside reader reader.stage
 -- the same behind a lexeme that was handed out, behind a fault, and at the text's end
 abbrev pub HasReadNext : (text : Text) (beside : ℕ) → Next → Reader → Type 0
 HasReadNext text beside (next.Lexeme lexeme) reader = HasRead text beside reader
-HasReadNext text beside (next.Fault begin fault end) reader = reader.reads ≤ beside + 16 * (length text + 1)
-HasReadNext text beside next.Nothing reader = HasRead text beside reader × (more_reads 0 (length text) ≤ reader.reads) × (reader.reads < beside + 16 * (length text + 1))
+HasReadNext text beside (next.Fault begin fault end) reader = reader.reads ≤ beside + 10 * (length text + 1)
+HasReadNext text beside next.Nothing reader = HasRead text beside reader × (more_reads 0 (length text) ≤ reader.reads) × (reader.reads < beside + 10 * (length text + 1))

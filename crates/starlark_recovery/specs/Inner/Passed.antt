@@ -22,4 +22,4 @@ pub record HasPassed (file : SourceFile) (text : Text) (begin : ℕ) (fault : Sp
   pub exception : IsException file (moved begin fault) passed.fault
   pub from : passed.begin ≡ begin + restart (drop begin text) fault
   pub boundary : IsCharBoundary text passed.begin
-  pub rest : passed.rest ≡ record { text = drop passed.begin text; code_map = file; yielded_count = 0; has_ended = false }
+  pub rest : passed.rest ≡ record { text = drop passed.begin text; code_map = file; yielded_count = 0; has_ended = false; reads = 0 }

@@ -1,9 +1,9 @@
 -- The numbers at the front of a text.
-use Rattle.std.proofs.Common.{◌≡◌, if◌then◌else◌, ◌≢◌, ℕ, zero, suc, ◌+◌, Bool, true, false, [], ◌∷◌, drop, refl, ap, sym, ◌∙◌, cond, ◌&&◌, ◌||◌, not, List, ◌<◌, ◌==◌, nat_eq, Option, Some, None, ◌⊎◌, inl, inr, arith, one-add}
+use Rattle.std.proofs.Common.{◌≡◌, if◌then◌else◌, ◌≢◌, ℕ, zero, suc, ◌+◌, ◌*◌, ◌≤◌, Bool, true, false, [], ◌∷◌, drop, refl, ap, sym, ◌∙◌, cond, ◌&&◌, ◌||◌, not, List, ◌<◌, ◌==◌, nat_eq, Option, Some, None, ◌⊎◌, inl, inr, arith, one-add}
 use Rattle.std.proofs.Math.Dec.{eqb-suc-zero}
 use Rattle.std.proofs.lemmas.Bool.{eqb-true, not-true, and_parts, agree_below}
 use Rattle.std.specs.Char.{is_ascii_digit, is_ascii_hexdigit}
-use Rattle.std.specs.List.{prefix_len, list_all}
+use Rattle.std.specs.List.{prefix_len, list_all, slice_get}
 use Rattle.std.specs.Option.{option_map, option_or}
 use Rattle.starlark_grammar.specs.Words.{Text, class_in, language, openers, line_ends, symbols, names, patterns, is_name_start, numbers, based, has_base, is_octal_digit, is_binary_digit, begins, is_run, sign_len, is_sign, unsigned, is_exponent_letter, is_exponent, after_digits, ends_float, is_point, is_fraction, makes_float}
 use Rattle.starlark_grammar.specs.declared.class.Class.{Class}
@@ -409,6 +409,23 @@ number_language (b ∷ c ∷ rest) small h = go (is_ascii_digit b) refl h
     go true e h = digit_front b (c ∷ rest) (small b (c ∷ rest) refl) e
     go false e h = let parts = and_parts (b == 46) (is_ascii_digit c) h in rw (eqb-true b 46 parts.0) (point_front c rest parts.1)
 
+-- a number has a digit, or a point and a digit
+pub number_is_long : (text : Text) → begins_number text ≡ true → 2 ≤ 2 * prefix_len is_ascii_digit text + longest_len makes_float (after_digits text)
+number_is_long [] h = cc
+number_is_long (b ∷ []) h = let one : prefix_len is_ascii_digit (b ∷ []) ≡ 1 = rw h refl in omega (arith, one)
+number_is_long (b ∷ c ∷ rest) h = go (is_ascii_digit b) refl h
+  where
+    go : (digit : Bool) → is_ascii_digit b ≡ digit → (digit || (b == 46 && is_ascii_digit c)) ≡ true
+        → 2 ≤ 2 * prefix_len is_ascii_digit (b ∷ c ∷ rest) + longest_len makes_float (after_digits (b ∷ c ∷ rest))
+    go true e h = let some : prefix_len is_ascii_digit (b ∷ c ∷ rest) ≡ 1 + prefix_len is_ascii_digit (c ∷ rest) = rw e refl in omega (arith, some)
+    go false e h =
+        let parts = and_parts (b == 46) (is_ascii_digit c) h in
+        let none : prefix_len is_ascii_digit (b ∷ c ∷ rest) ≡ 0 = rw e refl in
+        let digits : prefix_len is_ascii_digit (c ∷ rest) ≡ 1 + prefix_len is_ascii_digit rest = rw parts.1 refl in
+        let float : longest_len makes_float (b ∷ c ∷ rest) ≡ suc (prefix_len is_ascii_digit (c ∷ rest) + longest_len is_exponent (after_digits (c ∷ rest))) =
+        float_end (b ∷ c ∷ rest) ∙ rw (fraction_some (b ∷ c ∷ rest) parts.0) refl in
+        rw none (omega (arith, digits, float))
+
 -- so many digits of a base, behind the two bytes that say which
 abbrev pub if_based : Class → ℕ → Option (Class × ℕ)
 if_based class zero = None
@@ -466,6 +483,55 @@ no_base (b ∷ []) e f g = refl
 no_base (b ∷ l ∷ rest) e f g =
     rw (front_first (class_in based) b (l ∷ rest), front_on_alike (λ word. class_in based (b ∷ word)) (λ word. None) l rest (λ word. rw (e, f, g) refl) refl, front_never {C = Class} (λ word. None) (l ∷ rest) (λ word. refl)) refl
 
+-- Where no digit of the base follows, a base is no number.
+pub no_based_digits : (text : Text) → (has_base 120 88 text ≡ true → prefix_len is_ascii_hexdigit (drop 2 text) ≡ 0) → (has_base 111 79 text ≡ true → prefix_len is_octal_digit (drop 2 text) ≡ 0)
+    → (has_base 98 66 text ≡ true → prefix_len is_binary_digit (drop 2 text) ≡ 0) → longest_front (class_in based) text ≡ None
+no_based_digits text hexadecimal octal binary = go (has_base 120 88 text) (has_base 111 79 text) (has_base 98 66 text) refl refl refl
+  where
+    go : (x o y : Bool) → has_base 120 88 text ≡ x → has_base 111 79 text ≡ o → has_base 98 66 text ≡ y → longest_front (class_in based) text ≡ None
+    go true o y e f g = hexadecimal_base text e ∙ ap (if_based Hexadecimal) (hexadecimal e)
+    go false true y e f g = octal_base text f ∙ ap (if_based Octal) (octal f)
+    go false false true e f g = binary_base text g ∙ ap (if_based Binary) (binary g)
+    go false false false e f g = no_base text e f g
+
+-- no byte follows the letter of the base
+pub no_third_byte : (text : Text) → slice_get text 2 ≡ None → longest_front (class_in based) text ≡ None
+no_third_byte text e = no_based_digits text (λ h. ended text is_ascii_hexdigit e) (λ h. ended text is_octal_digit e) (λ h. ended text is_binary_digit e)
+  where
+    ended : (text : Text) (test : ℕ → Bool) → slice_get text 2 ≡ None → prefix_len test (drop 2 text) ≡ 0
+    ended [] test e = refl
+    ended (b ∷ []) test e = refl
+    ended (b ∷ l ∷ []) test e = refl
+    ended (b ∷ l ∷ d ∷ rest) test e = cc
+
+-- the base isn't at the start, or the third byte is no digit of it
+abbrev pub LacksDigit : ℕ → ℕ → (ℕ → Bool) → Text → ℕ → Type 0
+LacksDigit lower upper test text third = (has_base lower upper text && test third) ≡ false
+
+pub lacks_base : (base digit : Bool) → base ≡ false → (base && digit) ≡ false
+lacks_base base digit e = rw e refl
+
+pub lacks_digit : (base digit : Bool) → digit ≡ false → (base && digit) ≡ false
+lacks_digit true digit e = e
+lacks_digit false digit e = refl
+
+pub other_third_byte : (text : Text) (third : ℕ) → slice_get text 2 ≡ Some third → LacksDigit 120 88 is_ascii_hexdigit text third → LacksDigit 111 79 is_octal_digit text third
+    → LacksDigit 98 66 is_binary_digit text third → longest_front (class_in based) text ≡ None
+other_third_byte text third e hexadecimal octal binary =
+    no_based_digits text (λ h. stops text is_ascii_hexdigit e (no_digit _ _ hexadecimal h)) (λ h. stops text is_octal_digit e (no_digit _ _ octal h)) (λ h. stops text is_binary_digit e (no_digit _ _ binary h))
+  where
+    no_digit : (base digit : Bool) → (base && digit) ≡ false → base ≡ true → digit ≡ false
+    no_digit true digit h e = h
+    no_digit false digit h e = cc
+
+    stops : (text : Text) (test : ℕ → Bool) → slice_get text 2 ≡ Some third → test third ≡ false → prefix_len test (drop 2 text) ≡ 0
+    stops [] test e h = cc
+    stops (b ∷ []) test e h = cc
+    stops (b ∷ l ∷ []) test e h = cc
+    stops (b ∷ l ∷ d ∷ rest) test e h =
+        let same : d ≡ third = cc in
+        rw (same, h) refl
+
 -- the class and the length of the code's word
 pub if_based_word : (class : Class) (n : ℕ) → option_map word_view (if n == 0 then None else Some (record { class = class; len = n + 2 })) ≡ if_based class n
 if_based_word class zero = refl
@@ -484,10 +550,6 @@ other_ends_digit c small h = go (may_be_in_number c) h (each_byte (λ c. may_be_
     go true e all = cc
     go false e all = all
 
-no_letter : (x y : Bool) → y ≡ false → (x && y) ≡ false
-no_letter true y h = h
-no_letter false y h = refl
-
 pub front_of_digit : (text : Text) → ((b : ℕ) (rest : Text) → text ≡ b ∷ rest → b < 256) → ((b c : ℕ) (rest : Text) → text ≡ b ∷ c ∷ rest → c < 256) → is_digit_alone text ≡ true → language_front text ≡ Some (Decimal, 1)
 front_of_digit [] small next h = cc
 front_of_digit (b ∷ []) small next h = number_language (b ∷ []) small h ∙ rw (no_base (b ∷ []) refl refl refl, h, len_nothing makes_float) refl
@@ -503,7 +565,7 @@ front_of_digit (b ∷ c ∷ rest) small next h =
     let no_float : longest_len makes_float (c ∷ rest) ≡ 0 = float_end (c ∷ rest) ∙ rw (fraction_none (c ∷ rest) (not-true _ two.0), exponent_none (c ∷ rest) (not-true _ three.0)) refl in
     number_language (b ∷ c ∷ rest) small (rw digit refl)
     ∙ rw (
-      no_base (b ∷ c ∷ rest) (no_letter (b == 48) _ (not-true _ four.0)) (no_letter (b == 48) _ (not-true _ five.0)) (no_letter (b == 48) _ (not-true _ five.1)),
+      no_base (b ∷ c ∷ rest) (lacks_digit (b == 48) _ (not-true _ four.0)) (lacks_digit (b == 48) _ (not-true _ five.0)) (lacks_digit (b == 48) _ (not-true _ five.1)),
       digit,
       no_digit,
       no_float,

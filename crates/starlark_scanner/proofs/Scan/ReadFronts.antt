@@ -34,10 +34,20 @@ opener_by_two [] = refl
 opener_by_two (a ∷ []) = refl
 opener_by_two (a ∷ b ∷ rest) = refl
 
-pub behind_by_two : (letter : ℕ) (text : Text) → quote_after letter (take 2 text) ≡ quote_after letter text
-behind_by_two letter [] = refl
-behind_by_two letter (a ∷ []) = refl
-behind_by_two letter (a ∷ b ∷ rest) = refl
+pub behind_by_three : (letter : ℕ) (text : Text) → quote_after letter (take 3 text) ≡ quote_after letter text
+behind_by_three letter [] = refl
+behind_by_three letter (a ∷ []) = refl
+behind_by_three letter (a ∷ b ∷ rest) = refl
+
+pub first_by_three : (text : Text) → slice_get (take 3 text) 0 ≡ slice_get text 0
+first_by_three [] = refl
+first_by_three (a ∷ rest) = refl
+
+pub third_by_three : (text : Text) → slice_get (take 3 text) 2 ≡ slice_get text 2
+third_by_three [] = refl
+third_by_three (a ∷ []) = refl
+third_by_three (a ∷ b ∷ []) = refl
+third_by_three (a ∷ b ∷ c ∷ rest) = refl
 
 pub digit_by_three : (text : Text) → is_digit_alone (take 3 text) ≡ is_digit_alone text
 digit_by_three [] = refl

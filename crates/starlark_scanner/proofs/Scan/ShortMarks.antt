@@ -1,6 +1,6 @@
 -- Marks of one byte or two that the byte behind them makes no longer.
 use Rattle.std.proofs.Common.{◌≡◌, ◌≢◌, ℕ, ◌<◌, Bool, true, false, not, ◌&&◌, ◌||◌, ◌==◌, nat_eq, [], ◌∷◌, get_or, refl, sym, subst, ap, ◌∙◌, Option, None, Some}
-use Rattle.std.proofs.lemmas.Bool.{agree_below, and_parts, both_ways, not-true, eq-eqb}
+use Rattle.std.proofs.lemmas.Bool.{agree_below, and_parts, both_ways, not-true, eq-eqb, eqb-true}
 use Rattle.std.specs.Char.{is_ascii_digit}
 use Rattle.std.specs.List.{list_any, slice_get}
 use Rattle.std.specs.Option.{option_map}
@@ -75,17 +75,17 @@ lone_ends b c word small h =
       lookup_fails (is_alone b) (b ∷ c ∷ word) symbols (lone_passes (λ b. all_pass (is_alone b) symbols) b refl small h) (ap not (eq-eqb b b refl)),
     ) refl
 
--- a symbol behind which a byte stands with which none goes on
+-- a symbol that doesn't go on with the byte after it
 
 abbrev goes_on_so : Text → Bool
-goes_on_so (x ∷ y ∷ word) = goes_on y
+goes_on_so (x ∷ y ∷ word) = goes_on x y
 goes_on_so word = true
 
 abbrev begins_otherwise : Text → Bool
 begins_otherwise (x ∷ word) = not (is_symbol x)
 begins_otherwise word = true
 
-short_ends : (b c : ℕ) (word : Text) → is_symbol b ≡ true → goes_on c ≡ false → mark_of (b ∷ c ∷ word) ≡ None
+short_ends : (b c : ℕ) (word : Text) → is_symbol b ≡ true → goes_on b c ≡ false → mark_of (b ∷ c ∷ word) ≡ None
 unfolding line_ends symbols
 short_ends b c word symbol ends =
     mark_is (b ∷ c ∷ word)
@@ -94,12 +94,19 @@ short_ends b c word symbol ends =
       lookup_fails goes_on_so (b ∷ c ∷ word) symbols refl ends,
     ) refl
 
-no_digit_goes_on : (c : ℕ) → c < 256 → goes_on c ≡ false → is_ascii_digit c ≡ false
-no_digit_goes_on c small h = go (is_ascii_digit c) refl (each_byte (λ c. not (is_ascii_digit c) || goes_on c) c refl small)
+no_digit_goes_on : (c : ℕ) → c < 256 → goes_on 46 c ≡ false → is_ascii_digit c ≡ false
+no_digit_goes_on c small h = go (is_ascii_digit c) refl (each_byte (λ c. not (is_ascii_digit c) || goes_on 46 c) c refl small)
   where
-    go : (x : Bool) → is_ascii_digit c ≡ x → (not (is_ascii_digit c) || goes_on c) ≡ true → is_ascii_digit c ≡ false
+    go : (x : Bool) → is_ascii_digit c ≡ x → (not (is_ascii_digit c) || goes_on 46 c) ≡ true → is_ascii_digit c ≡ false
     go false e all = e
     go true e all = absurd (both_ways _ h (implied _ _ all e))
+
+no_number_goes_on : (b c : ℕ) → c < 256 → goes_on b c ≡ false → (b == 46 && is_ascii_digit c) ≡ false
+no_number_goes_on b c small h = go (b == 46) refl
+  where
+    go : (point : Bool) → (b == 46) ≡ point → (b == 46 && is_ascii_digit c) ≡ false
+    go false e = rw e refl
+    go true e = rw e (no_digit_goes_on c small (subst (λ (x : ℕ). goes_on x c ≡ false) (eqb-true b 46 e) h))
 
 front_of_one : (b c : ℕ) (rest : Text) → ((word : Text) → mark_of (b ∷ c ∷ word) ≡ None) → longest_front mark_of (b ∷ c ∷ rest) ≡ longest_front mark_of (b ∷ [])
 unfolding longest_front
@@ -108,10 +115,6 @@ front_of_one b c rest h = rw (front_none (λ word. mark_of (b ∷ word)) c rest 
 front_marks : (text : Text) (b : ℕ) → slice_get text 0 ≡ Some b → b < 256 → is_one b ≡ true → begins_number text ≡ false → language_front text ≡ longest_front (class_in marks) text
 front_marks text b e small h number =
     front_mark text b e small (one_is_not b 32 h refl) (one_is_not b 9 h refl) (one_is_not b 35 h refl) (one_is_not b 39 h refl) (one_is_not b 34 h refl) (no_name b small h) number
-
-and_false : (x : Bool) → (x && false) ≡ false
-and_false true = refl
-and_false false = refl
 
 -- a text that begins with such a mark
 pub front_alone : (text : Text) (b : ℕ) → ((i : ℕ) → get_or text i 0 < 256) → slice_get text 0 ≡ Some b → is_mark_alone text ≡ true → (language_front text ≡ longest_front (class_in marks) (b ∷ [])) × (is_bang text ≡ false)
@@ -130,10 +133,10 @@ front_alone (x ∷ c ∷ rest) b small e h =
         let point : (x == 46) ≡ false = not-true _ (lone_passes (λ b. not (b == 46)) x refl (small 0) lone) in
         (front_marks (x ∷ c ∷ rest) x refl (small 0) one (rw (no_digit x (small 0) one, point) refl) ∙ front_of_one x c rest (λ word. lone_ends x c word (small 0) lone), one_is_no_bang x (c ∷ rest) (small 0) one)
     go false lone h =
-        let parts = and_parts _ _ (subst (λ (l : Bool). (l || (is_symbol x && not (goes_on c))) ≡ true) lone h) in
+        let parts = and_parts _ _ (subst (λ (l : Bool). (l || (is_symbol x && not (goes_on x c))) ≡ true) lone h) in
         let ends = not-true _ parts.1 in
         let one = symbol_is_one x parts.0 in
-        (front_marks (x ∷ c ∷ rest) x refl (small 0) one (rw (no_digit x (small 0) one, no_digit_goes_on c (small 1) ends) (and_false (x == 46))) ∙ front_of_one x c rest (λ word. short_ends x c word parts.0 ends), one_is_no_bang x (c ∷ rest) (small 0) one)
+        (front_marks (x ∷ c ∷ rest) x refl (small 0) one (rw (no_digit x (small 0) one, no_number_goes_on x c (small 1) ends) refl) ∙ front_of_one x c rest (λ word. short_ends x c word parts.0 ends), one_is_no_bang x (c ∷ rest) (small 0) one)
 
 -- a mark of two bytes, which no `=` behind it makes longer
 

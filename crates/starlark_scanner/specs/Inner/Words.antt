@@ -70,15 +70,15 @@ is_lone_mark b = list_any (nat_eq b) (codes "\n,;:~[{(]})")
 abbrev pub is_symbol : ℕ → Bool
 is_symbol b = list_any (nat_eq b) (codes "=.<>-+*%/&|^")
 
--- a byte with which a symbol goes on, or a number
-abbrev pub goes_on : ℕ → Bool
-goes_on c = list_any (nat_eq c) (codes "=*/<>.0123456789")
+-- a symbol may go on with the byte after it, and only a point does so with a point or a digit
+abbrev pub goes_on : ℕ → ℕ → Bool
+goes_on b c = list_any (nat_eq c) (codes "=*/<>") || (b == 46 && list_any (nat_eq c) (codes ".0123456789"))
 
 -- the first byte is a mark, which the byte behind it makes no longer
 abbrev pub is_mark_alone : grammar.Text → Bool
 is_mark_alone [] = false
 is_mark_alone (b ∷ []) = is_lone_mark b
-is_mark_alone (b ∷ c ∷ rest) = is_lone_mark b || (is_symbol b && not (goes_on c))
+is_mark_alone (b ∷ c ∷ rest) = is_lone_mark b || (is_symbol b && not (goes_on b c))
 
 -- a digit, or a point and a digit, stands at the front
 abbrev pub begins_number : grammar.Text → Bool

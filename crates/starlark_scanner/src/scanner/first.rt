@@ -16,10 +16,10 @@ static FIRST: [u8; 256] = *b"\
     --------------------------------\
     --------------------------------";
 
-// An `x` stands at each byte with which a symbol goes on, or a number.
+// An `x` stands at each byte with which any symbol may go on, and a `p` at each with which only a point goes on.
 static GOES_ON: [u8; 256] = *b"\
     --------------------------------\
-    ----------x---xxxxxxxxxxxx--xxx-\
+    ----------x---pxpppppppppp--xxx-\
     --------------------------------\
     --------------------------------\
     --------------------------------\
@@ -51,10 +51,14 @@ pub fn is_symbol(byte: u8) -> bool
     FIRST[byte as usize] == b's'
 }
 
-/// Whether a symbol goes on with a byte, or a number.
+/// Whether a symbol may go on with the byte after it. Only a point does so with a point or a digit: `...`, `.5`.
 #[inline(always)]
-pub fn goes_on(byte: u8) -> bool
-    ensures { result ≡ goes_on byte }
+pub fn goes_on(first: u8, next: u8) -> bool
+    ensures { result ≡ goes_on first next }
 {
-    GOES_ON[byte as usize] == b'x'
+    match GOES_ON[next as usize] {
+        b'x' => true,
+        b'p' => first == b'.',
+        _ => false,
+    }
 }

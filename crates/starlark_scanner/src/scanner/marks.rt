@@ -21,7 +21,7 @@ pub fn is_mark_alone(text: &[u8]) -> bool
         return true;
     }
     match text.get(1) {
-        Some(next) => is_symbol(*first) && !goes_on(*next),
+        Some(next) => is_symbol(*first) && !goes_on(*first, *next),
         None => false,
     }
 }

@@ -1,6 +1,6 @@
 //! Numbers: which one stands at the front of a text, and how long it is.
 
-ghost use Rattle.std.specs.Prelude.{◌≡◌, ◌≤◌, ◌<◌, ◌+◌, ◌-◌, ◌^◌, ◌==◌, if◌then◌else◌, Some, None, length, take, true};
+ghost use Rattle.std.specs.Prelude.{◌≡◌, ◌≤◌, ◌<◌, ◌+◌, ◌-◌, ◌*◌, ◌^◌, ◌==◌, if◌then◌else◌, Some, None, length, take, true};
 ghost use Rattle.std.specs.Option.{option_map};
 ghost use Rattle.starlark_grammar.specs.Front.{language_front, longest_front};
 ghost use Rattle.starlark_grammar.specs.Lengths.{longest_len};
@@ -47,13 +47,6 @@ fn is_point(text: &[u8]) -> bool
     matches!(text, [b'.', ..])
 }
 
-fn begins_fraction(reads: &mut Reads, text: &[u8]) -> bool
-    ensures value { result ≡ grammar.begins grammar.is_point text.now }
-    ensures reads { reads.new ≡ more_reads reads.old 1 }
-{
-    is_point(reads.front(text, 1))
-}
-
 /// Whether `0` and one of two letters stand at the front of a text.
 fn has_base(text: &[u8], lower: u8, upper: u8) -> bool
     ensures value { result ≡ grammar.has_base lower upper text.now }
@@ -61,19 +54,30 @@ fn has_base(text: &[u8], lower: u8, upper: u8) -> bool
     matches!(text, [b'0', letter, ..] if *letter == lower || *letter == upper)
 }
 
-/// The length of the exponent at the front of a text, and 0 where none stands there.
+/// Length of the exponent at the start of a text that begins with its letter; 0 if no digits follow.
+fn exponent_from(reads: &mut Reads, text: &[u8]) -> usize
+    requires { grammar.begins grammar.is_exponent_letter text.now ≡ true }
+    ensures value { result ≡ longest_len grammar.is_exponent text.now }
+    ensures within { result ≤ length text.now }
+    ensures reads { AreReads result (result + 2) reads.old reads.new }
+{
+    let power = &text[1..];
+    let sign = sign_len(reads, power);
+    let digits = reads.digits_len(&power[sign..]);
+    if digits == 0 { 0 } else { 1 + sign + digits }
+}
+
+/// Length of the exponent at the start of a text; 0 if there is none.
 fn exponent_len(reads: &mut Reads, text: &[u8]) -> usize
     ensures value { result ≡ longest_len grammar.is_exponent text.now }
     ensures within { result ≤ length text.now }
     ensures reads { AreReads result (result + 3) reads.old reads.new }
 {
-    if !begins_exponent(reads, text) {
-        return 0;
+    if begins_exponent(reads, text) {
+        exponent_from(reads, text)
+    } else {
+        0
     }
-    let power = &text[1..];
-    let sign = sign_len(reads, power);
-    let digits = reads.digits_len(&power[sign..]);
-    if digits == 0 { 0 } else { 1 + sign + digits }
 }
 
 /// The length of the fraction at the front of a text that begins with a point, with that and its exponent.
@@ -89,17 +93,35 @@ fn fraction_len(reads: &mut Reads, text: &[u8]) -> usize
     1 + digits + exponent_len(reads, &fraction[digits..])
 }
 
-/// The length of what makes digits before it a float, and 0 where nothing does.
+/// Length of what makes the digits before it a float; 0 if nothing does.
 fn float_end_len(reads: &mut Reads, text: &[u8]) -> usize
     ensures value { result ≡ longest_len grammar.makes_float text.now }
     ensures within { result ≤ length text.now }
-    ensures reads { AreReads result (result + 4) reads.old reads.new }
+    ensures reads { AreReads result (5 * result + 3) reads.old reads.new }
+    ensures few { reads.new ≤ reads.old + (result + 4) }
 {
-    if begins_fraction(reads, text) {
+    let front = reads.front(text, 1);
+    if is_point(front) {
         fraction_len(reads, text)
+    } else if is_exponent_letter(front) {
+        exponent_from(reads, text)
     } else {
-        exponent_len(reads, text)
+        0
     }
+}
+
+/// Whether a byte is an octal digit.
+fn is_octal_digit(byte: u8) -> bool
+    ensures { result ≡ grammar.is_octal_digit byte }
+{
+    matches!(byte, b'0'..=b'7')
+}
+
+/// Whether a byte is a binary digit.
+fn is_binary_digit(byte: u8) -> bool
+    ensures { result ≡ grammar.is_binary_digit byte }
+{
+    matches!(byte, b'0' | b'1')
 }
 
 /// The integer of a class with so many digits behind its base, if it has any.
@@ -120,15 +142,16 @@ fn based_word(class: Class, digits: usize) -> Option<Word>
 fn based_front(reads: &mut Reads, front: &[u8], text: &[u8]) -> Option<Word>
     requires { front.now ≡ take 3 text.now }
     ensures value { option_map word_view result ≡ longest_front (grammar.class_in grammar.based) text.now }
-    ensures reads { AreReads (word_len result - 2) (word_len result + 1) reads.old reads.new }
+    ensures reads { AreReads (word_len result - 2) (word_len result) reads.old reads.new }
 {
-    if has_base(front, b'x', b'X') {
+    let digit = *front.get(2)?;
+    if has_base(front, b'x', b'X') && digit.is_ascii_hexdigit() {
         return based_word(Class::Hexadecimal, reads.hexadecimal_len(&text[2..]));
     }
-    if has_base(front, b'o', b'O') {
+    if has_base(front, b'o', b'O') && is_octal_digit(digit) {
         return based_word(Class::Octal, reads.octal_len(&text[2..]));
     }
-    if has_base(front, b'b', b'B') {
+    if has_base(front, b'b', b'B') && is_binary_digit(digit) {
         return based_word(Class::Binary, reads.binary_len(&text[2..]));
     }
     None
@@ -159,7 +182,7 @@ pub fn number_from(reads: &mut Reads, front: &[u8], text: &[u8]) -> Word
     requires number { begins_number text.now ≡ true }
     requires front { front.now ≡ take 3 text.now }
     ensures word { Some (word_view result) ≡ language_front text.now }
-    ensures reads { AreReads (result.len - 2) (result.len + 6) reads.old reads.new }
+    ensures reads { AreReads (result.len - 2) (5 * result.len) reads.old reads.new }
 {
     if let Some(word) = based_front(reads, front, text) {
         return word;

@@ -1,5 +1,5 @@
 -- Whether a text is a clean cut, by its fault, what is open at its end, and its last byte.
-use Rattle.std.proofs.Common.{◌≡◌, true, false, refl, ap, ◌∙◌, sym, List, None, Some}
+use Rattle.std.proofs.Common.{◌≡◌, true, false, refl, ap, List, None, Some}
 use Rattle.std.specs.Prelude.{Bool, ◌&&◌, codes, nat_eq}
 use Rattle.std.specs.List.{ends_with}
 use Rattle.starlark_grammar.specs.Words.{Text, language}
@@ -30,10 +30,3 @@ pub faulty_cut : (text : Text) (fault : Spanned Fault) → (outcome text).fault 
 unfolding is_clean_cut is_clean_cut_in outcome outcome_in history_of
 faulty_cut text fault h =
     ap (λ (b : Bool). b && is_settled (history_of text) && ends_with nat_eq text (codes "\n")) (a_fault text (read language text).pieces (read language text).last fault h)
-
--- what is found of a text, step by step
-pub settled_cut : {found settled ends cut : Bool} → found ≡ ends → settled ≡ true → cut ≡ (settled && ends) → found ≡ cut
-settled_cut {ends = ends} is open_none by = is ∙ sym (by ∙ ap (λ (b : Bool). b && ends) open_none)
-
-pub open_cut : {found settled cut : Bool} (ends : Bool) → found ≡ false → settled ≡ false → cut ≡ (settled && ends) → found ≡ cut
-open_cut ends is open_some by = is ∙ sym (by ∙ ap (λ (b : Bool). b && ends) open_some)

@@ -1,49 +1,76 @@
 -- The lexemes of a text that were handed out so far, in a list.
-use Rattle.std.proofs.Common.{◌≡◌, Bool, true, false, ℕ, ◌+◌, ◌-◌, ◌<◌, ◌≤◌, List, [], ◌∷◌, ◌++◌, map, take, length, refl, ap, sym, subst, ◌∙◌, arith, append-nil, append_assoc, length-append, None, Some}
-use Rattle.std.specs.Prelude.{IfSome, Option, nat_le, nat_lt}
-use Rattle.std.specs.List.{AllByRecursion}
+use Rattle.std.proofs.Common.{◌≡◌, Bool, true, false, ℕ, ◌+◌, ◌-◌, ◌<◌, ◌≤◌, List, [], ◌∷◌, ◌++◌, drop, map, take, length, refl, ap, sym, subst, ◌∙◌, arith, append-nil, append_assoc, length-append, None, Some, Ok, Err}
+use Rattle.std.specs.Prelude.{◌&&◌, IfSome, Option, codes, nat_eq, nat_le, nat_lt}
+use Rattle.std.specs.List.{AllByRecursion, ends_with}
+use Rattle.starlark_base.specs.Diagnostics.{Diagnosed}
+use Rattle.starlark_base.specs.Sources.{SourceFile}
 use Rattle.std.proofs.lemmas.Bool.{leb-false, leb-true, ltb-false, ltb-true}
 use Rattle.std.proofs.lemmas.List.{length-map, map-append}
 use Rattle.starlark_grammar.specs.Words.{Text}
-use Rattle.starlark_grammar.specs.Tokens.{Fault, Spanned}
-use Rattle.starlark_grammar.specs.Reading.{outcome}
+use Rattle.starlark_grammar.specs.Tokens.{Spanned}
+use Rattle.starlark_grammar.specs.Reading.{History, outcome}
 use Rattle.starlark_token.specs.Lexemes.{lexeme_view, shown_lexeme}
-use Rattle.starlark_grammar.specs.Cuts.{is_clean_cut, is_kept_cut, without_closing}
+use Rattle.starlark_grammar.specs.Cuts.{is_clean_cut, is_kept_cut, is_settled, without_closing}
 use Rattle.starlark_grammar.proofs.Joining.KeptPlaces.{cut_some}
 use Rattle.starlark_grammar.proofs.Joining.Laws.{kept_cuts_keep}
 use Rattle.starlark_grammar.proofs.Joining.LineCuts.{kept_parts}
-use Rattle.starlark_syntax.specs.Inner.LexedTexts.{AreCuts, IsCutOf, IsPart, IsPlacedFault, IsRising, cuts_at, end_cuts, holds_cut}
+use Rattle.starlark_syntax.specs.Inner.LexedTexts.{AreCuts, IsCutOf, IsPart, IsRising, cuts_at, end_cuts, holds_cut}
 use Rattle.starlark_reader.specs.Inner.MarginCuts.{IsCutBefore, lexemes_before}
 use Rattle.starlark_syntax.specs.declared.cuts.Cut.{Cut}
 use Rattle.starlark_syntax.specs.declared.parts.Part.{Part}
-use Rattle.starlark_syntax.proofs.LexedTexts.CleanCuts.{faulty_cut}
+use Rattle.starlark_syntax.proofs.LexedTexts.CleanCuts.{faultless_cut, faulty_cut}
 use Rattle.starlark_syntax.proofs.LexedTexts.KeptCuts.{in_order, some_lexemes, take_all, whole_kept}
 use Rattle.starlark_syntax.proofs.LexedTexts.HeldCuts.{held_left, held_one, held_right, kept_inside}
 use Rattle.starlark_syntax.proofs.LexedTexts.Relexed.{all_both}
 use Rattle.starlark_syntax.proofs.LexedTexts.Joined.{begun}
 use Rattle.starlark_reader.proofs.Pieces.Onward.{margin_first}
 use Rattle.starlark_reader.proofs.Pieces.Taken.{no_tab}
-use Rattle.starlark_reader.specs.Inner.Reader.{begins_with_tab, IsAhead, IsAheadAfter}
+use Rattle.starlark_reader.specs.Inner.Reader.{IsReached, IsStateAfter, begins_with_tab, has_read_none, history_of}
+use Rattle.starlark_syntax.specs.Exceptions.{IsException, IsFaultIn}
+use Rattle.starlark_syntax.specs.Inner.LexerStates.{HasAnswered, IsBegun, IsLexing, left_in, view_of}
+use Rattle.starlark_syntax.specs.Lexer.{LexerView}
+use Rattle.starlark_syntax.specs.declared.error.kinds.ErrorKind.{ErrorKind}
+use Rattle.starlark_syntax.specs.declared.lexer_state.LexerState.{LexerState}
+use Rattle.starlark_syntax.proofs.LexerItems.{one_more as next_left}
+use Rattle.starlark_text.specs.declared.or_memory.OrMemory.TheVariants.{Error}
 use Rattle.starlark_token.specs.TokenViews.{TokenView}
-use Rattle.starlark_reader.specs.declared.reader.Reader.{Reader}
 use Rattle.starlark_token.specs.declared.tokens.Token.{Token}
 
--- What was handed out and what is ahead of a reader are all lexemes of a text, and its fault is behind them.
-pub record IsCollected (text : Text) (reader : Reader) (found : List (ℕ × Token × ℕ)) : Type 0 where
-  pub rest : List (Spanned TokenView)
-  pub all : map shown_lexeme (outcome text).lexemes ≡ map lexeme_view found ++ rest
-  pub ahead : IsAhead text reader reader.stage rest (outcome text).fault
+-- What was handed out and what is left in a lexer's state are all lexemes of a text.
+pub record IsCollected (text : Text) (file : SourceFile) (state : LexerState) (found : List (ℕ × Token × ℕ)) : Type 0 where
+  pub lexing : IsLexing state
+  pub view : view_of state ≡ record { text = text; code_map = file; yielded_count = length found; has_ended = false; reads = state.reader.reads }
+  pub all : map shown_lexeme (outcome text).lexemes ≡ map lexeme_view found ++ left_in state
 
--- with one lexeme more
-pub one_more : (text : Text) (old new : Reader) (found : List (ℕ × Token × ℕ)) (lexeme : ℕ × Token × ℕ) → (old_is : IsCollected text old found) → IsAheadAfter text (Some lexeme) new old_is.rest (outcome text).fault
-    → IsCollected text new (found ++ lexeme ∷ []) × (length found < length (outcome text).lexemes)
-one_more text old new found lexeme is next =
-    let all : map shown_lexeme (outcome text).lexemes ≡ map lexeme_view found ++ lexeme_view lexeme ∷ next.0 = is.all ∙ ap (λ vs. map lexeme_view found ++ vs) next.1 in
-    let parts : map lexeme_view (found ++ lexeme ∷ []) ++ next.0 ≡ map lexeme_view found ++ lexeme_view lexeme ∷ next.0 =
-    ap (λ vs. vs ++ next.0) (map-append lexeme_view found (lexeme ∷ [])) ∙ append_assoc (map lexeme_view found) (lexeme_view lexeme ∷ []) next.0 in
-    let count : length (map shown_lexeme (outcome text).lexemes) ≡ length (map lexeme_view found) + length (lexeme_view lexeme ∷ next.0) = ap length all ∙ length-append (map lexeme_view found) (lexeme_view lexeme ∷ next.0) in (
-      record { rest = next.0; all = all ∙ sym parts; ahead = next.2 },
+pub text_is : (text : Text) (file : SourceFile) (state : LexerState) (found : List (ℕ × Token × ℕ)) → IsCollected text file state found → state.text.now ≡ text
+text_is text file state found is = ap (λ (v : LexerView). v.text) is.view
+
+file_is : (text : Text) (file : SourceFile) (state : LexerState) (found : List (ℕ × Token × ℕ)) → IsCollected text file state found → state.code_map ≡ file
+file_is text file state found is = ap (λ (v : LexerView). v.code_map) is.view
+
+pub goes_on : (text : Text) (file : SourceFile) (state : LexerState) (found : List (ℕ × Token × ℕ)) → IsCollected text file state found → state.has_ended ≡ false
+goes_on text file state found is = ap (λ (v : LexerView). v.has_ended) is.view
+
+-- with one lexeme more, right behind which a kept cut is reached
+pub one_more : (text : Text) (file : SourceFile) (old new : LexerState) (found : List (ℕ × Token × ℕ)) (lexeme : ℕ × Token × ℕ) → IsCollected text file old found → HasAnswered old (Some (Ok lexeme)) new → IsLexing new
+    → view_of new ≡ record (view_of old) { yielded_count = old.yielded_count + 1; has_ended = false; reads = new.reader.reads }
+    → IsCollected text file new (found ++ lexeme ∷ []) × (length found < length (outcome text).lexemes) × ((at : ℕ) → IsCutBefore text at (length (left_in new)) → IsReached new.reader at)
+one_more text file old new found lexeme is answer lexing after =
+    let same : old.text.now ≡ text = text_is text file old found is in
+    let left : left_in new ≡ answer.0 =
+    ap (λ (v : LexerView). drop v.yielded_count (map shown_lexeme (outcome v.text).lexemes)) after ∙ (next_left (map shown_lexeme (outcome old.text.now).lexemes) old.yielded_count (lexeme_view lexeme) answer.0 answer.1).1 in
+    let all : map shown_lexeme (outcome text).lexemes ≡ map lexeme_view found ++ lexeme_view lexeme ∷ left_in new = is.all ∙ ap (λ vs. map lexeme_view found ++ vs) (answer.1 ∙ ap (λ vs. lexeme_view lexeme ∷ vs) (sym left)) in
+    let parts : map lexeme_view (found ++ lexeme ∷ []) ++ left_in new ≡ map lexeme_view found ++ lexeme_view lexeme ∷ left_in new =
+    ap (λ vs. vs ++ left_in new) (map-append lexeme_view found (lexeme ∷ [])) ∙ append_assoc (map lexeme_view found) (lexeme_view lexeme ∷ []) (left_in new) in
+    let count : length (map shown_lexeme (outcome text).lexemes) ≡ length (map lexeme_view found) + length (lexeme_view lexeme ∷ left_in new) = ap length all ∙ length-append (map lexeme_view found) (lexeme_view lexeme ∷ left_in new) in (
+      record {
+        lexing = lexing;
+        view = after ∙ ap (λ (v : LexerView). record v { yielded_count = v.yielded_count + 1; has_ended = false; reads = new.reader.reads }) is.view
+            ∙ ap (λ n. record { text = text; code_map = file; yielded_count = n; has_ended = false; reads = new.reader.reads }) (sym (length-append found (lexeme ∷ [])));
+        all = all ∙ sym parts;
+      },
       omega (arith, count, length-map (outcome text).lexemes shown_lexeme, length-map found lexeme_view),
+      λ at cut. answer.3 at (subst (λ n. IsCutBefore old.text.now at n) (ap length left) (subst (λ (t : Text). IsCutBefore t at (length (left_in new))) (sym same) cut)),
     )
 
 -- so fewer are ahead
@@ -51,15 +78,22 @@ pub less_left : {A : Type 0} (all : ℕ) (old new : List A) (x : A) → new ≡ 
 less_left all old new x is some = omega (arith, ap length is, length-append old (x ∷ []), some)
 
 -- none yet
-pub collected_none : (text : Text) (reader : Reader) (found : List (ℕ × Token × ℕ)) → found ≡ [] → IsAhead text reader reader.stage (map shown_lexeme (outcome text).lexemes) (outcome text).fault → IsCollected text reader found
-collected_none text reader found none ahead = record { rest = map shown_lexeme (outcome text).lexemes; all = ap (λ ls. map lexeme_view ls ++ map shown_lexeme (outcome text).lexemes) (sym none); ahead = ahead }
+pub collected_none : (state : LexerState) (found : List (ℕ × Token × ℕ)) → found ≡ [] → IsLexing state → IsBegun state.text.now state.code_map state → IsCollected state.text.now state.code_map state found
+collected_none state found none lexing begun =
+    let none_yet : state.yielded_count ≡ 0 = ap (λ (v : LexerView). v.yielded_count) begun.view in
+    record {
+      lexing = lexing;
+      view = begun.view ∙ ap (λ (ls : List (ℕ × Token × ℕ)). record { text = state.text.now; code_map = state.code_map; yielded_count = length ls; has_ended = false; reads = 0 }) (sym none)
+          ∙ ap (λ n. record { text = state.text.now; code_map = state.code_map; yielded_count = length found; has_ended = false; reads = n }) (sym (ap (λ (v : LexerView). v.reads) begun.view));
+      all = sym (ap (λ (ls : List (ℕ × Token × ℕ)). map lexeme_view ls ++ left_in state) none ∙ ap (λ n. drop n (map shown_lexeme (outcome state.text.now).lexemes)) none_yet);
+    }
 
--- all of them, where none is ahead
-none_ahead : (text : Text) (reader : Reader) (found : List (ℕ × Token × ℕ)) (is : IsCollected text reader found) → is.rest ≡ [] → map lexeme_view found ≡ map shown_lexeme (outcome text).lexemes
-none_ahead text reader found is none = sym (is.all ∙ ap (λ vs. map lexeme_view found ++ vs) none ∙ append-nil (map lexeme_view found))
+-- all of them, where none is left
+none_left : (text : Text) (file : SourceFile) (state : LexerState) (found : List (ℕ × Token × ℕ)) → IsCollected text file state found → left_in state ≡ [] → map lexeme_view found ≡ map shown_lexeme (outcome text).lexemes
+none_left text file state found is none = sym (is.all ∙ ap (λ vs. map lexeme_view found ++ vs) none ∙ append-nil (map lexeme_view found))
 
-found_all : (text : Text) (reader : Reader) (found : List (ℕ × Token × ℕ)) (is : IsCollected text reader found) → is.rest ≡ [] → length found ≡ length (outcome text).lexemes
-found_all text reader found is none = sym (length-map found lexeme_view) ∙ ap length (none_ahead text reader found is none) ∙ length-map (outcome text).lexemes shown_lexeme
+found_all : (text : Text) (file : SourceFile) (state : LexerState) (found : List (ℕ × Token × ℕ)) → IsCollected text file state found → left_in state ≡ [] → length found ≡ length (outcome text).lexemes
+found_all text file state found is none = sym (length-map found lexeme_view) ∙ ap length (none_left text file state found is none) ∙ length-map (outcome text).lexemes shown_lexeme
 
 -- The cuts that were found so far: all before a text's end and before so many lexemes or fewer.
 pub record AreCutsSoFar (text : Text) (count : ℕ) (cuts : List Cut) : Type 0 where
@@ -148,21 +182,24 @@ all_held text cuts more count so same last at kept = go (nat_lt at (length text)
         let clean : is_clean_cut text ≡ true = ap is_clean_cut (sym (ap (λ n. take n text) whole ∙ take_all text)) ∙ (kept_parts text at kept).1 in
         held_right at cuts more (ap (λ n. holds_cut n more) whole ∙ last clean)
 
--- with the text's fault behind them
-pub fault_given : (text : Text) (reader : Reader) (part : Part) (is : IsCollected text reader part.lexemes.items) (fault : Spanned Fault) → is.rest ≡ [] → (outcome text).fault ≡ Some fault → IsPlacedFault (Some fault) part.fault
-    → AreCutsSoFar text (length part.lexemes.items) part.cuts.items → part.is_cut ≡ false → part.has_tab ≡ begins_with_tab text → IsPart text part
-fault_given text reader part is fault none at placed so no_cut tab = record {
-  lexemes = none_ahead text reader part.lexemes.items is none;
-  fault = subst (λ f. IsPlacedFault f part.fault) (sym at) placed;
-  cuts = record {
-    each = so.each;
-    order = so.order;
-    all = λ place kept. subst (λ cuts. holds_cut place cuts ≡ true) (append-nil part.cuts.items)
-        (all_held text part.cuts.items [] (length part.lexemes.items) so (found_all text reader part.lexemes.items is none) (λ clean. let both : true ≡ false = sym clean ∙ faulty_cut text fault at in cc) place kept);
-  };
-  is_cut = no_cut ∙ sym (faulty_cut text fault at);
-  tab = tab;
-}
+-- with the exception of the text's fault after them
+pub fault_given : (text : Text) (file : SourceFile) (state new : LexerState) (part : Part) (exception : Diagnosed ErrorKind) → IsCollected text file state part.lexemes.items → HasAnswered state (Some (Err (Error exception))) new
+    → AreCutsSoFar text (length part.lexemes.items) part.cuts.items → part.fault ≡ Some exception → part.is_cut ≡ false → part.has_tab ≡ has_read_none new.reader → IsPart file text part
+fault_given text file state new part exception is answer so thrown no_cut tab =
+    let same : state.text.now ≡ text = text_is text file state part.lexemes.items is in
+    let fault : (outcome text).fault ≡ Some answer.1.0 = ap (λ (t : Text). (outcome t).fault) (sym same) ∙ answer.1.1 in
+    record {
+      lexemes = none_left text file state part.lexemes.items is answer.0;
+      fault = subst (λ f. IsFaultIn file f part.fault) (sym fault) (subst (IsFaultIn file (Some answer.1.0)) (sym thrown) (subst (λ (f : SourceFile). IsException f answer.1.0 exception) (file_is text file state part.lexemes.items is) answer.1.2));
+      cuts = record {
+        each = so.each;
+        order = so.order;
+        all = λ place kept. subst (λ cuts. holds_cut place cuts ≡ true) (append-nil part.cuts.items)
+            (all_held text part.cuts.items [] (length part.lexemes.items) so (found_all text file state part.lexemes.items is answer.0) (λ clean. let both : true ≡ false = sym clean ∙ faulty_cut text answer.1.0 fault in cc) place kept);
+      };
+      is_cut = no_cut ∙ sym (faulty_cut text answer.1.0 fault);
+      tab = tab ∙ answer.2 ∙ ap begins_with_tab same;
+    }
 
 -- the cut at a text's end, where it is one, behind others
 end_is : (text : Text) (cuts : List Cut) (count : ℕ) (is_cut : Bool) → AreCutsSoFar text count cuts → is_cut ≡ is_clean_cut text → count ≡ length (outcome text).lexemes → AreCuts text (cuts ++ end_cuts text count is_cut)
@@ -180,24 +217,33 @@ end_is text cuts count false so is same = record {
 }
 
 -- where the text has none
-pub all_given : (text : Text) (reader : Reader) (part : Part) (cuts : List Cut) (is : IsCollected text reader part.lexemes.items) → is.rest ≡ [] → (outcome text).fault ≡ None → part.fault ≡ None → AreCutsSoFar text (length part.lexemes.items) cuts
-    → part.cuts.items ≡ cuts ++ end_cuts text (length part.lexemes.items) part.is_cut → part.is_cut ≡ is_clean_cut text → part.has_tab ≡ false → IsPart text part
-all_given text reader part cuts is none at no_fault so same is_cut no_tabs =
-    let all = none_ahead text reader part.lexemes.items is none in
-    let total = found_all text reader part.lexemes.items is none in
+pub all_given : (text : Text) (file : SourceFile) (state new : LexerState) (part : Part) (cuts : List Cut) → IsCollected text file state part.lexemes.items → HasAnswered state None new → part.fault ≡ None
+    → AreCutsSoFar text (length part.lexemes.items) cuts → part.cuts.items ≡ cuts ++ end_cuts text (length part.lexemes.items) part.is_cut → part.is_cut ≡ is_clean_cut text → part.has_tab ≡ false → IsPart file text part
+all_given text file state new part cuts is answer no_fault so same is_cut no_tabs =
+    let none : (outcome text).fault ≡ None = ap (λ (t : Text). (outcome t).fault) (sym (text_is text file state part.lexemes.items is)) ∙ answer.1 in
     record {
-      lexemes = all;
-      fault = subst (λ f. IsPlacedFault f part.fault) (sym at) (subst (IsPlacedFault None) (sym no_fault) tt);
-      cuts = subst (AreCuts text) (sym same) (end_is text cuts (length part.lexemes.items) part.is_cut so is_cut total);
+      lexemes = none_left text file state part.lexemes.items is answer.0;
+      fault = subst (λ f. IsFaultIn file f part.fault) (sym none) (subst (IsFaultIn file None) (sym no_fault) tt);
+      cuts = subst (AreCuts text) (sym same) (end_is text cuts (length part.lexemes.items) part.is_cut so is_cut (found_all text file state part.lexemes.items is answer.0));
       is_cut = is_cut;
-      tab = let margin = begun text at in no_tabs ∙ sym (no_tab text margin.0 (sym (margin_first text) ∙ margin.1));
+      tab = let margin = begun text none in no_tabs ∙ sym (no_tab text margin.0 (sym (margin_first text) ∙ margin.1));
     }
 
--- how many are found and how many are ahead
-pub all_counted : (text : Text) (reader : Reader) (found : List (ℕ × Token × ℕ)) (is : IsCollected text reader found) → length found + length is.rest ≡ length (outcome text).lexemes
-all_counted text reader found is = omega (arith, ap length is.all, length-append (map lexeme_view found) is.rest, length-map found lexeme_view, length-map (outcome text).lexemes shown_lexeme)
+-- how many are found and how many are left
+pub all_counted : (text : Text) (file : SourceFile) (state : LexerState) (found : List (ℕ × Token × ℕ)) → IsCollected text file state found → length found + length (left_in state) ≡ length (outcome text).lexemes
+all_counted text file state found is = omega (arith, ap length is.all, length-append (map lexeme_view found) (left_in state), length-map found lexeme_view, length-map (outcome text).lexemes shown_lexeme)
 
--- Nothing is ahead of a text without fault only where it has a lexeme at least.
-pub some_given : (text : Text) (reader : Reader) (found : List (ℕ × Token × ℕ)) (is : IsCollected text reader found) → is.rest ≡ [] → (outcome text).fault ≡ None → 0 < length found
-some_given text reader found is none at =
-    omega (arith, some_lexemes text at, ap length (none_ahead text reader found is none), length-map found lexeme_view, length-map (outcome text).lexemes shown_lexeme)
+-- Nothing is left of a text without fault only where it has a lexeme at least.
+pub some_given : (text : Text) (file : SourceFile) (state new : LexerState) (found : List (ℕ × Token × ℕ)) → IsCollected text file state found → HasAnswered state None new → 0 < length found
+some_given text file state new found is answer =
+    let none : (outcome text).fault ≡ None = ap (λ (t : Text). (outcome t).fault) (sym (text_is text file state found is)) ∙ answer.1 in
+    omega (arith, some_lexemes text none, found_all text file state found is answer.0)
+
+-- whether the text is a clean cut, which the history at its end tells
+pub settled_is : (text : Text) (file : SourceFile) (state new : LexerState) (found : List (ℕ × Token × ℕ)) (is_cut : Bool) → IsCollected text file state found → HasAnswered state None new
+    → ((history : History) → IsStateAfter text history new.reader → is_cut ≡ (is_settled history && ends_with nat_eq text (codes "\n"))) → is_cut ≡ is_clean_cut text
+settled_is text file state new found is_cut is answer by =
+    let same = text_is text file state found is in
+    let none : (outcome text).fault ≡ None = ap (λ (t : Text). (outcome t).fault) (sym same) ∙ answer.1 in
+    let after : IsStateAfter text (history_of text) new.reader = subst (λ (t : Text). IsStateAfter t (history_of t) new.reader) same answer.2 in
+    by (history_of text) after ∙ sym (faultless_cut text none)

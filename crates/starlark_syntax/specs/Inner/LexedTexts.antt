@@ -1,14 +1,15 @@
 -- The lexemes and cuts of a lexed text, as the code stores them.
 use Rattle.std.specs.Prelude.{◌≡◌, Bool, true, false, ℕ, suc, ◌+◌, ◌-◌, ◌<◌, ◌≤◌, ◌^◌, List, [], ◌∷◌, map, length, drop, take, slice_get, ◌==◌, Option, Some, None, ⊤, ◌⊎◌}
 use Rattle.std.specs.List.{AllByRecursion, list_any}
-use Rattle.starlark_token.specs.declared.lexeme_error.LexemeError.{LexemeError}
+use Rattle.starlark_base.specs.Sources.{SourceFile}
 use Rattle.starlark_grammar.specs.Words.{Text}
 use Rattle.starlark_grammar.specs.Tokens as grammar
 use Rattle.starlark_grammar.specs.Reading.{outcome}
 use Rattle.starlark_grammar.specs.Cuts.{is_clean_cut, is_kept_cut}
 use Rattle.starlark_token.specs.TokenViews.{TokenView, Whole}
 use Rattle.starlark_token.specs.declared.tokens.Token.{Token}
-use Rattle.starlark_token.specs.Lexemes.{fault_view, lexeme_view, shown_lexeme}
+use Rattle.starlark_syntax.specs.Exceptions.{IsFaultIn}
+use Rattle.starlark_token.specs.Lexemes.{lexeme_view, shown_lexeme}
 use Rattle.starlark_reader.specs.Inner.MarginCuts.{lexemes_before}
 use Rattle.starlark_reader.specs.Inner.Reader.{begins_with_tab}
 use Rattle.starlark_syntax.specs.declared.cuts.Begin.{Begin}
@@ -89,16 +90,10 @@ pub record IsTakenBack (lexemes : List (ℕ × Token × ℕ)) (cuts : List Cut) 
   pub up_to : IsUpTo cuts kept.fault_at kept.cuts
   pub beyond : AreBeyond cuts kept.fault_at kept.cuts
 
--- a fault of the code with its begin and end is that of the grammar
-abbrev pub IsPlacedFault : Option (grammar.Spanned grammar.Fault) → Option (ℕ × LexemeError × ℕ) → Type 0
-IsPlacedFault None None = ⊤
-IsPlacedFault (Some fault) (Some placed) = (fault_view placed.1 ≡ Some fault.node) × (placed.0 ≡ fault.begin) × (placed.2 ≡ fault.end)
-IsPlacedFault fault placed = ⊥
-
--- the part has the lexemes, the fault and the cuts of the text
-pub record IsPart (text : Text) (part : Part) : Type 0 where
+-- the part has the lexemes, the fault and the cuts of the text; the fault is in a code map
+pub record IsPart (file : SourceFile) (text : Text) (part : Part) : Type 0 where
   pub lexemes : map lexeme_view part.lexemes.items ≡ map shown_lexeme (outcome text).lexemes
-  pub fault : IsPlacedFault (outcome text).fault part.fault
+  pub fault : IsFaultIn file (outcome text).fault part.fault
   pub cuts : AreCuts text part.cuts.items
   pub is_cut : part.is_cut ≡ is_clean_cut text
   pub tab : part.has_tab ≡ begins_with_tab text

@@ -4,7 +4,7 @@ use Rattle.starlark_layout.proofs.Indentation.Margins.{ArePassed}
 use Rattle.starlark_layout.proofs.margins.margin_of.Given as goal
 
 abbrev pub invariant-loop-bytes : goal.invariant-loop-bytes
-invariant-loop-bytes l = record { passed : ArePassed l.text l.at; reads : AreReads l.at (6 * l.at) l.fn.reads l.reads }
+invariant-loop-bytes l = record { passed : ArePassed l.text l.at; reads : AreReads l.at (5 * l.at) l.fn.reads l.reads }
 
 abbrev pub decreases-loop-bytes : goal.decreases-loop-bytes
 decreases-loop-bytes l = length l.text - l.at

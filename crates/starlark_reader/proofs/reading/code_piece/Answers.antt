@@ -1,6 +1,7 @@
-use Rattle.std.proofs.Common.{◌≡◌, ℕ, Some, ap, sym, ◌∙◌, ◌+◌, ◌-◌, ◌*◌, ◌≤◌, length, take, drop, arith}
+use Rattle.std.proofs.Common.{◌≡◌, ℕ, Some, ap, sym, ◌∙◌, ◌+◌, ◌*◌, ◌≤◌, length, take, drop, arith}
 use Rattle.std.specs.Str.{IsUtf8, IsCharBoundary}
 use Rattle.starlark_grammar.specs.Front.{language_front}
+use Rattle.starlark_grammar.specs.Pieces.{Situation, in_code, word_step}
 use Rattle.starlark_grammar.specs.Words.{Text, class_in, language}
 use Rattle.starlark_grammar.specs.declared.class.Class.{Class}
 use Rattle.starlark_grammar.proofs.Order.WholeTexts.{word_edge}
@@ -8,6 +9,7 @@ use Rattle.starlark_grammar.proofs.Words.Fronts.{front_sound}
 use Rattle.starlark_bytes.specs.Inner.Reads.{AreReads}
 use Rattle.starlark_reader.proofs.Literals.Pieces.{if_ok}
 use Rattle.starlark_reader.proofs.Pieces.PieceReads.{none_reads, piece_reads}
+use Rattle.starlark_reader.proofs.Pieces.CodePlaces.{in_code_front}
 use Rattle.starlark_reader.proofs.reading.code_piece.Goals as goal
 
 edge : (text : Text) (class : Class) (len : ℕ) → IsUtf8 text → Some (class, len) ≡ language_front text → IsCharBoundary text len
@@ -28,7 +30,9 @@ pub returns-in-Some-clause-piece : goal.returns-in-Some-clause-piece
 returns-in-Some-clause-piece c =
     let cut = ap (λ n. drop n c.args.text.now) c.split_at.ensures.front_len ∙ sym c.split_at.ensures.back in
     let at : IsCharBoundary c.args.text.now (length c.split_at.result.0.now) = rw c.split_at.ensures.front_len (edge c.args.text.now c.in-Some.word.class c.in-Some.word.len c.utf8.text c.in-Some.ensures.word) in
-    if_ok _ _ c.word_piece.result (λ piece is s place balanced. rw (← c.in-Some.ensures.word, ← c.split_at.ensures.front, ← c.split_at.ensures.back) (is s c.args.text.now place balanced cut at)) c.word_piece.ensures.piece
+    let code : (s : Situation) → in_code language s c.args.text.now ≡ word_step s c.in-Some.word.class c.split_at.result.0.now c.split_at.result.1.now =
+    λ s. rw (c.split_at.ensures.front, c.split_at.ensures.back) (in_code_front s c.args.text.now c.in-Some.word.class c.in-Some.word.len (sym c.in-Some.ensures.word) c.in-Some.ensures.bang) in
+    if_ok _ _ c.word_piece.result (λ piece is s place balanced behind. rw (code s) (is s c.args.text.now place balanced cut at)) c.word_piece.ensures.piece
 
 fits : (text : Text) (class : Class) (len : ℕ) → Some (class, len) ≡ language_front text → (1 ≤ len) × (len ≤ length text)
 unfolding language_front
@@ -38,8 +42,14 @@ pub returns-in-Some-clause-reads : goal.returns-in-Some-clause-reads
 returns-in-Some-clause-reads c =
     let word = fits c.args.text.now c.in-Some.word.class c.in-Some.word.len c.in-Some.ensures.word in
     let whole : length c.args.text.now ≡ length c.split_at.result.0.now + length c.split_at.result.1.now = omega (arith, c.split_at.ensures.front_len, c.split_at.ensures.back_len, word.1) in
-    let read : AreReads (length c.split_at.result.0.now) ((5 * length c.split_at.result.0.now - 4) + 9) c.args.reads.now c.first_word.new.reads = rw c.split_at.ensures.front_len c.in-Some.ensures.reads in
+    let read : AreReads (length c.split_at.result.0.now) (5 * length c.split_at.result.0.now + 3) c.args.reads.now c.first_word.new.reads = rw c.split_at.ensures.front_len c.in-Some.ensures.reads in
     if_ok _ _ c.word_piece.result (λ piece is. piece_reads (length c.split_at.result.0.now) (length c.split_at.result.1.now) (length c.args.text.now) piece _ _ _ (omega (arith, word.0, c.split_at.ensures.front_len)) whole read is) c.word_piece.ensures.reads
 
-pub returns-in_ok-invalid_input-in-None-clause-reads : goal.returns-in_ok-invalid_input-in-None-clause-reads
-returns-in_ok-invalid_input-in-None-clause-reads c = none_reads (length c.args.text.now) c.in_ok-invalid_input-in-None.field-0 _ _ _ c.requires.some c.in-None.ensures.reads c.in_ok-invalid_input-in-None.ensures.reads
+pub wordless_piece-requires-clause-none : goal.wordless_piece-requires-clause-none
+wordless_piece-requires-clause-none c = sym c.in-None.ensures.word
+
+pub returns-in-None-clause-piece : goal.returns-in-None-clause-piece
+returns-in-None-clause-piece c = if_ok _ _ c.wordless_piece.result (λ piece is s place balanced behind. is s place behind) c.wordless_piece.ensures.piece
+
+pub returns-in-None-clause-reads : goal.returns-in-None-clause-reads
+returns-in-None-clause-reads c = if_ok _ _ c.wordless_piece.result (λ piece is. none_reads (length c.args.text.now) piece _ _ _ c.requires.some c.in-None.ensures.reads is) c.wordless_piece.ensures.reads

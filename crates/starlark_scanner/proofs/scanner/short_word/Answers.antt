@@ -1,4 +1,4 @@
-use Rattle.std.proofs.Common.{Some, sym, ap, ◌∙◌, take, arith}
+use Rattle.std.proofs.Common.{Some, sym, ap, ◌∙◌, arith}
 use Rattle.starlark_grammar.specs.declared.class.Class.TheVariants as class
 use Rattle.starlark_scanner.specs.Inner.Words.{is_digit_alone, mark_of_two}
 use Rattle.starlark_scanner.proofs.Scan.Numbers.{front_of_digit}
@@ -8,18 +8,15 @@ use Rattle.starlark_scanner.proofs.scanner.short_word.Goals as goal
 
 pub returns-then-is_digit_alone-clause-word : goal.returns-then-is_digit_alone-clause-word
 returns-then-is_digit_alone-clause-word c =
-    let front = c.front-front.ensures.bytes ∙ ap (take 3) c.as_bytes.ensures.value in
-    let alone = sym (digit_by_three c.args.text.now) ∙ sym (ap is_digit_alone front) ∙ sym c.if-is_digit_alone.ensures in
+    let alone = sym (digit_by_three c.args.text.now) ∙ sym (ap is_digit_alone c.requires) ∙ sym c.if-is_digit_alone.ensures in
     sym (front_of_digit c.args.text.now (λ b rest e. omega (arith, rw e at c.type_inv.text 0)) (λ b next rest e. omega (arith, rw e at c.type_inv.text 1)) alone)
 
 pub returns-in-Some-Fixed-clause-word : goal.returns-in-Some-Fixed-clause-word
 returns-in-Some-Fixed-clause-word c =
-    let front = c.front-front.ensures.bytes ∙ ap (take 3) c.as_bytes.ensures.value in
-    let mark = sym (two_by_three c.args.text.now) ∙ sym (ap mark_of_two front) ∙ sym c.mark_of_two.ensures ∙ c.in-Some-Fixed.is ∙ ap Some c.in-Some-Fixed.field-0-is in
+    let mark = sym (two_by_three c.args.text.now) ∙ sym (ap mark_of_two c.requires) ∙ sym c.mark_of_two.ensures ∙ c.in-Some-Fixed.is ∙ ap Some c.in-Some-Fixed.field-0-is in
     sym (front_of_two c.args.text.now (class.Fixed c.in-Some-Fixed.terminal) (λ i. omega (arith, c.type_inv.text i)) mark).0
 
 pub returns-in-Some-Fixed-clause-bang : goal.returns-in-Some-Fixed-clause-bang
 returns-in-Some-Fixed-clause-bang c =
-    let front = c.front-front.ensures.bytes ∙ ap (take 3) c.as_bytes.ensures.value in
-    let mark = sym (two_by_three c.args.text.now) ∙ sym (ap mark_of_two front) ∙ sym c.mark_of_two.ensures ∙ c.in-Some-Fixed.is ∙ ap Some c.in-Some-Fixed.field-0-is in
+    let mark = sym (two_by_three c.args.text.now) ∙ sym (ap mark_of_two c.requires) ∙ sym c.mark_of_two.ensures ∙ c.in-Some-Fixed.is ∙ ap Some c.in-Some-Fixed.field-0-is in
     (front_of_two c.args.text.now (class.Fixed c.in-Some-Fixed.terminal) (λ i. omega (arith, c.type_inv.text i)) mark).1

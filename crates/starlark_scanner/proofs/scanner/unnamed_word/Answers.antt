@@ -8,6 +8,7 @@ use Rattle.starlark_scanner.specs.Inner.Words.{begins_number, marks}
 use Rattle.starlark_bytes.proofs.Fronts.{at_front}
 use Rattle.starlark_scanner.proofs.Scan.ReadFronts.{mark_by_three, number_by_three}
 use Rattle.starlark_scanner.proofs.Scan.ByFirst.{front_empty, front_blank, front_tab, front_hash, front_single_quote, front_double_quote, front_mark}
+use Rattle.starlark_scanner.proofs.Scan.Bangs.{no_bang_at_word}
 use Rattle.starlark_scanner.proofs.scanner.unnamed_word.Goals as goal
 
 no_name : (text : Text) (b : ℕ) → slice_get text 0 ≡ Some b → begins is_name_start text ≡ false → is_name_start b ≡ false
@@ -59,3 +60,6 @@ returns-in_default-clause-word c =
     ∙ ap (longest_front (class_in marks)) front
     ∙ mark_by_three c.args.text.now
     ∙ sym (front_mark c.args.text.now b first small (omega arith) (omega arith) (omega arith) (omega arith) (omega arith) (no_name c.args.text.now b first c.requires) number)
+
+pub returns-in_default-clause-bang : goal.returns-in_default-clause-bang
+returns-in_default-clause-bang c = no_bang_at_word c.args.text.now c.mark_from.result (returns-in_default-clause-word c)

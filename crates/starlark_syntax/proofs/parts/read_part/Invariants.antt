@@ -1,11 +1,11 @@
 use Rattle.std.proofs.Common.{◌-◌, length}
 use Rattle.starlark_grammar.specs.Reading.{outcome}
-use Rattle.starlark_reader.specs.Inner.Reads.{HasRead}
 use Rattle.starlark_syntax.proofs.LexedTexts.Collected.{AreCutsSoFar, IsCollected}
 use Rattle.starlark_syntax.proofs.parts.read_part.Given as goal
 
-abbrev pub invariant-loop-lexemes : goal.invariant-loop-lexemes
-invariant-loop-lexemes l = record { collected : IsCollected l.text l.reader l.lexemes.items; cuts : AreCutsSoFar l.text (length l.lexemes.items) l.cuts.items; reads : HasRead l.text 0 l.reader }
+abbrev pub invariant-loop-item : goal.invariant-loop-item
+invariant-loop-item l =
+    record { collected : IsCollected l.fn.state.text.now l.fn.state.code_map l.state l.lexemes.items; cuts : AreCutsSoFar l.fn.state.text.now (length l.lexemes.items) l.cuts.items }
 
-abbrev pub decreases-loop-lexemes : goal.decreases-loop-lexemes
-decreases-loop-lexemes l = length (outcome l.text).lexemes - length l.lexemes.items
+abbrev pub decreases-loop-item : goal.decreases-loop-item
+decreases-loop-item l = length (outcome l.fn.state.text.now).lexemes - length l.lexemes.items

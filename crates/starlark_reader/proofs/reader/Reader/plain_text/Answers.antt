@@ -1,7 +1,27 @@
+use Rattle.std.proofs.Common.{◌≤◌, ◌+◌, arith, length, refl}
+use Rattle.starlark_grammar.specs.Words.{Text}
+use Rattle.starlark_reader.proofs.Pieces.NextLexeme.{ready_inside}
 use Rattle.starlark_reader.proofs.Pieces.PieceTaken.{plain_here}
+use Rattle.starlark_reader.proofs.Pieces.ReaderReads.{other_reads}
+use Rattle.starlark_reader.specs.Inner.Reads.{HasLookedHere}
+use Rattle.starlark_reader.specs.declared.reader.Reader.{Reader}
 use Rattle.starlark_reader.proofs.reader.Reader.plain_text.Goals as goal
 
 pub returns-in-InText-clause-stands : goal.returns-in-InText-clause-stands
 returns-in-InText-clause-stands c =
     plain_here c.args.text.now c.range_from.result.now (record c.args.self.now { reads = c.plain_text.new.reads }) c.place.result c.in-InText.opening c.plain_text.result c.range_from.ensures.value (c.reads_on.ensures.stage c.if-not-reads_on.false)
     (c.reads_on.ensures.idle c.if-not-reads_on.false c.args.text.now c.requires.ready.2.is_pending) c.in-InText.is c.place.ensures c.plain_text.ensures.plain
+
+-- where nothing is looked at
+none_looked : (text : Text) (reader : Reader) → reader.at ≤ length text → (reader.at + 0 ≤ length text) × HasLookedHere 0 4 reader reader
+none_looked text reader inside = (omega (arith, inside), (refl, refl, omega arith, (omega arith, omega arith)))
+
+pub returns-then-not-reads_on-clause-other : goal.returns-then-not-reads_on-clause-other
+returns-then-not-reads_on-clause-other c = none_looked c.args.text.now c.args.self.now (ready_inside c.args.text.now c.args.self.now c.requires.ready)
+
+pub returns-in_default-clause-other : goal.returns-in_default-clause-other
+returns-in_default-clause-other c = none_looked c.args.text.now c.args.self.now (ready_inside c.args.text.now c.args.self.now c.requires.ready)
+
+pub returns-in-InText-clause-other : goal.returns-in-InText-clause-other
+returns-in-InText-clause-other c =
+    other_reads c.args.text.now c.range_from.result.now c.args.self.now.at 4 c.plain_text.new.reads c.args.self.now c.plain_text.result c.range_from.ensures.value (ready_inside c.args.text.now c.args.self.now c.requires.ready) c.plain_text.ensures.other

@@ -1,12 +1,15 @@
-use Rattle.std.proofs.Common.{arith}
-use Rattle.starlark_syntax.proofs.LexedTexts.Parts.{fault_near, lexed_part}
+use Rattle.std.proofs.Common.{subst, sym}
+use Rattle.starlark_grammar.specs.Words.{Text}
+use Rattle.starlark_syntax.specs.Inner.LexedTexts.{IsPart}
+use Rattle.starlark_syntax.proofs.LexedTexts.Parts.{lexed_part}
 use Rattle.starlark_syntax.proofs.lexed_text.LexedText.lex_with.Goals as goal
 
-pub exception_of-requires : goal.exception_of-requires
-exception_of-requires c = record { near = fault_near c.args.input.now c.in_ok-part.part.fault 0 c.in_ok-part.ensures.part.fault (omega (arith, c.requires.fits)) }
-
 pub invariant_of-result : goal.invariant_of-result
-invariant_of-result c = (omega (arith, c.requires.fits), c.in_ok-part.ensures.part.is_cut, c.in_ok-part.ensures.part.cuts, (c.args.code_map.now, lexed_part c.args.code_map.now c.args.input.now c.in_ok-part.part c.in_ok-fault.fault c.reads.result c.in_ok-part.ensures.part c.in_ok-fault.ensures.exception))
+invariant_of-result c =
+    let part : IsPart c.args.state.now.code_map c.text-text.result.now c.in_ok-part.part = subst (λ (t : Text). IsPart c.args.state.now.code_map t c.in_ok-part.part) (sym c.text-text.ensures) c.in_ok-part.ensures.part in
+    (rw c.text-text.ensures c.requires.lexing.0, part.is_cut, part.cuts, (c.args.state.now.code_map, lexed_part c.args.state.now.code_map c.text-text.result.now c.in_ok-part.part c.in_ok-part.part.reads part))
 
 pub returns-clause-lexed : goal.returns-clause-lexed
-returns-clause-lexed c = lexed_part c.args.code_map.now c.args.input.now c.in_ok-part.part c.in_ok-fault.fault c.reads.result c.in_ok-part.ensures.part c.in_ok-fault.ensures.exception
+returns-clause-lexed c =
+    let part : IsPart c.args.state.now.code_map c.text-text.result.now c.in_ok-part.part = subst (λ (t : Text). IsPart c.args.state.now.code_map t c.in_ok-part.part) (sym c.text-text.ensures) c.in_ok-part.ensures.part in
+    lexed_part c.args.state.now.code_map c.text-text.result.now c.in_ok-part.part c.in_ok-part.part.reads part

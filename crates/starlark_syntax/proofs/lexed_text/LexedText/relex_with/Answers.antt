@@ -2,10 +2,10 @@ use Rattle.std.proofs.Common.{◌≡◌, refl, ℕ, ◌+◌, ◌-◌, ◌<◌, �
 use Rattle.std.specs.Prelude.{◌&&◌, ◌||◌, ◌==◌, if◌then◌else◌, nat_lt}
 use Rattle.std.proofs.lemmas.List.{length-drop, length-map}
 use Rattle.starlark_grammar.specs.Words.{Text}
-use Rattle.starlark_grammar.specs.Margins.{has_tab, is_content, margin_of}
 use Rattle.starlark_grammar.specs.Reading.{outcome}
 use Rattle.starlark_syntax.specs.LexedTexts.{IsReadFrom, LexedView}
 use Rattle.starlark_syntax.specs.Exceptions.{IsFaultIn}
+use Rattle.starlark_syntax.specs.Lexer.{LexerView}
 use Rattle.starlark_token.specs.Lexemes.{lexeme_view, shown_lexeme}
 use Rattle.starlark_syntax.specs.Inner.LexedTexts.{AreCuts, IsBegin, IsPart, IsTakenBack, last_newline_of, later, later_cut}
 use Rattle.starlark_syntax.specs.declared.cuts.Cut.{Cut}
@@ -21,9 +21,6 @@ range_from-rest-requires c = λ some.
     let same : take c.args.from c.old.inside.text.now ≡ take c.args.from c.args.edited.now = ap (λ (v : LexedView). take c.args.from v.text) c.old.view_is ∙ c.requires.same in
     begin_boundary c.old.inside.text.now c.args.edited.now c.old.inside.cuts.items c.args.from c.begin_of-begin.result begin same c.requires.new.0 c.utf8.edited
 
-pub read_part-requires-clause-unread : goal.read_part-requires-clause-unread
-read_part-requires-clause-unread c = c.requires.unread c.range_from-rest.result.now
-
 pub kept_of-kept-requires : goal.kept_of-kept-requires
 kept_of-kept-requires c =
     let begin : IsBegin c.old.inside.text.now c.old.inside.cuts.items c.args.from c.begin_of-begin.result = subst (λ (xs : List Cut). IsBegin c.old.inside.text.now xs c.args.from c.begin_of-begin.result) c.deref.ensures.value (c.begin_of-begin.ensures c.old.inside.text.now (subst (AreCuts c.old.inside.text.now) (sym c.deref.ensures.value) c.old.invariant.2)) in
@@ -33,24 +30,22 @@ pub exception_of-requires : goal.exception_of-requires
 exception_of-requires c =
     let begin : IsBegin c.old.inside.text.now c.old.inside.cuts.items c.args.from c.begin_of-begin.result = subst (λ (xs : List Cut). IsBegin c.old.inside.text.now xs c.args.from c.begin_of-begin.result) c.deref.ensures.value (c.begin_of-begin.ensures c.old.inside.text.now (subst (AreCuts c.old.inside.text.now) (sym c.deref.ensures.value) c.old.invariant.2)) in
     let same : take c.args.from c.old.inside.text.now ≡ take c.args.from c.args.edited.now = ap (λ (v : LexedView). take c.args.from v.text) c.old.view_is ∙ c.requires.same in
-    let part : IsPart (drop c.begin_of-begin.result.at c.args.edited.now) c.in-Ok.part = subst (λ (t : Text). IsPart t c.in-Ok.part) c.range_from-rest.ensures.value c.in-Ok.ensures.part in
+    let part : IsPart c.set_text.new.self.code_map (drop c.begin_of-begin.result.at c.args.edited.now) c.in-Ok.part = subst (λ (t : Text). IsPart c.set_text.new.self.code_map t c.in-Ok.part) (ap (λ (v : LexerView). v.text) c.set_text.ensures.begun.view ∙ c.range_from-rest.ensures.value) c.in-Ok.ensures.part in
     let short : c.begin_of-begin.result.at + length (drop c.begin_of-begin.result.at c.args.edited.now) < 2 ^ 32 = omega (arith, length-drop c.begin_of-begin.result.at c.args.edited.now, begin.before, c.requires.new.0, c.requires.fits) in
-    let made = relexed c.old.inside.text.now c.args.edited.now c.old.inside.lexemes.items c.old.inside.cuts.items c.args.from c.begin_of-begin.result c.in-Ok.part c.kept_of-kept.result c.in-Ok.part.has_tab c.old.invariant.3.1.lexemes c.old.invariant.2 begin same c.requires.new.0 part
-    (c.in-Ok.ensures.part.tab ∙ ap (λ (t : Text). is_content (margin_of t).behind && has_tab (margin_of t)) c.range_from-rest.ensures.value)
+    let made = relexed c.set_text.new.self.code_map c.old.inside.text.now c.args.edited.now c.old.inside.lexemes.items c.old.inside.cuts.items c.args.from c.begin_of-begin.result c.in-Ok.part c.kept_of-kept.result c.in-Ok.part.has_tab c.old.invariant.3.1.lexemes c.old.invariant.2 begin same c.requires.new.0 part part.tab
     c.kept_of-kept.ensures.plain
     (λ h e. c.kept_of-kept.ensures.comments h (ap (λ (xs : List (ℕ × Token × ℕ)). last_newline_of (map lexeme_view (take c.begin_of-begin.result.lexemes xs))) c.deref-2.ensures.value ∙ e))
     (λ h last e. subst (λ (xs : List (ℕ × Token × ℕ)). IsTakenBack xs c.old.inside.cuts.items last c.kept_of-kept.result) c.deref-2.ensures.value
     (subst (λ (xs : List Cut). IsTakenBack c.deref-2.result.now xs last c.kept_of-kept.result) c.deref-3.ensures.value
     (c.kept_of-kept.ensures.line h last (ap (λ (xs : List (ℕ × Token × ℕ)). last_newline_of (map lexeme_view (take c.begin_of-begin.result.lexemes xs))) c.deref-2.ensures.value ∙ e)))) in
-    record { near = fault_near (drop c.begin_of-begin.result.at c.args.edited.now) c.in-Ok.part.fault c.kept_of-kept.result.fault_at part.fault (omega (arith, made.near, short)) }
+    record { near = fault_near c.set_text.new.self.code_map (drop c.begin_of-begin.result.at c.args.edited.now) c.in-Ok.part.fault c.kept_of-kept.result.fault_at part.fault (omega (arith, made.near, short)) }
 
 pub make_room-requires : goal.make_room-requires
 make_room-requires c =
     let begin : IsBegin c.old.inside.text.now c.old.inside.cuts.items c.args.from c.begin_of-begin.result = subst (λ (xs : List Cut). IsBegin c.old.inside.text.now xs c.args.from c.begin_of-begin.result) c.deref.ensures.value (c.begin_of-begin.ensures c.old.inside.text.now (subst (AreCuts c.old.inside.text.now) (sym c.deref.ensures.value) c.old.invariant.2)) in
     let same : take c.args.from c.old.inside.text.now ≡ take c.args.from c.args.edited.now = ap (λ (v : LexedView). take c.args.from v.text) c.old.view_is ∙ c.requires.same in
-    let part : IsPart (drop c.begin_of-begin.result.at c.args.edited.now) c.in-Ok.part = subst (λ (t : Text). IsPart t c.in-Ok.part) c.range_from-rest.ensures.value c.in-Ok.ensures.part in
-    let made = relexed c.old.inside.text.now c.args.edited.now c.old.inside.lexemes.items c.old.inside.cuts.items c.args.from c.begin_of-begin.result c.in-Ok.part c.kept_of-kept.result c.in-Ok.part.has_tab c.old.invariant.3.1.lexemes c.old.invariant.2 begin same c.requires.new.0 part
-    (c.in-Ok.ensures.part.tab ∙ ap (λ (t : Text). is_content (margin_of t).behind && has_tab (margin_of t)) c.range_from-rest.ensures.value)
+    let part : IsPart c.set_text.new.self.code_map (drop c.begin_of-begin.result.at c.args.edited.now) c.in-Ok.part = subst (λ (t : Text). IsPart c.set_text.new.self.code_map t c.in-Ok.part) (ap (λ (v : LexerView). v.text) c.set_text.ensures.begun.view ∙ c.range_from-rest.ensures.value) c.in-Ok.ensures.part in
+    let made = relexed c.set_text.new.self.code_map c.old.inside.text.now c.args.edited.now c.old.inside.lexemes.items c.old.inside.cuts.items c.args.from c.begin_of-begin.result c.in-Ok.part c.kept_of-kept.result c.in-Ok.part.has_tab c.old.invariant.3.1.lexemes c.old.invariant.2 begin same c.requires.new.0 part part.tab
     c.kept_of-kept.ensures.plain
     (λ h e. c.kept_of-kept.ensures.comments h (ap (λ (xs : List (ℕ × Token × ℕ)). last_newline_of (map lexeme_view (take c.begin_of-begin.result.lexemes xs))) c.deref-2.ensures.value ∙ e))
     (λ h last e. subst (λ (xs : List (ℕ × Token × ℕ)). IsTakenBack xs c.old.inside.cuts.items last c.kept_of-kept.result) c.deref-2.ensures.value
@@ -69,14 +64,14 @@ make_room-requires-else-is_err c =
 pub append_later-requires-clause-near : goal.append_later-requires-clause-near
 append_later-requires-clause-near c =
     let begin : IsBegin c.old.inside.text.now c.old.inside.cuts.items c.args.from c.begin_of-begin.result = subst (λ (xs : List Cut). IsBegin c.old.inside.text.now xs c.args.from c.begin_of-begin.result) c.deref.ensures.value (c.begin_of-begin.ensures c.old.inside.text.now (subst (AreCuts c.old.inside.text.now) (sym c.deref.ensures.value) c.old.invariant.2)) in
-    let part : IsPart (drop c.begin_of-begin.result.at c.args.edited.now) c.in-Ok.part = subst (λ (t : Text). IsPart t c.in-Ok.part) c.range_from-rest.ensures.value c.in-Ok.ensures.part in
+    let part : IsPart c.set_text.new.self.code_map (drop c.begin_of-begin.result.at c.args.edited.now) c.in-Ok.part = subst (λ (t : Text). IsPart c.set_text.new.self.code_map t c.in-Ok.part) (ap (λ (v : LexerView). v.text) c.set_text.ensures.begun.view ∙ c.range_from-rest.ensures.value) c.in-Ok.ensures.part in
     let short : c.begin_of-begin.result.at + length (drop c.begin_of-begin.result.at c.args.edited.now) < 2 ^ 32 = omega (arith, length-drop c.begin_of-begin.result.at c.args.edited.now, begin.before, c.requires.new.0, c.requires.fits) in
-    given_near (drop c.begin_of-begin.result.at c.args.edited.now) c.in-Ok.part c.kept_of-kept.result.gives_more c.given_after-more.result.items part (omega (arith, short)) c.given_after-more.ensures
+    given_near c.set_text.new.self.code_map (drop c.begin_of-begin.result.at c.args.edited.now) c.in-Ok.part c.kept_of-kept.result.gives_more c.given_after-more.result.items part (omega (arith, short)) c.given_after-more.ensures
 
 pub append_cuts-requires-clause-near : goal.append_cuts-requires-clause-near
 append_cuts-requires-clause-near c =
     let begin : IsBegin c.old.inside.text.now c.old.inside.cuts.items c.args.from c.begin_of-begin.result = subst (λ (xs : List Cut). IsBegin c.old.inside.text.now xs c.args.from c.begin_of-begin.result) c.deref.ensures.value (c.begin_of-begin.ensures c.old.inside.text.now (subst (AreCuts c.old.inside.text.now) (sym c.deref.ensures.value) c.old.invariant.2)) in
-    let part : IsPart (drop c.begin_of-begin.result.at c.args.edited.now) c.in-Ok.part = subst (λ (t : Text). IsPart t c.in-Ok.part) c.range_from-rest.ensures.value c.in-Ok.ensures.part in
+    let part : IsPart c.set_text.new.self.code_map (drop c.begin_of-begin.result.at c.args.edited.now) c.in-Ok.part = subst (λ (t : Text). IsPart c.set_text.new.self.code_map t c.in-Ok.part) (ap (λ (v : LexerView). v.text) c.set_text.ensures.begun.view ∙ c.range_from-rest.ensures.value) c.in-Ok.ensures.part in
     let short : c.begin_of-begin.result.at + length (drop c.begin_of-begin.result.at c.args.edited.now) < 2 ^ 32 = omega (arith, length-drop c.begin_of-begin.result.at c.args.edited.now, begin.before, c.requires.new.0, c.requires.fits) in
     cuts_near (drop c.begin_of-begin.result.at c.args.edited.now) c.in-Ok.part.cuts.items (omega (arith, short)) part.cuts.each
 
@@ -90,9 +85,8 @@ pub invariant_of-result : goal.invariant_of-result
 invariant_of-result c =
     let begin : IsBegin c.old.inside.text.now c.old.inside.cuts.items c.args.from c.begin_of-begin.result = subst (λ (xs : List Cut). IsBegin c.old.inside.text.now xs c.args.from c.begin_of-begin.result) c.deref.ensures.value (c.begin_of-begin.ensures c.old.inside.text.now (subst (AreCuts c.old.inside.text.now) (sym c.deref.ensures.value) c.old.invariant.2)) in
     let same : take c.args.from c.old.inside.text.now ≡ take c.args.from c.args.edited.now = ap (λ (v : LexedView). take c.args.from v.text) c.old.view_is ∙ c.requires.same in
-    let part : IsPart (drop c.begin_of-begin.result.at c.args.edited.now) c.in-Ok.part = subst (λ (t : Text). IsPart t c.in-Ok.part) c.range_from-rest.ensures.value c.in-Ok.ensures.part in
-    let made = relexed c.old.inside.text.now c.args.edited.now c.old.inside.lexemes.items c.old.inside.cuts.items c.args.from c.begin_of-begin.result c.in-Ok.part c.kept_of-kept.result c.in-Ok.part.has_tab c.old.invariant.3.1.lexemes c.old.invariant.2 begin same c.requires.new.0 part
-    (c.in-Ok.ensures.part.tab ∙ ap (λ (t : Text). is_content (margin_of t).behind && has_tab (margin_of t)) c.range_from-rest.ensures.value)
+    let part : IsPart c.set_text.new.self.code_map (drop c.begin_of-begin.result.at c.args.edited.now) c.in-Ok.part = subst (λ (t : Text). IsPart c.set_text.new.self.code_map t c.in-Ok.part) (ap (λ (v : LexerView). v.text) c.set_text.ensures.begun.view ∙ c.range_from-rest.ensures.value) c.in-Ok.ensures.part in
+    let made = relexed c.set_text.new.self.code_map c.old.inside.text.now c.args.edited.now c.old.inside.lexemes.items c.old.inside.cuts.items c.args.from c.begin_of-begin.result c.in-Ok.part c.kept_of-kept.result c.in-Ok.part.has_tab c.old.invariant.3.1.lexemes c.old.invariant.2 begin same c.requires.new.0 part part.tab
     c.kept_of-kept.ensures.plain
     (λ h e. c.kept_of-kept.ensures.comments h (ap (λ (xs : List (ℕ × Token × ℕ)). last_newline_of (map lexeme_view (take c.begin_of-begin.result.lexemes xs))) c.deref-2.ensures.value ∙ e))
     (λ h last e. subst (λ (xs : List (ℕ × Token × ℕ)). IsTakenBack xs c.old.inside.cuts.items last c.kept_of-kept.result) c.deref-2.ensures.value
@@ -104,19 +98,18 @@ invariant_of-result c =
     let cuts : c.append_cuts.new.cuts.items ≡ take c.kept_of-kept.result.cuts c.old.inside.cuts.items ++ map (later_cut c.begin_of-begin.result.at c.begin_of-begin.result.lexemes) c.in-Ok.part.cuts.items =
     c.append_cuts.ensures ∙ ap (λ xs. take c.kept_of-kept.result.cuts xs ++ map (later_cut c.begin_of-begin.result.at c.begin_of-begin.result.lexemes) c.in-Ok.part.cuts.items) c.make_room-else-is_err.ensures.same in (
       c.requires.fits,
-      end_cut_is c.args.edited.now c.begin_of-begin.result.at c.in-Ok.part c.is_cut_after-is_cut.result (omega (arith, begin.before, c.requires.new.0)) (begin_clean c.old.inside.text.now c.args.edited.now c.old.inside.cuts.items c.args.from c.begin_of-begin.result begin same) part
+      end_cut_is c.set_text.new.self.code_map c.args.edited.now c.begin_of-begin.result.at c.in-Ok.part c.is_cut_after-is_cut.result (omega (arith, begin.before, c.requires.new.0)) (begin_clean c.old.inside.text.now c.args.edited.now c.old.inside.cuts.items c.args.from c.begin_of-begin.result begin same) part
           (c.is_cut_after-is_cut.ensures ∙ ap (λ (t : Text). c.in-Ok.part.is_cut || (length t == 0 && nat_lt 0 c.begin_of-begin.result.at)) c.range_from-rest.ensures.value),
       subst (AreCuts c.args.edited.now) (sym cuts) made.are_cuts,
-      (c.args.code_map.now, record { lexemes = ap (map lexeme_view) lexemes ∙ made.lexemes; fault = subst (λ f. IsFaultIn c.args.code_map.now f c.in-Ok-exception_of.fault) (sym made.fault) (c.in-Ok-exception_of.ensures.exception (outcome (drop c.begin_of-begin.result.at c.args.edited.now)).fault part.fault) }),
+      (c.args.code_map.now, record { lexemes = ap (map lexeme_view) lexemes ∙ made.lexemes; fault = subst (λ f. IsFaultIn c.args.code_map.now f c.in-Ok-exception_of.fault) (sym made.fault) (c.in-Ok-exception_of.ensures.exception c.set_text.new.self.code_map (outcome (drop c.begin_of-begin.result.at c.args.edited.now)).fault part.fault) }),
     )
 
 pub returns-clause-lexed : goal.returns-clause-lexed
 returns-clause-lexed c =
     let begin : IsBegin c.old.inside.text.now c.old.inside.cuts.items c.args.from c.begin_of-begin.result = subst (λ (xs : List Cut). IsBegin c.old.inside.text.now xs c.args.from c.begin_of-begin.result) c.deref.ensures.value (c.begin_of-begin.ensures c.old.inside.text.now (subst (AreCuts c.old.inside.text.now) (sym c.deref.ensures.value) c.old.invariant.2)) in
     let same : take c.args.from c.old.inside.text.now ≡ take c.args.from c.args.edited.now = ap (λ (v : LexedView). take c.args.from v.text) c.old.view_is ∙ c.requires.same in
-    let part : IsPart (drop c.begin_of-begin.result.at c.args.edited.now) c.in-Ok.part = subst (λ (t : Text). IsPart t c.in-Ok.part) c.range_from-rest.ensures.value c.in-Ok.ensures.part in
-    let made = relexed c.old.inside.text.now c.args.edited.now c.old.inside.lexemes.items c.old.inside.cuts.items c.args.from c.begin_of-begin.result c.in-Ok.part c.kept_of-kept.result c.in-Ok.part.has_tab c.old.invariant.3.1.lexemes c.old.invariant.2 begin same c.requires.new.0 part
-    (c.in-Ok.ensures.part.tab ∙ ap (λ (t : Text). is_content (margin_of t).behind && has_tab (margin_of t)) c.range_from-rest.ensures.value)
+    let part : IsPart c.set_text.new.self.code_map (drop c.begin_of-begin.result.at c.args.edited.now) c.in-Ok.part = subst (λ (t : Text). IsPart c.set_text.new.self.code_map t c.in-Ok.part) (ap (λ (v : LexerView). v.text) c.set_text.ensures.begun.view ∙ c.range_from-rest.ensures.value) c.in-Ok.ensures.part in
+    let made = relexed c.set_text.new.self.code_map c.old.inside.text.now c.args.edited.now c.old.inside.lexemes.items c.old.inside.cuts.items c.args.from c.begin_of-begin.result c.in-Ok.part c.kept_of-kept.result c.in-Ok.part.has_tab c.old.invariant.3.1.lexemes c.old.invariant.2 begin same c.requires.new.0 part part.tab
     c.kept_of-kept.ensures.plain
     (λ h e. c.kept_of-kept.ensures.comments h (ap (λ (xs : List (ℕ × Token × ℕ)). last_newline_of (map lexeme_view (take c.begin_of-begin.result.lexemes xs))) c.deref-2.ensures.value ∙ e))
     (λ h last e. subst (λ (xs : List (ℕ × Token × ℕ)). IsTakenBack xs c.old.inside.cuts.items last c.kept_of-kept.result) c.deref-2.ensures.value
@@ -125,12 +118,12 @@ returns-clause-lexed c =
     let lexemes : c.append_later.new.lexemes.items ≡ take c.kept_of-kept.result.lexemes c.old.inside.lexemes.items ++ map (later c.begin_of-begin.result.at) (if c.kept_of-kept.result.gives_more then c.in-Ok.part.lexemes.items else []) =
     c.append_later.ensures ∙ ap (λ xs. take c.kept_of-kept.result.lexemes xs ++ map (later c.begin_of-begin.result.at) c.given_after-more.result.items) c.make_room.ensures.same
     ∙ ap (λ xs. take c.kept_of-kept.result.lexemes c.old.inside.lexemes.items ++ map (later c.begin_of-begin.result.at) xs) c.given_after-more.ensures in
-    record { lexemes = ap (map lexeme_view) lexemes ∙ made.lexemes; fault = subst (λ f. IsFaultIn c.args.code_map.now f c.in-Ok-exception_of.fault) (sym made.fault) (c.in-Ok-exception_of.ensures.exception (outcome (drop c.begin_of-begin.result.at c.args.edited.now)).fault part.fault) }
+    record { lexemes = ap (map lexeme_view) lexemes ∙ made.lexemes; fault = subst (λ f. IsFaultIn c.args.code_map.now f c.in-Ok-exception_of.fault) (sym made.fault) (c.in-Ok-exception_of.ensures.exception c.set_text.new.self.code_map (outcome (drop c.begin_of-begin.result.at c.args.edited.now)).fault part.fault) }
 
 pub returns-clause-reads : goal.returns-clause-reads
 returns-clause-reads c =
     let begin : IsBegin c.old.inside.text.now c.old.inside.cuts.items c.args.from c.begin_of-begin.result = subst (λ (xs : List Cut). IsBegin c.old.inside.text.now xs c.args.from c.begin_of-begin.result) c.deref.ensures.value (c.begin_of-begin.ensures c.old.inside.text.now (subst (AreCuts c.old.inside.text.now) (sym c.deref.ensures.value) c.old.invariant.2)) in
-    let rest : length c.range_from-rest.result.now ≡ length c.args.edited.now - c.begin_of-begin.result.at = ap length c.range_from-rest.ensures.value ∙ length-drop c.begin_of-begin.result.at c.args.edited.now in
+    let rest : length c.set_text.new.self.text.now ≡ length c.args.edited.now - c.begin_of-begin.result.at = ap length (ap (λ (v : LexerView). v.text) c.set_text.ensures.begun.view ∙ c.range_from-rest.ensures.value) ∙ length-drop c.begin_of-begin.result.at c.args.edited.now in
     let lexemes : c.append_later.new.lexemes.items ≡ take c.kept_of-kept.result.lexemes c.old.inside.lexemes.items ++ map (later c.begin_of-begin.result.at) c.given_after-more.result.items =
     c.append_later.ensures ∙ ap (λ xs. take c.kept_of-kept.result.lexemes xs ++ map (later c.begin_of-begin.result.at) c.given_after-more.result.items) c.make_room.ensures.same in
     let made : LexedView = record { text = c.args.edited.now; lexemes = map lexeme_view c.append_later.new.lexemes.items; fault = c.in-Ok-exception_of.fault; reads = c.in-Ok.part.reads } in

@@ -1,9 +1,9 @@
-use Rattle.std.proofs.Common.{arith}
+use Rattle.std.proofs.Common.{ap, ◌≤◌, ◌+◌, ◌*◌, length, subst, sym}
+use Rattle.starlark_syntax.specs.Lexer.{LexerView}
+use Rattle.starlark_token.specs.TextItems.{items}
+use Rattle.starlark_grammar.specs.Words.{Text}
 use Rattle.starlark_syntax.proofs.LexerItems.{items_few}
 use Rattle.starlark_syntax.proofs.lexemes.Lexer.new.Goals as goal
 
 pub returns-clause-few : goal.returns-clause-few
-returns-clause-few c = items_few c.args.input.now
-
-pub invariant_of-result : goal.invariant_of-result
-invariant_of-result c = (omega (arith, c.if-input.false), (λ on. (omega (arith), c.new.ensures.ahead c.args.input.now)), tt, (λ on. (0, omega (arith), c.new.ensures.reads c.args.input.now)), omega (arith))
+returns-clause-few c = subst (λ (t : Text). length (items t) ≤ 2 * length c.args.input.now + 1) (sym (ap (λ (v : LexerView). v.text) c.new.ensures.begun.view)) (items_few c.args.input.now)

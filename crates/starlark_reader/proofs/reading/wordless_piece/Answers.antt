@@ -1,0 +1,28 @@
+use Rattle.std.proofs.Common.{◌≡◌, ◌&&◌, Bool, true, false, ap, length, refl, take, ◌∙◌}
+use Rattle.starlark_grammar.specs.Pieces.{Situation, is_bang, takes_bang}
+use Rattle.starlark_grammar.specs.Tokens.{FStringBang}
+use Rattle.starlark_nesting.specs.Inner.Nesting.{mode_view}
+use Rattle.starlark_reader.specs.Inner.Pieces.{IsAfter}
+use Rattle.starlark_token.specs.TokenViews.{token_view}
+use Rattle.starlark_reader.proofs.Pieces.CodePlaces.{bang_by, bang_in_code, bang_in_two, in_code_none}
+use Rattle.starlark_reader.proofs.Pieces.PieceReads.{wordless_reads}
+use Rattle.starlark_reader.proofs.reading.wordless_piece.Goals as goal
+use Rattle.starlark_reader.proofs.reading.wordless_piece.Goals.{After-bang_stands}
+
+-- whether a bang stands, by the situation and the text
+stands_by : (c : After-bang_stands) → (known : Bool) → c.bang_stands.result ≡ known → (s : Situation) → s.place ≡ mode_view c.args.place → IsAfter c.args.follows_gap s.before → (takes_bang s.place s.before && is_bang c.args.text.now) ≡ known
+stands_by c known e s here behind =
+    let front = ap is_bang c.front.ensures.bytes ∙ ap (λ t. is_bang (take 2 t)) c.as_bytes.ensures.value ∙ bang_in_two c.args.text.now in
+    bang_by s c.args.text.now (mode_view c.args.place) c.bang_stands.result known here (c.bang_stands.ensures s.before behind ∙ ap (λ b. takes_bang (mode_view c.args.place) s.before && b) front) e
+
+pub returns-then-bang_stands-clause-piece : goal.returns-then-bang_stands-clause-piece
+unfolding token_view
+returns-then-bang_stands-clause-piece c = λ s here behind.
+    (FStringBang, refl, refl, bang_in_code s c.args.text.now (stands_by (goal.at.returns-then-bang_stands-clause-piece c).After-bang_stands true c.if-bang_stands.true s here behind))
+
+pub returns-clause-piece : goal.returns-clause-piece
+returns-clause-piece c = λ s here behind.
+    rw (in_code_none s c.args.text.now c.requires.some c.requires.none (stands_by (goal.at.returns-clause-piece c).After-bang_stands false c.if-bang_stands.false s here behind)) c.in_ok-invalid_input.ensures.step
+
+pub returns-clause-reads : goal.returns-clause-reads
+returns-clause-reads c = wordless_reads (length c.args.text.now) c.in_ok-invalid_input.field-0 _ _ _ c.front.ensures.reads c.in_ok-invalid_input.ensures.reads

@@ -1,0 +1,78 @@
+use Rattle.std.proofs.Common.{◌+◌, ◌≤◌, ◌^◌, arith, drop, map, rules, subst}
+use Rattle.std.proofs.lemmas.List.{length-map}
+use Rattle.starlark_token.specs.Lexemes.{shown_lexeme}
+use Rattle.starlark_grammar.specs.Reading.{outcome}
+use Rattle.starlark_reader.specs.Inner.Reader.{IsNext}
+use Rattle.starlark_reader.specs.Inner.Reads.{HasReadNext}
+use Rattle.starlark_reader.specs.declared.reader.Next.{Next}
+use Rattle.starlark_reader.specs.declared.reader.Next.TheVariants as next
+use Rattle.starlark_syntax.proofs.LexerItems.{one_more}
+use Rattle.starlark_grammar.proofs.Order.Inside.{fault_within, lexemes_few}
+use Rattle.starlark_syntax.specs.Inner.LexerStates.{left_in}
+use Rattle.starlark_syntax.proofs.LexerReads.{found_out, goes_on, spared}
+use Rattle.starlark_syntax.proofs.lexer_state.LexerState.next_of_reader.Goals as goal
+
+pub overflow_add-self : goal.overflow_add-self
+overflow_add-self c =
+    let inv = c.requires.lexing.1 c.requires.going in
+    let few = lexemes_few c.args.self.now.text.now c.requires.lexing.0 in
+    let small : c.args.self.now.yielded_count + 1 ≤ 2 ^ 34 = omega (arith, inv.0, few) in
+    search (rules, small)
+
+pub overflow_add-self-in-Ok : goal.overflow_add-self-in-Ok
+overflow_add-self-in-Ok c =
+    let inv = c.requires.lexing.1 c.requires.going in
+    let few = lexemes_few c.args.self.now.text.now c.requires.lexing.0 in
+    let small : c.args.self.now.yielded_count + 1 ≤ 2 ^ 34 = omega (arith, inv.0, few) in
+    search (rules, small)
+
+pub returns-in-Ok-Lexeme-clause-lexing : goal.returns-in-Ok-Lexeme-clause-lexing
+returns-in-Ok-Lexeme-clause-lexing c =
+    let inv = c.requires.lexing.1 c.requires.going in
+    let is : IsNext c.args.self.now.text.now (drop c.args.self.now.yielded_count (map shown_lexeme (outcome c.args.self.now.text.now).lexemes)) (outcome c.args.self.now.text.now).fault (next.Lexeme c.in-Ok-Lexeme.lexeme) c.next.new.self = subst (λ (n : Next). IsNext c.args.self.now.text.now (drop c.args.self.now.yielded_count (map shown_lexeme (outcome c.args.self.now.text.now).lexemes)) (outcome c.args.self.now.text.now).fault n c.next.new.self) c.in-Ok-Lexeme.field-0-is (c.in-Ok-Lexeme.ensures.next _ _ inv.1) in
+    let further = one_more (map shown_lexeme (outcome c.args.self.now.text.now).lexemes) c.args.self.now.yielded_count _ is.0 is.1 in
+    let paid = spared c.args.self.now.text.now c.args.self.now.reader c.args.self.now.looked_to c.args.self.now.looked (c.requires.lexing.3 c.requires.going) in
+    let read = subst (λ (n : Next). HasReadNext c.args.self.now.text.now paid.0 n c.next.new.self) c.in-Ok-Lexeme.field-0-is (c.in-Ok-Lexeme.ensures.reads paid.0 paid.2) in (
+      c.requires.lexing.0,
+      (λ on. (omega (arith, further.0, length-map (outcome c.args.self.now.text.now).lexemes shown_lexeme), rw further.1 is.2)),
+      goes_on c.looked_behind-self.result _ c.requires.going,
+      (λ on. found_out c.args.self.now.text.now c.next.new.self c.args.self.now.looked_to paid.0 c.looked_behind-self.result c.looked_behind-self.ensures is.2.is_pending (omega (arith, paid.1)) read),
+      c.requires.lexing.4,
+    )
+
+pub exception-requires-clause-order : goal.exception-requires-clause-order
+exception-requires-clause-order c =
+    let inv = c.requires.lexing.1 c.requires.going in
+    let is : IsNext c.args.self.now.text.now (drop c.args.self.now.yielded_count (map shown_lexeme (outcome c.args.self.now.text.now).lexemes)) (outcome c.args.self.now.text.now).fault (next.Fault c.in-Ok-Fault.begin c.in-Ok-Fault.fault c.in-Ok-Fault.end) c.next.new.self = subst (λ (n : Next). IsNext c.args.self.now.text.now (drop c.args.self.now.yielded_count (map shown_lexeme (outcome c.args.self.now.text.now).lexemes)) (outcome c.args.self.now.text.now).fault n c.next.new.self) c.in-Ok-Fault.field-0-is (c.in-Ok-Fault.ensures.next _ _ inv.1) in
+    (fault_within c.args.self.now.text.now _ is.3).0
+
+pub exception-requires-clause-fits : goal.exception-requires-clause-fits
+exception-requires-clause-fits c =
+    let inv = c.requires.lexing.1 c.requires.going in
+    let is : IsNext c.args.self.now.text.now (drop c.args.self.now.yielded_count (map shown_lexeme (outcome c.args.self.now.text.now).lexemes)) (outcome c.args.self.now.text.now).fault (next.Fault c.in-Ok-Fault.begin c.in-Ok-Fault.fault c.in-Ok-Fault.end) c.next.new.self = subst (λ (n : Next). IsNext c.args.self.now.text.now (drop c.args.self.now.yielded_count (map shown_lexeme (outcome c.args.self.now.text.now).lexemes)) (outcome c.args.self.now.text.now).fault n c.next.new.self) c.in-Ok-Fault.field-0-is (c.in-Ok-Fault.ensures.next _ _ inv.1) in
+    let within = fault_within c.args.self.now.text.now _ is.3 in
+    omega (arith, within.1, c.requires.lexing.0)
+
+pub returns-in-Ok-Nothing-clause-lexing : goal.returns-in-Ok-Nothing-clause-lexing
+returns-in-Ok-Nothing-clause-lexing c =
+    let inv = c.requires.lexing.1 c.requires.going in
+    let is : IsNext c.args.self.now.text.now (drop c.args.self.now.yielded_count (map shown_lexeme (outcome c.args.self.now.text.now).lexemes)) (outcome c.args.self.now.text.now).fault next.Nothing c.next.new.self = subst (λ (n : Next). IsNext c.args.self.now.text.now (drop c.args.self.now.yielded_count (map shown_lexeme (outcome c.args.self.now.text.now).lexemes)) (outcome c.args.self.now.text.now).fault n c.next.new.self) c.in-Ok-Nothing.field-0-is (c.in-Ok-Nothing.ensures.next _ _ inv.1) in
+    let paid = spared c.args.self.now.text.now c.args.self.now.reader c.args.self.now.looked_to c.args.self.now.looked (c.requires.lexing.3 c.requires.going) in
+    let read = subst (λ (n : Next). HasReadNext c.args.self.now.text.now paid.0 n c.next.new.self) c.in-Ok-Nothing.field-0-is (c.in-Ok-Nothing.ensures.reads paid.0 paid.2) in
+    (c.requires.lexing.0, (λ on. (inv.0, rw (is.0, is.1) is.2)), tt, (λ on. (paid.0, paid.1, read.0)), c.requires.lexing.4)
+
+pub returns-in-Ok-clause-answer : goal.returns-in-Ok-clause-answer
+returns-in-Ok-clause-answer c =
+    let inv = c.requires.lexing.1 c.requires.going in
+    let is : IsNext c.args.self.now.text.now (left_in c.args.self.now) (outcome c.args.self.now.text.now).fault (next.Fault c.in-Ok-Fault.begin c.in-Ok-Fault.fault c.in-Ok-Fault.end) c.next.new.self = subst (λ (n : Next). IsNext c.args.self.now.text.now (left_in c.args.self.now) (outcome c.args.self.now.text.now).fault n c.next.new.self) c.in-Ok-Fault.field-0-is (c.in-Ok-Fault.ensures.next _ _ inv.1) in
+    let paid = spared c.args.self.now.text.now c.args.self.now.reader c.args.self.now.looked_to c.args.self.now.looked (c.requires.lexing.3 c.requires.going) in
+    let read = subst (λ (n : Next). HasReadNext c.args.self.now.text.now paid.0 n c.next.new.self) c.in-Ok-Fault.field-0-is (c.in-Ok-Fault.ensures.reads paid.0 paid.2) in
+    (is.2, (_, is.3, (c.in-Ok-Fault.fault, is.1, c.in-Ok.ensures)), is.4, omega (arith, paid.1, read, c.requires.lexing.4))
+
+pub returns-in-Ok-Nothing-clause-answer : goal.returns-in-Ok-Nothing-clause-answer
+returns-in-Ok-Nothing-clause-answer c =
+    let inv = c.requires.lexing.1 c.requires.going in
+    let is : IsNext c.args.self.now.text.now (left_in c.args.self.now) (outcome c.args.self.now.text.now).fault next.Nothing c.next.new.self = subst (λ (n : Next). IsNext c.args.self.now.text.now (left_in c.args.self.now) (outcome c.args.self.now.text.now).fault n c.next.new.self) c.in-Ok-Nothing.field-0-is (c.in-Ok-Nothing.ensures.next _ _ inv.1) in
+    let paid = spared c.args.self.now.text.now c.args.self.now.reader c.args.self.now.looked_to c.args.self.now.looked (c.requires.lexing.3 c.requires.going) in
+    let read = subst (λ (n : Next). HasReadNext c.args.self.now.text.now paid.0 n c.next.new.self) c.in-Ok-Nothing.field-0-is (c.in-Ok-Nothing.ensures.reads paid.0 paid.2) in
+    (is.0, is.1, is.3, read.1, omega (arith, paid.1, read.2, c.requires.lexing.4))

@@ -1,0 +1,89 @@
+use Rattle.std.proofs.Common.{◌≡◌, ◌∙◌, ◌+◌, ◌*◌, ◌≤◌, ◌^◌, arith, map, rules}
+use Rattle.std.proofs.lemmas.List.{length-map}
+use Rattle.starlark_token.specs.Lexemes.{shown_lexeme}
+use Rattle.starlark_grammar.specs.Reading.{outcome}
+use Rattle.starlark_syntax.proofs.LexerItems.{one_more}
+use Rattle.starlark_grammar.proofs.Order.Inside.{lexemes_few}
+use Rattle.starlark_reader.proofs.Pieces.PieceTaken.{left_onward}
+use Rattle.starlark_reader.proofs.Pieces.ReaderReads.{here_reads, here_taken_reads}
+use Rattle.starlark_syntax.proofs.LexerReads.{found_out, goes_on, spared}
+use Rattle.starlark_syntax.proofs.lexer_state.LexerState.next_waiting.Goals as goal
+
+pub overflow_add-self : goal.overflow_add-self
+overflow_add-self c =
+    let inv = c.requires.lexing.1 c.requires.going in
+    let few = lexemes_few c.args.self.now.text.now c.requires.lexing.0 in
+    let small : c.args.self.now.yielded_count + 1 ≤ 2 ^ 34 = omega (arith, inv.0, few) in
+    search (rules, small)
+
+pub returns-in-Ok-clause-lexing : goal.returns-in-Ok-clause-lexing
+returns-in-Ok-clause-lexing c =
+    let inv = c.requires.lexing.1 c.requires.going in
+    let is = c.in-Ok.ensures.ahead _ _ inv.1 in
+    let further = one_more (map shown_lexeme (outcome c.args.self.now.text.now).lexemes) c.args.self.now.yielded_count _ is.0 is.1 in
+    let paid = spared c.args.self.now.text.now c.args.self.now.reader c.args.self.now.looked_to c.args.self.now.looked (c.requires.lexing.3 c.requires.going) in (
+      c.requires.lexing.0,
+      (λ on. (omega (arith, further.0, length-map (outcome c.args.self.now.text.now).lexemes shown_lexeme), rw further.1 is.2)),
+      goes_on c.looked_behind-self.result _ c.requires.going,
+      (λ on. found_out c.args.self.now.text.now c.next_comment.new.self c.args.self.now.looked_to paid.0 c.looked_behind-self.result c.looked_behind-self.ensures is.2.is_pending (omega (arith, paid.1)) (c.in-Ok.ensures.reads paid.0 paid.2)),
+      c.requires.lexing.4,
+    )
+
+pub overflow_add-self-in-Some : goal.overflow_add-self-in-Some
+overflow_add-self-in-Some c =
+    let inv = c.requires.lexing.1 c.requires.going in
+    let few = lexemes_few c.args.self.now.text.now c.requires.lexing.0 in
+    let small : c.args.self.now.yielded_count + 1 ≤ 2 ^ 34 = omega (arith, inv.0, few) in
+    search (rules, small)
+
+pub returns-in-Some-clause-lexing : goal.returns-in-Some-clause-lexing
+returns-in-Some-clause-lexing c =
+    let inv = c.requires.lexing.1 c.requires.going in
+    let is = c.in-Some.ensures.ahead c.args.self.now.text.now _ _ inv.1 in
+    let further = one_more (map shown_lexeme (outcome c.args.self.now.text.now).lexemes) c.args.self.now.yielded_count _ is.0 is.1 in
+    let paid = spared c.args.self.now.text.now c.args.self.now.reader c.args.self.now.looked_to c.args.self.now.looked (c.requires.lexing.3 c.requires.going) in (
+      c.requires.lexing.0,
+      (λ on. (omega (arith, further.0, length-map (outcome c.args.self.now.text.now).lexemes shown_lexeme), rw further.1 is.2)),
+      goes_on c.looked_behind-self-in-Some.result _ c.requires.going,
+      (λ on. found_out c.args.self.now.text.now c.next_mark.new.self c.args.self.now.looked_to paid.0 c.looked_behind-self-in-Some.result c.looked_behind-self-in-Some.ensures is.2.is_pending (omega (arith, paid.1)) (c.in-Some.ensures.reads c.args.self.now.text.now paid.0 paid.2)),
+      c.requires.lexing.4,
+    )
+
+pub overflow_add-self-in-Ok-take_text : goal.overflow_add-self-in-Ok-take_text
+overflow_add-self-in-Ok-take_text c =
+    let inv = c.requires.lexing.1 c.requires.going in
+    let few = lexemes_few c.args.self.now.text.now c.requires.lexing.0 in
+    let small : c.args.self.now.yielded_count + 1 ≤ 2 ^ 34 = omega (arith, inv.0, few) in
+    search (rules, small)
+
+pub returns-in-Ok-take_text-clause-lexing : goal.returns-in-Ok-take_text-clause-lexing
+returns-in-Ok-take_text-clause-lexing c =
+    let inv = c.requires.lexing.1 c.requires.going in
+    let is = c.in-Ok-take_text.ensures.ahead _ _ (c.plain_text.ensures.ahead _ _ (c.in_default.ensures.ahead c.args.self.now.text.now _ _ inv.1)) in
+    let further = one_more (map shown_lexeme (outcome c.args.self.now.text.now).lexemes) c.args.self.now.yielded_count _ is.0 is.1 in
+    let paid = spared c.args.self.now.text.now c.args.self.now.reader c.args.self.now.looked_to c.args.self.now.looked (c.requires.lexing.3 c.requires.going) in
+    let marked = c.in_default.ensures.reads c.args.self.now.text.now paid.0 paid.2 in
+    let found = c.in-Ok-plain_text.found in
+    let some = c.in-Ok-plain_text.ensures.some in
+    let read = here_taken_reads c.args.self.now.text.now paid.0 (found.len + 3) (2 * found.len + 4) (found.len + found.stop_len) c.next_mark.new.self c.plain_text.new.self c.take_text.new.self (c.reads_on.ensures.stage c.if-not-reads_on.false) marked c.in-Ok-plain_text.ensures.looked
+    (omega (arith, some.1)) (omega (arith, some.0)) c.in-Ok-take_text.ensures.passed in (
+      c.requires.lexing.0,
+      (λ on. (omega (arith, further.0, length-map (outcome c.args.self.now.text.now).lexemes shown_lexeme), rw further.1 is.2)),
+      goes_on c.looked_behind-self-in-Ok-take_text.result _ c.requires.going,
+      (λ on. found_out c.args.self.now.text.now c.take_text.new.self c.args.self.now.looked_to paid.0 c.looked_behind-self-in-Ok-take_text.result c.looked_behind-self-in-Ok-take_text.ensures is.2.is_pending (omega (arith, paid.1)) read),
+      c.requires.lexing.4,
+    )
+
+pub next_of_reader-requires-in-Err-plain_text-clause-lexing : goal.next_of_reader-requires-in-Err-plain_text-clause-lexing
+next_of_reader-requires-in-Err-plain_text-clause-lexing c =
+    let inv = c.requires.lexing.1 c.requires.going in
+    let paid = spared c.args.self.now.text.now c.args.self.now.reader c.args.self.now.looked_to c.args.self.now.looked (c.requires.lexing.3 c.requires.going) in
+    let marked = c.in_default.ensures.reads c.args.self.now.text.now paid.0 paid.2 in
+    let other = c.in-Err-plain_text.ensures.other in
+    let here = other.1 in
+    let ahead = c.in_default.ensures.ahead c.args.self.now.text.now _ _ inv.1 in
+    let inside = (left_onward c.args.self.now.text.now c.next_mark.new.self _ _ (c.reads_on.ensures.stage c.if-not-reads_on.false) ahead).is_left.1.inside in
+    let behind : c.args.self.now.looked_to ≤ c.next_mark.new.self.at = omega (arith, c.if-at-self.false, c.at.ensures) in
+    let at : c.at-in-Err-plain_text.result ≡ c.next_mark.new.self.at = c.at-in-Err-plain_text.ensures ∙ here.0 in
+    let read = here_reads c.args.self.now.text.now paid.0 0 (2 * c.in-Err-plain_text.run' + 4) c.next_mark.new.self c.plain_text.new.self marked here in
+    (c.requires.lexing.0, (λ on. (inv.0, c.plain_text.ensures.ahead _ _ ahead)), tt, (λ on. (paid.0 + (2 * c.in-Err-plain_text.run' + 4), omega (arith, paid.1, behind, at), read)), omega (arith, inside, at, other.0))

@@ -1,0 +1,14 @@
+use Rattle.std.proofs.Common.{◌≡◌, ap, arith}
+use Rattle.starlark_syntax.specs.Lexer.{LexerView}
+use Rattle.starlark_syntax.proofs.lexer_state.LexerState.set_text.Goals as goal
+
+pub returns-clause-lexing : goal.returns-clause-lexing
+returns-clause-lexing c =
+    let none : c.args.self.now.yielded_count ≡ 0 = ap (λ (v : LexerView). v.yielded_count) c.requires.unread.view in
+    let begun = c.requires.unread in (
+      c.requires.fits,
+      (λ on. (omega (arith, none), rw none (begun.ahead c.args.text.now))),
+      rw begun.looked tt,
+      (λ on. rw begun.looked (0, omega arith, begun.reads c.args.text.now)),
+      omega (arith, begun.place),
+    )

@@ -1,0 +1,60 @@
+-- What is ahead of a text that is lexed so far, and what a call answers of it.
+use Rattle.std.specs.Prelude.{◌≡◌, ◌≤◌, ◌<◌, ◌+◌, ◌^◌, ℕ, false, List, [], drop, length, map, Option, None, Some, Result, Ok, Err}
+use Rattle.starlark_base.specs.Diagnostics.{Diagnosed}
+use Rattle.starlark_base.specs.Sources.{SourceFile}
+use Rattle.starlark_bytes.specs.Inner.Reads.{more_reads}
+use Rattle.starlark_grammar.specs.Reading.{outcome}
+use Rattle.starlark_grammar.specs.Tokens.{Fault, Spanned}
+use Rattle.starlark_grammar.specs.Words.{Text}
+use Rattle.starlark_reader.specs.Inner.Reader.{IsAhead, IsAheadAfter, IsSomething, IsStateAfter, begins_with_tab, has_read_none, history_of}
+use Rattle.starlark_reader.specs.Inner.Reads.{HasRead}
+use Rattle.starlark_syntax.specs.Exceptions.{IsException}
+use Rattle.starlark_syntax.specs.Inner.Looked.{GoesOn, IsLooked}
+use Rattle.starlark_syntax.specs.Lexer.{LexerView, most_reads}
+use Rattle.starlark_syntax.specs.declared.error.kinds.ErrorKind.{ErrorKind}
+use Rattle.starlark_syntax.specs.declared.lexer_state.LexerState.{LexerState}
+use Rattle.starlark_syntax.specs.declared.lexer_state.Looked.TheVariants as looked
+use Rattle.starlark_text.specs.declared.or_memory.OrMemory.{OrMemory}
+use Rattle.starlark_text.specs.declared.or_memory.OrMemory.TheVariants.{Error, Memory}
+use Rattle.starlark_token.specs.Lexemes.{shown_lexeme}
+use Rattle.starlark_token.specs.TokenViews.{TokenView}
+use Rattle.starlark_token.specs.declared.tokens.Token.{Token}
+
+-- the lexemes of the text that weren't yielded yet
+abbrev pub left_in : LexerState → List (Spanned TokenView)
+left_in state = drop state.yielded_count (map shown_lexeme (outcome state.text.now).lexemes)
+
+-- the state as users of a lexer see it
+abbrev pub view_of : LexerState → LexerView
+view_of state = record { text = state.text.now; code_map = state.code_map; yielded_count = state.yielded_count; has_ended = state.has_ended; reads = state.reader.reads }
+
+-- What the reader has ahead are the lexemes that weren't yielded yet, and the fault after them; and what was read is paid
+-- for. After an error nothing of this is known.
+abbrev pub IsLexing : LexerState → Type 0
+IsLexing state =
+    (length state.text.now < 2 ^ 32)
+    × (state.has_ended ≡ false → (state.yielded_count ≤ length (outcome state.text.now).lexemes)
+    × IsAhead state.text.now state.reader state.reader.stage (left_in state) (outcome state.text.now).fault)
+    × GoesOn state.looked state.has_ended
+    × (state.has_ended ≡ false → IsLooked state.text.now state.reader state.looked_to state.looked)
+    × (state.looked_to ≤ length state.text.now + 1)
+
+-- Lexing a text has begun, and nothing was looked at yet: the reader has all of any text ahead.
+pub record IsBegun (text : Text) (file : SourceFile) (state : LexerState) : Type 0 where
+  pub view : view_of state ≡ record { text = text; code_map = file; yielded_count = 0; has_ended = false; reads = 0 }
+  pub ahead : (any : Text) → IsAhead any state.reader state.reader.stage (map shown_lexeme (outcome any).lexemes) (outcome any).fault
+  pub reads : (any : Text) → HasRead any 0 state.reader
+  pub looked : state.looked ≡ looked.All
+  pub place : state.looked_to ≡ 0
+
+-- What a call answers: the first lexeme that is left, or the exception of the fault where none is, or nothing where there is
+-- neither; or out of memory in the place of a lexeme or the fault.
+abbrev pub HasAnswered : LexerState → Option (Result (ℕ × Token × ℕ) (OrMemory (Diagnosed ErrorKind))) → LexerState → Type 0
+HasAnswered old (Some (Ok lexeme)) new = IsAheadAfter old.text.now (Some lexeme) new.reader (left_in old) (outcome old.text.now).fault
+HasAnswered old (Some (Err (Error exception))) new =
+    (left_in old ≡ []) × ((fault : Spanned Fault) × ((outcome old.text.now).fault ≡ Some fault) × IsException old.code_map fault exception)
+    × (has_read_none new.reader ≡ begins_with_tab old.text.now) × (new.reader.reads ≤ most_reads old.text.now)
+HasAnswered old (Some (Err Memory)) new = IsSomething (left_in old) (outcome old.text.now).fault
+HasAnswered old None new =
+    (left_in old ≡ []) × ((outcome old.text.now).fault ≡ None) × IsStateAfter old.text.now (history_of old.text.now) new.reader
+    × (more_reads 0 (length old.text.now) ≤ new.reader.reads) × (new.reader.reads < most_reads old.text.now)

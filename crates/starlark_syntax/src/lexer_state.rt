@@ -1,0 +1,546 @@
+//! Lexes a text lexeme by lexeme. The fast path decides by the first bytes of a lexeme; what these
+//! don't determine comes from the reader.
+
+ghost use Rattle.std.specs.Prelude.{◌≡◌, ◌<◌, ◌≤◌, ◌+◌, ◌-◌, ◌^◌, ◌&&◌, ◌||◌, ℕ, None, Some, codes, length, nat_eq, true, false, IfSome};
+ghost use Rattle.std.specs.List.{ends_with};
+ghost use Rattle.starlark_grammar.specs.Cuts.{is_settled};
+ghost use Rattle.starlark_grammar.specs.Reading.{History};
+ghost use Rattle.starlark_reader.specs.Inner.MarginCuts.{IsCutBefore};
+ghost use Rattle.starlark_reader.specs.Inner.Reader.{IsReached, IsStateAfter, has_read_none};
+ghost use Rattle.starlark_syntax.specs.Inner.LexerStates.{HasAnswered, IsBegun, IsLexing, left_in, view_of};
+ghost use Rattle.starlark_syntax.specs.Lexer.{is_ended_by, yielded_by};
+ghost use Rattle.starlark_syntax.specs.Inner.Looked.{HasOpened, IsFoundBehindMargin, IsFoundFurther, IsFoundFurtherInCode, IsFoundInCode, IsFoundOut, is_front, is_nothing, is_text_opener, looked_len};
+
+use crate::eval_exception::EvalException;
+use crate::fault_exception::exception;
+use starlark_base::codemap::{CodeMap, OrMemory};
+use starlark_reader::reader::{LineEnd, Next, Reader};
+use starlark_scanner::scanner::{Class, LiteralKind, ShortWord, TextOpener, Word};
+use starlark_token::tokens::Token;
+use std::alloc::Global;
+
+/// An item of a lexer: begin in bytes, token, end in bytes; or the fault, or out of memory.
+pub type Lexeme = Result<(usize, Token, usize), OrMemory<EvalException>>;
+
+/// The state of lexing a text, which `Lexer` and `LexedText` share.
+///
+/// It yields the lexemes of the text one by one, and the exception of the fault after them. Any error
+/// ends it. Below the offset `looked_to` lookahead has found no word, so the reader takes over there:
+/// no byte is looked ahead at twice.
+#[derive(Drop)]
+pub struct LexerState<'a> {
+    alloc: Global,
+    text: &'a str,
+    code_map: CodeMap,
+    reader: Reader,
+    yielded_count: usize,
+    has_ended: bool,
+    looked: Looked,
+    looked_to: usize,
+}
+
+/// How much lookahead the fast path has spent at the current offset.
+#[derive(Clone, Copy)]
+enum Looked {
+    /// None. The lexer is in code, and no token is pending.
+    Nothing,
+    /// The first two bytes, which don't determine the lexeme, or open a text literal.
+    Front,
+    /// All that it can use, or the lexer isn't in code: the reader gives the lexeme.
+    All,
+}
+
+/// Lookahead state after an operator of one byte: only the bracket depth can have changed it.
+#[inline(always)]
+fn looked_in_code(reader: &Reader) -> Looked
+    ensures { IsFoundInCode reader.now result }
+{
+    if reader.is_in_code() {
+        Looked::Nothing
+    } else {
+        Looked::All
+    }
+}
+
+/// Lookahead state after a lexeme that leaves the lexer in code.
+#[inline(always)]
+fn looked_further(reader: &Reader, looked_to: usize) -> Looked
+    ensures { IsFoundFurther reader.now looked_to result }
+{
+    if looked_to <= reader.at() {
+        Looked::Nothing
+    } else {
+        Looked::All
+    }
+}
+
+/// Lookahead state after an operator that the fast path took after more lookahead.
+#[inline(always)]
+fn looked_further_in_code(reader: &Reader, looked_to: usize) -> Looked
+    ensures { IsFoundFurtherInCode reader.now looked_to result }
+{
+    if looked_to <= reader.at() && reader.is_in_code() {
+        Looked::Nothing
+    } else {
+        Looked::All
+    }
+}
+
+/// Lookahead state after a `Newline`: its margin may leave tokens or comments pending.
+#[inline(always)]
+fn looked_behind_margin(reader: &Reader, looked_to: usize) -> Looked
+    ensures { IsFoundBehindMargin reader.now looked_to result }
+{
+    if looked_to <= reader.at() && reader.is_idle() {
+        Looked::Nothing
+    } else {
+        Looked::All
+    }
+}
+
+impl Looked {
+    /// Whether no lookahead was spent.
+    #[inline(always)]
+    fn is_nothing(self) -> bool
+        ensures { result ≡ is_nothing self }
+    {
+        matches!(self, Looked::Nothing)
+    }
+
+    /// Whether the lookahead was the first two bytes.
+    #[inline(always)]
+    fn is_front(self) -> bool
+        ensures { result ≡ is_front self }
+    {
+        matches!(self, Looked::Front)
+    }
+}
+
+/// Whether a word of a class opens a text literal.
+#[inline(always)]
+fn is_text_opener(class: Class) -> bool
+    ensures { result ≡ is_text_opener class }
+{
+    matches!(
+        class,
+        Class::Opener {
+            kind: LiteralKind::Text,
+            ..
+        }
+    )
+}
+
+/// Number of bytes of lookahead for a word that `common_word` found and the loop doesn't take. For an
+/// opener of a text literal, or a word of one byte, it is one more than the word has.
+#[inline(always)]
+fn looked_len(is_text: bool, len: usize) -> usize
+    requires { len < 2 ^ 33 }
+    ensures { result ≡ looked_len is_text len }
+{
+    if is_text || len == 1 { len + 1 } else { len }
+}
+
+/// Lookahead state after any lexeme. Below `looked_to` it is spent.
+#[inline(always)]
+fn looked_behind(reader: &Reader, looked_to: usize) -> Looked
+    ensures { IsFoundOut reader.now looked_to result }
+{
+    if looked_to <= reader.at() && reader.is_at_code() {
+        Looked::Nothing
+    } else {
+        Looked::All
+    }
+}
+
+impl<'a> LexerState<'a> {
+    /// Lexing that begins at the start of a text. It doesn't allocate.
+    pub fn new(alloc: Global, text: &'a str, code_map: CodeMap) -> LexerState<'a>
+        requires { length text.now < 2 ^ 32 }
+        ensures lexing { IsLexing result }
+        ensures begun { IsBegun text.now code_map result }
+    {
+        LexerState {
+            alloc,
+            text,
+            code_map,
+            reader: Reader::new(alloc),
+            yielded_count: 0,
+            has_ended: false,
+            looked: Looked::All,
+            looked_to: 0,
+        }
+    }
+
+    /// Lexes another text instead, of which nothing was read yet either.
+    pub fn set_text(&mut self, text: &'a str)
+        requires fits { length text.now < 2 ^ 32 }
+        requires unread { IsBegun self.old.text.now self.old.code_map self.old }
+        requires lexing { IsLexing self.old }
+        ensures lexing { IsLexing self.new }
+        ensures begun { IsBegun text.now self.old.code_map self.new }
+    {
+        self.text = text;
+    }
+
+    /// Next lexeme by the slow path: the reader's.
+    #[inline(always)]
+    fn next_of_reader(&mut self) -> Option<Lexeme>
+        requires lexing { IsLexing self.old }
+        requires going { self.old.has_ended ≡ false }
+        ensures answer { HasAnswered self.old result self.new }
+        ensures lexing { IsLexing self.new }
+        ensures after { view_of self.new ≡ record (view_of self.old) { yielded_count = self.old.yielded_count + yielded_by result; has_ended = is_ended_by result; reads = self.new.reader.reads } }
+    {
+        match self.reader.next(self.text) {
+            Ok(Next::Lexeme(lexeme)) => {
+                self.yielded_count += 1;
+                self.looked = looked_behind(&self.reader, self.looked_to);
+                Some(Ok(lexeme))
+            }
+            Ok(Next::Fault { begin, fault, end }) => {
+                self.has_ended = true;
+                self.looked = Looked::All;
+                match exception(self.alloc, begin, fault, end, &self.code_map) {
+                    Ok(exception) => {
+                        self.yielded_count += 1;
+                        Some(Err(OrMemory::Error(exception)))
+                    }
+                    Err(_) => Some(Err(OrMemory::Memory)),
+                }
+            }
+            Ok(Next::Nothing) => {
+                self.looked = Looked::All;
+                None
+            }
+            Err(_) => {
+                self.has_ended = true;
+                self.looked = Looked::All;
+                Some(Err(OrMemory::Memory))
+            }
+        }
+    }
+
+    /// Next lexeme where lookahead is spent. Pending comments and tokens, and plain text of an f-string,
+    /// don't need the reader.
+    #[inline(always)]
+    fn next_waiting(&mut self) -> Option<Lexeme>
+        requires lexing { IsLexing self.old }
+        requires going { self.old.has_ended ≡ false }
+        ensures answer { HasAnswered self.old result self.new }
+        ensures lexing { IsLexing self.new }
+        ensures after { view_of self.new ≡ record (view_of self.old) { yielded_count = self.old.yielded_count + yielded_by result; has_ended = is_ended_by result; reads = self.new.reader.reads } }
+    {
+        if self.reader.has_comments() {
+            return match self.reader.next_comment(self.text) {
+                Ok(lexeme) => {
+                    self.yielded_count += 1;
+                    self.looked = looked_behind(&self.reader, self.looked_to);
+                    Some(Ok(lexeme))
+                }
+                Err(_) => {
+                    self.has_ended = true;
+                    self.looked = Looked::All;
+                    Some(Err(OrMemory::Memory))
+                }
+            };
+        }
+        if let Some(lexeme) = self.reader.next_mark() {
+            self.yielded_count += 1;
+            self.looked = looked_behind(&self.reader, self.looked_to);
+            return Some(Ok(lexeme));
+        }
+        if self.reader.at() < self.looked_to || !self.reader.reads_on() {
+            return self.next_of_reader();
+        }
+        let found = match self.reader.plain_text(self.text) {
+            Ok(found) => found,
+            Err(run) => {
+                self.looked_to = self.reader.at() + run + 1;
+                self.looked = Looked::All;
+                return self.next_of_reader();
+            }
+        };
+        match self.reader.take_text(found, self.text) {
+            Ok(lexeme) => {
+                self.yielded_count += 1;
+                self.looked = looked_behind(&self.reader, self.looked_to);
+                Some(Ok(lexeme))
+            }
+            Err(_) => {
+                self.has_ended = true;
+                self.looked = Looked::All;
+                Some(Err(OrMemory::Memory))
+            }
+        }
+    }
+
+    /// Next lexeme where the first two bytes don't determine it.
+    ///
+    /// By three bytes these come fast: an operator of two bytes, an integer of one digit, the start of an
+    /// f-string, a bytes literal without escapes, the `!` of an f-string's expression, and a comment.
+    #[inline(never)]
+    fn next_of_all(&mut self) -> Option<Lexeme>
+        requires lexing { IsLexing self.old }
+        requires going { self.old.has_ended ≡ false }
+        ensures answer { HasAnswered self.old result self.new }
+        ensures lexing { IsLexing self.new }
+        ensures after { view_of self.new ≡ record (view_of self.old) { yielded_count = self.old.yielded_count + yielded_by result; has_ended = is_ended_by result; reads = self.new.reader.reads } }
+    {
+        if !self.looked.is_front() {
+            return self.next_waiting();
+        }
+        let front = self.reader.front(self.text);
+        match self.reader.short_word(front, self.text) {
+            Some(ShortWord::Symbol(terminal)) => {
+                self.yielded_count += 1;
+                let lexeme = self.reader.take_terminal(terminal, 2, self.text);
+                self.looked = looked_further_in_code(&self.reader, self.looked_to);
+                return Some(Ok(lexeme));
+            }
+            Some(ShortWord::Digit(digit)) => {
+                self.yielded_count += 1;
+                let lexeme = self.reader.take_digit(digit, self.text);
+                self.looked = looked_further(&self.reader, self.looked_to);
+                return Some(Ok(lexeme));
+            }
+            None => {}
+        }
+        if let Some(quote) = self.reader.fstring_opener(front, self.text) {
+            self.looked = Looked::All;
+            return match self.reader.take_fstring(quote, self.text) {
+                Ok(lexeme) => {
+                    self.yielded_count += 1;
+                    Some(Ok(lexeme))
+                }
+                Err(_) => {
+                    self.has_ended = true;
+                    Some(Err(OrMemory::Memory))
+                }
+            };
+        }
+        if let Some(quote) = self.reader.bytes_opener(front, self.text) {
+            let kind = LiteralKind::Bytes;
+            let body = match self.reader.plain_body_len(kind, false, quote, 2, self.text) {
+                Ok(body) => body,
+                Err(run) => {
+                    self.looked_to = self.reader.at() + 2 + run + 1;
+                    self.looked = Looked::All;
+                    return self.next_of_reader();
+                }
+            };
+            return match self.reader.take_plain_bytes(quote, body, self.text) {
+                Ok(lexeme) => {
+                    self.yielded_count += 1;
+                    self.looked = looked_further(&self.reader, self.looked_to);
+                    Some(Ok(lexeme))
+                }
+                Err(_) => {
+                    self.has_ended = true;
+                    self.looked = Looked::All;
+                    Some(Err(OrMemory::Memory))
+                }
+            };
+        }
+        if self.reader.bang_stands(front, self.text) {
+            self.yielded_count += 1;
+            let lexeme = self.reader.take_bang(self.text);
+            self.looked = looked_further(&self.reader, self.looked_to);
+            return Some(Ok(lexeme));
+        }
+        let Some(len) = self.reader.comment_len(front, self.text) else {
+            self.looked = Looked::All;
+            return self.next_of_reader();
+        };
+        match self.reader.take_comment(len, self.text) {
+            Ok(lexeme) => {
+                self.yielded_count += 1;
+                self.looked = looked_further(&self.reader, self.looked_to);
+                Some(Ok(lexeme))
+            }
+            Err(_) => {
+                self.has_ended = true;
+                self.looked = Looked::All;
+                Some(Err(OrMemory::Memory))
+            }
+        }
+    }
+
+    /// Next lexeme where a text literal opens: fast if it has no escapes.
+    #[inline(never)]
+    fn next_text(&mut self) -> Option<Lexeme>
+        requires lexing { IsLexing self.old }
+        requires going { self.old.has_ended ≡ false }
+        requires front { self.old.looked ≡ Looked.Front }
+        requires opened { HasOpened self.old.text.now self.old.reader self.old.looked_to }
+        ensures answer { HasAnswered self.old result self.new }
+        ensures lexing { IsLexing self.new }
+        ensures after { view_of self.new ≡ record (view_of self.old) { yielded_count = self.old.yielded_count + yielded_by result; has_ended = is_ended_by result; reads = self.new.reader.reads } }
+    {
+        let Some(TextOpener { is_raw, quote, len }) = self.reader.text_opener(self.text) else {
+            self.looked = Looked::All;
+            return self.next_of_all();
+        };
+        let kind = LiteralKind::Text;
+        let body = match self
+            .reader
+            .plain_body_len(kind, is_raw, quote, len, self.text)
+        {
+            Ok(body) => body,
+            Err(run) => {
+                self.looked_to = self.reader.at() + len + 1 + run;
+                self.looked = Looked::All;
+                return self.next_of_all();
+            }
+        };
+        match self
+            .reader
+            .take_plain_text(is_raw, quote, len, body, self.text)
+        {
+            Ok(lexeme) => {
+                self.yielded_count += 1;
+                self.looked = looked_further(&self.reader, self.looked_to);
+                Some(Ok(lexeme))
+            }
+            Err(_) => {
+                self.has_ended = true;
+                self.looked = Looked::All;
+                Some(Err(OrMemory::Memory))
+            }
+        }
+    }
+
+    /// Next lexeme where the loop of `next` doesn't determine it. `is_text` says that a text literal
+    /// opens.
+    #[inline(always)]
+    fn next_slowly(&mut self, is_text: bool) -> Option<Lexeme>
+        requires lexing { IsLexing self.old }
+        requires going { self.old.has_ended ≡ false }
+        requires front { is_text ≡ true → (self.old.looked ≡ Looked.Front) × HasOpened self.old.text.now self.old.reader self.old.looked_to }
+        ensures answer { HasAnswered self.old result self.new }
+        ensures lexing { IsLexing self.new }
+        ensures after { view_of self.new ≡ record (view_of self.old) { yielded_count = self.old.yielded_count + yielded_by result; has_ended = is_ended_by result; reads = self.new.reader.reads } }
+    {
+        if is_text {
+            self.next_text()
+        } else {
+            self.next_of_all()
+        }
+    }
+
+    /// The next lexeme, or the exception of the fault after them; `None` after all, and after any
+    /// error.
+    #[inline(always)]
+    pub fn next(&mut self) -> Option<Lexeme>
+        requires { IsLexing self.old }
+        ensures ended { self.old.has_ended ≡ true → (result ≡ None) × (self.new ≡ self.old) }
+        ensures answer { self.old.has_ended ≡ false → HasAnswered self.old result self.new }
+        ensures lexing { IsLexing self.new }
+        ensures after { view_of self.new ≡ record (view_of self.old) { yielded_count = self.old.yielded_count + yielded_by result; has_ended = self.old.has_ended || is_ended_by result; reads = self.new.reader.reads } }
+    {
+        let is_text = loop {
+            if !self.looked.is_nothing() {
+                if self.has_ended {
+                    return None;
+                }
+                break false;
+            }
+            let Some(Word { class, len }) = self.reader.common_word(self.text) else {
+                self.looked_to = self.reader.at() + 1;
+                self.looked = Looked::Front;
+                break false;
+            };
+            match class {
+                Class::Identifier => {
+                    return match self.reader.take_name(len, self.text) {
+                        Ok(lexeme) => {
+                            self.yielded_count += 1;
+                            Some(Ok(lexeme))
+                        }
+                        Err(_) => {
+                            self.has_ended = true;
+                            self.looked = Looked::All;
+                            Some(Err(OrMemory::Memory))
+                        }
+                    };
+                }
+                Class::Fixed(terminal) => {
+                    self.yielded_count += 1;
+                    let lexeme = self.reader.take_terminal(terminal, len, self.text);
+                    self.looked = looked_in_code(&self.reader);
+                    return Some(Ok(lexeme));
+                }
+                Class::LineEnd => {
+                    let begin = self.reader.at();
+                    match self.reader.take_line_end(len, self.text) {
+                        Ok(LineEnd::Passed) => {}
+                        Ok(LineEnd::Newline) => {
+                            self.yielded_count += 1;
+                            self.looked = looked_behind_margin(&self.reader, self.looked_to);
+                            return Some(Ok((begin, Token::Newline, begin + len)));
+                        }
+                        Ok(LineEnd::Fault) => {
+                            self.looked = Looked::All;
+                            break false;
+                        }
+                        Err(_) => {
+                            self.has_ended = true;
+                            self.looked = Looked::All;
+                            return Some(Err(OrMemory::Memory));
+                        }
+                    }
+                }
+                _ => {
+                    let is_text = is_text_opener(class);
+                    self.looked_to = self.reader.at() + looked_len(is_text, len);
+                    self.looked = Looked::Front;
+                    break is_text;
+                }
+            }
+        };
+        self.next_slowly(is_text)
+    }
+
+    /// The offset before the text's end where it can be cut, if the lexemes yielded so far are those
+    /// before one. Each such offset is returned after the last lexeme before it.
+    #[inline(always)]
+    pub fn cut(&self) -> Option<usize>
+        requires lexing { IsLexing self.now }
+        requires going { self.now.has_ended ≡ false }
+        ensures kept { IfSome result (λ at. IsCutBefore self.now.text.now at (length (left_in self.now))) }
+        ensures reached { (at : ℕ) → IsReached self.now.reader at → 0 < at → at < length self.now.text.now → result ≡ Some at }
+    {
+        self.reader.cut(self.text)
+    }
+
+    /// The text.
+    #[inline(always)]
+    pub fn text(&self) -> &'a str
+        ensures { result.now ≡ self.now.text.now }
+    {
+        self.text
+    }
+
+    /// Number of reads of bytes so far.
+    pub fn reads(&self) -> u64
+        ensures { result ≡ self.now.reader.reads }
+    {
+        self.reader.reads()
+    }
+
+    /// Whether no piece of the text was read. If the text has a fault, that is the one of a tab in its
+    /// first margin.
+    pub fn has_read_none(&self) -> bool
+        ensures { result ≡ has_read_none self.now.reader }
+    {
+        self.reader.has_read_none()
+    }
+
+    /// Whether the text is a clean cut, after its last lexeme. The look at its last byte is counted.
+    pub fn is_clean_cut(&mut self) -> bool
+        ensures value { (history : History) → IsStateAfter self.old.text.now history self.old.reader → result ≡ (is_settled history && ends_with nat_eq self.old.text.now (codes "\n")) }
+        ensures least { self.old.reader.reads < 2 ^ 64 - 1 → self.old.reader.reads ≤ self.new.reader.reads }
+        ensures most { self.new.reader.reads ≤ self.old.reader.reads + 1 }
+    {
+        self.reader.is_settled() && self.reader.ends_with_lf(self.text)
+    }
+}
