@@ -1,14 +1,13 @@
 -- Totals of sources, as one more is counted.
-use Rattle.std.proofs.Common.{◌≡◌, ℕ, zero, suc, ◌+◌, max, Bool, true, false, cond, not, ◌||◌, nat_lt, length, List, [], ◌∷◌, ◌++◌, refl, ap, sym, ◌∙◌, arith, Some, None, count_by}
+use Rattle.std.proofs.Common.{◌≡◌, ℕ, zero, suc, ◌+◌, Bool, true, false, cond, not, ◌||◌, nat_lt, List, [], ◌∷◌, ◌++◌, refl, ap, sym, ◌∙◌, arith, Some, None, count_by}
 use Rattle.std.proofs.lemmas.Bool.{lt-ltb}
-use Rattle.std.proofs.lemmas.List.{length-append}
 use Rattle.std.proofs.lemmas.List.Folds.{list_any-append}
 use Rattle.std.proofs.lemmas.List.Sums.{sum_by-append}
 use Rattle.std.specs.List.{list_any}
 use Rattle.std.specs.Prelude.{Option, if◌then◌else◌, sum_by}
 use Rattle.starlark_base.specs.Places.{Text}
 use Rattle.starlark_reports.specs.Reports.{fault_count}
-use Rattle.starlark_tokens.specs.Totals.{AreTotalsOf, faults_in, in_64_bits, is_read, totals_of, with_source}
+use Rattle.starlark_tokens.specs.Totals.{faults_in, in_64_bits, is_read, totals_of, with_source}
 use Rattle.starlark_tokens.specs.declared.totals.Totals.{Totals}
 
 abbrev is_faulty : Option Text → Bool
@@ -67,22 +66,3 @@ with_next sources None =
   where
     kept : (n : ℕ) → in_64_bits n ≡ in_64_bits (in_64_bits n + 0)
     kept n = omega arith
-
--- the totals are those of so many sources
-abbrev pub AreOfSources : (count : ℕ) → Totals → Type 0
-AreOfSources count totals = (sources : List (Option Text)) × (length sources ≡ count) × (totals ≡ totals_of sources)
-
--- totals of sources, with one more, are totals of one source more
-pub counted_next : (count : ℕ) (old new : Totals) → AreOfSources count old → (source : Option Text) × (new ≡ with_source old source) → AreOfSources (count + 1) new
-counted_next count old new before next =
-    let sources = before.0 in
-    let source = next.0 in
-    (sources ++ source ∷ [], length-append sources (source ∷ []) ∙ ap (λ n. n + 1) before.1, next.1 ∙ ap (λ totals. with_source totals source) before.2 ∙ with_next sources source)
-
--- where no file is named, one source is all
-pub counted_one : (names : ℕ) (new : Totals) → names ≡ 0 → (source : Option Text) × (new ≡ with_source (totals_of []) source) → AreTotalsOf names new
-counted_one names new none next = record {
-  sources = next.0 ∷ [];
-  each = sym (ap (max 1) none);
-  found = next.1 ∙ with_next [] next.0;
-}

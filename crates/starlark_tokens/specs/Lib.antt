@@ -1,3 +1,4 @@
+pub mod Outputs
 pub mod Progress
 pub mod Requests
 pub mod Statuses

@@ -1,4 +1,4 @@
--- What was found in the sources of a run. A source is the text that was read, or nothing where it couldn't be read.
+-- What was found in the sources of a run: for each the text that was read, or nothing where it couldn't be read.
 use Rattle.std.specs.Prelude.{◌≡◌, ℕ, ◌+◌, ◌-◌, ◌^◌, max, min, Bool, true, false, not, nat_lt, if◌then◌else◌, List, length, count_by, sum_by, Option, Some, None}
 use Rattle.std.specs.List.{list_any}
 use Rattle.starlark_base.specs.Places.{Text}

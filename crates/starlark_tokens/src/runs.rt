@@ -1,12 +1,12 @@
 //! Goes over the files of a run.
 
 ghost use Rattle.std.specs.IoError.{error_kind};
-ghost use Rattle.std.specs.Prelude.{◌≡◌, ◌≤◌, IfOk, OnOk, Option, length, string_bytes};
-ghost use Rattle.starlark_base.specs.Places.{Text};
+ghost use Rattle.std.specs.Prelude.{◌≡◌, ◌≤◌, IfOk, OnOk, length, string_bytes};
 ghost use Rattle.starlark_run.specs.declared.ends.TheConstants.{GREATEST_LEN};
+ghost use Rattle.starlark_tokens.specs.Outputs.{AreReported, IsReported, reported_name};
 ghost use Rattle.starlark_tokens.specs.Requests as requests;
 ghost use Rattle.starlark_tokens.specs.Statuses.{EndsRun, status_of_output};
-ghost use Rattle.starlark_tokens.specs.Totals.{AreTotalsOf, with_source};
+ghost use Rattle.starlark_tokens.specs.Totals.{AreTotalsOf};
 
 use crate::requests::Reports;
 use crate::screen::Screen;
@@ -16,7 +16,7 @@ use starlark_reports::python_literals::push_name;
 use starlark_reports::{Form, report_text};
 use std::alloc::AllocError;
 use std::fmt::Display;
-use std::io::{ErrorKind, Write};
+use std::io::{BufWriter, ErrorKind, Write};
 use std::{fs, io};
 
 /// The exit status where nobody reads the output, by the shell's convention for a closed pipe.
@@ -24,6 +24,9 @@ const CLOSED_PIPE: u8 = 141;
 
 /// The name that stands for standard input.
 const STDIN: &str = "<stdin>";
+
+/// Bytes that are kept before they are written.
+const BUFFER_LEN: usize = 65_536;
 
 /// A name on one line.
 fn one_line(rt: &HostRuntime, name: &str) -> Result<String, AllocError> {
@@ -79,25 +82,32 @@ fn text_of(rt: &HostRuntime, name: &str) -> Result<String, SourceFault>
     read_text(rt.alloc(), fs::open(rt, name)?)
 }
 
+/// The name by which a source is reported.
+fn reported_name(name: &str) -> &str
+    ensures { result.now ≡ reported_name name.now }
+{
+    if name == "-" { STDIN } else { name }
+}
+
 /// Reports one file, and counts it. Only a failure of the output is returned.
-fn report_file(
+fn report_file<W: Write>(
     rt: &HostRuntime,
     form: Form,
     name: &str,
     totals: &mut Totals,
-    screen: &mut Screen<'_>,
+    output: &mut W,
 ) -> io::Result<()>
-    ensures { OnOk result ((source : Option Text) × (totals.new ≡ with_source totals.old source)) }
+    ensures { OnOk result (IsReported form name.now totals.old totals.new (W.contents output.old) (W.contents output.new)) }
 {
-    let shown = if name == "-" { STDIN } else { name };
+    let shown = reported_name(name);
     match text_of(rt, name) {
         Ok(text) => {
-            let faults = report_text(rt.alloc(), form, shown, text.as_str(), screen)?;
+            let faults = report_text(rt.alloc(), form, shown, text.as_str(), output)?;
             totals.add(faults);
         }
         Err(fault) => {
             totals.add_failure();
-            screen.flush()?;
+            output.flush()?;
             say(rt, shown, &fault);
         }
     }
@@ -105,12 +115,12 @@ fn report_file(
 }
 
 /// Reports the named files one after another, or standard input if none is named.
-fn report_each(
+fn report_each<W: Write>(
     rt: &HostRuntime,
     wanted: &Reports<'_>,
-    screen: &mut Screen<'_>,
+    screen: &mut Screen<'_, W>,
 ) -> io::Result<Totals>
-    ensures { IfOk result (AreTotalsOf (length wanted.now.names.items)) }
+    ensures { IfOk result (AreReported wanted.now (W.contents screen.old.output) (W.contents screen.new.output)) }
 {
     let form = form_of(wanted);
     let mut totals = Totals::NONE;
@@ -125,16 +135,31 @@ fn report_each(
     Ok(totals)
 }
 
-/// Reports all files, and returns what was found in them.
-fn report_all(rt: &HostRuntime, wanted: &Reports<'_>) -> io::Result<Totals>
-    ensures { IfOk result (AreTotalsOf (length wanted.now.names.items)) }
+/// Reports all files, and returns what was found in them once all is written.
+///
+/// The contract holds for every output. Of standard output, whose bytes std's `Write` doesn't know,
+/// it promises the totals alone.
+fn report_to<W: Write>(
+    rt: &HostRuntime,
+    wanted: &Reports<'_>,
+    screen: &mut Screen<'_, W>,
+) -> io::Result<Totals>
+    ensures { IfOk result (AreReported wanted.now (W.contents screen.old.output) (W.contents screen.new.output)) }
 {
-    let mut screen = Screen::new(rt, wanted.names.len())?;
-    let found = report_each(rt, wanted, &mut screen);
+    let found = report_each(rt, wanted, screen);
     screen.clear();
     let totals = found?;
     screen.flush()?;
     Ok(totals)
+}
+
+/// Reports all files over standard output, and returns what was found in them.
+fn report_all(rt: &HostRuntime, wanted: &Reports<'_>) -> io::Result<Totals>
+    ensures { IfOk result (AreTotalsOf (length wanted.now.names.items)) }
+{
+    let output = BufWriter::with_capacity(rt.alloc(), BUFFER_LEN, rt.stdout())?;
+    let mut screen = Screen::new(rt, output, wanted.names.len());
+    report_to(rt, wanted, &mut screen)
 }
 
 /// Says how many faults were found, in how many files.

@@ -1,4 +1,4 @@
-//! Standard output, and the line of progress on a terminal's standard error.
+//! The output of a run, and the line of progress on a terminal's standard error.
 
 ghost use Rattle.std.specs.Prelude.{◌≡◌, ◌*◌, ◌-◌, IfOk, nat_le, string_bytes};
 ghost use Rattle.std.specs.Time.{instant_nanos};
@@ -6,11 +6,8 @@ ghost use Rattle.starlark_tokens.specs.Progress.{progress_line};
 
 use std::alloc::{AllocError, Global};
 use std::io;
-use std::io::{BufWriter, IsTerminal, Stdout, Write};
+use std::io::{IsTerminal, Write};
 use std::time::{Duration, Instant};
-
-/// Bytes that are kept before they are written.
-const BUFFER_LEN: usize = 65_536;
 
 /// Milliseconds that a run takes before the line of progress is shown.
 const FIRST_WAIT: u64 = 1000;
@@ -55,36 +52,39 @@ fn line_of(alloc: Global, done: usize, total: usize) -> Result<String, AllocErro
     format!(in alloc; "\r{done} of {total} files")
 }
 
-/// Standard output, and the line of progress on standard error, which is cleared before each write.
+/// An output, and the line of progress on standard error, which is cleared before each write.
 #[derive(Drop)]
-pub struct Screen<'a> {
+pub struct Screen<'a, W> {
     rt: &'a HostRuntime,
-    output: BufWriter<Stdout>,
+    output: W,
     total: usize,
     /// `None` where no progress is shown.
     progress: Option<Progress>,
 }
 
-impl<'a> Screen<'a> {
+impl<'a, W> Screen<'a, W> {
     /// A screen for a run over so many files. It shows progress if they are several and standard
     /// error is a terminal.
-    pub fn new(rt: &'a HostRuntime, total: usize) -> io::Result<Screen<'a>> {
-        let output = BufWriter::with_capacity(rt.alloc(), BUFFER_LEN, rt.stdout())?;
+    pub fn new(rt: &'a HostRuntime, output: W, total: usize) -> Screen<'a, W>
+        ensures { result.output ≡ output }
+    {
         let progress = if total > 1 && rt.stderr().is_terminal() {
             Progress::begun(rt)
         } else {
             None
         };
-        Ok(Screen {
+        Screen {
             rt,
             output,
             total,
             progress,
-        })
+        }
     }
 
     /// Shows how many files are done, if that is due.
-    pub fn show(&mut self, done: usize) {
+    pub fn show(&mut self, done: usize)
+        ensures { self.new.output ≡ self.old.output }
+    {
         let Some(progress) = self.progress else {
             return;
         };
@@ -97,7 +97,9 @@ impl<'a> Screen<'a> {
     }
 
     /// Writes the line of progress. Where memory runs out for it, it is left out.
-    fn write_progress(&mut self, done: usize, now: Instant) {
+    fn write_progress(&mut self, done: usize, now: Instant)
+        ensures { self.new.output ≡ self.old.output }
+    {
         if let Ok(line) = line_of(self.rt.alloc(), done, self.total) {
             let _ = self.rt.eprint(line.as_str());
             self.progress = Some(Progress {
@@ -109,7 +111,9 @@ impl<'a> Screen<'a> {
     }
 
     /// Clears the line of progress if it is shown.
-    pub fn clear(&mut self) {
+    pub fn clear(&mut self)
+        ensures { self.new.output ≡ self.old.output }
+    {
         if let Some(progress) = self.progress {
             if progress.is_shown {
                 let _ = self.rt.eprint(CLEAR);
@@ -122,7 +126,10 @@ impl<'a> Screen<'a> {
     }
 }
 
-impl Write for Screen<'_> {
+impl<W: Write> Write for Screen<'_, W> {
+    /// What the output holds: the line of progress is no part of it.
+    ghost contents = { λ screen. W.contents screen.output };
+
     fn write(&mut self, bytes: &[u8]) -> io::Result<usize> {
         self.clear();
         self.output.write(bytes)

@@ -1,6 +1,8 @@
-use Rattle.starlark_tokens.proofs.Counts.{AreOfSources}
+use Rattle.std.proofs.Common.{map, take}
+use Rattle.starlark_tokens.proofs.Outputs.{SoFar}
+use Rattle.starlark_tokens.specs.Requests.{form_of}
 use Rattle.starlark_tokens.proofs.runs.report_each.Given as goal
 
--- the totals so far are those of as many sources as files are done
+-- sources of the names so far are counted and printed
 abbrev pub invariant-loop-done : goal.invariant-loop-done
-invariant-loop-done l = AreOfSources l.done l.totals
+invariant-loop-done g l = SoFar (form_of l.fn.wanted) (map (λ name. name.now) (take l.done l.fn.wanted.names.items)) (g.W.Write.contents l.fn.screen.output) (g.W.Write.contents l.screen.output) l.totals
