@@ -1,6 +1,7 @@
 //! Documents: texts that stay lexed while they are edited.
 
 ghost use Rattle.std.specs.Prelude.{◌≡◌, ◌≤◌, ◌<◌, ◌^◌, ◌↔◌, ◌==◌, Err, IfErr, IfOk, IfSome, IsNone, IsTrue, OnErr, OnOk, Some, drop, length, map, slice_range, string_bytes, true, ℕ};
+ghost use Rattle.std.specs.Io.KnownBytes.{Appends};
 ghost use Rattle.std.specs.List.{prefix_len};
 ghost use Rattle.std.specs.Str.{IsCharBoundary};
 ghost use Rattle.starlark_base.specs.Lines.{line_count};
@@ -11,13 +12,14 @@ ghost use Rattle.starlark_document.specs.Inner.Segments.{AreLaid, text_of};
 ghost use Rattle.starlark_document.specs.Places.{StandsAt, place_of};
 ghost use Rattle.starlark_grammar.specs.Words.{Text};
 
-use crate::line_places::{Place, newline_count, offset_in_segments, place_in};
-use crate::parts::{LexedPart, Part, append_texts, end_at, lex_part, part_of_edit};
+use crate::line_places::{Place, newlines_in, offset_in_segments, place_in};
+use crate::parts::{LexedPart, Part, append_texts, end_at, lex_part, part_of_edit, write_texts};
 use crate::segments::{Faults, Lexemes, Segment, SegmentPlace, passed_len, segment_at};
 use starlark_syntax::codemap::{CodeMap, CodeMapId, OrMemory, SourceTooLong};
 use std::alloc::{AllocError, Global};
-use std::fmt;
+use std::io::Write;
 use std::marker::Model;
+use std::{fmt, io};
 
 /// A text that stays lexed while it is edited.
 ///
@@ -288,7 +290,7 @@ impl Document {
     pub fn line_count(&self) -> usize
         ensures { result ≡ line_count self.now }
     {
-        newline_count(&self.segments) + 1
+        newlines_in(&self.segments) + 1
     }
 
     /// The place of an offset: its line, and its columns in characters and in units of UTF-16.
@@ -323,5 +325,15 @@ impl Document {
         let front = from - first.begin;
         let len = to - first.begin;
         Ok(Some(String::from_str(self.alloc, &text.as_str()[front..len])?))
+    }
+
+    /// Writes the whole text to a writer, without a copy of it.
+    ///
+    /// Makes one `write_all` for each segment. Allocates nothing itself, and doesn't flush the
+    /// writer. Fails where a write fails; then a beginning of the text may be written.
+    pub fn write_to<W: Write>(&self, writer: &mut W) -> io::Result<()>
+        ensures { OnOk result (Appends (W.contents writer.old) (W.contents writer.new) self.now) }
+    {
+        write_texts(&self.segments, writer)
     }
 }

@@ -21,7 +21,7 @@ pub struct Place {
 }
 
 /// Number of LF in the texts of segments.
-pub fn newline_count(segments: &[Segment]) -> usize
+pub fn newlines_in(segments: &[Segment]) -> usize
     requires lines { HaveLines segments.now }
     requires fits { length (text_of segments.now) < 2 ^ 32 }
     ensures { result ≡ count_by is_lf (text_of segments.now) }
@@ -48,7 +48,7 @@ pub fn place_in(segments: &[Segment], at: usize) -> Option<Place>
     }
     let position = Position::START.moved(text, inner);
     Some(Place {
-        line: newline_count(&segments[..first.index]) + position.place.line,
+        line: newlines_in(&segments[..first.index]) + position.place.line,
         column: position.place.column,
         utf16_column: position.place.column + position.pairs,
     })

@@ -1,6 +1,7 @@
 //! Parts of a document: the segments that an edit touches, with their text after it.
 
 ghost use Rattle.std.specs.Prelude.{◌≡◌, ◌≤◌, ◌<◌, ◌+◌, ◌++◌, ◌^◌, Some, IfOk, OnOk, length, string_bytes, true};
+ghost use Rattle.std.specs.Io.KnownBytes.{Appends};
 ghost use Rattle.std.specs.List.{slice_get};
 ghost use Rattle.starlark_document.specs.Documents.{IsRange, edited};
 ghost use Rattle.starlark_document.specs.Inner.Parts.{IsLexedPart, IsPart, IsPlaceIn, IsReplaced};
@@ -12,6 +13,8 @@ use crate::lexing::lex_segment;
 use crate::segments::{Segment, SegmentPlace, segment_at};
 use starlark_syntax::codemap::CodeMap;
 use std::alloc::{AllocError, Global};
+use std::io;
+use std::io::Write;
 
 /// A part of a document whose text changes: the segments that it replaces, and its new text.
 #[derive(Drop)]
@@ -132,6 +135,16 @@ pub fn append_texts(text: &mut String, segments: &[Segment]) -> Result<(), Alloc
 {
     for segment in segments {
         text.push_str(segment.content.text.as_str())?;
+    }
+    Ok(())
+}
+
+/// Writes the texts of segments to a writer, each with one `write_all`.
+pub fn write_texts<W: Write>(segments: &[Segment], writer: &mut W) -> io::Result<()>
+    ensures { OnOk result (Appends (W.contents writer.old) (W.contents writer.new) (text_of segments.now)) }
+{
+    for segment in segments {
+        writer.write_all(segment.content.text.as_bytes())?;
     }
     Ok(())
 }

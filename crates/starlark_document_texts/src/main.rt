@@ -11,8 +11,9 @@
 //! - `offset LINE COLUMN`: prints the offset of a line and a column in units of UTF-16;
 //! - `slice FROM TO`: prints the bytes from FROM to TO.
 //!
-//! After `new` and `edit` the document is compared with what lexing its whole text finds. The program
-//! ends with an error where standard input is no such list.
+//! After `new` and `edit` the document is compared with what lexing its whole text finds, and the text
+//! that it writes with the one that it returns. The program ends with an error where standard input is
+//! no such list.
 #![tactic(auto)]
 
 mod commands;
@@ -45,11 +46,16 @@ fn lines_of(alloc: Global, document: &Document) -> Result<String, AllocError> {
     Ok(lines)
 }
 
-/// The word that says whether a document has what lexing its whole text finds.
-fn compared(alloc: Global, document: &Document) -> Result<&'static str, AllocError> {
+/// The word that says whether a document writes its whole text, and has what lexing it finds.
+fn compared(alloc: Global, document: &Document) -> io::Result<&'static str> {
     let Some(text) = document.slice(0, document.len())? else {
         return Ok("no text");
     };
+    let mut written = Vec::new(alloc);
+    document.write_to(&mut written)?;
+    if written.as_slice() != text.as_bytes() {
+        return Ok("another text");
+    }
     let same = found_in(alloc, text.as_str())? == lines_of(alloc, document)?;
     Ok(if same { "same" } else { "different" })
 }
@@ -61,7 +67,7 @@ fn edit_line(
     from: usize,
     to: usize,
     text: &str,
-) -> Result<String, AllocError> {
+) -> io::Result<String> {
     let mut line = String::new(alloc);
     match document.edit(from, to, text) {
         Ok(change) => {
@@ -75,7 +81,7 @@ fn edit_line(
 }
 
 /// Runs a command, and returns its lines.
-fn run(alloc: Global, document: &mut Document, command: Command<'_>) -> Result<String, AllocError> {
+fn run(alloc: Global, document: &mut Document, command: Command<'_>) -> io::Result<String> {
     let mut lines = String::new(alloc);
     match command {
         Command::New(least, text) => {

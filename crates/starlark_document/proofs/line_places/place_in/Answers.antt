@@ -37,13 +37,13 @@ returns-then-not-is_char_boundary-clause-none c =
 pub moved-position-requires-clause-here : goal.moved-position-requires-clause-here
 moved-position-requires-clause-here c = position_start c.as_str-text.result.now c.as_str-text.utf8
 
-pub newline_count-requires-clause-lines : goal.newline_count-requires-clause-lines
-newline_count-requires-clause-lines c =
+pub newlines_in-requires-clause-lines : goal.newlines_in-requires-clause-lines
+newlines_in-requires-clause-lines c =
     let n = c.segment_at-first.result.index in
     HaveLines-open true (take n c.args.segments.now) (laid_around c.args.segments.now n c.requires.laid c.segment_at-first.ensures.place.inside).0
 
-pub newline_count-requires-clause-fits : goal.newline_count-requires-clause-fits
-newline_count-requires-clause-fits c =
+pub newlines_in-requires-clause-fits : goal.newlines_in-requires-clause-fits
+newlines_in-requires-clause-fits c =
     let n = c.segment_at-first.result.index in
     let segments = c.args.segments.now in
     omega (arith, c.requires.fits, ap length (text_of-split segments n), length-append (text_of (take n segments)) (text_of (drop n segments)))
@@ -60,7 +60,7 @@ overflow_add-result c =
     let cut = c.is_char_boundary.ensures.test.0 c.if-not-is_char_boundary.false in
     let bounds = position_bounds text (c.args.at - place.begin) c.moved-position.result c.as_str-text.utf8 cut c.moved-position.ensures in
     let lines = count_by-le-length is_lf (text_of (take place.index segments)) in
-    omega (arith, c.newline_count.ensures, lines, bounds.0, same, len_at segments place.index segment lens is, end_within segments place.index segment lens is, c.requires.fits)
+    omega (arith, c.newlines_in.ensures, lines, bounds.0, same, len_at segments place.index segment lens is, end_within segments place.index segment lens is, c.requires.fits)
 
 pub overflow_add-result-2 : goal.overflow_add-result-2
 overflow_add-result-2 c =
@@ -90,7 +90,7 @@ returns-clause-place c =
       before = c.segment_at-first.ensures.before;
     } in
     let cut = c.is_char_boundary.ensures.test.0 c.if-not-is_char_boundary.false in
-    place_held segments place segment text c.args.at c.newline_count.result c.moved-position.result holds cut c.newline_count.ensures c.moved-position.ensures
+    place_held segments place segment text c.args.at c.newlines_in.result c.moved-position.result holds cut c.newlines_in.ensures c.moved-position.ensures
 
 pub returns-clause-none : goal.returns-clause-none
 returns-clause-none c =

@@ -1,7 +1,7 @@
 use Rattle.std.proofs.Common.{arith, refl}
 use Rattle.std.proofs.lemmas.Option.{slice_get_read}
 use Rattle.starlark_document.proofs.LinePlaces.{lines-more, lines-within}
-use Rattle.starlark_document.proofs.line_places.newline_count.Goals as goal
+use Rattle.starlark_document.proofs.line_places.newlines_in.Goals as goal
 
 pub overflow_add-count : goal.overflow_add-count
 overflow_add-count c =
