@@ -3,9 +3,9 @@
 ghost use Rattle.std.specs.Prelude.{◌≡◌, ◌≤◌, IfNone, IfSome, length};
 ghost use Rattle.starlark_c.specs.Restarts.{AreOf, IsRestart, IsSpan};
 ghost use Rattle.starlark_grammar.specs.Tokens.{Fault, Spanned};
-ghost use Rattle.starlark_recovery.specs.Recovery as spec;
+ghost use Rattle.starlark_syntax.specs.Recovery as spec;
 
-use starlark_recovery::restarts::{FaultPlace, restart};
+use starlark_syntax::restarts::{FaultPlace, restart};
 
 /// What is returned where no fault of a text has the numbers.
 pub const NO_RESTART: usize = usize::MAX;

@@ -15,9 +15,9 @@ use Rattle.starlark_document.proofs.FrontItems.{refused_both}
 use Rattle.starlark_document.proofs.Laws.{items_are_found, items_close, items_cut}
 use Rattle.starlark_document.proofs.Newlines.{without_shown}
 use Rattle.starlark_grammar.specs.Words.{Text}
-use Rattle.starlark_recovery.specs.Joining.{begins_plainly, is_closed, is_closed_from, without_last_newline}
-use Rattle.starlark_recovery.specs.Recovery.{recovered}
-use Rattle.starlark_recovery.specs.RecoveringLexer.{all_items}
+use Rattle.starlark_syntax.specs.Joining.{begins_plainly, is_closed, is_closed_from, without_last_newline}
+use Rattle.starlark_syntax.specs.Recovery.{recovered}
+use Rattle.starlark_syntax.specs.RecoveringLexer.{all_items}
 use Rattle.starlark_syntax.specs.Lexer.{Answers, AnswersNext}
 use Rattle.starlark_syntax.specs.declared.error.kinds.ErrorKind.{ErrorKind}
 use Rattle.starlark_text.specs.declared.or_memory.OrMemory.{OrMemory}

@@ -11,7 +11,7 @@ use Rattle.starlark_document.specs.declared.fronts.Front.{Front}
 use Rattle.starlark_document.specs.declared.segments.PlacedFault.{PlacedFault}
 use Rattle.starlark_grammar.specs.Tokens as grammar
 use Rattle.starlark_grammar.specs.Words.{Text}
-use Rattle.starlark_recovery.specs.Joining.{begins_plainly}
+use Rattle.starlark_syntax.specs.Joining.{begins_plainly}
 use Rattle.starlark_syntax.specs.Exceptions.{IsException}
 use Rattle.starlark_syntax.specs.Lexer.{Answers}
 use Rattle.starlark_syntax.specs.declared.error.kinds.ErrorKind.{ErrorKind}

@@ -8,7 +8,7 @@ use Rattle.starlark_document.specs.Inner.Segments.{AreBounded, AreFaults, IsBoun
 use Rattle.starlark_document.specs.declared.segments.PlacedFault.{PlacedFault}
 use Rattle.starlark_document.specs.declared.segments.Segment.{Segment}
 use Rattle.starlark_grammar.specs.Tokens.{Fault, Spanned, moved}
-use Rattle.starlark_recovery.specs.Recovery.{recovered}
+use Rattle.starlark_syntax.specs.Recovery.{recovered}
 
 pub lexemes_from-start : (begin : ℕ) (segments : List Segment) → lexemes_from begin 0 segments ≡ lexemes_along begin segments
 lexemes_from-start begin [] = refl

@@ -22,11 +22,11 @@ use Rattle.starlark_document.proofs.Laid.{laid_around}
 use Rattle.starlark_document.proofs.Places.{HaveLens-laid, IsUtf8-text_of, all_at, len_at, text_of-at, text_of-more}
 use Rattle.starlark_grammar.specs.Words.{Text}
 use Rattle.starlark_grammar.proofs.Joining.Followed.{ends_line, ends_line_of}
-use Rattle.starlark_recovery.specs.Joining.{is_closed}
-use Rattle.starlark_recovery.proofs.Joining.ClosedTexts.{closed_ends}
-use Rattle.starlark_reports.specs.Positions.{pairs_before, pairs_in_line, position_at}
-use Rattle.starlark_reports.specs.declared.position.Position.{Position}
-use Rattle.starlark_reports.proofs.Pairs.{pairs_along, pairs_bound}
+use Rattle.starlark_syntax.specs.Joining.{is_closed}
+use Rattle.starlark_syntax.proofs.Joining.ClosedTexts.{closed_ends}
+use Rattle.starlark_run.specs.Positions.{pairs_before, pairs_in_line, position_at}
+use Rattle.starlark_run.specs.declared.position.Position.{Position}
+use Rattle.starlark_run.proofs.Pairs.{pairs_along, pairs_bound}
 use Rattle.starlark_run.proofs.Places.{column_bound, is_one_line, line_bound, place_along}
 
 -- the number of LF in two texts

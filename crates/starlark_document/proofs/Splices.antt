@@ -27,7 +27,7 @@ use Rattle.starlark_document.specs.declared.parts.Part.{Part}
 use Rattle.starlark_document.specs.declared.segments.Segment.{Segment}
 use Rattle.starlark_document.specs.declared.segments.SegmentPlace.{SegmentPlace}
 use Rattle.starlark_grammar.specs.Words.{Text}
-use Rattle.starlark_recovery.specs.Joining.{begins_plainly}
+use Rattle.starlark_syntax.specs.Joining.{begins_plainly}
 
 -- a text that begins plainly does so whatever follows it
 pub plain_append : (front more : Text) → begins_plainly front ≡ true → begins_plainly (front ++ more) ≡ true

@@ -10,7 +10,7 @@ use Rattle.starlark_document.specs.declared.document.EditError.{EditError}
 use Rattle.starlark_document.specs.declared.document.EditError.TheVariants.{BadRange, TooLong}
 use Rattle.starlark_grammar.specs.Tokens as grammar
 use Rattle.starlark_grammar.specs.Words.{Text}
-use Rattle.starlark_recovery.specs.Recovery.{recovered}
+use Rattle.starlark_syntax.specs.Recovery.{recovered}
 use Rattle.starlark_syntax.specs.declared.error.kinds.ErrorKind.{ErrorKind}
 use Rattle.starlark_syntax.specs.declared.error.kinds.ErrorKind.TheVariants.{Parser}
 use Rattle.starlark_syntax.specs.declared.error.kinds.ParserMessage.TheVariants.{Lexeme}

@@ -5,12 +5,12 @@ ghost use Rattle.starlark_document.specs.Inner.Fronts.{IsFirstSegment, IsFront, 
 ghost use Rattle.std.specs.Str.{IsCharBoundary};
 ghost use Rattle.starlark_document.specs.Inner.Segments.{text_in};
 ghost use Rattle.starlark_base.specs.Places.{is_lf};
-ghost use Rattle.starlark_recovery.specs.RecoveringLexer.{all_items};
+ghost use Rattle.starlark_syntax.specs.RecoveringLexer.{all_items};
 ghost use Rattle.starlark_token.specs.Lexemes.{lexeme_view};
 
 use crate::fronts::{Front, is_newline};
 use crate::segments::{Content, PlacedToken, Segment};
-use starlark_recovery::RecoveringLexer;
+use starlark_syntax::lexer::RecoveringLexer;
 use starlark_syntax::codemap::CodeMap;
 use starlark_syntax::dialect::Dialect;
 use std::alloc::{AllocError, Global};

@@ -1,7 +1,7 @@
 //! The lines of lexemes and faults.
 
 use starlark_document::{Faults, Lexemes};
-use starlark_recovery::RecoveringLexer;
+use starlark_syntax::lexer::RecoveringLexer;
 use starlark_syntax::codemap::{CodeMap, CodeMapId, OrMemory};
 use starlark_syntax::dialect::Dialect;
 use starlark_syntax::error::ErrorKind;

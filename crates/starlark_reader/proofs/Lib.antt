@@ -1,2 +1,4 @@
+pub mod Indentation
+pub mod OpenBrackets
 pub mod Literals
 pub mod Pieces

@@ -1,4 +1,9 @@
--- What only contracts inside of the crate and proofs speak of: what the reader of a text keeps, as the grammar sees it.
+-- Definitions that only contracts of inner functions, and proofs, cite.
+pub mod TextEnds
+pub mod Pending
+pub mod MarginLines
+pub mod Layout
+pub mod Nesting
 pub mod Steps
 pub mod Pieces
 pub mod Reads

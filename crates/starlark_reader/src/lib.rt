@@ -1,8 +1,24 @@
-//! Reads a text piece by piece, as its lexer hands it out: lexemes by their places, then the fault or the end.
+//! Reads a text piece by piece: its lexemes, and then its fault or its end.
+//!
+//! A `Reader` keeps what later pieces depend on: the open brackets and f-strings (`nesting`), the
+//! open widths (`indent_stack`), and what is pending (`pending`). A margin is what is before the
+//! content of a line: comment-only lines, and then the blanks of the line (`margins`, `widths`).
 #![tactic(auto)]
 
+mod changes;
+mod comments;
+mod counts;
+mod indent_stack;
+mod lf_search;
 mod literal;
+mod margins;
+mod nesting;
+mod pending;
+mod placed_token;
 pub mod reader;
 mod reading;
+mod text_end;
+mod widths;
 
-pub use starlark_layout::PlacedToken;
+pub use margins::{Margin, margin_of};
+pub use placed_token::PlacedToken;

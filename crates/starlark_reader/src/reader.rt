@@ -3,17 +3,17 @@
 ghost use Rattle.std.specs.Prelude.{◌≡◌, ◌≢◌, true, false, ◌<◌, ◌≤◌, ◌+◌, ◌-◌, ◌*◌, ◌^◌, [], ℕ, None, Some, List, Option, codes, drop, length, map, nat_eq, nat_lt, take, OnErr, OnOk, IfErr, IfOk, IfSome};
 ghost use Rattle.std.specs.List.{ends_with};
 ghost use Rattle.std.specs.Str.{IsCharBoundary};
-ghost use Rattle.starlark_bytes.specs.Inner.Reads.{more_reads};
+ghost use Rattle.starlark_words.specs.Inner.Reads.{more_reads};
 ghost use Rattle.starlark_reader.specs.Inner.Steps.{IsStep};
 ghost use Rattle.starlark_token.specs.Lexemes.{shown_lexeme};
-ghost use Rattle.starlark_literals.specs.Inner.Literals.{IsPlainBody};
+ghost use Rattle.starlark_words.specs.Inner.Literals.{IsPlainBody};
 ghost use Rattle.starlark_grammar.specs.Inner.Openings.{opening_view};
-ghost use Rattle.starlark_scanner.specs.Inner.Words.{HasDigit, IsDigitAt, short_view, word_len};
+ghost use Rattle.starlark_words.specs.Inner.Words.{HasDigit, IsDigitAt, short_view, word_len};
 ghost use Rattle.starlark_grammar.specs.Margins.{open_widths};
 ghost use Rattle.starlark_grammar.specs.Pieces as grammar;
 ghost use Rattle.starlark_grammar.specs.declared.class.Class.TheVariants as class;
 ghost use Rattle.starlark_grammar.specs.declared.class.LiteralKind.TheVariants as kind;
-ghost use Rattle.starlark_layout.specs.Inner.Pending.{IsIdle, IsPending};
+ghost use Rattle.starlark_reader.specs.Inner.Pending.{IsIdle, IsPending};
 ghost use Rattle.starlark_reader.specs.Inner.MarginCuts.{IsCutBefore};
 ghost use Rattle.starlark_reader.specs.Inner.Reads.{HasStarted, HasLooked, HasLookedHere, HasRead, HasReadAt, HasReadNext, IsMarginRead, IsPassed, IsPassedBy, IsTaken};
 ghost use Rattle.starlark_reader.specs.Inner.Reader.{CountsLineEnds, has_read_none, IsAhead, IsAheadAfter, IsAtCode, IsBangHere, IsInCode, IsInFlatMargin, IsReached, IsStateAfter, IsNext, IsOver, IsPlainTextHere, IsRead, IsReady, IsSomething, IsWordHere, before_view, left_here, left_to_read, newline_if, newline_of, silent_sort, step_here};
@@ -22,8 +22,8 @@ ghost use Rattle.starlark_grammar.specs.Cuts.{is_layout, is_settled};
 ghost use Rattle.starlark_grammar.specs.Reading.{History, outcome};
 ghost use Rattle.starlark_token.specs.TokenViews.{TokenView, token_view};
 ghost use Rattle.starlark_grammar.specs.Tokens.{FStringStart, Fault, Spanned};
-ghost use Rattle.starlark_nesting.specs.Inner.Nesting.{change_by};
-ghost use Rattle.starlark_nesting.specs.declared.changes.Change.TheVariants as change;
+ghost use Rattle.starlark_reader.specs.Inner.Nesting.{change_by};
+ghost use Rattle.starlark_reader.specs.declared.changes.Change.TheVariants as change;
 ghost use Rattle.starlark_grammar.specs.Words.{Text};
 
 use crate::literal::{Opening, PlainText, Step, opening_of, plain_text, quotes_of};
@@ -31,13 +31,16 @@ use crate::reading::code::{gap_len, is_code};
 use crate::reading::terminals::token_in;
 use crate::reading::words::digit_token;
 use crate::reading::{Piece, bang_stands, is_outside, line_end_counts, piece_at};
-use starlark_bytes::reads::Reads;
-use starlark_layout::{
-    Behind, IndentStack, Pending, PlacedToken, TextEnd, margin_fault, margin_of, take_margin,
-};
-use starlark_literals::plain_body_len;
-use starlark_nesting::{LexerMode, Nesting};
-use starlark_scanner::scanner::{
+use starlark_words::reads::Reads;
+use crate::indent_stack::IndentStack;
+use crate::margins::margin_of;
+use crate::pending::{Behind, Pending};
+use crate::placed_token::PlacedToken;
+use crate::text_end::TextEnd;
+use crate::widths::{margin_fault, take_margin};
+use starlark_words::plain_body_len;
+use crate::nesting::{LexerMode, Nesting};
+use starlark_words::scanner::{
     LiteralKind, Quote, ShortWord, Terminal, TextOpener, Word, bytes_opener, comment_len,
     fstring_opener, short_word, text_opener, word_after,
 };

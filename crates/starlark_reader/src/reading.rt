@@ -3,11 +3,11 @@
 ghost use Rattle.std.specs.Prelude.{◌≡◌, ℕ, ◌+◌, ◌<◌, ◌^◌, ◌&&◌, None, Some, drop, length, IfOk};
 ghost use Rattle.std.specs.Str.{IsCharBoundary};
 ghost use Rattle.starlark_grammar.specs.Front.{language_front};
-ghost use Rattle.starlark_bytes.specs.Inner.Reads.{AreReads, more_reads};
+ghost use Rattle.starlark_words.specs.Inner.Reads.{AreReads, more_reads};
 ghost use Rattle.starlark_reader.specs.Inner.Reads.{ArePieceReads, AreReadsAfter, AreStepReads, AreWordlessReads};
 ghost use Rattle.starlark_reader.specs.Inner.Steps.{IsStep};
 ghost use Rattle.starlark_grammar.specs.Cuts.{is_outside};
-ghost use Rattle.starlark_nesting.specs.Inner.Nesting.{mode_view};
+ghost use Rattle.starlark_reader.specs.Inner.Nesting.{mode_view};
 ghost use Rattle.starlark_grammar.specs.Pieces as grammar;
 ghost use Rattle.starlark_reader.specs.Inner.Pieces.{IsAfter, IsPiece};
 ghost use Rattle.starlark_grammar.specs.Tokens.{InvalidInput};
@@ -22,9 +22,9 @@ pub mod terminals;
 pub mod words;
 
 use crate::literal::{Opening, Step, chunk_from, literal_piece, opening_of};
-use starlark_bytes::reads::Reads;
-use starlark_nesting::LexerMode;
-use starlark_scanner::scanner::{Class, LiteralKind, Quote, first_word};
+use starlark_words::reads::Reads;
+use crate::nesting::LexerMode;
+use starlark_words::scanner::{Class, LiteralKind, Quote, first_word};
 use starlark_token::lexeme_error::LexemeError;
 use starlark_token::tokens::Token;
 use std::alloc::{AllocError, Global};

@@ -8,7 +8,7 @@
 mod item_lines;
 
 use crate::item_lines::{add_fault, add_lexeme};
-use starlark_recovery::RecoveringLexer;
+use starlark_syntax::lexer::RecoveringLexer;
 use starlark_syntax::codemap::{CodeMap, CodeMapId, OrMemory};
 use starlark_syntax::dialect::Dialect;
 use std::alloc::{AllocError, Global};

@@ -1,3 +1,5 @@
--- What only contracts of inner functions, and proofs, speak of.
+-- Definitions that only contracts of inner functions, and proofs, cite.
 pub mod Lines
 pub mod Versions
+pub mod Reporters
+pub mod ShownKinds

@@ -6,3 +6,10 @@ pub mod Writing
 pub mod Runs
 pub mod Inner
 pub mod Edits
+pub mod PythonLiterals
+pub mod JsonStrings
+pub mod Values
+pub mod Positions
+pub mod Lines
+pub mod ShownPlaces
+pub mod Reports

@@ -16,7 +16,7 @@ use Rattle.starlark_grammar.specs.declared.class.Class.TheVariants as class
 use Rattle.starlark_grammar.specs.declared.class.LiteralKind.TheVariants as kind
 use Rattle.starlark_grammar.specs.declared.class.Quote.{Quote}
 use Rattle.starlark_grammar.proofs.Words.Classes.{all_fit, language_all_fit, none_found, row_fits}
-use Rattle.starlark_layout.specs.Inner.Pending.{IsPending}
+use Rattle.starlark_reader.specs.Inner.Pending.{IsPending}
 use Rattle.starlark_reader.specs.Inner.Reader.{IsAhead, IsAtCode, IsInCode}
 use Rattle.starlark_reader.specs.Inner.Reads.{HasLookedHere, HasRead, HasReadAt, IsPassedBy}
 use Rattle.starlark_reader.specs.declared.reader.LineEnd.{LineEnd}

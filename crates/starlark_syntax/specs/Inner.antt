@@ -1,4 +1,6 @@
--- What only contracts of inner functions, and proofs, speak of.
+-- Definitions that only contracts of inner functions, and proofs, cite.
 pub mod LexerStates
 pub mod Looked
 pub mod LexedTexts
+pub mod Passed
+pub mod Rests

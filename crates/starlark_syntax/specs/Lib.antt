@@ -34,3 +34,8 @@ pub use Rattle.starlark_text.specs.Strings
 pub use Rattle.starlark_text.specs.Parts
 pub use Rattle.starlark_text.specs.Indices
 pub use Rattle.starlark_text.specs.Cursors
+pub mod Recovery
+pub mod Joining
+pub mod Restarts
+pub mod RecoveryLaws
+pub mod RecoveringLexer

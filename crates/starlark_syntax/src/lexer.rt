@@ -1,11 +1,12 @@
-//! The lexer, lexed texts, tokens, and errors of lexing.
+//! The lexer, one that goes on after faults, lexed texts, tokens, and errors of lexing.
 
 mod source_error;
 
 pub use crate::lexed_text::LexedText;
 pub use crate::lexemes::{Lexeme, Lexer};
+pub use crate::recovering_lexer::RecoveringLexer;
 pub use source_error::SourceError;
-pub use starlark_scanner::one_identifier::lex_exactly_one_identifier;
+pub use starlark_words::one_identifier::lex_exactly_one_identifier;
 pub use starlark_token::big_int::BigInt;
 pub use starlark_token::fstring_style::{FStringConv, FStringQuote};
 pub use starlark_token::lexeme_error::LexemeError;

@@ -15,7 +15,7 @@ use crate::eval_exception::EvalException;
 use crate::fault_exception::exception;
 use starlark_base::codemap::{CodeMap, OrMemory};
 use starlark_reader::reader::{LineEnd, Next, Reader};
-use starlark_scanner::scanner::{Class, LiteralKind, ShortWord, TextOpener, Word};
+use starlark_words::scanner::{Class, LiteralKind, ShortWord, TextOpener, Word};
 use starlark_token::tokens::Token;
 use std::alloc::Global;
 

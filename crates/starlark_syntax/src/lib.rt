@@ -1,6 +1,6 @@
-//! The lexer of Starlark: tokens, faults, what reads them from a text, texts with all their
-//! lexemes, and errors with their places and calls; and the modules of the crates below that a
-//! user needs.
+//! The lexer of Starlark: tokens, faults, what reads them from a text, what goes on after faults,
+//! texts with all their lexemes, and errors with their places and calls; and the modules of the
+//! crates below that a user needs.
 #![tactic(auto)]
 
 mod cuts;
@@ -13,6 +13,9 @@ mod lexemes;
 pub mod lexer;
 mod lexer_state;
 mod parts;
+mod passed_faults;
+mod recovering_lexer;
+pub mod restarts;
 mod tails;
 
 pub use starlark_base::{

@@ -6,7 +6,7 @@ use Rattle.std.proofs.lemmas.List.Sums.{sum_by-append}
 use Rattle.std.specs.List.{list_any}
 use Rattle.std.specs.Prelude.{Option, if◌then◌else◌, sum_by}
 use Rattle.starlark_base.specs.Places.{Text}
-use Rattle.starlark_reports.specs.Reports.{fault_count}
+use Rattle.starlark_run.specs.Reports.{fault_count}
 use Rattle.starlark_tokens.specs.Totals.{faults_in, in_64_bits, is_read, totals_of, with_source}
 use Rattle.starlark_tokens.specs.declared.totals.Totals.{Totals}
 

@@ -7,8 +7,8 @@ use Rattle.std.proofs.lemmas.List.{map-append}
 use Rattle.std.specs.Io.KnownBytes.{Appends, Keeps}
 use Rattle.std.specs.Prelude.{None, Option, Some}
 use Rattle.starlark_base.specs.Places.{Text}
-use Rattle.starlark_reports.specs.Reports.{fault_count, report}
-use Rattle.starlark_reports.specs.declared.form.Form.{Form}
+use Rattle.starlark_run.specs.Reports.{fault_count, report}
+use Rattle.starlark_run.specs.declared.form.Form.{Form}
 use Rattle.starlark_tokens.proofs.Counts.{with_next}
 use Rattle.starlark_tokens.specs.Outputs.{AreReported, IsReported, Source, reported_name, reports, source_names, source_report}
 use Rattle.starlark_tokens.specs.Requests.{form_of}

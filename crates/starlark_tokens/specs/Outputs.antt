@@ -3,8 +3,8 @@ use Rattle.std.specs.Prelude.{◌≡◌, codes, if◌then◌else◌, List, [], �
 use Rattle.std.specs.Io.KnownBytes.{Appends}
 use Rattle.std.specs.List.{flat_map}
 use Rattle.starlark_base.specs.Places.{Text}
-use Rattle.starlark_reports.specs.Reports.{report}
-use Rattle.starlark_reports.specs.declared.form.Form.{Form}
+use Rattle.starlark_run.specs.Reports.{report}
+use Rattle.starlark_run.specs.declared.form.Form.{Form}
 use Rattle.starlark_tokens.specs.Requests.{form_of, is_same}
 use Rattle.starlark_tokens.specs.Totals.{totals_of, with_source}
 use Rattle.starlark_tokens.specs.declared.requests.Reports.{Reports as ReportsRecord}

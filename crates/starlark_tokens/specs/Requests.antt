@@ -3,8 +3,8 @@ use Rattle.std.specs.Prelude.{◌≡◌, ℕ, Bool, true, false, map, ◌++◌, 
 use Rattle.std.specs.List.{list_any, prefix_len, starts_with}
 use Rattle.std.specs.Str.{bytes_eq}
 use Rattle.starlark_base.specs.Places.{Text}
-use Rattle.starlark_reports.specs.declared.form.Form.{Form}
-use Rattle.starlark_reports.specs.declared.form.Form.TheVariants.{Tokens, NamedTokens, Json, Faults, JsonFaults}
+use Rattle.starlark_run.specs.declared.form.Form.{Form}
+use Rattle.starlark_run.specs.declared.form.Form.TheVariants.{Tokens, NamedTokens, Json, Faults, JsonFaults}
 use Rattle.starlark_tokens.specs.declared.requests.Reports.{Reports as ReportsRecord}
 use Rattle.starlark_tokens.specs.declared.requests.Request.{Request}
 use Rattle.starlark_tokens.specs.declared.requests.Request.TheVariants.{Unknown, Help, Version, Reports}

@@ -2,7 +2,7 @@
 use Rattle.std.specs.Prelude.{◌≡◌, ℕ, ◌+◌, ◌-◌, ◌^◌, max, min, Bool, true, false, not, nat_lt, if◌then◌else◌, List, length, count_by, sum_by, Option, Some, None}
 use Rattle.std.specs.List.{list_any}
 use Rattle.starlark_base.specs.Places.{Text}
-use Rattle.starlark_reports.specs.Reports.{fault_count}
+use Rattle.starlark_run.specs.Reports.{fault_count}
 use Rattle.starlark_tokens.specs.declared.totals.Totals.{Totals}
 
 -- a count, which stops at the greatest number of 64 bits

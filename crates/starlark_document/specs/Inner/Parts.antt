@@ -6,7 +6,7 @@ use Rattle.starlark_document.specs.declared.parts.Part.{Part}
 use Rattle.starlark_document.specs.declared.segments.Segment.{Segment}
 use Rattle.starlark_document.specs.declared.segments.SegmentPlace.{SegmentPlace}
 use Rattle.starlark_grammar.specs.Words.{Text}
-use Rattle.starlark_recovery.specs.Joining.{begins_plainly}
+use Rattle.starlark_syntax.specs.Joining.{begins_plainly}
 
 -- a segment by its index, and where it begins
 pub record IsPlaceIn (segments : List Segment) (place : SegmentPlace) : Type 0 where

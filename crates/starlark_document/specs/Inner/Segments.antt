@@ -7,8 +7,8 @@ use Rattle.starlark_document.specs.declared.segments.PlacedFault.{PlacedFault}
 use Rattle.starlark_document.specs.declared.segments.Segment.{Segment}
 use Rattle.starlark_grammar.specs.Tokens as grammar
 use Rattle.starlark_grammar.specs.Words.{Text}
-use Rattle.starlark_recovery.specs.Joining.{begins_plainly, is_closed, without_last_newline}
-use Rattle.starlark_recovery.specs.Recovery.{recovered}
+use Rattle.starlark_syntax.specs.Joining.{begins_plainly, is_closed, without_last_newline}
+use Rattle.starlark_syntax.specs.Recovery.{recovered}
 use Rattle.starlark_token.specs.Lexemes.{lexeme_view, shown_lexeme}
 use Rattle.starlark_token.specs.TokenViews.{TokenView}
 use Rattle.starlark_token.specs.declared.tokens.Token.{Token}

@@ -5,7 +5,7 @@ use Rattle.starlark_grammar.specs.Words.{Text}
 use Rattle.starlark_grammar.specs.Tokens.{Opening, Token, FStringExprStart, FStringEnd, InvalidInput, InvalidEscapeSequence, UnfinishedStringLiteral}
 use Rattle.starlark_grammar.specs.Items.{Stop, Closing, Line, Ended, OpeningBrace, ClosingBrace, BadEscape, body_at, body_len, body_value, closing_quotes}
 use Rattle.starlark_grammar.specs.Pieces.{Step, piece, fault, chunk, chunk_by, chunk_text}
-use Rattle.starlark_literals.specs.Inner.Literals.{fstring_literal}
+use Rattle.starlark_words.specs.Inner.Literals.{fstring_literal}
 use Rattle.starlark_grammar.proofs.Literals.Bodies.{StopFits, body_fits}
 use Rattle.std.proofs.lemmas.List.{length-drop}
 

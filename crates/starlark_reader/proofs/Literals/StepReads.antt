@@ -2,7 +2,7 @@
 use Rattle.std.proofs.Common.{◌≡◌, ◌≤◌, ◌+◌, ◌-◌, ◌*◌, ℕ, Bool, true, false, length, refl, arith}
 use Rattle.starlark_grammar.specs.Items.{closing_quotes}
 use Rattle.starlark_grammar.specs.Tokens.{Opening}
-use Rattle.starlark_bytes.specs.Inner.Reads.{more_reads}
+use Rattle.starlark_words.specs.Inner.Reads.{more_reads}
 use Rattle.starlark_reader.specs.Inner.Reads.{AreWordReads, IsFault}
 use Rattle.starlark_reader.specs.declared.literal.pieces.Step.{Step}
 use Rattle.starlark_reader.specs.declared.literal.pieces.Step.TheVariants as step

@@ -6,21 +6,21 @@ use Rattle.starlark_grammar.specs.Tokens as grammar
 use Rattle.starlark_grammar.specs.Tokens.{Lexeme, moved}
 use Rattle.starlark_grammar.specs.Pieces.{chunk_text}
 use Rattle.starlark_grammar.specs.Reading.{tokens_onto}
-use Rattle.starlark_nesting.specs.Inner.Nesting.{Represents, change_by, is_fstring_start}
-use Rattle.starlark_layout.specs.Inner.TextEnds.{text_end_node}
+use Rattle.starlark_reader.specs.Inner.Nesting.{Represents, change_by, is_fstring_start}
+use Rattle.starlark_reader.specs.Inner.TextEnds.{text_end_node}
 use Rattle.starlark_token.specs.Lexemes.{lexeme_view}
-use Rattle.starlark_layout.specs.Inner.Pending.{IsIdle, IsPending, pending_lexemes}
+use Rattle.starlark_reader.specs.Inner.Pending.{IsIdle, IsPending, pending_lexemes}
 use Rattle.starlark_token.specs.TokenViews.{Whole, token_view}
-use Rattle.starlark_layout.specs.declared.pending.Pending.{Pending}
-use Rattle.starlark_layout.specs.declared.text_end.TextEnd.{TextEnd}
-use Rattle.starlark_layout.specs.declared.text_end.TextEnd.TheVariants as ends
-use Rattle.starlark_nesting.specs.declared.nesting.Nesting.{Nesting}
-use Rattle.starlark_nesting.specs.declared.changes.Change.TheVariants as change
+use Rattle.starlark_reader.specs.declared.pending.Pending.{Pending}
+use Rattle.starlark_reader.specs.declared.text_end.TextEnd.{TextEnd}
+use Rattle.starlark_reader.specs.declared.text_end.TextEnd.TheVariants as ends
+use Rattle.starlark_reader.specs.declared.nesting.Nesting.{Nesting}
+use Rattle.starlark_reader.specs.declared.changes.Change.TheVariants as change
 use Rattle.starlark_token.specs.declared.tokens.Token.{Token}
 use Rattle.starlark_token.specs.declared.tokens.Token.TheVariants as token
-use Rattle.starlark_nesting.proofs.OpenBrackets.FStrings.{one_kept}
+use Rattle.starlark_reader.proofs.OpenBrackets.FStrings.{one_kept}
 use Rattle.starlark_reader.proofs.Pieces.Here.{shown_at}
-use Rattle.starlark_layout.proofs.Indentation.Waiting.{Hands, hands_first, hands_one}
+use Rattle.starlark_reader.proofs.Indentation.Waiting.{Hands, hands_first, hands_one}
 
 text_changes : (value : Text) → change_by (Whole (grammar.FStringText value)) ≡ change.Nothing
 unfolding change_by

@@ -4,7 +4,7 @@ use Rattle.std.proofs.lemmas.List.{length-drop}
 use Rattle.starlark_grammar.specs.Words.{Text, language}
 use Rattle.starlark_grammar.specs.Tokens as grammar
 use Rattle.starlark_grammar.specs.Tokens.{Fault, Spanned, moved}
-use Rattle.starlark_nesting.specs.Inner.Nesting.{is_fstring_start}
+use Rattle.starlark_reader.specs.Inner.Nesting.{is_fstring_start}
 use Rattle.starlark_token.specs.Lexemes.{lexeme_view, shown, shown_lexeme}
 use Rattle.starlark_token.specs.TokenViews.{Whole, token_view}
 use Rattle.starlark_token.specs.declared.tokens.Token.{Token}

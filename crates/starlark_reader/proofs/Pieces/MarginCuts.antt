@@ -32,11 +32,11 @@ use Rattle.starlark_grammar.proofs.Joining.LineCuts.{kept_by, kept_parts, line_b
 use Rattle.starlark_grammar.proofs.Joining.Settled.{outside_none}
 use Rattle.starlark_grammar.proofs.Joining.FollowedMargins.{lines_sum}
 use Rattle.starlark_reader.specs.Inner.MarginCuts.{IsAfterLines, IsCutBefore, IsMarginAhead, lexemes_before}
-use Rattle.starlark_layout.specs.Inner.MarginLines.{IsOfMargin, IsPassedLine}
-use Rattle.starlark_layout.specs.Inner.Pending.{IsPending, lines_between, pending_lexemes}
+use Rattle.starlark_reader.specs.Inner.MarginLines.{IsOfMargin, IsPassedLine}
+use Rattle.starlark_reader.specs.Inner.Pending.{IsPending, lines_between, pending_lexemes}
 use Rattle.starlark_reader.specs.Inner.Reader.{IsReadTo, remaining_outcome}
-use Rattle.starlark_layout.specs.declared.pending.Pending.{Pending}
-use Rattle.starlark_layout.proofs.Indentation.Pending.{margin_lines}
+use Rattle.starlark_reader.specs.declared.pending.Pending.{Pending}
+use Rattle.starlark_reader.proofs.Indentation.Pending.{margin_lines}
 use Rattle.starlark_reader.proofs.Pieces.Onward.{first_stands, margin_first, onward_stands}
 
 -- Readings

@@ -7,9 +7,9 @@ use Rattle.starlark_grammar.specs.Pieces.{Piece, Step, Stands, Fails, Ends}
 use Rattle.starlark_grammar.specs.Reading.{History, lexemes_along, outcome, outcome_in, outcome_of, read, read_from}
 use Rattle.starlark_token.specs.Lexemes.{fault_view, shown_lexeme}
 use Rattle.starlark_reader.specs.Inner.MarginCuts.{IsAfterLines, IsCutBefore, IsMarginAhead}
-use Rattle.starlark_layout.specs.Inner.MarginLines.{IsLinePassed, IsPassedLine}
-use Rattle.starlark_nesting.specs.Inner.Nesting.{bracket_count}
-use Rattle.starlark_layout.specs.Inner.Pending.{IsFirst, IsIdle, lines_between, pending_lexemes}
+use Rattle.starlark_reader.specs.Inner.MarginLines.{IsLinePassed, IsPassedLine}
+use Rattle.starlark_reader.specs.Inner.Nesting.{bracket_count}
+use Rattle.starlark_reader.specs.Inner.Pending.{IsFirst, IsIdle, lines_between, pending_lexemes}
 use Rattle.starlark_reader.specs.Inner.Reader.{begins_with_tab, has_read_none, IsAhead, IsAheadAfter, IsInFlatMargin, IsStateAfter, IsLeft, IsOver, IsReady, IsSomething, history_of, outcome_along, remaining_outcome}
 use Rattle.starlark_token.specs.TokenViews.{TokenView}
 use Rattle.starlark_token.specs.declared.lexeme_error.LexemeError.{LexemeError}
@@ -17,11 +17,11 @@ use Rattle.starlark_token.specs.declared.tokens.Token.{Token}
 use Rattle.starlark_reader.specs.declared.reader.Reader.{Reader}
 use Rattle.starlark_reader.specs.declared.reader.Stage.{Stage}
 use Rattle.starlark_reader.specs.declared.reader.Stage.TheVariants as stage
-use Rattle.starlark_layout.specs.declared.pending.Pending.{Pending}
+use Rattle.starlark_reader.specs.declared.pending.Pending.{Pending}
 use Rattle.starlark_reader.proofs.Pieces.Here.{IsHere, kept_here}
 use Rattle.starlark_reader.proofs.Pieces.MarginCuts.{passed_cut}
 use Rattle.starlark_reader.proofs.Pieces.Taken.{none_before, reached_by}
-use Rattle.starlark_layout.proofs.Indentation.Pending.{no_lines_between}
+use Rattle.starlark_reader.proofs.Indentation.Pending.{no_lines_between}
 use Rattle.std.proofs.lemmas.Bool.{ltb-false, ltb-true}
 use Rattle.std.proofs.lemmas.List.{length-map}
 use Rattle.std.proofs.lemmas.List.Sums.{sum_by-cons}

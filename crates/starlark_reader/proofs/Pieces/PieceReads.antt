@@ -1,6 +1,6 @@
 -- How often the bytes of a piece are read.
 use Rattle.std.proofs.Common.{◌≡◌, ◌≤◌, ◌<◌, ◌+◌, ◌*◌, ℕ, arith}
-use Rattle.starlark_bytes.specs.Inner.Reads.{AreReads, more_reads}
+use Rattle.starlark_words.specs.Inner.Reads.{AreReads, more_reads}
 use Rattle.starlark_reader.specs.Inner.Reads.{ArePieceReads, AreReadsAfter, AreStepReads, AreWordlessReads, AreWordReads, IsOfWord}
 use Rattle.starlark_reader.specs.declared.literal.pieces.Step.{Step}
 use Rattle.starlark_reader.specs.declared.literal.pieces.Step.TheVariants as steps

@@ -13,13 +13,13 @@ use Rattle.starlark_grammar.specs.declared.class.LiteralKind.TheVariants.{Text a
 use Rattle.starlark_grammar.specs.declared.class.Quote.{Quote}
 use Rattle.starlark_grammar.specs.declared.class.Terminal.{Terminal}
 use Rattle.starlark_grammar.specs.Depths.{InText, Mode}
-use Rattle.starlark_literals.specs.Inner.Literals.{IsPlainBody}
+use Rattle.starlark_words.specs.Inner.Literals.{IsPlainBody}
 use Rattle.starlark_grammar.specs.Inner.Openings.{opening_view}
 use Rattle.starlark_grammar.specs.declared.class.Opening.{Opening}
-use Rattle.starlark_scanner.specs.Inner.Words.{IsDigitAt}
+use Rattle.starlark_words.specs.Inner.Words.{IsDigitAt}
 use Rattle.starlark_reader.proofs.Literals.Pieces.{opener_plain}
 use Rattle.starlark_reader.specs.Inner.Steps.{IsPlainText, IsStep, text_step}
-use Rattle.starlark_nesting.specs.Inner.Nesting.{Represents, change_by, is_fstring_start, mode_view}
+use Rattle.starlark_reader.specs.Inner.Nesting.{Represents, change_by, is_fstring_start, mode_view}
 use Rattle.starlark_reader.specs.declared.literal.chunks.PlainText.{PlainText}
 use Rattle.starlark_reader.specs.declared.literal.pieces.Step.TheVariants as step
 use Rattle.starlark_reader.specs.declared.reader.Stage.{Stage}
@@ -29,15 +29,15 @@ use Rattle.starlark_grammar.specs.Margins.{open_widths}
 use Rattle.starlark_grammar.specs.Pieces as pieces
 use Rattle.starlark_grammar.specs.Pieces.{Piece, Situation, Stands, step_at}
 use Rattle.starlark_grammar.specs.Reading.{History, next_step, situation}
-use Rattle.starlark_layout.specs.Inner.Pending.{IsIdle}
+use Rattle.starlark_reader.specs.Inner.Pending.{IsIdle}
 use Rattle.starlark_token.specs.declared.tokens.Token.{Token}
-use Rattle.starlark_scanner.specs.declared.scanner.word.Word.{Word}
+use Rattle.starlark_words.specs.declared.scanner.word.Word.{Word}
 use Rattle.starlark_reader.specs.Inner.Pieces.{IsAfter, IsPiece, is_code, nothing_of}
 use Rattle.starlark_reader.specs.Inner.Reader.{IsAhead, IsAheadAfter, IsBangHere, IsInCode, IsPlainTextHere, IsStateAfter, IsRead, IsWordHere, before_view, left_here, silent_sort, step_here}
 use Rattle.starlark_token.specs.TokenViews.{TokenView, Whole, token_view}
-use Rattle.starlark_nesting.specs.declared.nesting.LexerMode.{LexerMode}
-use Rattle.starlark_nesting.specs.declared.nesting.LexerMode.TheVariants as mode
-use Rattle.starlark_nesting.specs.declared.changes.Change.TheVariants as change
+use Rattle.starlark_reader.specs.declared.nesting.LexerMode.{LexerMode}
+use Rattle.starlark_reader.specs.declared.nesting.LexerMode.TheVariants as mode
+use Rattle.starlark_reader.specs.declared.changes.Change.TheVariants as change
 use Rattle.starlark_reader.specs.declared.reading.Piece as code
 use Rattle.starlark_reader.specs.declared.reader.Before as sort
 use Rattle.starlark_reader.specs.declared.reader.Before.TheVariants as before
@@ -46,7 +46,7 @@ use Rattle.starlark_reader.specs.declared.reader.Stage.TheVariants as stage
 use Rattle.starlark_reader.proofs.Pieces.CodePlaces.{bang_at, in_text, word_at, word_len}
 use Rattle.starlark_reader.proofs.Pieces.Here.{piece_here}
 use Rattle.starlark_reader.proofs.Pieces.Taken.{none_before, read_ahead, took}
-use Rattle.starlark_layout.proofs.Indentation.Waiting.{hands_none}
+use Rattle.starlark_reader.proofs.Indentation.Waiting.{hands_none}
 
 -- what was read at a reader's place stands there
 pub piece_read : (text : Text) (history : History) (reader : Reader) (place : LexerMode) (balanced follows_gap : Bool) (rest : Text) (piece : code.Piece) → rest ≡ drop reader.at text → IsStateAfter text history reader

@@ -6,8 +6,8 @@ use Rattle.starlark_grammar.specs.Words.{Text}
 use Rattle.starlark_grammar.specs.Tokens.{Fault, Spanned}
 use Rattle.starlark_token.specs.TokenViews.{TokenView}
 use Rattle.starlark_reader.specs.Inner.Reader.{IsAhead, IsLeft, IsStateAfter, history_of}
-use Rattle.starlark_bytes.specs.Inner.Reads.{AreReads, more_reads}
-use Rattle.starlark_layout.specs.Inner.Pending.{owed}
+use Rattle.starlark_words.specs.Inner.Reads.{AreReads, more_reads}
+use Rattle.starlark_reader.specs.Inner.Pending.{owed}
 use Rattle.starlark_reader.specs.Inner.Reads.{AreStepReads, HasStarted, HasLooked, HasLookedHere, HasRead, HasReadAt, IsMarginRead, IsPassed, IsPassedBy}
 use Rattle.starlark_reader.proofs.Pieces.Here.{run_inside}
 use Rattle.starlark_reader.specs.declared.literal.pieces.Step.{Step}

@@ -15,37 +15,37 @@ use Rattle.starlark_grammar.specs.Pieces.{Ends, Fails, Layout, Piece, Stands, fi
 use Rattle.starlark_grammar.specs.Cuts.{is_layout}
 use Rattle.starlark_grammar.specs.Reading.{History, IsReading, after, after_all, closing, next_step, pieces_len, nothing, outcome, tokens_onto}
 use Rattle.starlark_token.specs.Lexemes.{fault_view, lexeme_view, shown_lexeme}
-use Rattle.starlark_layout.specs.Inner.Layout.{IsRefused, IsTaken}
-use Rattle.starlark_layout.specs.Inner.Pending.{IsIdle, IsPending, lines_between, pending_lexemes}
-use Rattle.starlark_nesting.specs.Inner.Nesting.{Represents, bracket_count, change_by}
+use Rattle.starlark_reader.specs.Inner.Layout.{IsRefused, IsTaken}
+use Rattle.starlark_reader.specs.Inner.Pending.{IsIdle, IsPending, lines_between, pending_lexemes}
+use Rattle.starlark_reader.specs.Inner.Nesting.{Represents, bracket_count, change_by}
 use Rattle.starlark_reader.specs.Inner.MarginCuts.{IsAfterLines, IsCutBefore}
-use Rattle.starlark_layout.specs.Inner.MarginLines.{IsOfMargin}
+use Rattle.starlark_reader.specs.Inner.MarginLines.{IsOfMargin}
 use Rattle.starlark_reader.specs.Inner.Reader.{begins_with_tab, has_read_none, IsAhead, IsAheadAfter, IsCutAhead, HoldsCuts, IsInFlatMargin, IsReached, IsReadTo, IsStateAfter, IsLeft, IsRead, before_view, history_from, history_of, left_here, left_to_read, remaining_outcome, step_here}
 use Rattle.starlark_token.specs.TokenViews.{TokenView, Whole, token_view}
 use Rattle.starlark_token.specs.declared.lexeme_error.LexemeError.{LexemeError}
-use Rattle.starlark_nesting.specs.declared.nesting.Nesting.{Nesting}
-use Rattle.starlark_nesting.specs.declared.changes.Change.TheVariants as change
+use Rattle.starlark_reader.specs.declared.nesting.Nesting.{Nesting}
+use Rattle.starlark_reader.specs.declared.changes.Change.TheVariants as change
 use Rattle.starlark_reader.specs.declared.reader.Before.TheVariants as sort
 use Rattle.starlark_reader.specs.declared.reader.Reader.{Reader}
 use Rattle.starlark_reader.specs.declared.reader.Stage.{Stage}
 use Rattle.starlark_reader.specs.declared.reader.Stage.TheVariants as stage
-use Rattle.starlark_layout.specs.declared.pending.Pending.{Pending}
+use Rattle.starlark_reader.specs.declared.pending.Pending.{Pending}
 use Rattle.starlark_token.specs.declared.tokens.Token.{Token}
 use Rattle.starlark_grammar.proofs.Order.WholeTexts.{piece_bounded}
-use Rattle.starlark_layout.proofs.Indentation.CommentLines.{margin_comments}
+use Rattle.starlark_reader.proofs.Indentation.CommentLines.{margin_comments}
 use Rattle.starlark_grammar.proofs.Order.Edges.{boundary_shift}
 use Rattle.starlark_grammar.proofs.Lists.{drop-sum}
 use Rattle.starlark_reader.proofs.Pieces.Here.{IsHere, behind_some, kept_here}
 use Rattle.starlark_reader.proofs.Pieces.Onward.{GoesOn, first_fails, first_stands, history_ends, history_first, history_onward, margin_first, onward_ends, onward_fails, onward_stands}
 use Rattle.starlark_grammar.proofs.Reading.Readings.{one_least, piece_fits, started}
 use Rattle.starlark_grammar.proofs.Joining.Tabs.{margin_tab, tab, tab_of}
-use Rattle.starlark_nesting.proofs.OpenBrackets.FStrings.{keeps, one_kept}
+use Rattle.starlark_reader.proofs.OpenBrackets.FStrings.{keeps, one_kept}
 use Rattle.starlark_grammar.proofs.Reading.Steps.{Each, is_nothing}
 use Rattle.starlark_grammar.proofs.Choices.{either}
 use Rattle.starlark_reader.proofs.Pieces.MarginCuts.{cut_of_piece, first_ahead_cut, first_cut, line_ahead_cut, line_cut, none_at_end, none_at_fault, read_first, read_more}
 use Rattle.starlark_grammar.proofs.Joining.KeptPlaces.{IsInMargin}
 use Rattle.starlark_grammar.proofs.Joining.LaidCuts.{Behind, First, MarginAt, line_laid}
-use Rattle.starlark_layout.proofs.Indentation.Waiting.{Hands, hands_first, hands_later}
+use Rattle.starlark_reader.proofs.Indentation.Waiting.{Hands, hands_first, hands_later}
 
 -- What is kept is kept behind the text's first margin.
 begun : (text : Text) (history : History) (reader : Reader) → IsStateAfter text history reader → is_nothing history.before ≡ false

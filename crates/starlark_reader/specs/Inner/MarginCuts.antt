@@ -4,8 +4,8 @@ use Rattle.starlark_grammar.specs.Words.{Text, language}
 use Rattle.starlark_grammar.specs.Margins.{lines}
 use Rattle.starlark_grammar.specs.Reading.{outcome, pieces_len, read}
 use Rattle.starlark_grammar.specs.Cuts.{is_clean_cut, is_kept_cut, without_closing}
-use Rattle.starlark_layout.specs.Inner.Pending.{lines_between}
-use Rattle.starlark_layout.specs.declared.pending.Pending.{Pending}
+use Rattle.starlark_reader.specs.Inner.Pending.{lines_between}
+use Rattle.starlark_reader.specs.declared.pending.Pending.{Pending}
 
 -- how many lexemes of a text stand before a kept cut
 abbrev pub lexemes_before : Text → ℕ → ℕ

@@ -1,7 +1,7 @@
 -- How often the bytes of what was read are read.
 use Rattle.std.specs.Prelude.{◌≡◌, ◌≤◌, ◌<◌, ◌+◌, ◌-◌, ◌*◌, ℕ, ⊤, length}
 use Rattle.starlark_grammar.specs.Words.{Text}
-use Rattle.starlark_bytes.specs.Inner.Reads.{AreReads, more_reads}
+use Rattle.starlark_words.specs.Inner.Reads.{AreReads, more_reads}
 use Rattle.starlark_reader.specs.declared.literal.pieces.Step.{Step}
 use Rattle.starlark_reader.specs.declared.literal.pieces.Step.TheVariants as step
 use Rattle.starlark_reader.specs.declared.reading.Piece.{Piece}
@@ -11,7 +11,7 @@ use Rattle.starlark_reader.specs.declared.reader.Next.TheVariants as next
 use Rattle.starlark_reader.specs.declared.reader.Reader.{Reader}
 use Rattle.starlark_reader.specs.declared.reader.Stage.{Stage}
 use Rattle.starlark_reader.specs.declared.reader.Stage.TheVariants as stage
-use Rattle.starlark_layout.specs.Inner.Pending.{owed}
+use Rattle.starlark_reader.specs.Inner.Pending.{owed}
 
 -- Reads of a token or a fault behind what was passed of it, in a text that goes on for `rest` bytes: so many a byte.
 abbrev pub AreStepReads : (passed factor rest extra : ℕ) → Step → (before after : ℕ) → Type 0

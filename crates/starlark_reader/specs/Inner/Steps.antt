@@ -6,11 +6,11 @@ use Rattle.starlark_grammar.specs.Tokens as grammar
 use Rattle.starlark_grammar.specs.Pieces as pieces
 use Rattle.starlark_token.specs.TokenViews.{Whole, token_view}
 use Rattle.starlark_token.specs.Lexemes.{fault_view}
-use Rattle.starlark_layout.specs.Inner.TextEnds.{text_end_node}
-use Rattle.starlark_layout.specs.declared.text_end.TextEnd.{TextEnd}
+use Rattle.starlark_reader.specs.Inner.TextEnds.{text_end_node}
+use Rattle.starlark_reader.specs.declared.text_end.TextEnd.{TextEnd}
 use Rattle.starlark_grammar.specs.Inner.Openings.{opening_view}
 use Rattle.starlark_grammar.specs.declared.class.Opening.{Opening}
-use Rattle.starlark_nesting.specs.Inner.Nesting.{is_fstring_start}
+use Rattle.starlark_reader.specs.Inner.Nesting.{is_fstring_start}
 use Rattle.starlark_reader.specs.declared.literal.chunks.PlainText.{PlainText}
 use Rattle.starlark_reader.specs.declared.literal.pieces.Step.{Step}
 use Rattle.starlark_reader.specs.declared.literal.pieces.Step.TheVariants as step

@@ -1,20 +1,20 @@
 //! Texts of f-strings, up to an expression or the closing quotes.
 
 ghost use Rattle.std.specs.Prelude.{◌<◌, ◌≤◌, ◌+◌, ◌*◌, IfErr, IfOk, length};
-ghost use Rattle.starlark_bytes.specs.Inner.Reads.{AreReads};
+ghost use Rattle.starlark_words.specs.Inner.Reads.{AreReads};
 ghost use Rattle.starlark_reader.specs.Inner.Reads.{AreStepReads};
 ghost use Rattle.starlark_reader.specs.Inner.Steps.{IsPlainText, IsStep};
 ghost use Rattle.starlark_grammar.specs.Inner.Openings.{opening_view};
 ghost use Rattle.starlark_grammar.specs.Pieces as grammar;
 
 use super::pieces::Step;
-use starlark_bytes::reads::Reads;
+use starlark_words::reads::Reads;
 use starlark_grammar::class::Opening;
-use starlark_layout::TextEnd;
-use starlark_literals::{
+use crate::text_end::TextEnd;
+use starlark_words::{
     Body, Literal, LiteralValue, Stop, closing_len, plain_chunk_len, read_body,
 };
-use starlark_scanner::scanner::LiteralKind;
+use starlark_words::scanner::LiteralKind;
 use starlark_token::lexeme_error::LexemeError;
 use std::alloc::{AllocError, Global};
 

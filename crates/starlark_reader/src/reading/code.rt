@@ -3,11 +3,11 @@
 ghost use Rattle.std.specs.Prelude.{◌≡◌, ◌<◌, ◌≤◌, Bool, length, true};
 ghost use Rattle.starlark_grammar.specs.Pieces as grammar;
 ghost use Rattle.starlark_grammar.specs.Words.{language};
-ghost use Rattle.starlark_nesting.specs.Inner.Nesting.{mode_view};
+ghost use Rattle.starlark_reader.specs.Inner.Nesting.{mode_view};
 ghost use Rattle.starlark_reader.specs.Inner.Pieces.{IsAfter, is_code};
 
-use starlark_nesting::LexerMode;
-use starlark_scanner::scanner;
+use crate::nesting::LexerMode;
+use starlark_words::scanner;
 
 /// Whether a place is one of code, and not in the text of an f-string.
 #[inline(always)]

@@ -2,14 +2,14 @@
 
 ghost use Rattle.std.specs.Prelude.{◌≡◌, List, false};
 ghost use Rattle.starlark_grammar.specs.Depths.{mode_after};
-ghost use Rattle.starlark_nesting.specs.Inner.Nesting.{Represents, is_fstring_start, mode_view};
+ghost use Rattle.starlark_reader.specs.Inner.Nesting.{Represents, is_fstring_start, mode_view};
 ghost use Rattle.starlark_grammar.specs.Pieces as grammar;
 ghost use Rattle.starlark_token.specs.TokenViews.{Whole, token_view};
 ghost use Rattle.starlark_grammar.specs.Tokens as Tokens;
 ghost use Rattle.starlark_grammar.specs.Tokens.{Word};
 
-use starlark_nesting::{LexerMode, Nesting};
-use starlark_scanner::scanner::Terminal;
+use crate::nesting::{LexerMode, Nesting};
+use starlark_words::scanner::Terminal;
 use starlark_token::tokens::Token;
 
 /// The token of a word that is one of its own.

@@ -2,7 +2,7 @@
 
 ghost use Rattle.std.specs.Prelude.{◌≡◌, ◌≤◌, ◌<◌, ◌+◌, ◌∷◌, [], Some, drop, length, true, IfOk};
 ghost use Rattle.std.specs.Char.{is_digit};
-ghost use Rattle.starlark_bytes.specs.Inner.Reads.{more_reads};
+ghost use Rattle.starlark_words.specs.Inner.Reads.{more_reads};
 ghost use Rattle.starlark_reader.specs.Inner.Reads.{IsOfWord};
 ghost use Rattle.starlark_reader.specs.Inner.Steps.{IsStep};
 ghost use Rattle.starlark_grammar.specs.Numbers.{integer_of};
@@ -13,7 +13,7 @@ ghost use Rattle.starlark_grammar.specs.Words.{Text, class_in, is_run, language}
 ghost use Rattle.starlark_token.specs.TokenViews.{Whole, token_view};
 
 use crate::literal::Step;
-use starlark_bytes::reads::Reads;
+use starlark_words::reads::Reads;
 use starlark_token::lexeme_error::LexemeError;
 use starlark_token::number_text::number_in;
 use starlark_token::token_int::TokenInt;

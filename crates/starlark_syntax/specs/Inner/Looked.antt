@@ -5,7 +5,7 @@ use Rattle.starlark_grammar.specs.Words.{Text}
 use Rattle.starlark_grammar.specs.declared.class.Class.{Class}
 use Rattle.starlark_grammar.specs.declared.class.Class.TheVariants as class
 use Rattle.starlark_grammar.specs.declared.class.LiteralKind.TheVariants as kind
-use Rattle.starlark_layout.specs.Inner.Pending.{IsIdle, IsPending}
+use Rattle.starlark_reader.specs.Inner.Pending.{IsIdle, IsPending}
 use Rattle.starlark_reader.specs.Inner.Reader.{IsAtCode, IsInCode}
 use Rattle.starlark_reader.specs.Inner.Reads.{HasRead}
 use Rattle.starlark_reader.specs.declared.reader.Reader.{Reader}

@@ -5,7 +5,7 @@ use Rattle.starlark_c.proofs.restarts.restart_of.Goals.{then-kind-eq0-via-then-k
 use Rattle.starlark_c.specs.Restarts.{AreOf}
 use Rattle.starlark_grammar.specs.Tokens.{Fault, Spanned}
 use Rattle.starlark_grammar.specs.Words.{Text}
-use Rattle.starlark_recovery.specs.Recovery.{restart}
+use Rattle.starlark_syntax.specs.Recovery.{restart}
 
 pub returns-then-kind-eq0 : goal.returns-then-kind-eq0
 returns-then-kind-eq0 c =

@@ -1,5 +1,5 @@
 use Rattle.std.proofs.Common.{◌≡◌, ◌∷◌, ◌++◌, [], ap, append_assoc, drop, sym, ◌∙◌}
-use Rattle.starlark_recovery.specs.RecoveringLexer.{RecoveringView, all_items}
+use Rattle.starlark_syntax.specs.RecoveringLexer.{RecoveringView, all_items}
 use Rattle.starlark_document.proofs.FirstSegments.{cut_first, next_item}
 use Rattle.starlark_document.proofs.lexing.lex_segment.Goals as goal
 

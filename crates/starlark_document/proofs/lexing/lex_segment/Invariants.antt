@@ -1,6 +1,6 @@
 use Rattle.std.proofs.Common.{◌≡◌, ◌++◌, List, length}
 use Rattle.starlark_document.specs.Inner.Fronts.{IsFront}
-use Rattle.starlark_recovery.specs.RecoveringLexer.{all_items}
+use Rattle.starlark_syntax.specs.RecoveringLexer.{all_items}
 use Rattle.starlark_token.specs.TextItems.{LexerItem}
 use Rattle.starlark_document.proofs.lexing.lex_segment.Given as goal
 

@@ -1,5 +1,5 @@
 use Rattle.std.proofs.Common.{◌≡◌, length, true}
-use Rattle.starlark_recovery.specs.Joining.{is_closed}
+use Rattle.starlark_syntax.specs.Joining.{is_closed}
 use Rattle.starlark_document.proofs.FirstSegments.{empty_closed, line_closed, whole_last, whole_open, zero_of}
 use Rattle.starlark_document.proofs.lexing.whole_segment.Goals as goal
 use Rattle.starlark_document.proofs.lexing.whole_segment.Goals.{then-is_empty-via-then-is_empty, then-is_empty-via-else-is_empty+then-front-text}

@@ -6,7 +6,7 @@ use Rattle.starlark_grammar.specs.Words.{Text, class_in, language}
 use Rattle.starlark_grammar.specs.declared.class.Class.{Class}
 use Rattle.starlark_grammar.proofs.Order.WholeTexts.{word_edge}
 use Rattle.starlark_grammar.proofs.Words.Fronts.{front_sound}
-use Rattle.starlark_bytes.specs.Inner.Reads.{AreReads}
+use Rattle.starlark_words.specs.Inner.Reads.{AreReads}
 use Rattle.starlark_reader.proofs.Literals.Pieces.{if_ok}
 use Rattle.starlark_reader.proofs.Pieces.PieceReads.{none_reads, piece_reads}
 use Rattle.starlark_reader.proofs.Pieces.CodePlaces.{in_code_front}

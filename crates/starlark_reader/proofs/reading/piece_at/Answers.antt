@@ -1,13 +1,13 @@
 use Rattle.std.proofs.Common.{◌≡◌, Bool, true, [], ◌∷◌, length, refl, ap, sym, ◌∙◌, arith}
 use Rattle.std.specs.Prelude.{◌==◌}
 use Rattle.starlark_grammar.specs.Inner.Openings.{opening_view}
-use Rattle.starlark_nesting.specs.Inner.Nesting.{mode_view}
+use Rattle.starlark_reader.specs.Inner.Nesting.{mode_view}
 use Rattle.starlark_grammar.specs.Pieces.{Situation, Ends, in_code, by_place, step_at}
 use Rattle.starlark_reader.specs.Inner.Pieces.{IsAfter}
 use Rattle.starlark_grammar.specs.Words.{Text, language}
 use Rattle.starlark_grammar.specs.declared.class.Opening as code
-use Rattle.starlark_nesting.specs.declared.nesting.LexerMode.{LexerMode}
-use Rattle.starlark_nesting.specs.declared.nesting.LexerMode.TheVariants as place
+use Rattle.starlark_reader.specs.declared.nesting.LexerMode.{LexerMode}
+use Rattle.starlark_reader.specs.declared.nesting.LexerMode.TheVariants as place
 use Rattle.starlark_reader.proofs.Literals.Pieces.{if_ok}
 use Rattle.starlark_reader.proofs.Pieces.PieceReads.{chunk_reads}
 use Rattle.starlark_reader.proofs.Pieces.CodePlaces.{by_read, in_text}

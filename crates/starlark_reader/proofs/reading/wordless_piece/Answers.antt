@@ -1,7 +1,7 @@
 use Rattle.std.proofs.Common.{◌≡◌, ◌&&◌, Bool, true, false, ap, length, refl, take, ◌∙◌}
 use Rattle.starlark_grammar.specs.Pieces.{Situation, is_bang, takes_bang}
 use Rattle.starlark_grammar.specs.Tokens.{FStringBang}
-use Rattle.starlark_nesting.specs.Inner.Nesting.{mode_view}
+use Rattle.starlark_reader.specs.Inner.Nesting.{mode_view}
 use Rattle.starlark_reader.specs.Inner.Pieces.{IsAfter}
 use Rattle.starlark_token.specs.TokenViews.{token_view}
 use Rattle.starlark_reader.proofs.Pieces.CodePlaces.{bang_by, bang_in_code, bang_in_two, in_code_none}

@@ -1,7 +1,7 @@
 use Rattle.std.proofs.Common.{◌≡◌, ◌<◌, ◌≤◌, ◌+◌, ◌++◌, ◌∷◌, [], Err, IfSome, List, None, Ok, Some, arith, ap, false, length, length-append, refl, subst, sym, ℕ, ◌∙◌}
 use Rattle.std.specs.List.{ends_with}
 use Rattle.std.specs.Prelude.{◌&&◌, codes, nat_eq}
-use Rattle.starlark_bytes.specs.Inner.Reads.{more_reads}
+use Rattle.starlark_words.specs.Inner.Reads.{more_reads}
 use Rattle.starlark_grammar.specs.Cuts.{is_clean_cut, is_settled}
 use Rattle.starlark_grammar.specs.Reading.{outcome}
 use Rattle.starlark_grammar.specs.Words.{Text}

@@ -1,7 +1,7 @@
 use Rattle.std.proofs.Common.{◌≡◌, ◌≤◌, ◌+◌, ◌*◌, ◌∙◌, ap, arith, length, sym}
 use Rattle.starlark_reader.proofs.Literals.StepReads.{closing_some, fault_reads}
 use Rattle.starlark_grammar.specs.Items as grammar
-use Rattle.starlark_literals.specs.Inner.Literals.{literal_view, stop_view, stopped_len}
+use Rattle.starlark_words.specs.Inner.Literals.{literal_view, stop_view, stopped_len}
 use Rattle.starlark_grammar.specs.Inner.Openings.{opening_view}
 use Rattle.starlark_reader.proofs.Literals.Pieces.{bad_edges, bad_fits, bad_literal, closing_fits, if_ok, read_after}
 use Rattle.starlark_reader.proofs.literal.pieces.literal_from.Goals as goal

@@ -1,5 +1,5 @@
 use Rattle.std.proofs.Common.{ap, sym, ◌∙◌}
-use Rattle.starlark_literals.specs.Inner.Literals.{holds_text, bytes_of}
+use Rattle.starlark_words.specs.Inner.Literals.{holds_text, bytes_of}
 use Rattle.starlark_grammar.specs.Pieces.{literal_token}
 use Rattle.starlark_token.specs.TokenViews.{Whole, token_view}
 use Rattle.starlark_reader.proofs.Literals.Pieces.{token_of_text, token_of_bytes}

@@ -1,6 +1,6 @@
 use Rattle.std.proofs.Common.{◌&&◌, ◌∙◌, ap, drop, refl, sym}
 use Rattle.starlark_grammar.specs.Pieces.{is_bang, takes_bang}
-use Rattle.starlark_nesting.specs.Inner.Nesting.{mode_view}
+use Rattle.starlark_reader.specs.Inner.Nesting.{mode_view}
 use Rattle.starlark_reader.proofs.Pieces.CodePlaces.{bang_in_three}
 use Rattle.starlark_reader.proofs.Pieces.PieceTaken.{bang_read}
 use Rattle.starlark_reader.proofs.reader.Reader.bang_stands.Goals as goal

@@ -2,7 +2,7 @@ use Rattle.std.proofs.Common.{◌≡◌, ℕ, ◌+◌, ◌≤◌, false, Some, a
 use Rattle.starlark_token.specs.Lexemes.{lexeme_view, shown_lexeme}
 use Rattle.starlark_grammar.specs.Inner.Openings.{opening_view}
 use Rattle.starlark_grammar.specs.Margins.{open_widths}
-use Rattle.starlark_nesting.specs.Inner.Nesting.{bracket_count}
+use Rattle.starlark_reader.specs.Inner.Nesting.{bracket_count}
 use Rattle.starlark_grammar.specs.Tokens.{FStringStart, Lexeme, Opening, moved}
 use Rattle.starlark_token.specs.TokenViews.{token_view}
 use Rattle.starlark_token.specs.TokenViews as views
@@ -10,7 +10,7 @@ use Rattle.starlark_token.specs.declared.fstring_style.FStringQuote.{FStringQuot
 use Rattle.starlark_reader.specs.declared.reader.Reader.{Reader}
 use Rattle.starlark_token.specs.declared.tokens.Token.TheVariants as token
 use Rattle.starlark_reader.proofs.Pieces.Taken.{less_taken, piece_inside, took}
-use Rattle.starlark_layout.proofs.Indentation.Waiting.{hands_one}
+use Rattle.starlark_reader.proofs.Indentation.Waiting.{hands_one}
 use Rattle.starlark_reader.proofs.reader.Reader.begin_fstring.Goals as goal
 
 pub overflow_add-result : goal.overflow_add-result

@@ -3,9 +3,9 @@ use Rattle.starlark_grammar.specs.Margins.{margin_of}
 use Rattle.starlark_token.specs.TokenViews.{token_view}
 use Rattle.starlark_token.specs.declared.tokens.Token.TheVariants as token
 use Rattle.starlark_reader.specs.declared.reader.Reader.{Reader}
-use Rattle.starlark_layout.specs.Inner.Layout.{IsMargin}
-use Rattle.starlark_layout.specs.Inner.MarginLines.{IsOfMargin}
-use Rattle.starlark_layout.proofs.Indentation.Laid.{behind_none, end_refused, end_taken}
+use Rattle.starlark_reader.specs.Inner.Layout.{IsMargin}
+use Rattle.starlark_reader.specs.Inner.MarginLines.{IsOfMargin}
+use Rattle.starlark_reader.proofs.Indentation.Laid.{behind_none, end_refused, end_taken}
 use Rattle.starlark_reader.proofs.Pieces.Taken.{line_less, line_refused, line_taken}
 use Rattle.starlark_reader.proofs.reader.Reader.lay_line_end.Goals as goal
 

@@ -1,6 +1,6 @@
 use Rattle.std.proofs.Common.{refl}
 use Rattle.starlark_reader.proofs.Pieces.NextLexeme.{comment_next, pending_something}
-use Rattle.starlark_layout.proofs.Indentation.Waiting.{after_error, comments_left}
+use Rattle.starlark_reader.proofs.Indentation.Waiting.{after_error, comments_left}
 use Rattle.starlark_reader.proofs.reader.Reader.next_comment.Goals as goal
 
 pub returns-clause-ahead : goal.returns-clause-ahead

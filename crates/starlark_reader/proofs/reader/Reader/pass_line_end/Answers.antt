@@ -1,5 +1,5 @@
 use Rattle.std.proofs.Common.{◌∙◌, ap, arith, false, sym, None}
-use Rattle.starlark_layout.specs.Inner.Pending.{owed}
+use Rattle.starlark_reader.specs.Inner.Pending.{owed}
 use Rattle.starlark_reader.specs.declared.reader.Reader.{Reader}
 use Rattle.starlark_reader.proofs.Pieces.Here.{less_onward}
 use Rattle.starlark_reader.proofs.Pieces.PieceTaken.{left_onward, nothing_here, nothing_taken, onward_ahead, silent_line_end}

@@ -1,8 +1,8 @@
 use Rattle.std.proofs.Common.{[], ap, drop}
 use Rattle.starlark_grammar.specs.Margins.{margin_of}
 use Rattle.starlark_reader.specs.declared.reader.Reader.{Reader}
-use Rattle.starlark_layout.specs.Inner.MarginLines.{IsOfMargin}
-use Rattle.starlark_layout.proofs.Indentation.Laid.{behind_none, first_refused, first_taken, none_open}
+use Rattle.starlark_reader.specs.Inner.MarginLines.{IsOfMargin}
+use Rattle.starlark_reader.proofs.Indentation.Laid.{behind_none, first_refused, first_taken, none_open}
 use Rattle.starlark_reader.proofs.Pieces.Taken.{first_ahead, margin_refused, margin_taken, new_ahead}
 use Rattle.starlark_reader.proofs.reader.Reader.read_first_margin.Goals as goal
 

@@ -6,7 +6,7 @@ use Rattle.starlark_reader.specs.declared.reading.Piece.{Piece}
 use Rattle.starlark_reader.proofs.Pieces.ReaderReads.{end_reads, line_reads, onward_reads, state_reads, step_reads}
 use Rattle.std.proofs.lemmas.Result.{IfOk-weaker, on_ok_weaker}
 use Rattle.starlark_grammar.specs.Margins.{open_widths}
-use Rattle.starlark_layout.specs.Inner.Pending.{owed}
+use Rattle.starlark_reader.specs.Inner.Pending.{owed}
 use Rattle.starlark_reader.specs.Inner.Pieces.{IsPiece}
 use Rattle.starlark_reader.specs.Inner.Reader.{step_here}
 use Rattle.starlark_reader.specs.declared.reader.Reader.{Reader}

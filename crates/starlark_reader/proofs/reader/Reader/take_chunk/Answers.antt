@@ -5,8 +5,8 @@ use Rattle.starlark_grammar.specs.Pieces as grammar
 use Rattle.starlark_grammar.specs.Pieces.{Piece}
 use Rattle.starlark_grammar.specs.Reading.{History, tokens_onto}
 use Rattle.starlark_grammar.specs.Tokens.{Token}
-use Rattle.starlark_nesting.specs.Inner.Nesting.{Represents}
-use Rattle.starlark_layout.specs.Inner.TextEnds.{text_end_node}
+use Rattle.starlark_reader.specs.Inner.Nesting.{Represents}
+use Rattle.starlark_reader.specs.Inner.TextEnds.{text_end_node}
 use Rattle.starlark_reader.specs.declared.reader.Reader.{Reader}
 use Rattle.starlark_token.specs.declared.tokens.Token.TheVariants as token
 use Rattle.starlark_reader.proofs.Pieces.ChunksTaken.{end_hands, onto_last, own_end, text_hands, text_onto}

@@ -9,7 +9,7 @@ use Rattle.starlark_grammar.proofs.Words.Classes.{comment_boundary}
 use Rattle.starlark_reader.proofs.Pieces.CodePlaces.{word_class, word_cut}
 use Rattle.starlark_reader.proofs.Pieces.NextLexeme.{onward_something}
 use Rattle.starlark_reader.proofs.Pieces.PieceTaken.{comment_changes, comment_step, left_onward, onward_ahead}
-use Rattle.starlark_layout.proofs.Indentation.Waiting.{after_error}
+use Rattle.starlark_reader.proofs.Indentation.Waiting.{after_error}
 use Rattle.starlark_reader.proofs.reader.Reader.take_comment.Goals as goal
 
 pub range-word-requires-clause-end_boundary : goal.range-word-requires-clause-end_boundary

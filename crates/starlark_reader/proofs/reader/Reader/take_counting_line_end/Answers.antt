@@ -5,7 +5,7 @@ use Rattle.starlark_grammar.proofs.Order.Edges.{boundary_shift}
 use Rattle.starlark_reader.proofs.Pieces.CodePlaces.{word_cut}
 use Rattle.starlark_reader.proofs.Pieces.NextLexeme.{onward_something}
 use Rattle.starlark_reader.proofs.Pieces.PieceTaken.{counting_line_end, left_onward, onward_ahead}
-use Rattle.starlark_layout.proofs.Indentation.Waiting.{after_error}
+use Rattle.starlark_reader.proofs.Indentation.Waiting.{after_error}
 use Rattle.std.proofs.lemmas.Result.{IfOk-weaker}
 use Rattle.starlark_reader.specs.Inner.Reader.{newline_if}
 use Rattle.starlark_reader.proofs.reader.Reader.take_counting_line_end.Goals as goal

@@ -1,6 +1,6 @@
 use Rattle.std.proofs.Common.{refl}
 use Rattle.starlark_reader.proofs.Pieces.NextLexeme.{onward_something}
-use Rattle.starlark_layout.proofs.Indentation.Waiting.{after_error}
+use Rattle.starlark_reader.proofs.Indentation.Waiting.{after_error}
 use Rattle.starlark_reader.proofs.reader.Reader.take_line_end.Goals as goal
 
 pub returns-in_err-take_counting_line_end-clause-memory : goal.returns-in_err-take_counting_line_end-clause-memory

@@ -7,7 +7,7 @@ use Rattle.starlark_token.specs.declared.tokens.Token.TheVariants as token
 use Rattle.starlark_reader.proofs.Pieces.CodePlaces.{word_cut}
 use Rattle.starlark_reader.proofs.Pieces.NextLexeme.{onward_something}
 use Rattle.starlark_reader.proofs.Pieces.PieceTaken.{left_onward, name_changes, name_step, onward_ahead}
-use Rattle.starlark_layout.proofs.Indentation.Waiting.{after_error}
+use Rattle.starlark_reader.proofs.Indentation.Waiting.{after_error}
 use Rattle.starlark_reader.proofs.reader.Reader.take_name.Goals as goal
 
 pub range-requires-clause-end_boundary : goal.range-requires-clause-end_boundary

@@ -8,7 +8,7 @@ use Rattle.starlark_token.specs.declared.tokens.Token.TheVariants as token
 use Rattle.starlark_reader.proofs.Pieces.CodePlaces.{word_cut}
 use Rattle.starlark_reader.proofs.Pieces.NextLexeme.{onward_something}
 use Rattle.starlark_reader.proofs.Pieces.PieceTaken.{left_onward, onward_ahead, literal_step, text_changes}
-use Rattle.starlark_layout.proofs.Indentation.Waiting.{after_error}
+use Rattle.starlark_reader.proofs.Indentation.Waiting.{after_error}
 use Rattle.starlark_reader.proofs.reader.Reader.take_plain_text.Goals as goal
 
 pub range_from-behind-requires : goal.range_from-behind-requires

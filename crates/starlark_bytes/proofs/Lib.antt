@@ -1,5 +1,0 @@
-pub mod FirstCharacter
-pub mod Fronts
-pub mod LaneRuns
-pub mod EqualLanes
-pub mod NameLanes

@@ -1,3 +1,0 @@
--- Definitions that only contracts of inner functions, and proofs, cite.
-pub mod Reads
-pub mod Lines

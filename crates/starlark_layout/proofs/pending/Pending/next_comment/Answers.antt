@@ -1,5 +1,0 @@
-use Rattle.starlark_layout.proofs.Indentation.Waiting.{comment_first}
-use Rattle.starlark_layout.proofs.pending.Pending.next_comment.Goals as goal
-
-pub returns-clause-next : goal.returns-clause-next
-returns-clause-next c = comment_first c.args.text.now c.args.self.now c.in_ok-comment.comment c.in_ok-comment.len c.in_ok-comment.ensures.comment

@@ -1,5 +1,0 @@
-use Rattle.starlark_layout.proofs.Indentation.Waiting.{only_behind}
-use Rattle.starlark_layout.proofs.pending.Pending.only.Goals as goal
-
-pub returns : goal.returns
-returns c = λ text. only_behind text c.args.behind

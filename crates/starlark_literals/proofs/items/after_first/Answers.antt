@@ -1,5 +1,0 @@
-use Rattle.std.proofs.lemmas.Str.{IsCharBoundary-after_ascii}
-use Rattle.starlark_literals.proofs.items.after_first.Goals as goal
-
-pub range_from-requires : goal.range_from-requires
-range_from-requires c = λ some. IsCharBoundary-after_ascii c.args.text.now 0 c.utf8.text c.requires.some c.requires.ascii

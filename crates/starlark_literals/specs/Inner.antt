@@ -1,3 +1,0 @@
--- Definitions that only contracts of inner functions, of the reader too, and proofs cite.
-pub mod Literals
-pub mod Runs

@@ -1,2 +1,0 @@
--- Definitions that only contracts of inner functions, of the reader too, and proofs cite.
-pub mod Nesting

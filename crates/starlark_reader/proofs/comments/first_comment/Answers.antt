@@ -1,0 +1,65 @@
+use Rattle.std.proofs.Common.{◌+◌, ◌-◌, ◌∙◌, ap, arith, drop, refl, rules, subst, sym, take}
+use Rattle.std.specs.Str.{IsCharBoundary}
+use Rattle.std.proofs.lemmas.List.{take_rest}
+use Rattle.starlark_token.specs.declared.tokens.Token.TheVariants as token
+use Rattle.starlark_token.specs.TokenViews.{token_view}
+use Rattle.starlark_reader.proofs.Indentation.CommentLines.{comment_begin, comment_lexeme, comment_value, part_before_feed}
+use Rattle.starlark_reader.proofs.Indentation.Margins.{feed_measured}
+use Rattle.starlark_reader.proofs.Indentation.Pending.{IsMeasured, measured}
+use Rattle.starlark_reader.proofs.comments.first_comment.Goals as goal
+use Rattle.starlark_reader.proofs.comments.first_comment.Goals.{After-comment_end}
+
+pub line_len-len-requires : goal.line_len-len-requires
+line_len-len-requires c = feed_measured _ _ _ _ c.blanks_len-blanks.ensures.value (take_rest _ c.blanks_len-blanks.result) c.before_lf_len.ensures.value
+
+pub comment_end-requires : goal.comment_end-requires
+comment_end-requires c = feed_measured _ _ _ _ c.blanks_len-blanks.ensures.value (take_rest _ c.blanks_len-blanks.result) c.before_lf_len.ensures.value
+
+-- what was measured of the first line
+first : (c : goal.After-comment_end) → IsMeasured c.args.text.now c.args.from c.args.to c.blanks_len-blanks.result c.comment_end.result c.line_len-len.result
+first c =
+    let bytes = c.as_bytes.ensures.value in
+    let feed = feed_measured _ _ _ _ c.blanks_len-blanks.ensures.value (take_rest _ c.blanks_len-blanks.result) c.before_lf_len.ensures.value in
+    measured c.args.text.now c.args.from c.args.to (c.blanks_len-blanks.result + c.before_lf_len.result) c.line_len-len.result c.blanks_len-blanks.result c.comment_end.result c.requires.comments c.requires.some
+    (rw bytes at feed) (rw bytes at c.line_len-len.ensures.line) (rw bytes at c.line_len-len.ensures.within) c.line_len-len.ensures.feed
+    (rw bytes at c.blanks_len-blanks.ensures.value) (rw bytes at c.comment_end.ensures.value)
+
+pub overflow_add-end : goal.overflow_add-end
+overflow_add-end c =
+    let inside = (first c).part_inside in
+    search (rules, inside)
+
+pub range-requires-clause-start_le_end : goal.range-requires-clause-start_le_end
+range-requires-clause-start_le_end c = let order = (first c).order in omega (arith, order)
+
+pub range-requires-clause-start_boundary : goal.range-requires-clause-start_boundary
+range-requires-clause-start_boundary c = λ some.
+    let line = first c in
+    comment_begin c.args.text.now c.args.from c.line_len-len.result (c.args.from + c.blanks_len-blanks.result) c.utf8.text (omega (arith, line.inside, c.requires.comments.inside)) line.passes (ap (λ n. c.args.from + n) line.blanks)
+
+pub range-requires-clause-end_boundary : goal.range-requires-clause-end_boundary
+range-requires-clause-end_boundary c = let line = first c in subst (λ n. IsCharBoundary c.args.text.now (c.args.from + n)) (sym line.part) line.edges.1
+
+pub returns-clause-comment : goal.returns-clause-comment
+unfolding token_view
+returns-clause-comment c =
+    let line = first (goal.at.returns-clause-comment c).After-comment_end in
+    let there = take c.line_len-len.result (drop c.args.from c.args.text.now) in
+    let said = c.in_ok-comment.ensures.ok ∙ c.range.ensures.value
+    ∙ comment_value c.args.text.now c.args.from c.line_len-len.result (c.args.from + c.blanks_len-blanks.result + 1) (c.args.from + c.comment_end.result) line.passes (ap (λ n. c.args.from + n + 1) line.blanks) (ap (λ n. c.args.from + n) line.part) in
+    record {
+      line = there;
+      first = line.first;
+      whole = line.whole;
+      comment = comment_lexeme c.args.from c.blanks_len-blanks.result c.comment_end.result there _ (token.Comment c.in_ok-comment.comment) line.blanks line.part said refl;
+      behind = line.behind;
+    }
+
+pub returns-clause-reads : goal.returns-clause-reads
+returns-clause-reads c =
+    let line = first (goal.at.returns-clause-reads c).After-comment_end in
+    let feed = feed_measured _ _ _ _ c.blanks_len-blanks.ensures.value (take_rest _ c.blanks_len-blanks.result) c.before_lf_len.ensures.value in
+    let some = part_before_feed (take (c.args.to - c.args.from) (drop c.args.from c.as_bytes.result.now)) in (
+      omega (arith, c.blanks_len-blanks.ensures.reads, c.before_lf_len.ensures.reads.0, c.comment_end.ensures.reads),
+      omega (arith, feed, some, line.order, c.comment_end.ensures.value, c.blanks_len-blanks.ensures.reads, c.before_lf_len.ensures.reads.1, c.comment_end.ensures.reads, c.line_len-len.ensures.feed),
+    )

@@ -1,0 +1,66 @@
+-- Pending lexemes, as the grammar sees them.
+use Rattle.std.specs.Prelude.{◌≡◌, ◌≤◌, ℕ, ◌+◌, ◌-◌, List, [], ◌∷◌, ◌++◌, Option, Some, None, true, map, length, take, drop, replicate}
+use Rattle.std.specs.List.{AllByRecursion}
+use Rattle.starlark_grammar.specs.Words.{Text}
+use Rattle.starlark_grammar.specs.Tokens as grammar
+use Rattle.starlark_grammar.specs.Laws.{AtBoundaries}
+use Rattle.starlark_grammar.specs.Margins.{comment_of, comments_from, is_comment_only, lines}
+use Rattle.starlark_token.specs.Lexemes.{lexeme_view, shown_lexeme}
+use Rattle.starlark_reader.specs.Inner.TextEnds.{text_end_node}
+use Rattle.starlark_reader.specs.declared.pending.Behind.{Behind}
+use Rattle.starlark_reader.specs.declared.pending.Behind.TheVariants as behind
+use Rattle.starlark_reader.specs.declared.pending.Pending.{Pending}
+use Rattle.starlark_token.specs.declared.tokens.Token.{Token}
+
+-- the lines of a text from byte `from` to `to`
+abbrev pub lines_between : Text → ℕ → ℕ → List Text
+lines_between text from to = lines (take (to - from) (drop from text))
+
+-- how many bytes of comment-only lines have pending comments
+abbrev pub owed : Pending → ℕ
+owed pending = pending.to - pending.from
+
+-- the lexemes that are pending after the comments
+abbrev pub lexemes_after : Behind → List grammar.Lexeme
+lexemes_after (behind.Dedents at count) = replicate count (record { begin = at; node = grammar.Dedent; end = at })
+lexemes_after (behind.Indent begin end) = record { begin = begin; node = grammar.Indent; end = end } ∷ []
+lexemes_after (behind.TextEnd begin stop end) = record { begin = begin; node = text_end_node stop; end = end } ∷ []
+
+-- all pending lexemes: comments of lines, and the lexemes after them
+unfoldable pub pending_lexemes : Text → Pending → List grammar.Lexeme
+pending_lexemes text pending = comments_from pending.from (lines_between text pending.from pending.to) ++ lexemes_after pending.behind
+
+-- all lines from byte `from` to `to` are comment-only, and their comments begin and end at
+-- character boundaries
+pub record IsComments (text : Text) (from to : ℕ) : Type 0 where
+  pub order : from ≤ to
+  pub inside : to ≤ length text
+  pub comments : AllByRecursion (λ (line : Text). is_comment_only line ≡ true) (lines_between text from to)
+  pub edges : AllByRecursion (AtBoundaries text) (comments_from from (lines_between text from to))
+
+-- the pending comments are those of comment-only lines of the text
+abbrev pub IsPending : Text → Pending → Type 0
+IsPending text pending = IsComments text pending.from pending.to
+
+-- no lexeme is pending
+abbrev pub IsIdle : Text → Pending → Type 0
+IsIdle text pending = IsPending text pending × (pending_lexemes text pending ≡ [])
+
+-- the first line from byte `from` to `to` has `len` bytes and the comment found, and all after it
+-- are comment-only
+pub record IsFirstComment (text : Text) (from to : ℕ) (found : ℕ × Token × ℕ) (len : ℕ) : Type 0 where
+  pub line : Text
+  pub first : lines_between text from to ≡ line ∷ lines_between text (from + len) to
+  pub whole : length line ≡ len
+  pub comment : lexeme_view found ≡ shown_lexeme (comment_of from line)
+  pub behind : IsComments text (from + len) to
+
+-- the first lexeme after the comments was taken, or there was none and nothing changed
+abbrev pub IsFirstAfter : Behind → Behind → Option (ℕ × Token × ℕ) → Type 0
+IsFirstAfter old new None = (lexemes_after old ≡ []) × (new ≡ old)
+IsFirstAfter old new (Some found) = map shown_lexeme (lexemes_after old) ≡ lexeme_view found ∷ map shown_lexeme (lexemes_after new)
+
+-- the first pending lexeme was taken, or there was none and nothing changed
+abbrev pub IsFirst : Text → Pending → Pending → Option (ℕ × Token × ℕ) → Type 0
+IsFirst text old new None = (pending_lexemes text old ≡ []) × (new ≡ old)
+IsFirst text old new (Some found) = IsPending text new × (map shown_lexeme (pending_lexemes text old) ≡ lexeme_view found ∷ map shown_lexeme (pending_lexemes text new))

@@ -1,0 +1,42 @@
+//! The effect of a token on brackets and f-strings.
+
+ghost use Rattle.std.specs.Prelude.{◌≡◌};
+ghost use Rattle.starlark_reader.specs.Inner.Nesting.{change_by};
+ghost use Rattle.starlark_token.specs.TokenViews.{token_view};
+
+use starlark_token::tokens::Token;
+
+/// The effect of a token on brackets and f-strings, except for the start of an f-string.
+#[derive(Clone, Copy, PartialEq, Eq)]
+pub enum Change {
+    OpensRound,
+    ClosesRound,
+    OpensSquare,
+    ClosesSquare,
+    OpensCurly,
+    ClosesCurly,
+    BeginsExpression,
+    EndsExpression,
+    EndsFString,
+    Nothing,
+}
+
+/// The effect of a token on brackets and f-strings.
+#[tactic(auto, unfolding(starlark_token::specs::TokenViews::token_view, crate::specs::Inner::Nesting::change_by))]
+#[inline(always)]
+pub fn change_of(token: &Token) -> Change
+    ensures { result ≡ change_by (token_view token.now) }
+{
+    match token {
+        Token::OpeningRound => Change::OpensRound,
+        Token::OpeningSquare => Change::OpensSquare,
+        Token::OpeningCurly => Change::OpensCurly,
+        Token::ClosingRound => Change::ClosesRound,
+        Token::ClosingSquare => Change::ClosesSquare,
+        Token::ClosingCurly => Change::ClosesCurly,
+        Token::FStringExprStart => Change::BeginsExpression,
+        Token::FStringExprEnd => Change::EndsExpression,
+        Token::FStringEnd => Change::EndsFString,
+        _ => Change::Nothing,
+    }
+}

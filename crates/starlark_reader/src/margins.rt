@@ -1,0 +1,163 @@
+//! Reads the margin at the start of a text.
+
+ghost use Rattle.std.specs.Prelude.{◌≡◌, ◌+◌, ◌*◌, ◌≤◌, ◌<◌, ◌^◌, ◌∷◌, if◌then◌else◌, drop, get_or, length, nat_eq, not, take};
+ghost use Rattle.std.specs.List.{prefix_len};
+ghost use Rattle.starlark_reader.specs.Inner.Layout.{IsBlanks, IsMargin};
+ghost use Rattle.starlark_grammar.specs.Margins as grammar;
+ghost use Rattle.starlark_words.specs.Inner.Reads.{AreReads, more_reads};
+
+use crate::lf_search::before_lf_len;
+use starlark_words::reads::{Reads, uncounted_spaces_len};
+
+/// The blanks at the start of a line: spaces, tabs and CR.
+#[derive(Clone, Copy)]
+pub struct Blanks {
+    /// Number of blanks, in bytes.
+    pub len: usize,
+    /// Number of spaces among them.
+    pub width: usize,
+    /// Whether one of them is a tab.
+    pub has_tab: bool,
+}
+
+/// A margin: comment-only lines, and then the blanks of the next line.
+#[derive(Clone, Copy)]
+pub struct Margin {
+    /// Length of the comment-only lines, in bytes.
+    pub at: usize,
+    /// The blanks of the line after them.
+    pub blanks: Blanks,
+    /// Whether content follows: neither an LF nor the end of the text.
+    pub is_content: bool,
+}
+
+/// Number of spaces, tabs and CR at the start of a text.
+pub fn blanks_len(reads: &mut Reads, text: &[u8]) -> usize
+    ensures value { result ≡ grammar.blanks_len text.now }
+    ensures within { result ≤ length text.now }
+    ensures reads { reads.new ≡ more_reads reads.old (result + 1) }
+{
+    let len = text
+        .iter()
+        .take_while(|byte| matches!(**byte, b' ' | b'\t' | b'\r'))
+        .count();
+    reads.count_run(len);
+    len
+}
+
+/// Length of the first line of a text with its LF. `feed` is its length without that.
+pub fn line_len(text: &[u8], feed: usize) -> usize
+    requires { feed ≡ prefix_len (λ b. not (grammar.is_lf b)) text.now }
+    ensures line { 0 < length text.now → grammar.lines text.now ≡ take result text.now ∷ grammar.lines (drop result text.now) }
+    ensures within { result ≤ length text.now }
+    ensures feed { feed ≤ result }
+    ensures few { result ≤ feed + 1 }
+{
+    if feed < text.len() { feed + 1 } else { feed }
+}
+
+/// The blanks at the start of a text that begins with `spaces` spaces and then a tab or a CR.
+#[inline(always)]
+fn blanks_after(text: &[u8], spaces: usize, is_tab: bool) -> Blanks
+    requires spaces { spaces ≤ prefix_len (nat_eq 32) text.now }
+    requires inside { spaces < length text.now }
+    requires next { get_or text.now spaces 0 ≡ (if is_tab then 9 else 13) }
+    ensures value { IsBlanks (take (grammar.blanks_len text.now) text.now) result }
+    ensures within { result.len ≤ length text.now }
+{
+    let mut len = spaces + 1;
+    let mut width = spaces;
+    let mut has_tab = is_tab;
+    while let Some(byte) = text.get(len) {
+        match *byte {
+            b' ' => width += 1,
+            b'\t' => has_tab = true,
+            b'\r' => {}
+            _ => break,
+        }
+        len += 1;
+    }
+    Blanks {
+        len,
+        width,
+        has_tab,
+    }
+}
+
+/// The blanks at the start of a text. The reads aren't counted.
+#[inline(always)]
+fn blanks_in_front(text: &[u8]) -> Blanks
+    ensures value { IsBlanks (take (grammar.blanks_len text.now) text.now) result }
+    ensures within { result.len ≤ length text.now }
+{
+    let spaces = uncounted_spaces_len(text);
+    if spaces < text.len() && (text[spaces] == b'\t' || text[spaces] == b'\r') {
+        return blanks_after(text, spaces, text[spaces] == b'\t');
+    }
+    Blanks {
+        len: spaces,
+        width: spaces,
+        has_tab: false,
+    }
+}
+
+/// The blanks at the start of a text, with their reads counted.
+///
+/// The byte after them counts twice, since the caller reads it again.
+#[inline(always)]
+fn blanks_of(reads: &mut Reads, text: &[u8]) -> Blanks
+    ensures value { IsBlanks (take (grammar.blanks_len text.now) text.now) result }
+    ensures within { result.len ≤ length text.now }
+    ensures reads { reads.new ≡ more_reads reads.old (result.len + 2) }
+{
+    let blanks = blanks_in_front(text);
+    reads.count_run(blanks.len + 1);
+    blanks
+}
+
+/// Whether a text begins with `#`.
+fn begins_comment(text: &[u8]) -> bool
+    ensures { result ≡ grammar.begins_comment text.now }
+{
+    matches!(text, [b'#', ..])
+}
+
+/// Whether content is at the start of a text: neither its end nor an LF.
+fn is_content(text: &[u8]) -> bool
+    ensures { result ≡ grammar.is_content text.now }
+{
+    !matches!(text, [] | [b'\n', ..])
+}
+
+/// The margin at the start of a text.
+#[inline(always)]
+pub fn margin_of(reads: &mut Reads, text: &str) -> Margin
+    ensures margin { IsMargin (grammar.margin_of text.now) result }
+    ensures within { result.at + result.blanks.len ≤ length text.now }
+    ensures reads { AreReads (result.at + result.blanks.len) (5 * result.at + result.blanks.len + 2) reads.old reads.new }
+{
+    let bytes = text.as_bytes();
+    let blanks = blanks_of(reads, bytes);
+    let behind = &bytes[blanks.len..];
+    if !begins_comment(behind) {
+        return Margin {
+            at: 0,
+            blanks,
+            is_content: is_content(behind),
+        };
+    }
+    let mut at = blanks.len + line_len(behind, before_lf_len(reads, behind));
+    loop {
+        let line = &bytes[at..];
+        let blanks = blanks_of(reads, line);
+        let behind = &line[blanks.len..];
+        if !begins_comment(behind) {
+            return Margin {
+                at,
+                blanks,
+                is_content: is_content(behind),
+            };
+        }
+        at += blanks.len + line_len(behind, before_lf_len(reads, behind));
+    }
+}

@@ -1,0 +1,189 @@
+//! Pending lexemes: read already, and made one by one as the lexer yields them.
+
+ghost use Rattle.std.specs.Prelude.{◌≡◌, ◌<◌, ◌≤◌, ◌+◌, ◌*◌, [], nat_lt, true, None, Some, OnErr, OnOk, IfOk};
+ghost use Rattle.starlark_reader.specs.Inner.Pending.{IsFirst, IsFirstAfter, IsPending, lexemes_after, owed, pending_lexemes};
+ghost use Rattle.starlark_reader.specs.Inner.MarginLines.{IsLinePassed};
+ghost use Rattle.starlark_grammar.specs.Words.{Text};
+ghost use Rattle.starlark_words.specs.Inner.Reads.{more_reads};
+
+use crate::comments::first_comment;
+use crate::placed_token::PlacedToken;
+use crate::text_end::TextEnd;
+use starlark_words::reads::Reads;
+use starlark_token::tokens::Token;
+use std::alloc::{AllocError, Global};
+
+/// The lexemes that are pending after the comments. Offsets count bytes.
+#[derive(Clone, Copy)]
+pub enum Behind {
+    /// `count` `Dedent`s at one offset; none if `count` is 0.
+    Dedents {
+        at: usize,
+        count: usize,
+    },
+    /// One `Indent`.
+    Indent {
+        begin: usize,
+        end: usize,
+    },
+    /// The token that ends a text of an f-string.
+    TextEnd {
+        begin: usize,
+        stop: TextEnd,
+        end: usize,
+    },
+}
+
+/// All pending lexemes: the comments of some comment-only lines, and what is pending after them.
+///
+/// Offsets count bytes.
+#[derive(Clone, Copy)]
+pub struct Pending {
+    /// Start of the comment-only lines whose comments are pending.
+    pub from: usize,
+    /// End of those lines. There are none if it equals `from`.
+    pub to: usize,
+    /// The lexemes that are pending after the comments.
+    pub behind: Behind,
+    /// Whether no indent is open before the comments, and no lexeme after them was yielded yet.
+    pub is_flat: bool,
+}
+
+impl Behind {
+    /// No pending lexeme.
+    pub const fn nothing() -> Self
+        ensures { lexemes_after result ≡ [] }
+    {
+        Behind::Dedents { at: 0, count: 0 }
+    }
+
+    /// Takes the first pending lexeme; `None` if there is none.
+    #[tactic(auto, unfolding(starlark_token::specs::TokenViews::token_view))]
+    fn next(&mut self) -> Option<PlacedToken>
+        ensures { IsFirstAfter self.old self.new result }
+    {
+        match *self {
+            Behind::Dedents { at, count } => {
+                let left = count.checked_sub(1)?;
+                *self = Behind::Dedents { at, count: left };
+                Some((at, Token::Dedent, at))
+            }
+            Behind::Indent { begin, end } => {
+                *self = Behind::nothing();
+                Some((begin, Token::Indent, end))
+            }
+            Behind::TextEnd { begin, stop, end } => {
+                *self = Behind::nothing();
+                Some((begin, stop.token(), end))
+            }
+        }
+    }
+}
+
+impl Pending {
+    /// No pending lexeme and no comment.
+    pub fn nothing() -> Self
+        ensures { (text : Text) → (pending_lexemes text result ≡ []) × IsPending text result }
+    {
+        Pending::only(Behind::nothing())
+    }
+
+    /// Pending lexemes without comments before them.
+    pub fn only(behind: Behind) -> Self
+        ensures { (text : Text) → (pending_lexemes text result ≡ lexemes_after behind) × IsPending text result }
+    {
+        Pending {
+            from: 0,
+            to: 0,
+            behind,
+            is_flat: false,
+        }
+    }
+
+    /// Makes the comments of the lines from byte `from` to `to` pending, before the other lexemes.
+    #[inline(always)]
+    pub fn wait_for_comments(&mut self, from: usize, to: usize, is_flat: bool)
+        ensures { self.new ≡ record self.old { from = from; to = to; is_flat = is_flat } }
+    {
+        self.from = from;
+        self.to = to;
+        self.is_flat = is_flat;
+    }
+
+    /// Whether no lexeme is pending.
+    #[inline(always)]
+    pub fn is_nothing(&self) -> bool
+        ensures { result ≡ true → (text : Text) → pending_lexemes text self.now ≡ [] }
+    {
+        match self.behind {
+            Behind::Dedents { count, .. } if count == 0 => self.from >= self.to,
+            _ => false,
+        }
+    }
+
+    /// Whether comments are pending.
+    #[inline(always)]
+    pub fn has_comments(&self) -> bool
+        ensures { result ≡ nat_lt self.now.from self.now.to }
+    {
+        self.from < self.to
+    }
+
+    /// Takes the first pending comment. Nothing pending changes on `AllocError`.
+    #[inline(always)]
+    pub fn next_comment(
+        &mut self,
+        reads: &mut Reads,
+        alloc: Global,
+        text: &str,
+    ) -> Result<PlacedToken, AllocError>
+        requires some { self.old.from < self.old.to }
+        requires pending { IsPending text.now self.old }
+        ensures next { IfOk result (λ first. IsFirst text.now self.old self.new (Some first)) }
+        ensures lines { IfOk result (λ first. IsLinePassed text.now self.old self.new (Some first)) }
+        ensures flat { OnOk result (self.new.is_flat ≡ self.old.is_flat) }
+        ensures reads { IfOk result (λ first. (more_reads reads.old 0 ≤ reads.new) × (reads.new + 5 * owed self.new ≤ reads.old + 5 * owed self.old)) }
+    {
+        let (comment, len) = first_comment(reads, alloc, text, self.from, self.to)?;
+        self.from += len;
+        Ok(comment)
+    }
+
+    /// Takes the first pending lexeme where no comments are pending; `None` if there is none.
+    #[inline(always)]
+    pub fn next_mark(&mut self) -> Option<PlacedToken>
+        requires none { self.old.to ≤ self.old.from }
+        ensures next { (text : Text) → IsPending text self.old → IsFirst text self.old self.new result }
+        ensures lines { (text : Text) → IsLinePassed text self.old self.new result }
+        ensures place { (self.new.from ≡ self.old.from) × (self.new.to ≡ self.old.to) }
+        ensures stays { result ≡ None → self.new ≡ self.old }
+    {
+        let Some(first) = self.behind.next() else {
+            return None;
+        };
+        self.is_flat = false;
+        Some(first)
+    }
+
+    /// Takes the first pending lexeme; `None` if there is none. Nothing pending changes on
+    /// `AllocError`.
+    pub fn next(
+        &mut self,
+        reads: &mut Reads,
+        alloc: Global,
+        text: &str,
+    ) -> Result<Option<PlacedToken>, AllocError>
+        requires { IsPending text.now self.old }
+        ensures next { IfOk result (λ first. IsFirst text.now self.old self.new first) }
+        ensures memory { OnErr result (pending_lexemes text.now self.old ≡ [] → ⊥) }
+        ensures lines { IfOk result (λ first. IsLinePassed text.now self.old self.new first) }
+        ensures flat { OnOk result (self.old.from < self.old.to → self.new.is_flat ≡ self.old.is_flat) }
+        ensures reads { IfOk result (λ first. (more_reads reads.old 0 ≤ reads.new) × (reads.new + 5 * owed self.new ≤ reads.old + 5 * owed self.old)) }
+    {
+        if self.has_comments() {
+            Ok(Some(self.next_comment(reads, alloc, text)?))
+        } else {
+            Ok(self.next_mark())
+        }
+    }
+}

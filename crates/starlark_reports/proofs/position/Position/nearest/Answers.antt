@@ -1,5 +1,0 @@
-use Rattle.starlark_reports.proofs.Pairs.{position_start}
-use Rattle.starlark_reports.proofs.position.Position.nearest.Goals as goal
-
-pub moved-requires-else-earlier-to-clause-here : goal.moved-requires-else-earlier-to-clause-here
-moved-requires-else-earlier-to-clause-here c = position_start c.args.text.now c.utf8.text

@@ -1,8 +1,0 @@
-pub mod PythonLiterals
-pub mod JsonStrings
-pub mod Values
-pub mod Positions
-pub mod Lines
-pub mod ShownPlaces
-pub mod Reports
-pub mod Inner

@@ -1,0 +1,107 @@
+//! A position in a text, which counts lines, columns and units of UTF-16 as it moves on.
+
+ghost use Rattle.std.specs.Prelude.{◌≡◌, ◌+◌, ◌<◌, ◌≤◌, ◌^◌, ◌++◌, ℕ, List, count_by, length};
+ghost use Rattle.std.specs.Str.{IsCharBoundary, IsUtf8};
+ghost use Rattle.starlark_base.specs.Places as spec;
+ghost use Rattle.starlark_base.specs.Places.{is_lf};
+ghost use Rattle.starlark_run.specs.Positions.{IsPosition, pairs_in_line, position_at, starts_pair};
+
+use memchr::memchr_iter;
+use starlark_base::codemap::ResolvedPos;
+use starlark_text::character_starts::count_characters;
+
+/// A position in a text: its byte, line and column, and the characters of two UTF-16 units.
+#[derive(Clone, Copy)]
+pub struct Position {
+    /// The offset, in bytes.
+    pub at: usize,
+    /// The line and the column, both from 0. Columns count characters.
+    pub place: ResolvedPos,
+    /// How many of the characters before it on its line take two units of UTF-16.
+    pub pairs: usize,
+}
+
+impl Position {
+    /// The start of a text.
+    pub const START: Position = Position {
+        at: 0,
+        place: ResolvedPos { line: 0, column: 0 },
+        pairs: 0,
+    };
+
+    /// The position at byte `to`, which must not be before this one. Reads only the bytes between.
+    pub fn moved(self, text: &str, to: usize) -> Position
+        requires here { IsPosition text.now self }
+        requires onward { self.at ≤ to }
+        requires boundary { IsCharBoundary text.now to }
+        ensures { result ≡ position_at text.now to }
+    {
+        let passed = &text[self.at..to];
+        Position {
+            at: to,
+            place: place_after(self.place, passed),
+            pairs: pairs_after(self.pairs, passed),
+        }
+    }
+
+    /// The position at byte `to`, read from the first of two positions that isn't after it, or else
+    /// from the start of the text.
+    pub fn nearest(here: Position, earlier: Position, text: &str, to: usize) -> Position
+        requires here { IsPosition text.now here }
+        requires earlier { IsPosition text.now earlier }
+        requires boundary { IsCharBoundary text.now to }
+        ensures { result ≡ position_at text.now to }
+    {
+        if here.at <= to {
+            here.moved(text, to)
+        } else if earlier.at <= to {
+            earlier.moved(text, to)
+        } else {
+            Position::START.moved(text, to)
+        }
+    }
+}
+
+/// The line and column after a text that begins at a line and column.
+fn place_after(begin: ResolvedPos, passed: &str) -> ResolvedPos
+    requires line { begin.line + length passed.now < 2 ^ 64 }
+    requires column { begin.column + length passed.now < 2 ^ 64 }
+    ensures { (front : List ℕ) → IsUtf8 front → spec.place_after front ≡ begin → spec.place_after (front ++ passed.now) ≡ result }
+{
+    match passed.rfind('\n') {
+        None => ResolvedPos {
+            line: begin.line,
+            column: begin.column + count_characters(passed),
+        },
+        Some(last) => ResolvedPos {
+            line: begin.line + newline_count(passed),
+            column: count_characters(&passed[last + 1..]),
+        },
+    }
+}
+
+/// How many characters of two UTF-16 units are on the line before the end of a text that begins
+/// after `begin` of them.
+fn pairs_after(begin: usize, passed: &str) -> usize
+    requires { begin + length passed.now < 2 ^ 64 }
+    ensures { (front : List ℕ) → pairs_in_line front ≡ begin → pairs_in_line (front ++ passed.now) ≡ result }
+{
+    match passed.rfind('\n') {
+        None => begin + pair_count(passed),
+        Some(last) => pair_count(&passed[last + 1..]),
+    }
+}
+
+/// Number of LF in a text.
+fn newline_count(text: &str) -> usize
+    ensures { result ≡ count_by is_lf text.now }
+{
+    memchr_iter(b'\n', text.as_bytes()).count()
+}
+
+/// Number of characters of a text that take two units of UTF-16.
+fn pair_count(text: &str) -> usize
+    ensures { result ≡ count_by starts_pair text.now }
+{
+    text.as_bytes().iter().filter(|byte| 240 <= **byte).count()
+}

@@ -1,5 +1,0 @@
-use Rattle.starlark_scanner.proofs.Identifiers.EarlierLanguage.{identifiers_stay}
-use Rattle.starlark_scanner.proofs.laws.identifiers_stay.Goals as goal
-
-pub returns : goal.returns
-returns c = identifiers_stay

@@ -1,2 +1,0 @@
-pub mod OneIdentifier
-pub mod Inner

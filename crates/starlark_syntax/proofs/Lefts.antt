@@ -1,0 +1,302 @@
+-- What is left to a recovering lexer before and after each answer of the lexer in it.
+use Rattle.std.proofs.Common.{◌≡◌, ℕ, ◌+◌, ◌-◌, ◌<◌, ◌≤◌, ◌^◌, Bool, true, false, List, [], ◌∷◌, map, length, drop, refl, ap, sym, subst, ◌∙◌, arith, Ok, Err, None, Some, IfSome, slice_get, ◌⊎◌, inl, inr, ◌||◌}
+use Rattle.std.proofs.lemmas.Bool.{cases_lt}
+use Rattle.std.proofs.lemmas.List.{length-drop}
+use Rattle.std.proofs.lemmas.Str.{IsCharBoundary-from_rest, IsCharBoundary-start}
+use Rattle.std.specs.Prelude.{Option, Result}
+use Rattle.std.specs.Str.{IsCharBoundary, IsUtf8}
+use Rattle.starlark_base.specs.Diagnostics.{Diagnosed}
+use Rattle.starlark_base.specs.Sources.{SourceFile}
+use Rattle.starlark_grammar.proofs.Lists.{drop-sum}
+use Rattle.starlark_grammar.specs.Tokens.{Fault, Spanned, moved}
+use Rattle.starlark_grammar.specs.Words.{Text}
+use Rattle.starlark_syntax.proofs.Items.{all_moved_by_none, all_moved_twice, given_counts, next_left, none_left, refused_counts}
+use Rattle.starlark_syntax.specs.Inner.Passed.{HasPassed}
+use Rattle.starlark_syntax.specs.Inner.Rests.{IsRest, left_of, moved_item}
+use Rattle.starlark_syntax.specs.Recovery.{restart}
+use Rattle.starlark_syntax.specs.RecoveringLexer.{RecoveringView, all_items}
+use Rattle.starlark_syntax.specs.declared.passed_faults.Passed.{Passed}
+use Rattle.starlark_syntax.specs.Exceptions.{IsException}
+use Rattle.starlark_syntax.specs.Lexer.{AnswersNext, LexerView, is_ended_by, yielded_by}
+use Rattle.starlark_token.specs.TextItems.{Given, LexerItem, Refused, items}
+use Rattle.starlark_syntax.specs.declared.error.kinds.ErrorKind.{ErrorKind}
+use Rattle.starlark_text.specs.declared.or_memory.OrMemory.{OrMemory}
+use Rattle.starlark_text.specs.declared.or_memory.OrMemory.TheVariants.{Error, Memory}
+use Rattle.starlark_token.specs.Lexemes.{IsWithin, lexeme_view}
+use Rattle.starlark_token.specs.TokenViews.{TokenView}
+use Rattle.starlark_token.specs.declared.tokens.Token.{Token}
+
+-- Which item an answer is for
+
+pub ok_item : (file : SourceFile) (item : Option LexerItem) (found : ℕ × Token × ℕ) → AnswersNext file item (Some (Ok found)) → item ≡ Some (Given (lexeme_view found))
+ok_item file None found is = absurd is
+ok_item file (Some (Given lexeme)) found is = ap (λ l. Some (Given l)) (sym is)
+ok_item file (Some (Refused fault)) found is = absurd is
+
+pub error_item : (file : SourceFile) (item : Option LexerItem) (exception : Diagnosed ErrorKind) → AnswersNext file item (Some (Err (Error exception))) → (fault : Spanned Fault) × (item ≡ Some (Refused fault)) × IsException file fault exception
+error_item file None exception is = absurd is
+error_item file (Some (Given lexeme)) exception is = absurd is
+error_item file (Some (Refused fault)) exception is = (fault, refl, is)
+
+pub some_item : (file : SourceFile) (item : Option LexerItem) (answer : Result (ℕ × Token × ℕ) (OrMemory (Diagnosed ErrorKind))) → AnswersNext file item (Some answer) → (it : LexerItem) × (item ≡ Some it)
+some_item file None answer is = absurd is
+some_item file (Some it) answer is = (it, refl)
+
+pub no_item : (file : SourceFile) (item : Option LexerItem) → AnswersNext file item None → item ≡ None
+no_item file None is = refl
+no_item file (Some it) is = absurd is
+
+-- What is left
+
+-- what is left at an item is that item, moved, and the rest
+left_at : (begin : ℕ) (text : Text) (k : ℕ) (item : LexerItem) → slice_get (items text) k ≡ Some item
+    → map (moved_item begin) (drop k (all_items text)) ≡ moved_item begin item ∷ map (moved_item begin) (drop (k + 1) (all_items text))
+left_at begin text k item is = ap (map (moved_item begin)) (next_left text k item is)
+
+-- a lexer of a whole text has all of its items left
+pub left_at_start : (text : Text) (file : SourceFile) → left_of 0 (record { text = text; code_map = file; yielded_count = 0; has_ended = false; reads = 0 }) ≡ all_items text
+left_at_start text file = all_moved_by_none (all_items text)
+
+-- what is left, of a lexer that no error has ended
+pub left_is : (begin : ℕ) (rest : LexerView) → rest.has_ended ≡ false → left_of begin rest ≡ map (moved_item begin) (drop rest.yielded_count (all_items rest.text))
+left_is begin rest goes = rw goes refl
+
+pub left_ended : (begin : ℕ) (rest : LexerView) → rest.has_ended ≡ true → left_of begin rest ≡ []
+left_ended begin rest ended = rw ended refl
+
+-- before a lexeme and after it
+pub left_at_lexeme : (begin : ℕ) (rest : LexerView) (x : Spanned TokenView) (reads : ℕ) → rest.has_ended ≡ false → slice_get (items rest.text) rest.yielded_count ≡ Some (Given x)
+    → left_of begin rest ≡ Given (moved begin x) ∷ left_of begin (record rest { yielded_count = rest.yielded_count + 1; has_ended = false; reads = reads })
+left_at_lexeme begin rest x reads goes is = left_is begin rest goes ∙ left_at begin rest.text rest.yielded_count (Given x) is
+
+-- before a fault, and after it where lexing begins again
+pub left_at_fault : (begin : ℕ) (rest : LexerView) (fault : Spanned Fault) (file : SourceFile) (next : ℕ) → rest.has_ended ≡ false → slice_get (items rest.text) rest.yielded_count ≡ Some (Refused fault)
+    → next ≡ begin + restart rest.text fault
+    → left_of begin rest ≡ Refused (moved begin fault) ∷ left_of next (record { text = drop (restart rest.text fault) rest.text; code_map = file; yielded_count = 0; has_ended = false; reads = 0 })
+left_at_fault begin rest fault file next goes is at =
+    let counts = refused_counts rest.text rest.yielded_count fault is in
+    left_is begin rest goes ∙ left_at begin rest.text rest.yielded_count (Refused fault) is
+    ∙ ap (λ l. Refused (moved begin fault) ∷ map (moved_item begin) l) counts.1
+    ∙ ap (λ l. Refused (moved begin fault) ∷ l) (all_moved_twice begin (restart rest.text fault) (all_items (drop (restart rest.text fault) rest.text)))
+    ∙ ap (λ n. Refused (moved begin fault) ∷ map (moved_item n) (all_items (drop (restart rest.text fault) rest.text))) (sym at)
+
+-- where no item of the rest is left, none is left at all
+pub left_at_end : (text : Text) (begin : ℕ) (rest : LexerView) → IsRest text begin rest → rest.has_ended ≡ false → slice_get (items rest.text) rest.yielded_count ≡ None → left_of begin rest ≡ []
+left_at_end text begin rest inside goes none =
+    left_is begin rest goes ∙ ap (map (moved_item begin)) (none_left rest.text rest.yielded_count (inside.yielded goes) none)
+
+-- there is an item left where the rest has one
+pub left_some : (begin : ℕ) (rest : LexerView) (item : LexerItem) → rest.has_ended ≡ false → slice_get (items rest.text) rest.yielded_count ≡ Some item → slice_get (left_of begin rest) 0 ≡ Some (moved_item begin item)
+left_some begin rest item goes is = ap (λ l. slice_get l 0) (left_is begin rest goes ∙ left_at begin rest.text rest.yielded_count item is)
+
+-- Invariants and spans
+
+pub rest_after_lexeme : (text : Text) (begin : ℕ) (rest : LexerView) (x : Spanned TokenView) (reads : ℕ) → IsRest text begin rest → slice_get (items rest.text) rest.yielded_count ≡ Some (Given x)
+    → IsRest text begin (record rest { yielded_count = rest.yielded_count + 1; has_ended = false; reads = reads })
+rest_after_lexeme text begin rest x reads inside is = record {
+  boundary = inside.boundary;
+  same = inside.same;
+  fits = inside.fits;
+  yielded = λ goes. given_counts rest.text rest.yielded_count x is;
+}
+
+-- what lies in the rest lies in the text
+pub within_text : (text rest : Text) (begin from to : ℕ) → rest ≡ drop begin text → begin ≤ length text → length text < 2 ^ 32 → IsWithin rest from to → IsWithin text (begin + from) (begin + to)
+within_text text rest begin from to is inside fits within =
+    let len : length rest ≡ length text - begin = ap length is ∙ length-drop begin text in
+    let end = within.1 in
+    let order = within.0 in
+    (omega (arith, order), omega (arith, end, len), fits)
+
+pub boundary_of_text : (text rest : Text) (begin at : ℕ) → rest ≡ drop begin text → begin ≤ length text → IsCharBoundary rest at → IsCharBoundary text (begin + at)
+boundary_of_text text rest begin at is inside boundary = IsCharBoundary-from_rest text begin at inside (subst (λ (t : Text). IsCharBoundary t at) is boundary)
+
+-- The whole text
+
+pub rest_at_start : (text : Text) (file : SourceFile) (rest : LexerView) → IsUtf8 text → rest ≡ record { text = text; code_map = file; yielded_count = 0; has_ended = false; reads = 0 } → (2 ^ 32 ≤ length text → ⊥) → IsRest text 0 rest
+rest_at_start text file rest utf8 is short =
+    let view : LexerView = record { text = text; code_map = file; yielded_count = 0; has_ended = false; reads = 0 } in
+    let inside : IsRest text 0 view = record {
+      boundary = IsCharBoundary-start text utf8;
+      same = refl;
+      fits = by (cases_lt (length text) (2 ^ 32));
+      yielded = λ goes. omega arith;
+    } in
+    subst (IsRest text 0) (sym is) inside
+  where
+    by : (length text < 2 ^ 32) ⊎ (2 ^ 32 ≤ length text) → length text < 2 ^ 32
+    by (inl less) = less
+    by (inr more) = absurd (short more)
+
+abbrev view_of : Text → ℕ → LexerView → RecoveringView
+view_of text begin rest = record { text = text; code_map = rest.code_map; left = left_of begin rest }
+
+pub view_at_start : (text : Text) (file : SourceFile) (rest : LexerView) → rest ≡ record { text = text; code_map = file; yielded_count = 0; has_ended = false; reads = 0 } → view_of text 0 rest ≡ record { text = text; code_map = file; left = all_items text }
+view_at_start text file rest is = ap (view_of text 0) is ∙ ap (λ l. record { text = text; code_map = file; left = l }) (left_at_start text file)
+
+-- Each answer of the lexer of the rest
+
+abbrev Answer : Type 0
+Answer = Option (Result (ℕ × Token × ℕ) (OrMemory (Diagnosed ErrorKind)))
+
+-- what a call of that lexer promises
+pub record HasAnswered (old : LexerView) (answer : Answer) (new : LexerView) : Type 0 where
+  pub ended : old.has_ended ≡ true → AnswersNext old.code_map None answer
+  pub item : old.has_ended ≡ false → AnswersNext old.code_map (slice_get (items old.text) old.yielded_count) answer
+  pub after : new ≡ record old { yielded_count = old.yielded_count + yielded_by answer; has_ended = old.has_ended || is_ended_by answer; reads = new.reads }
+
+-- a lexer that answers something had not ended
+goes_on : (old : LexerView) (answer : Result (ℕ × Token × ℕ) (OrMemory (Diagnosed ErrorKind))) → (old.has_ended ≡ true → AnswersNext old.code_map None (Some answer)) → old.has_ended ≡ false
+goes_on old answer ended = by old.has_ended refl
+  where
+    by : (has_ended : Bool) → old.has_ended ≡ has_ended → old.has_ended ≡ false
+    by true is = absurd (ended is)
+    by false is = is
+
+-- a lexeme
+
+lexeme_is : (old new : LexerView) (found : ℕ × Token × ℕ) → HasAnswered old (Some (Ok found)) new
+    → (old.has_ended ≡ false) × (slice_get (items old.text) old.yielded_count ≡ Some (Given (lexeme_view found))) × (new ≡ record old { yielded_count = old.yielded_count + 1; has_ended = false; reads = new.reads })
+lexeme_is old new found h =
+    let goes = goes_on old (Ok found) h.ended in
+    let on : (old.has_ended || false) ≡ false = ap (λ b. b || false) goes in
+    (goes, ok_item old.code_map (slice_get (items old.text) old.yielded_count) found (h.item goes), h.after ∙ ap (λ b. record old { yielded_count = old.yielded_count + 1; has_ended = b; reads = new.reads }) on)
+
+pub lexeme_item : (text : Text) (begin : ℕ) (old new : LexerView) (found : ℕ × Token × ℕ) → HasAnswered old (Some (Ok found)) new
+    → AnswersNext old.code_map (slice_get (left_of begin old) 0) (Some (Ok (begin + found.0, found.1, begin + found.2)))
+lexeme_item text begin old new found h =
+    let is = lexeme_is old new found h in
+    subst (λ (l : List LexerItem). AnswersNext old.code_map (slice_get l 0) (Some (Ok (begin + found.0, found.1, begin + found.2)))) (sym (left_at_lexeme begin old (lexeme_view found) new.reads is.0 is.1)) refl
+
+pub lexeme_after : (text : Text) (begin : ℕ) (old new : LexerView) (found : ℕ × Token × ℕ) → HasAnswered old (Some (Ok found)) new
+    → view_of text begin new ≡ record { text = text; code_map = old.code_map; left = drop 1 (left_of begin old) }
+lexeme_after text begin old new found h =
+    let is = lexeme_is old new found h in
+    ap (view_of text begin) is.2 ∙ sym (ap (λ (l : List LexerItem). record { text = text; code_map = old.code_map; left = drop 1 l }) (left_at_lexeme begin old (lexeme_view found) new.reads is.0 is.1))
+
+pub lexeme_inside : (text : Text) (begin : ℕ) (old new : LexerView) (found : ℕ × Token × ℕ) → IsRest text begin old → HasAnswered old (Some (Ok found)) new → IsRest text begin new
+lexeme_inside text begin old new found inside h =
+    let is = lexeme_is old new found h in
+    subst (IsRest text begin) (sym is.2) (rest_after_lexeme text begin old (lexeme_view found) new.reads inside is.1)
+
+-- nothing
+
+nothing_left : (text : Text) (begin : ℕ) (old new : LexerView) → IsRest text begin old → HasAnswered old None new → left_of begin old ≡ []
+nothing_left text begin old new inside h = by old.has_ended refl
+  where
+    by : (has_ended : Bool) → old.has_ended ≡ has_ended → left_of begin old ≡ []
+    by true is = left_ended begin old is
+    by false is = left_at_end text begin old inside is (no_item old.code_map (slice_get (items old.text) old.yielded_count) (h.item is))
+
+same_after_nothing : (old new : LexerView) → new ≡ record old { yielded_count = old.yielded_count + 0; has_ended = old.has_ended || false; reads = new.reads } → new ≡ record old { reads = new.reads }
+same_after_nothing old new is =
+    let count : old.yielded_count + 0 ≡ old.yielded_count = omega arith in
+    is ∙ ap (λ n. record old { yielded_count = n; has_ended = old.has_ended || false; reads = new.reads }) count ∙ ap (λ b. record old { has_ended = b; reads = new.reads }) (or_false old.has_ended)
+  where
+    or_false : (b : Bool) → (b || false) ≡ b
+    or_false true = refl
+    or_false false = refl
+
+pub nothing_item : (text : Text) (begin : ℕ) (old new : LexerView) → IsRest text begin old → HasAnswered old None new → AnswersNext old.code_map (slice_get (left_of begin old) 0) None
+nothing_item text begin old new inside h = subst (λ (l : List LexerItem). AnswersNext old.code_map (slice_get l 0) None) (sym (nothing_left text begin old new inside h)) tt
+
+pub nothing_after : (text : Text) (begin : ℕ) (old new : LexerView) → IsRest text begin old → HasAnswered old None new → view_of text begin new ≡ record { text = text; code_map = old.code_map; left = drop 1 (left_of begin old) }
+nothing_after text begin old new inside h =
+    let none = nothing_left text begin old new inside h in
+    ap (view_of text begin) (same_after_nothing old new h.after)
+    ∙ ap (λ (l : List LexerItem). record { text = text; code_map = old.code_map; left = l }) (none ∙ sym (ap (λ (l : List LexerItem). drop 1 l) none))
+
+pub nothing_inside : (text : Text) (begin : ℕ) (old new : LexerView) → IsRest text begin old → HasAnswered old None new → IsRest text begin new
+nothing_inside text begin old new inside h =
+    subst (IsRest text begin) (sym (same_after_nothing old new h.after)) (record { boundary = inside.boundary; same = inside.same; fits = inside.fits; yielded = inside.yielded })
+
+-- an error, after which the lexer has ended
+
+error_ends : (old new : LexerView) (refused : OrMemory (Diagnosed ErrorKind)) → HasAnswered old (Some (Err refused)) new → new.has_ended ≡ true
+error_ends old new refused h =
+    let goes = goes_on old (Err refused) h.ended in
+    ap (λ (v : LexerView). v.has_ended) h.after ∙ ap (λ b. b || true) goes
+
+pub memory_item : (text : Text) (begin : ℕ) (old new : LexerView) (refused : OrMemory (Diagnosed ErrorKind)) → HasAnswered old (Some (Err refused)) new → AnswersNext old.code_map (slice_get (left_of begin old) 0) (Some (Err Memory))
+memory_item text begin old new refused h =
+    let goes = goes_on old (Err refused) h.ended in
+    let item = some_item old.code_map (slice_get (items old.text) old.yielded_count) (Err refused) (h.item goes) in
+    subst (λ (i : Option LexerItem). AnswersNext old.code_map i (Some (Err Memory))) (sym (left_some begin old item.0 goes item.1)) tt
+
+pub memory_after : (text : Text) (begin : ℕ) (old new : LexerView) (refused : OrMemory (Diagnosed ErrorKind)) → HasAnswered old (Some (Err refused)) new → view_of text begin new ≡ record { text = text; code_map = old.code_map; left = [] }
+memory_after text begin old new refused h =
+    ap (λ (l : List LexerItem). record { text = text; code_map = new.code_map; left = l }) (left_ended begin new (error_ends old new refused h))
+    ∙ ap (λ (v : LexerView). record { text = text; code_map = v.code_map; left = [] }) h.after
+
+pub memory_inside : (text : Text) (begin : ℕ) (old new : LexerView) (refused : OrMemory (Diagnosed ErrorKind)) → IsRest text begin old → HasAnswered old (Some (Err refused)) new → IsRest text begin new
+memory_inside text begin old new refused inside h = record {
+  boundary = inside.boundary;
+  same = ap (λ (v : LexerView). v.text) h.after ∙ inside.same;
+  fits = inside.fits;
+  yielded = λ goes. let ended = error_ends old new refused h in cc;
+}
+
+-- a fault that was passed
+
+fault_is : (old new : LexerView) (exception : Diagnosed ErrorKind) → HasAnswered old (Some (Err (Error exception))) new
+    → (old.has_ended ≡ false) × ((fault : Spanned Fault) × (slice_get (items old.text) old.yielded_count ≡ Some (Refused fault)) × IsException old.code_map fault exception)
+fault_is old new exception h =
+    let goes = goes_on old (Err (Error exception)) h.ended in
+    (goes, error_item old.code_map (slice_get (items old.text) old.yielded_count) exception (h.item goes))
+
+-- where the fault was passed, and what goes on
+pub record WasPassed (text : Text) (begin : ℕ) (old : LexerView) (passed : Passed) : Type 0 where
+  pub fault : Spanned Fault
+  pub left : left_of begin old ≡ Refused (moved begin fault) ∷ left_of passed.begin passed.rest
+  pub exception : IsException old.code_map (moved begin fault) passed.fault
+  pub file : passed.rest.code_map ≡ old.code_map
+  pub inside : IsRest text passed.begin passed.rest
+
+pub was_passed : (text : Text) (begin : ℕ) (old new : LexerView) (exception : Diagnosed ErrorKind) (passed : Passed) → IsRest text begin old → HasAnswered old (Some (Err (Error exception))) new
+    → ((file : SourceFile) (fault : Spanned Fault) → IsException file fault exception → HasPassed file text begin fault passed) → WasPassed text begin old passed
+was_passed text begin old new exception passed inside h pass =
+    let is = fault_is old new exception h in
+    let fault : Spanned Fault = is.1.0 in
+    let has : HasPassed old.code_map text begin fault passed = pass old.code_map fault is.1.2 in
+    let from : passed.begin ≡ begin + restart old.text fault = has.from ∙ ap (λ (t : Text). begin + restart t fault) (sym inside.same) in
+    let later : drop passed.begin text ≡ drop (restart old.text fault) old.text =
+    ap (λ n. drop n text) from ∙ drop-sum begin (restart old.text fault) text ∙ ap (λ (t : Text). drop (restart old.text fault) t) (sym inside.same) in
+    let rest : passed.rest ≡ record { text = drop (restart old.text fault) old.text; code_map = old.code_map; yielded_count = 0; has_ended = false; reads = 0 } =
+    has.rest ∙ ap (λ (t : Text). record { text = t; code_map = old.code_map; yielded_count = 0; has_ended = false; reads = 0 }) later in
+    record {
+      fault = fault;
+      left = left_at_fault begin old fault old.code_map passed.begin is.0 is.1.1 from ∙ sym (ap (λ (v : LexerView). Refused (moved begin fault) ∷ left_of passed.begin v) rest);
+      exception = has.exception;
+      file = ap (λ (v : LexerView). v.code_map) rest;
+      inside = record {
+        boundary = has.boundary;
+        same = ap (λ (v : LexerView). v.text) has.rest;
+        fits = inside.fits;
+        yielded = λ goes. let none : passed.rest.yielded_count ≡ 0 = ap (λ (v : LexerView). v.yielded_count) rest in omega (arith, none);
+      };
+    }
+
+pub passed_item : (text : Text) (begin : ℕ) (old : LexerView) (passed : Passed) → WasPassed text begin old passed → AnswersNext old.code_map (slice_get (left_of begin old) 0) (Some (Err (Error passed.fault)))
+passed_item text begin old passed was = subst (λ (l : List LexerItem). AnswersNext old.code_map (slice_get l 0) (Some (Err (Error passed.fault)))) (sym was.left) was.exception
+
+pub passed_after : (text : Text) (begin : ℕ) (old : LexerView) (passed : Passed) → WasPassed text begin old passed → view_of text passed.begin passed.rest ≡ record { text = text; code_map = old.code_map; left = drop 1 (left_of begin old) }
+passed_after text begin old passed was =
+    ap (λ (f : SourceFile). record { text = text; code_map = f; left = left_of passed.begin passed.rest }) was.file
+    ∙ sym (ap (λ (l : List LexerItem). record { text = text; code_map = old.code_map; left = drop 1 l }) was.left)
+
+-- the span of a fault's exception is the fault's
+span_is : (P : ℕ → ℕ → Type 0) (file : SourceFile) (fault : Spanned Fault) (exception : Diagnosed ErrorKind) → IsException file fault exception → IfSome exception.span (λ place. P place.span.begin place.span.end) → P fault.begin fault.end
+span_is P file fault exception is all = subst (λ (d : Diagnosed ErrorKind). IfSome d.span (λ place. P place.span.begin place.span.end)) is.2 all
+
+span_has : (P : ℕ → ℕ → Type 0) (file : SourceFile) (fault : Spanned Fault) (exception : Diagnosed ErrorKind) → IsException file fault exception → P fault.begin fault.end → IfSome exception.span (λ place. P place.span.begin place.span.end)
+span_has P file fault exception is one = subst (λ (d : Diagnosed ErrorKind). IfSome d.span (λ place. P place.span.begin place.span.end)) (sym is.2) one
+
+pub passed_span : (P Q : ℕ → ℕ → Type 0) (text : Text) (begin : ℕ) (old new : LexerView) (exception : Diagnosed ErrorKind) (passed : Passed) → HasAnswered old (Some (Err (Error exception))) new
+    → ((file : SourceFile) (fault : Spanned Fault) → IsException file fault exception → HasPassed file text begin fault passed)
+    → ((from to : ℕ) → P from to → Q (begin + from) (begin + to))
+    → IfSome exception.span (λ place. P place.span.begin place.span.end) → IfSome passed.fault.span (λ place. Q place.span.begin place.span.end)
+passed_span P Q text begin old new exception passed h pass further all =
+    let is = fault_is old new exception h in
+    let fault : Spanned Fault = is.1.0 in
+    let has : HasPassed old.code_map text begin fault passed = pass old.code_map fault is.1.2 in
+    span_has Q old.code_map (moved begin fault) passed.fault has.exception (further fault.begin fault.end (span_is P old.code_map fault exception is.1.2 all))

@@ -1,0 +1,11 @@
+use Rattle.starlark_syntax.proofs.Order.{faults_in_order, lexemes_after_faults, lexemes_inside}
+use Rattle.starlark_syntax.proofs.laws.found_inside.Goals as goal
+
+pub returns-clause-lexemes : goal.returns-clause-lexemes
+returns-clause-lexemes c = lexemes_inside
+
+pub returns-clause-later : goal.returns-clause-later
+returns-clause-later c = lexemes_after_faults
+
+pub returns-clause-faults : goal.returns-clause-faults
+returns-clause-faults c = faults_in_order

@@ -1,0 +1,50 @@
+-- Lexers that go on after faults, as their users see them, and the items that they yield.
+use Rattle.std.specs.Prelude.{◌≡◌, ℕ, List, [], ◌∷◌, ◌++◌, map, length, drop, Option, Some, option_to_list, Result, Err}
+use Rattle.std.specs.Iterator.{Count, at_most}
+use Rattle.std.specs.List.{slice_get}
+use Rattle.starlark_base.specs.Diagnostics.{Diagnosed}
+use Rattle.starlark_base.specs.Sources.{SourceFile}
+use Rattle.starlark_grammar.specs.Tokens.{Outcome}
+use Rattle.starlark_grammar.specs.Words.{Text}
+use Rattle.starlark_syntax.specs.Recovery.{outcomes}
+use Rattle.starlark_syntax.specs.Lexer.{AnswersBetween, AnswersNext, AnswersWithin, Given, LexerItem, Refused}
+use Rattle.starlark_syntax.specs.declared.error.kinds.ErrorKind.{ErrorKind}
+use Rattle.starlark_text.specs.declared.or_memory.OrMemory.{OrMemory}
+use Rattle.starlark_text.specs.declared.or_memory.OrMemory.TheVariants as refusal
+use Rattle.starlark_token.specs.Lexemes.{shown_lexeme}
+use Rattle.starlark_token.specs.declared.tokens.Token.{Token}
+
+-- the items of an outcome: its lexemes, and then its fault if it has one
+abbrev pub items_of : Outcome → List LexerItem
+items_of found = map (λ lexeme. Given (shown_lexeme lexeme)) found.lexemes ++ map Refused (option_to_list found.fault)
+
+-- the items of one outcome after another
+abbrev pub items_of_all : List Outcome → List LexerItem
+items_of_all [] = []
+items_of_all (found ∷ more) = items_of found ++ items_of_all more
+
+-- the items of a text that is lexed on after its faults: all lexemes and all faults, in order
+unfoldable pub all_items : Text → List LexerItem
+all_items text = items_of_all (outcomes text)
+
+-- a recovering lexer: its text, the code map of its faults, and the items that are left
+pub record RecoveringView : Type 0 where
+  pub text : Text
+  pub code_map : SourceFile
+  pub left : List LexerItem
+
+-- the items that are left after a call: all but the first, and none after out of memory
+abbrev pub left_after : Option (Result (ℕ × Token × ℕ) (OrMemory (Diagnosed ErrorKind))) → List LexerItem → List LexerItem
+left_after (Some (Err refusal.Memory)) left = []
+left_after answer left = drop 1 left
+
+-- what one call of a recovering lexer returns, and the lexer after it
+pub record IsNextOf (old : RecoveringView) (answer : Option (Result (ℕ × Token × ℕ) (OrMemory (Diagnosed ErrorKind)))) (new : RecoveringView) : Type 0 where
+  pub item : AnswersNext old.code_map (slice_get old.left 0) answer
+  pub within : AnswersWithin old.text answer
+  pub between : AnswersBetween old.text answer
+  pub after : new ≡ record old { left = left_after answer old.left }
+
+-- the greatest number of items that are left
+abbrev pub items_left : RecoveringView → Count
+items_left lexer = at_most (length lexer.left)

@@ -1,0 +1,118 @@
+//! Faults of a part of a text: moved to their places in the whole text, and passed.
+
+ghost use Rattle.std.specs.Prelude.{◌≡◌, ◌≤◌, ◌<◌, ◌^◌, ◌+◌, [], Some, IfOk, IfSome, IsSome, drop, length};
+ghost use Rattle.std.specs.Str.{IsCharBoundary};
+ghost use Rattle.starlark_base.specs.Diagnostics.{place_in};
+ghost use Rattle.starlark_base.specs.Sources.{SourceFile};
+ghost use Rattle.starlark_grammar.specs.Tokens.{Fault, Spanned};
+ghost use Rattle.starlark_syntax.specs.Inner.Passed.{HasPassed, is_tab_kind};
+ghost use Rattle.starlark_syntax.specs.Restarts.{IsPlaceOf};
+ghost use Rattle.starlark_syntax.specs.Exceptions.{IsException};
+ghost use Rattle.starlark_token.specs.Lexemes.{IsWithin};
+
+use crate::restarts::{FaultPlace, restart};
+use starlark_base::codemap::{CodeMap, FileSpan, Pos, Span};
+use starlark_base::diagnostic::WithDiagnostic;
+use starlark_base::dialect::Dialect;
+use crate::error::{ErrorKind, ParserMessage};
+use crate::eval_exception::EvalException;
+use crate::lexemes::Lexer;
+use starlark_token::lexeme_error::LexemeError;
+use std::alloc::{AllocError, Global};
+
+/// A fault that was passed: its exception, and the lexer that goes on after it.
+#[derive(Drop)]
+pub struct Passed<'a> {
+    /// The exception, with its place in the whole text.
+    pub fault: EvalException,
+    /// Where the lexer begins, in bytes of the whole text.
+    pub begin: usize,
+    /// A lexer of the text from there on.
+    pub rest: Lexer<'a>,
+}
+
+/// Whether an error is that of a tab.
+fn is_tab(kind: &ErrorKind) -> bool
+    ensures { result ≡ is_tab_kind kind.now }
+{
+    matches!(
+        kind,
+        ErrorKind::Parser(ParserMessage::Lexeme(LexemeError::InvalidTab))
+    )
+}
+
+/// Where the fault of an exception is.
+fn place_of(exception: &EvalException) -> FaultPlace
+    requires { IsSome exception.now.span }
+    ensures place { IfSome exception.now.span (λ it. (result.begin ≡ it.span.begin) × (result.end ≡ it.span.end)) }
+    ensures tab { result.is_tab ≡ is_tab_kind exception.now.value }
+{
+    let Some(FileSpan { span, .. }) = exception.error().span() else {
+        unreachable!()
+    };
+    FaultPlace {
+        begin: span.begin().get() as usize,
+        end: span.end().get() as usize,
+        is_tab: is_tab(exception.error().kind()),
+    }
+}
+
+/// A copy of the code map of an exception's span. `AllocError` where memory runs out.
+fn file_of(exception: &EvalException) -> Result<CodeMap, AllocError>
+    requires { IsSome exception.now.span }
+    ensures { IfOk result (λ copy. IfSome exception.now.span (λ it. copy ≡ it.file)) }
+{
+    let Some(FileSpan { file, .. }) = exception.error().span() else {
+        unreachable!()
+    };
+    file.dupe()
+}
+
+/// The exception with another span, in a code map.
+fn placed(
+    alloc: Global,
+    exception: EvalException,
+    span: Span,
+    code_map: &CodeMap,
+) -> Result<EvalException, AllocError>
+    ensures { IfOk result (λ it. it ≡ record { value = exception.value; span = Some (place_in code_map.now span); call_stack = [] }) }
+{
+    match WithDiagnostic::new_spanned(alloc, exception.into_error(), span, code_map) {
+        Ok(diagnostic) => Ok(EvalException::from(diagnostic)),
+        Err(_) => Err(AllocError),
+    }
+}
+
+/// Passes the fault of a text's part from byte `begin` on.
+///
+/// The exception has its place in that part.
+pub fn pass<'a>(
+    alloc: Global,
+    text: &'a str,
+    begin: usize,
+    exception: EvalException,
+) -> Result<Passed<'a>, AllocError>
+    requires boundary { IsCharBoundary text.now begin }
+    requires fits { length text.now < 2 ^ 32 }
+    requires placed { IsSome exception.span }
+    requires within { IfSome exception.span (λ place. IsWithin (drop begin text.now) place.span.begin place.span.end) }
+    requires between { IfSome exception.span (λ place. IsCharBoundary (drop begin text.now) place.span.begin) }
+    ensures { IfOk result (λ passed. (file : SourceFile) (fault : Spanned Fault) → IsException file fault exception → HasPassed file text.now begin fault passed) }
+{
+    let place = place_of(&exception);
+    let code_map = file_of(&exception)?;
+    let from = begin + restart(&text[begin..], place);
+    let Ok(rest) = Lexer::new(alloc, &text[from..], &Dialect::Standard, code_map.dupe()?) else {
+        unreachable!()
+    };
+    let span = Span::new(
+        Pos::new((begin + place.begin) as u32),
+        Pos::new((begin + place.end) as u32),
+    );
+    let fault = placed(alloc, exception, span, &code_map)?;
+    Ok(Passed {
+        fault,
+        begin: from,
+        rest,
+    })
+}

@@ -1,0 +1,194 @@
+-- Which names may stand before the quote of an opener, and the openers of text literals by their first bytes.
+use Rattle.std.proofs.Common.{◌≡◌, ℕ, zero, suc, ◌+◌, ◌<◌, Bool, true, false, nat_le, ◌==◌, [], ◌∷◌, length, take, get_or, refl, ap, sym, ◌∙◌, subst, Option, Some, None, arith}
+use Rattle.std.proofs.lemmas.Bool.{eqb-true}
+use Rattle.std.proofs.lemmas.Bool.Decides.{nat_tests}
+use Rattle.std.proofs.lemmas.List.{get_or-take}
+use Rattle.std.specs.List.{prefix_len}
+use Rattle.std.specs.Option.{option_map, unwrap_or}
+use Rattle.std.specs.Prelude.{IfSome}
+use Rattle.starlark_grammar.specs.Front.{language_front}
+use Rattle.starlark_grammar.specs.Pieces.{is_bang}
+use Rattle.starlark_grammar.specs.Words.{Text, openers, is_in_name}
+use Rattle.starlark_words.specs.Inner.Words.{is_quote, opener_view, plain_opener, quote_after, quote_of, raw_opener, text_opener}
+use Rattle.starlark_grammar.specs.declared.class.Class.TheVariants.{Opener}
+use Rattle.starlark_grammar.specs.declared.class.LiteralKind.{LiteralKind}
+use Rattle.starlark_grammar.specs.declared.class.LiteralKind.TheVariants.{Bytes, FString}
+use Rattle.starlark_grammar.specs.declared.class.Quote.{Quote}
+use Rattle.starlark_grammar.specs.declared.class.Quote.TheVariants.{Double, Single}
+use Rattle.starlark_words.specs.declared.scanner.word.TextOpener.{TextOpener}
+use Rattle.starlark_words.proofs.Scan.ByFirst.{front_double_quote, front_named, front_single_quote}
+use Rattle.starlark_words.proofs.Scan.Listed.{opener_of, all_pass, lookup_fails}
+use Rattle.starlark_words.proofs.Scan.Fronts.{take_behind}
+
+prefixes_are_short : all_pass (λ word. nat_le (prefix_len is_in_name word) 2) openers ≡ true
+unfolding openers
+prefixes_are_short = refl
+
+-- whether a quote stands behind the name that a word begins with
+abbrev is_quoted : Text → Bool
+is_quoted word = is_quote (get_or word (prefix_len is_in_name word) 0)
+
+openers_are_quoted : all_pass is_quoted openers ≡ true
+unfolding openers
+openers_are_quoted = refl
+
+-- a name and the byte behind it begin with the same name
+name_of_opener : (text : Text) → prefix_len is_in_name (take (prefix_len is_in_name text + 1) text) ≡ prefix_len is_in_name text
+name_of_opener [] = refl
+name_of_opener (b ∷ rest) = go (is_in_name b) refl (name_of_opener rest)
+  where
+    go : (passes : Bool) → is_in_name b ≡ passes
+        → prefix_len is_in_name (take (prefix_len is_in_name rest + 1) rest) ≡ prefix_len is_in_name rest
+        → prefix_len is_in_name (take (prefix_len is_in_name (b ∷ rest) + 1) (b ∷ rest)) ≡ prefix_len is_in_name (b ∷ rest)
+    go true e more = rw (e, take_behind b rest (1 + prefix_len is_in_name rest + 1) (prefix_len is_in_name rest + 1) (omega arith), e) (ap (λ n. 1 + n) more)
+    go false e more = rw (e, e) refl
+
+pub long_name_is_no_prefix : (text : Text) (n : ℕ) → n ≡ prefix_len is_in_name text → 2 < n → opener_of (take (n + 1) text) ≡ None
+long_name_is_no_prefix text n e long =
+    lookup_fails (λ word. nat_le (prefix_len is_in_name word) 2) (take (n + 1) text) openers prefixes_are_short (rw (e, name_of_opener text) (too_long _ (omega arith)))
+  where
+    too_long : (k : ℕ) → 2 < k → nat_le k 2 ≡ false
+    too_long k h = grind (arith, nat_tests)
+
+pub unquoted_is_no_opener : (text : Text) (n : ℕ) → n ≡ prefix_len is_in_name text → is_quote (get_or text n 0) ≡ false → opener_of (take (n + 1) text) ≡ None
+unquoted_is_no_opener text n e other =
+    lookup_fails is_quoted (take (n + 1) text) openers openers_are_quoted (rw (e, name_of_opener text, get_or-take (prefix_len is_in_name text + 1) text (prefix_len is_in_name text) 0 (omega arith), ← e) other)
+
+-- a quote is a byte of the text
+pub quote_is_within : (text : Text) (n : ℕ) → is_quote (get_or text n 0) ≡ true → n < length text
+quote_is_within [] n e = cc
+quote_is_within (b ∷ rest) zero e = omega arith
+quote_is_within (b ∷ rest) (suc n) e = let h = quote_is_within rest n e in omega arith
+
+pub quote_is_ascii : (b : ℕ) → is_quote b ≡ true → b < 128
+quote_is_ascii b h = grind (arith, nat_tests)
+
+-- the opener of a text literal by the first bytes
+
+IsOpenerOf : TextOpener → Text → Type 0
+IsOpenerOf opener text = (Some (opener_view opener) ≡ language_front text) × (is_bang text ≡ false)
+
+no_bang : (b : ℕ) (rest : Text) → (b == 33) ≡ false → is_bang (b ∷ rest) ≡ false
+no_bang b [] h = h
+no_bang b (c ∷ rest) h = rw h refl
+
+plain_front : (b : ℕ) (rest : Text) (opener : TextOpener) → option_map plain_opener (quote_of b) ≡ Some opener → IsOpenerOf opener (b ∷ rest)
+unfolding IsOpenerOf
+plain_front b rest opener h = go (b == 39) (b == 34) refl refl
+  where
+    go : (single double : Bool) → (b == 39) ≡ single → (b == 34) ≡ double → IsOpenerOf opener (b ∷ rest)
+    go true double e f =
+        let byte : b ≡ 39 = eqb-true b 39 e in
+        let same = rw byte at h in
+        subst (λ (n : ℕ). IsOpenerOf opener (n ∷ rest)) (sym byte) (ap (option_map opener_view) (sym same) ∙ sym (front_single_quote (39 ∷ rest) refl), no_bang 39 rest refl)
+    go false true e f =
+        let byte : b ≡ 34 = eqb-true b 34 f in
+        let same = rw byte at h in
+        subst (λ (n : ℕ). IsOpenerOf opener (n ∷ rest)) (sym byte) (ap (option_map opener_view) (sym same) ∙ sym (front_double_quote (34 ∷ rest) refl), no_bang 34 rest refl)
+    go false false e f = let none = rw (e, f) at h in cc
+
+raw_front : (b : ℕ) (rest : Text) (opener : TextOpener) → ((i : ℕ) → get_or (114 ∷ b ∷ rest) i 0 < 256) → option_map raw_opener (quote_of b) ≡ Some opener → IsOpenerOf opener (114 ∷ b ∷ rest)
+unfolding IsOpenerOf openers
+raw_front b rest opener small h = go (b == 39) (b == 34) refl refl
+  where
+    go : (single double : Bool) → (b == 39) ≡ single → (b == 34) ≡ double → IsOpenerOf opener (114 ∷ b ∷ rest)
+    go true double e f =
+        let byte : b ≡ 39 = eqb-true b 39 e in
+        let same = rw byte at h in
+        let front = front_named (114 ∷ 39 ∷ rest) 1 (subst (λ (n : ℕ). (i : ℕ) → get_or (114 ∷ n ∷ rest) i 0 < 256) byte small) refl refl in
+        subst (λ (n : ℕ). IsOpenerOf opener (114 ∷ n ∷ rest)) (sym byte) (ap (option_map opener_view) (sym same) ∙ sym front, refl)
+    go false true e f =
+        let byte : b ≡ 34 = eqb-true b 34 f in
+        let same = rw byte at h in
+        let front = front_named (114 ∷ 34 ∷ rest) 1 (subst (λ (n : ℕ). (i : ℕ) → get_or (114 ∷ n ∷ rest) i 0 < 256) byte small) refl refl in
+        subst (λ (n : ℕ). IsOpenerOf opener (114 ∷ n ∷ rest)) (sym byte) (ap (option_map opener_view) (sym same) ∙ sym front, refl)
+    go false false e f = let none = rw (e, f) at h in cc
+
+pub front_of_opener : (text : Text) (opener : TextOpener) → ((i : ℕ) → get_or text i 0 < 256) → text_opener text ≡ Some opener → (Some (opener_view opener) ≡ language_front text) × (is_bang text ≡ false)
+unfolding IsOpenerOf
+front_of_opener [] opener small h = cc
+front_of_opener (b ∷ []) opener small h = plain_front b [] opener h
+front_of_opener (b ∷ c ∷ rest) opener small h = go (b == 114) refl h
+  where
+    go : (raw : Bool) → (b == 114) ≡ raw → text_opener (b ∷ c ∷ rest) ≡ Some opener → IsOpenerOf opener (b ∷ c ∷ rest)
+    go true e h =
+        let byte : b ≡ 114 = eqb-true b 114 e in
+        let same = rw byte at h in
+        subst (λ (n : ℕ). IsOpenerOf opener (n ∷ c ∷ rest)) (sym byte) (raw_front c rest opener (subst (λ (n : ℕ). (i : ℕ) → get_or (n ∷ c ∷ rest) i 0 < 256) byte small) same)
+    go false e h = plain_front b (c ∷ rest) opener (rw e at h)
+
+pub opener_found : (text : Text) (found : Option TextOpener) → ((i : ℕ) → get_or text i 0 < 256) → found ≡ text_opener text → IfSome found (λ opener. Some (opener_view opener) ≡ language_front text)
+opener_found text None small h = tt
+opener_found text (Some opener) small h = (front_of_opener text opener small (sym h)).0
+
+-- the opener that a letter and a quote are
+
+IsLettered : LiteralKind → Quote → Text → Type 0
+IsLettered kind quote text = (Some (Opener kind false quote, 2) ≡ language_front text) × (is_bang text ≡ false)
+
+-- each letter opens literals of one kind
+IsLetterOf : ℕ → LiteralKind → Type 0
+IsLetterOf letter kind = (quote : ℕ) (rest : Text) → ((i : ℕ) → get_or (letter ∷ quote ∷ rest) i 0 < 256) → (quote ≡ 39 → IsLettered kind Single (letter ∷ quote ∷ rest)) × (quote ≡ 34 → IsLettered kind Double (letter ∷ quote ∷ rest))
+
+opens_fstrings : IsLetterOf 102 FString
+unfolding IsLetterOf IsLettered openers
+opens_fstrings quote rest small = (single, double)
+  where
+    single : quote ≡ 39 → IsLettered FString Single (102 ∷ quote ∷ rest)
+    single e =
+        let front = front_named (102 ∷ 39 ∷ rest) 1 (subst (λ (n : ℕ). (i : ℕ) → get_or (102 ∷ n ∷ rest) i 0 < 256) e small) refl refl in
+        subst (λ (n : ℕ). IsLettered FString Single (102 ∷ n ∷ rest)) (sym e) (sym front, refl)
+
+    double : quote ≡ 34 → IsLettered FString Double (102 ∷ quote ∷ rest)
+    double e =
+        let front = front_named (102 ∷ 34 ∷ rest) 1 (subst (λ (n : ℕ). (i : ℕ) → get_or (102 ∷ n ∷ rest) i 0 < 256) e small) refl refl in
+        subst (λ (n : ℕ). IsLettered FString Double (102 ∷ n ∷ rest)) (sym e) (sym front, refl)
+
+opens_bytes : IsLetterOf 98 Bytes
+unfolding IsLetterOf IsLettered openers
+opens_bytes quote rest small = (single, double)
+  where
+    single : quote ≡ 39 → IsLettered Bytes Single (98 ∷ quote ∷ rest)
+    single e =
+        let front = front_named (98 ∷ 39 ∷ rest) 1 (subst (λ (n : ℕ). (i : ℕ) → get_or (98 ∷ n ∷ rest) i 0 < 256) e small) refl refl in
+        subst (λ (n : ℕ). IsLettered Bytes Single (98 ∷ n ∷ rest)) (sym e) (sym front, refl)
+
+    double : quote ≡ 34 → IsLettered Bytes Double (98 ∷ quote ∷ rest)
+    double e =
+        let front = front_named (98 ∷ 34 ∷ rest) 1 (subst (λ (n : ℕ). (i : ℕ) → get_or (98 ∷ n ∷ rest) i 0 < 256) e small) refl refl in
+        subst (λ (n : ℕ). IsLettered Bytes Double (98 ∷ n ∷ rest)) (sym e) (sym front, refl)
+
+quoted : (letter : ℕ) (kind : LiteralKind) → IsLetterOf letter kind → (b : ℕ) (rest : Text) (quote : Quote) → ((i : ℕ) → get_or (letter ∷ b ∷ rest) i 0 < 256) → quote_of b ≡ Some quote → IsLettered kind quote (letter ∷ b ∷ rest)
+unfolding IsLetterOf
+quoted letter kind opens b rest quote small h = go (b == 39) (b == 34) refl refl
+  where
+    go : (single double : Bool) → (b == 39) ≡ single → (b == 34) ≡ double → IsLettered kind quote (letter ∷ b ∷ rest)
+    go true double e f = let same : Some Single ≡ Some quote = rw e at h in subst (λ q. IsLettered kind q (letter ∷ b ∷ rest)) (ap (λ found. unwrap_or found Single) same) ((opens b rest small).0 (eqb-true b 39 e))
+    go false true e f = let same : Some Double ≡ Some quote = rw (e, f) at h in subst (λ q. IsLettered kind q (letter ∷ b ∷ rest)) (ap (λ found. unwrap_or found Double) same) ((opens b rest small).1 (eqb-true b 34 f))
+    go false false e f = let none = rw (e, f) at h in cc
+
+front_of_quoted : (letter : ℕ) (kind : LiteralKind) → IsLetterOf letter kind → (text : Text) (quote : Quote) → ((i : ℕ) → get_or text i 0 < 256) → quote_after letter text ≡ Some quote → IsLettered kind quote text
+front_of_quoted letter kind opens [] quote small h = cc
+front_of_quoted letter kind opens (b ∷ []) quote small h = cc
+front_of_quoted letter kind opens (b ∷ c ∷ rest) quote small h = go (b == letter) refl h
+  where
+    go : (stands : Bool) → (b == letter) ≡ stands → quote_after letter (b ∷ c ∷ rest) ≡ Some quote → IsLettered kind quote (b ∷ c ∷ rest)
+    go true e h =
+        let byte : b ≡ letter = eqb-true b letter e in
+        let same = rw e at h in
+        subst (λ (n : ℕ). IsLettered kind quote (n ∷ c ∷ rest)) (sym byte) (quoted letter kind opens c rest quote (subst (λ (n : ℕ). (i : ℕ) → get_or (n ∷ c ∷ rest) i 0 < 256) byte small) same)
+    go false e h = let none = rw e at h in cc
+
+found_by : (letter : ℕ) (kind : LiteralKind) → IsLetterOf letter kind → (text : Text) (found : Option Quote) → ((i : ℕ) → get_or text i 0 < 256) → found ≡ quote_after letter text
+    → IfSome found (λ quote. Some (Opener kind false quote, 2) ≡ language_front text) × IfSome found (λ quote. is_bang text ≡ false)
+unfolding IsLettered
+found_by letter kind opens text None small h = (tt, tt)
+found_by letter kind opens text (Some quote) small h = front_of_quoted letter kind opens text quote small (sym h)
+
+pub fstring_found : (text : Text) (found : Option Quote) → ((i : ℕ) → get_or text i 0 < 256) → found ≡ quote_after 102 text
+    → IfSome found (λ quote. Some (Opener FString false quote, 2) ≡ language_front text) × IfSome found (λ quote. is_bang text ≡ false)
+fstring_found = found_by 102 FString opens_fstrings
+
+pub bytes_found : (text : Text) (found : Option Quote) → ((i : ℕ) → get_or text i 0 < 256) → found ≡ quote_after 98 text
+    → IfSome found (λ quote. Some (Opener Bytes false quote, 2) ≡ language_front text) × IfSome found (λ quote. is_bang text ≡ false)
+bytes_found = found_by 98 Bytes opens_bytes

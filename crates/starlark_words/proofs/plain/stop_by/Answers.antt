@@ -1,0 +1,10 @@
+use Rattle.std.proofs.Common.{◌∙◌, sym}
+use Rattle.starlark_grammar.specs.Inner.Openings.{opening_view}
+use Rattle.starlark_words.proofs.Literals.PlainBodies.{closed_by_three, opened_by_three}
+use Rattle.starlark_words.proofs.plain.stop_by.Goals as goal
+
+pub returns-then-closes : goal.returns-then-closes
+returns-then-closes c = λ text. closed_by_three (opening_view c.args.opening) c.args.front.now text (sym c.closes.ensures ∙ c.if-closes.true)
+
+pub returns-then-second-ne123 : goal.returns-then-second-ne123
+returns-then-second-ne123 c = λ text. opened_by_three (opening_view c.args.opening) c.args.front.now text (sym c.closes.ensures ∙ c.if-closes.false) c.in-len2-up.len_at_least c.if-first-eq123.true c.if-second-ne123.true

@@ -1,0 +1,19 @@
+-- Runs of a literal's body: characters without escapes.
+use Rattle.std.specs.Prelude.{ℕ, Bool, ◌&&◌, ◌||◌, ◌==◌, not}
+use Rattle.std.specs.Str.{byte}
+use Rattle.starlark_grammar.specs.Items.{Literal, is_brace, quote_byte}
+use Rattle.starlark_words.specs.declared.run_lanes.Ends.{Ends}
+
+-- the bytes that end a run: the literal's quote, a backslash, a CR, an LF that ends the literal,
+-- and the braces in an f-string
+abbrev pub is_special : Literal → ℕ → Bool
+is_special literal b =
+    b == quote_byte literal.opening.quote || (b == byte "\\" || (b == byte "\r" || ((b == byte "\n" && not literal.opening.is_triple) || is_brace literal.kind b)))
+
+-- all other bytes
+abbrev pub is_in_run : Literal → ℕ → Bool
+is_in_run literal b = not (is_special literal b)
+
+-- the bytes that end a run, as the code stores them
+abbrev pub is_end : Ends → ℕ → Bool
+is_end ends b = b == ends.quote || (b == ends.feed || (b == ends.opening_brace || (b == ends.closing_brace || (b == byte "\\" || b == byte "\r"))))

@@ -1,0 +1,272 @@
+//! Decodes escapes: a backslash and the characters that belong to it.
+
+ghost use Rattle.std.specs.Prelude.{◌≡◌, ◌≤◌, ◌<◌, ◌+◌, ◌-◌, ◌∷◌, [], false, true, drop, encode_utf8, get_or, length, nat_eq, take, IfSome};
+ghost use Rattle.std.specs.Char.{is_ascii_hexdigit, is_digit};
+ghost use Rattle.std.specs.List.{prefix_len};
+ghost use Rattle.std.specs.Map.{lookup};
+ghost use Rattle.std.specs.Str.Parse.{digits_value};
+ghost use Rattle.starlark_grammar.specs.Characters as characters;
+ghost use Rattle.starlark_grammar.specs.Items as grammar;
+ghost use Rattle.starlark_words.specs.Inner.Literals.{IsCharacters, IsText, found_len, found_view, literal_view, value_view};
+ghost use Rattle.starlark_words.specs.Inner.Reads.{AreReads, more_reads};
+ghost use Rattle.starlark_grammar.specs.Words.{Text, is_octal_digit};
+
+use super::items::{Found, Item, Literal, Stop, Value, after_first, part};
+use crate::reads::Reads;
+use starlark_grammar::class::LiteralKind;
+
+/// A bad escape of `len` bytes, read as a whole. Its last character has one byte.
+fn ended<'a>(len: usize) -> Found<'a>
+    ensures value { found_view result ≡ grammar.broken len [] }
+    ensures text { IsText result }
+    ensures len { found_len result ≡ len }
+{
+    Found::Stops(Stop::BadEscape { len, last: 1 })
+}
+
+/// A bad escape that is broken off after `good` bytes: the character after them is the last one
+/// read.
+fn broken<'a>(reads: &mut Reads, good: usize, behind: &str) -> Found<'a>
+    requires { good ≤ 10 }
+    ensures value { found_view result ≡ grammar.broken good behind.now }
+    ensures text { IsText result }
+    ensures reads { AreReads (found_len result - good) (found_len result - good) reads.old reads.new }
+    ensures len { good ≤ found_len result }
+{
+    let last = reads.character_len(behind);
+    if last == 0 {
+        Found::Stops(Stop::BadEscape { len: good, last: 1 })
+    } else {
+        Found::Stops(Stop::BadEscape {
+            len: good + last,
+            last,
+        })
+    }
+}
+
+/// An item of `len` bytes with a value.
+fn item<'a>(len: usize, value: Value<'a>) -> Found<'a>
+    ensures value { found_view result ≡ grammar.goes len (value_view value.entry) }
+    ensures text { IsCharacters value.entry → IsText result }
+    ensures len { found_len result ≡ len }
+{
+    Found::Goes(Item { len, value })
+}
+
+/// The escape of `len` bytes for the byte of a number; a bad one if the number is over 255.
+fn byte_of<'a>(len: usize, number: u32) -> Found<'a>
+    requires { len ≤ 10 }
+    ensures value { found_view result ≡ grammar.numbered len true number }
+    ensures len { found_len result ≡ len }
+{
+    match u8::try_from(number) {
+        Ok(value) => item(len, Value::Byte(value)),
+        Err(_) => ended(len),
+    }
+}
+
+/// The escape of `len` bytes for the character of a number; a bad one if there is none.
+fn character_of<'a>(len: usize, number: u32) -> Found<'a>
+    requires { len ≤ 10 }
+    ensures value { found_view result ≡ grammar.numbered len false number }
+    ensures text { IsText result }
+    ensures len { found_len result ≡ len }
+{
+    match char::from_u32(number) {
+        Some(value) => item(len, Value::Character(value)),
+        None => ended(len),
+    }
+}
+
+/// The escape of `len` bytes for the byte or the character of a number.
+fn numbered<'a>(len: usize, is_byte: bool, number: u32) -> Found<'a>
+    requires { len ≤ 10 }
+    ensures value { found_view result ≡ grammar.numbered len is_byte number }
+    ensures text { is_byte ≡ false → IsText result }
+    ensures len { found_len result ≡ len }
+{
+    if is_byte {
+        byte_of(len, number)
+    } else {
+        character_of(len, number)
+    }
+}
+
+/// Number of digits of a radix at the start of at most 8 bytes, and their value.
+#[inline(always)]
+fn digits(bytes: &[u8], radix: u32) -> (usize, u32)
+    requires low { 2 ≤ radix }
+    requires high { radix ≤ 16 }
+    requires few { length bytes.now ≤ 8 }
+    ensures len { result.0 ≡ prefix_len (λ b. is_digit b radix) bytes.now }
+    ensures number { result.1 ≡ digits_value radix (take result.0 bytes.now) }
+{
+    let mut len = 0;
+    let mut number = 0u32;
+    while len < bytes.len() {
+        let Some(digit) = char::from(bytes[len]).to_digit(radix) else {
+            return (len, number);
+        };
+        number = number * radix + digit;
+        len += 1;
+    }
+    (len, number)
+}
+
+/// Number of digits of a radix at the start of a text, at most `wanted`, and their value.
+#[inline(always)]
+fn first_digits(reads: &mut Reads, text: &[u8], radix: u32, wanted: usize) -> (usize, u32)
+    requires low { 2 ≤ radix }
+    requires high { radix ≤ 16 }
+    requires few { wanted ≤ 8 }
+    ensures len { result.0 ≡ prefix_len (λ b. is_digit b radix) (take wanted text.now) }
+    ensures number { result.1 ≡ digits_value radix (take result.0 text.now) }
+    ensures reads { reads.new ≡ more_reads reads.old (result.0 + 1) }
+{
+    let found = digits(&text[..wanted.min(text.len())], radix);
+    reads.count_run(found.0);
+    found
+}
+
+/// Number of hexadecimal digits at the start of a text, at most `wanted`, and their value.
+#[inline(always)]
+fn hexadecimal_digits(reads: &mut Reads, text: &[u8], wanted: usize) -> (usize, u32)
+    requires { wanted ≤ 8 }
+    ensures len { result.0 ≡ prefix_len is_ascii_hexdigit (take wanted text.now) }
+    ensures number { result.1 ≡ digits_value 16 (take result.0 text.now) }
+    ensures reads { reads.new ≡ more_reads reads.old (result.0 + 1) }
+{
+    first_digits(reads, text, 16, wanted)
+}
+
+/// Whether a byte is an octal digit.
+fn is_octal_digit(byte: u8) -> bool
+    ensures { result ≡ is_octal_digit byte }
+{
+    matches!(byte, b'0'..=b'7')
+}
+
+/// The escape of exactly `wanted` hexadecimal digits. `text` begins after its letter `x`, `u` or
+/// `U`.
+fn hexadecimal<'a>(reads: &mut Reads, wanted: usize, is_byte: bool, text: &str) -> Found<'a>
+    requires least { 1 ≤ wanted }
+    requires most { wanted ≤ 8 }
+    ensures value { found_view result ≡ grammar.hexadecimal wanted is_byte text.now }
+    ensures text { is_byte ≡ false → IsText result }
+    ensures reads { AreReads (found_len result - 2) (found_len result) reads.old reads.new }
+{
+    let (len, number) = hexadecimal_digits(reads, text.as_bytes(), wanted);
+    if len != wanted {
+        return broken(reads, 2 + len, &text[len..]);
+    }
+    numbered(2 + len, is_byte, number)
+}
+
+/// The escape of one to three octal digits. `text` begins with them.
+fn octal<'a>(reads: &mut Reads, is_byte: bool, text: &str) -> Found<'a>
+    requires { is_octal_digit (get_or text.now 0 0) ≡ true }
+    ensures value { found_view result ≡ grammar.octal is_byte text.now }
+    ensures text { is_byte ≡ false → IsText result }
+    ensures reads { AreReads (found_len result - 2) (found_len result) reads.old reads.new }
+{
+    let (len, number) = first_digits(reads, text.as_bytes(), 8, 3);
+    numbered(1 + len, is_byte, number)
+}
+
+/// The escape of a CR LF, which is empty; a bad one if no LF follows. `behind` begins after the CR.
+fn escaped_newline<'a>(reads: &mut Reads, behind: &str) -> Found<'a>
+    ensures value { found_view result ≡ grammar.escaped_newline behind.now }
+    ensures text { IsText result }
+    ensures reads { AreReads (found_len result - 2) (found_len result) reads.old reads.new }
+{
+    match reads.at(behind.as_bytes(), 0) {
+        Some(b'\n') => part(3, ""),
+        _ => broken(reads, 2, behind),
+    }
+}
+
+/// The character of an escape of two bytes, such as `\n`, by its second byte, if it is one.
+#[tactic(auto, unfolding(starlark_grammar::specs::Items::simple_escapes))]
+#[inline(always)]
+fn simple_value(byte: u8) -> Option<char>
+    ensures value { result ≡ lookup (nat_eq byte) grammar.simple_escapes }
+    ensures ascii { IfSome result (λ value. value < 128) }
+{
+    match byte {
+        b'n' => Some('\n'),
+        b'r' => Some('\r'),
+        b't' => Some('\t'),
+        b'a' => Some('\x07'),
+        b'b' => Some('\x08'),
+        b'f' => Some('\x0c'),
+        b'v' => Some('\x0b'),
+        b'\'' => Some('\''),
+        b'"' => Some('"'),
+        b'\\' => Some('\\'),
+        _ => None,
+    }
+}
+
+/// The escape of one character `first`. `text` begins with its backslash.
+///
+/// If the character has no meaning there, the value is the backslash and the character, unchanged.
+fn simple<'a>(reads: &mut Reads, first: u8, text: &'a str) -> Found<'a>
+    requires { text.now ≡ 92 ∷ first ∷ drop 2 text.now }
+    ensures value { found_view result ≡ grammar.simple (lookup (nat_eq first) grammar.simple_escapes) (characters.first_character (drop 1 text.now)) }
+    ensures text { IsText result }
+    ensures reads { AreReads (found_len result - 2) (found_len result) reads.old reads.new }
+{
+    if let Some(value) = simple_value(first) {
+        return item(2, Value::Character(value));
+    }
+    let len = 1 + reads.character_len(after_first(text));
+    part(len, &text[..len])
+}
+
+/// The character of the escape of two bytes at the start of the rest of a body, if it is one.
+///
+/// `front` is the first three bytes of the rest, read already.
+#[inline(always)]
+pub fn simple_escape(literal: Literal, front: &[u8]) -> Option<char>
+    ensures { IfSome result (λ value. (text : Text) → front.now ≡ take 3 text → grammar.found_at (literal_view literal) text ≡ grammar.goes 2 (encode_utf8 value)) }
+{
+    let [first, second, ..] = front else {
+        return None;
+    };
+    if *first != b'\\' || literal.opening.is_raw {
+        return None;
+    }
+    simple_value(*second)
+}
+
+/// Whether a literal is a bytes literal.
+fn is_of_bytes(kind: LiteralKind) -> bool
+    ensures { result ≡ grammar.is_of_bytes kind }
+{
+    matches!(kind, LiteralKind::Bytes)
+}
+
+/// The escape at the start of a text, which begins with its backslash: an item, or a bad escape.
+pub fn escape<'a>(reads: &mut Reads, kind: LiteralKind, text: &'a str) -> Found<'a>
+    requires { text.now ≡ 92 ∷ drop 1 text.now }
+    ensures value { found_view result ≡ grammar.escape kind (drop 1 text.now) }
+    ensures text { grammar.is_of_bytes kind ≡ false → IsText result }
+    ensures reads { AreReads (found_len result - 2) (found_len result + 2) reads.old reads.new }
+{
+    let behind = after_first(text);
+    let Some(first) = reads.at(behind.as_bytes(), 0) else {
+        return broken(reads, 1, behind);
+    };
+    let is_byte = is_of_bytes(kind);
+    if is_octal_digit(first) {
+        return octal(reads, is_byte, behind);
+    }
+    match first {
+        b'\n' => part(2, ""),
+        b'\r' => escaped_newline(reads, after_first(behind)),
+        b'x' => hexadecimal(reads, 2, is_byte, after_first(behind)),
+        b'u' => hexadecimal(reads, 4, false, after_first(behind)),
+        b'U' => hexadecimal(reads, 8, false, after_first(behind)),
+        _ => simple(reads, first, text),
+    }
+}

@@ -1,0 +1,232 @@
+//! Items of a literal's body, and the reasons why a body stops.
+
+ghost use Rattle.std.specs.Prelude.{◌≡◌, ◌<◌, ◌≤◌, ◌+◌, ◌-◌, ◌==◌, ◌&&◌, ◌∷◌, not, drop, false, get_or, length, nat_eq, take, true};
+ghost use Rattle.std.specs.List.{starts_with};
+ghost use Rattle.starlark_grammar.specs.Characters as characters;
+ghost use Rattle.starlark_grammar.specs.Items as grammar;
+ghost use Rattle.starlark_words.specs.Inner.Literals.{IsText, found_len, found_view, least_reads, literal_view};
+ghost use Rattle.starlark_grammar.specs.Inner.Openings.{opening_view};
+ghost use Rattle.starlark_words.specs.Inner.Reads.{AreReads, more_reads};
+ghost use Rattle.starlark_grammar.specs.declared.class.LiteralKind.TheVariants.{FString as OfFString};
+
+use super::escapes::escape;
+use crate::reads::Reads;
+use starlark_grammar::class::{LiteralKind, Opening, Quote};
+
+/// The kind and the opening of a literal, by which its body is read.
+#[derive(Clone, Copy)]
+pub struct Literal {
+    /// Whether it is a string, a bytes literal or an f-string.
+    pub kind: LiteralKind,
+    /// Its quotes, and whether it is raw.
+    pub opening: Opening,
+}
+
+/// The decoded value of an item.
+#[derive(Clone, Copy)]
+pub enum Value<'a> {
+    /// A part of the text, unchanged. It is empty where the item has no value, such as a CR.
+    Part(&'a str),
+    /// The character of an escape.
+    Character(char),
+    /// The byte of an escape in a bytes literal.
+    Byte(u8),
+}
+
+/// An item of a body, such as a character or an escape.
+#[derive(Clone, Copy)]
+pub struct Item<'a> {
+    /// Length of the item in the text, in bytes.
+    pub len: usize,
+    /// The decoded value.
+    pub value: Value<'a>,
+}
+
+/// Why a body stops.
+#[derive(Clone, Copy)]
+pub enum Stop {
+    /// The closing quotes are there.
+    Closing,
+    /// An LF, in a literal that isn't triple-quoted.
+    Line,
+    /// The text ends.
+    Ended,
+    /// The `{` of an expression, in an f-string.
+    OpeningBrace,
+    /// A single `}`, in an f-string.
+    ClosingBrace,
+    /// A bad escape, of which `len` bytes were read. Its last character read has `last` bytes.
+    BadEscape { len: usize, last: usize },
+}
+
+/// What is next in a body: an item, or its stop.
+#[derive(Clone, Copy)]
+pub enum Found<'a> {
+    /// The body goes on with an item.
+    Goes(Item<'a>),
+    /// The body stops.
+    Stops(Stop),
+}
+
+/// An item of `len` bytes whose value is a part of the text.
+pub fn part(len: usize, value: &str) -> Found<'_>
+    ensures value { found_view result ≡ grammar.goes len value.now }
+    ensures text { IsText result }
+    ensures len { found_len result ≡ len }
+    ensures least { least_reads result ≡ len }
+{
+    Found::Goes(Item {
+        len,
+        value: Value::Part(value),
+    })
+}
+
+/// Number of quotes that close a literal: 1 or 3.
+pub fn closing_len(opening: Opening) -> usize
+    ensures { result ≡ length (grammar.closing_quotes (opening_view opening)) }
+{
+    if opening.is_triple { 3 } else { 1 }
+}
+
+/// Whether a byte is the given quote.
+pub fn is_quote(quote: Quote, byte: u8) -> bool
+    ensures { result ≡ (byte == grammar.quote_byte quote) }
+{
+    match quote {
+        Quote::Single => byte == b'\'',
+        Quote::Double => byte == b'"',
+    }
+}
+
+/// Whether a text begins with the quotes that close a literal.
+#[inline(always)]
+pub fn closes(opening: Opening, text: &[u8]) -> bool
+    ensures { result ≡ starts_with nat_eq text.now (grammar.closing_quotes (opening_view opening)) }
+{
+    let quote = opening.quote;
+    match text {
+        [first, second, third, ..] if opening.is_triple => {
+            is_quote(quote, *first) && is_quote(quote, *second) && is_quote(quote, *third)
+        }
+        [first, ..] => !opening.is_triple && is_quote(quote, *first),
+        [] => false,
+    }
+}
+
+/// Whether a raw literal drops a backslash before the given byte.
+fn drops_backslash(kind: LiteralKind, quote: Quote, byte: u8) -> bool
+    ensures { result ≡ grammar.drops_backslash kind quote byte }
+{
+    match kind {
+        LiteralKind::FString => is_quote(quote, byte),
+        _ => byte == b'\'' || byte == b'"',
+    }
+}
+
+/// The text after its first byte, which must be ASCII.
+pub fn after_first(text: &str) -> &str
+    requires some { 0 < length text.now }
+    requires ascii { get_or text.now 0 0 < 128 }
+    ensures { result.now ≡ drop 1 text.now }
+{
+    &text[1..]
+}
+
+/// The first character of a text, as text; empty if the text is.
+pub fn first_character<'a>(reads: &mut Reads, text: &'a str) -> &'a str
+    ensures value { result.now ≡ characters.first_character text.now }
+    ensures reads { reads.new ≡ more_reads reads.old (length result.now) }
+{
+    &text[..reads.character_len(text)]
+}
+
+/// The item of a backslash in a raw literal, with the character after it; `Ended` if there is none.
+fn raw_pair<'a>(reads: &mut Reads, literal: Literal, text: &'a str) -> Found<'a>
+    requires { text.now ≡ 92 ∷ drop 1 text.now }
+    ensures value { found_view result ≡ grammar.raw_pair literal.kind literal.opening.quote (drop 1 text.now) }
+    ensures text { IsText result }
+    ensures reads { AreReads (found_len result) (found_len result + 1) reads.old reads.new }
+{
+    let behind = after_first(text);
+    let Some(first) = reads.at(behind.as_bytes(), 0) else {
+        return Found::Stops(Stop::Ended);
+    };
+    let character = reads.character_len(behind);
+    let len = 1 + character;
+    if drops_backslash(literal.kind, literal.opening.quote, first) {
+        part(len, &behind[..character])
+    } else {
+        part(len, &text[..len])
+    }
+}
+
+/// The item of a doubled brace in an f-string, or the stop at a single one.
+fn brace<'a>(reads: &mut Reads, first: u8, text: &'a str) -> Found<'a>
+    requires brace { grammar.is_brace OfFString first ≡ true }
+    requires begins { text.now ≡ first ∷ drop 1 text.now }
+    ensures value { found_view result ≡ grammar.brace first (drop 1 text.now) }
+    ensures text { IsText result }
+    ensures reads { reads.new ≡ more_reads reads.old 1 }
+    ensures len { found_len result ≤ 2 }
+{
+    match reads.at(after_first(text).as_bytes(), 0) {
+        Some(second) if second == first => part(2, &text[..1]),
+        _ => Found::Stops(if first == b'{' {
+            Stop::OpeningBrace
+        } else {
+            Stop::ClosingBrace
+        }),
+    }
+}
+
+/// Whether a byte is a brace in an f-string.
+pub fn is_brace(kind: LiteralKind, byte: u8) -> bool
+    ensures { result ≡ grammar.is_brace kind byte }
+{
+    match kind {
+        LiteralKind::FString => byte == b'{' || byte == b'}',
+        _ => false,
+    }
+}
+
+/// Whether a byte is an LF in a literal that can't have one.
+pub fn ends_line(opening: Opening, byte: u8) -> bool
+    ensures { result ≡ (byte == 10 && not opening.is_triple) }
+{
+    byte == b'\n' && !opening.is_triple
+}
+
+/// The item or stop at the start of the rest of a body. `front` is its first three bytes, read
+/// already.
+pub fn found_at<'a>(reads: &mut Reads, literal: Literal, front: &[u8], text: &'a str) -> Found<'a>
+    requires { front.now ≡ take 3 text.now }
+    ensures value { found_view result ≡ grammar.found_at (literal_view literal) text.now }
+    ensures text { grammar.is_of_bytes literal.kind ≡ false → IsText result }
+    ensures reads { AreReads (least_reads result - 3) (found_len result + 2) reads.old reads.new }
+{
+    let Some(first) = front.first() else {
+        return Found::Stops(Stop::Ended);
+    };
+    let byte = *first;
+    if byte == b'\\' {
+        return if literal.opening.is_raw {
+            raw_pair(reads, literal, text)
+        } else {
+            escape(reads, literal.kind, text)
+        };
+    }
+    if closes(literal.opening, front) {
+        return Found::Stops(Stop::Closing);
+    }
+    if ends_line(literal.opening, byte) {
+        return Found::Stops(Stop::Line);
+    }
+    if byte == b'\r' {
+        return part(1, "");
+    }
+    if is_brace(literal.kind, byte) {
+        return brace(reads, byte, text);
+    }
+    let character = first_character(reads, text);
+    part(character.len(), character)
+}

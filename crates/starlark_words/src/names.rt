@@ -1,0 +1,106 @@
+//! Finds the end of a name.
+
+ghost use Rattle.std.specs.Prelude.{◌≡◌, ◌≤◌, ◌+◌, ◌*◌, length, take};
+ghost use Rattle.std.specs.List.{prefix_len, slice_get};
+ghost use Rattle.starlark_grammar.specs.Words as grammar;
+ghost use Rattle.starlark_words.specs.Inner.Reads.{AreReads};
+
+use crate::lanes::{LANES, lowest_bit};
+use crate::reads::Reads;
+use std::simd::prelude::*;
+
+// `x` marks each byte that a name can have.
+static IN_NAME: [u8; 256] = *b"\
+    --------------------------------\
+    ----------------xxxxxxxxxx------\
+    -xxxxxxxxxxxxxxxxxxxxxxxxxx----x\
+    -xxxxxxxxxxxxxxxxxxxxxxxxxx-----\
+    --------------------------------\
+    --------------------------------\
+    --------------------------------\
+    --------------------------------";
+
+/// Whether a byte is a letter, `_` or a digit.
+#[inline(always)]
+fn is_in_name(byte: u8) -> bool
+    ensures { result ≡ grammar.is_in_name byte }
+{
+    IN_NAME[byte as usize] == b'x'
+}
+
+/// Bytes of a name that are read one by one before the SIMD step.
+const ALONE: usize = 4;
+
+/// Number of letters, digits and `_` at the start of a text, by one byte at a time.
+#[inline(always)]
+fn short_name_len(text: &[u8]) -> usize
+    ensures value { result ≡ prefix_len grammar.is_in_name text.now }
+    ensures within { result ≤ length text.now }
+{
+    text.iter().take_while(|byte| is_in_name(**byte)).count()
+}
+
+/// Scalar tail of `name_len`: the bytes after its SIMD step, or a text too short for one.
+#[inline(never)]
+fn last_name_len(text: &[u8]) -> usize
+    ensures value { result ≡ prefix_len grammar.is_in_name text.now }
+    ensures within { result ≤ length text.now }
+{
+    short_name_len(text)
+}
+
+/// Number of letters, digits and `_` at the start of the first 16 bytes, by SIMD.
+#[inline(always)]
+fn lanes_name_len(text: &[u8]) -> usize
+    requires { 16 ≤ length text.now }
+    ensures value { result ≡ prefix_len grammar.is_in_name (take 16 text.now) }
+{
+    let lanes = u8x16::from_slice(text);
+    let capitals = lanes.simd_ge(u8x16::splat(b'A')) & lanes.simd_le(u8x16::splat(b'Z'));
+    let letters = lanes.simd_ge(u8x16::splat(b'a')) & lanes.simd_le(u8x16::splat(b'z'));
+    let digits = lanes.simd_ge(u8x16::splat(b'0')) & lanes.simd_le(u8x16::splat(b'9'));
+    let in_name = capitals | letters | lanes.simd_eq(u8x16::splat(b'_')) | digits;
+    lowest_bit((!in_name).to_bitmask())
+}
+
+/// Number of letters, digits and `_` at the start of a text.
+///
+/// It reads four bytes one by one, and then 16 by SIMD: the processor can't predict the length of a
+/// longer name.
+#[inline(always)]
+fn name_len(reads: &mut Reads, text: &[u8]) -> usize
+    ensures value { result ≡ prefix_len grammar.is_in_name text.now }
+    ensures within { result ≤ length text.now }
+    ensures reads { AreReads (result + 1) (5 * result + 1) reads.old reads.new }
+{
+    if text.len() < ALONE + LANES {
+        let len = last_name_len(text);
+        reads.count_run(len);
+        return len;
+    }
+    let len = short_name_len(&text[..ALONE]);
+    if len < ALONE {
+        reads.count_run(len);
+        return len;
+    }
+    let more = lanes_name_len(&text[ALONE..]);
+    if more < LANES {
+        reads.count_run_and_lanes(ALONE);
+        return ALONE + more;
+    }
+    let whole = ALONE + LANES + last_name_len(&text[ALONE + LANES..]);
+    reads.count_run(whole);
+    whole
+}
+
+/// Number of letters, digits and `_` at the start of a text, and the byte after them.
+#[inline(always)]
+pub fn name_run(reads: &mut Reads, text: &[u8]) -> (usize, Option<u8>)
+    ensures value { result.0 ≡ prefix_len grammar.is_in_name text.now }
+    ensures within { result.0 ≤ length text.now }
+    ensures behind { result.1 ≡ slice_get text.now result.0 }
+    ensures reads { AreReads (result.0 + 1) (5 * result.0 + 1) reads.old reads.new }
+{
+    let len = name_len(reads, text);
+    (len, text.get(len).copied())
+}

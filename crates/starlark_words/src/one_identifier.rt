@@ -1,0 +1,72 @@
+//! Reads a text that is one identifier.
+
+ghost use Rattle.std.specs.Prelude.{◌≡◌, ◌↔◌, Some, None, string_bytes, IfOk, OnErr, IfSome};
+ghost use Rattle.std.specs.Option.{option_map};
+ghost use Rattle.starlark_grammar.specs.Front.{language_front};
+ghost use Rattle.starlark_words.specs.OneIdentifier as spec;
+ghost use Rattle.starlark_grammar.specs.Words.{Text};
+
+use crate::scanner::{Class, Word, first_word};
+use crate::reads::Reads;
+use std::alloc::{AllocError, Global};
+
+/// The length of the skipped piece at the front of a text, if one stands there.
+fn skipped_len(text: &str) -> Option<usize>
+    ensures value { result ≡ spec.if_skipped (language_front text.now) }
+    ensures cut { IfSome result (λ len. spec.IsCut text.now len) }
+{
+    match first_word(&mut Reads::new(), text) {
+        Some(
+            Word {
+                class: Class::Skipped,
+                len,
+            },
+        ) => Some(len),
+        _ => None,
+    }
+}
+
+/// The length of the identifier at the front of a text, if one stands there.
+fn identifier_len(text: &str) -> Option<usize>
+    ensures value { result ≡ spec.if_identifier (language_front text.now) }
+    ensures cut { IfSome result (λ len. spec.IsCut text.now len) }
+{
+    match first_word(&mut Reads::new(), text) {
+        Some(
+            Word {
+                class: Class::Identifier,
+                len,
+            },
+        ) => Some(len),
+        _ => None,
+    }
+}
+
+/// What stands after the skipped pieces at the front of a text.
+fn after_skipped(text: &str) -> &str
+    ensures passed { spec.IsAfterSkipped text.now result.now }
+    ensures all { spec.if_skipped (language_front result.now) ≡ None }
+{
+    let mut rest = text;
+    while let Some(len) = skipped_len(rest) {
+        rest = &rest[len..];
+    }
+    rest
+}
+
+/// The identifier of a text that has skipped pieces, one identifier, and skipped pieces; `None` for any other text.
+///
+/// Skipped are spaces, and newlines after a backslash. Only an identifier that is found allocates.
+pub fn lex_exactly_one_identifier(alloc: Global, s: &str) -> Result<Option<String>, AllocError>
+    ensures value { IfOk result (λ found. (name : Text) → (option_map string_bytes found ≡ Some name) ↔ spec.IsOneIdentifier s.now name) }
+    ensures memory { OnErr result ((name : Text) × spec.IsOneIdentifier s.now name) }
+{
+    let rest = after_skipped(s);
+    let Some(len) = identifier_len(rest) else {
+        return Ok(None);
+    };
+    if !after_skipped(&rest[len..]).is_empty() {
+        return Ok(None);
+    }
+    Ok(Some(String::from_str(alloc, &rest[..len])?))
+}

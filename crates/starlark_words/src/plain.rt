@@ -1,0 +1,103 @@
+//! Fast path for bodies of literals without escapes.
+
+ghost use Rattle.std.specs.Prelude.{◌≡◌, ◌≤◌, ◌==◌, ◌+◌, ◌*◌, get_or, length, take, IfErr, IfOk, IfSome};
+ghost use Rattle.starlark_grammar.specs.Items.{Stops, found_at, quote_byte};
+ghost use Rattle.starlark_grammar.specs.Words.{Text};
+ghost use Rattle.starlark_words.specs.Inner.Reads.{AreReads, more_reads};
+ghost use Rattle.starlark_words.specs.Inner.Literals.{IsPlainBody, IsPlainChunk, fstring_literal, stop_view};
+ghost use Rattle.starlark_grammar.specs.Inner.Openings.{opening_view};
+
+use super::items::{Literal, Stop, closes, is_quote};
+use super::runs::first_run;
+use crate::reads::Reads;
+use starlark_grammar::class::{LiteralKind, Opening, Quote};
+
+/// Whether the byte at an offset of a text is the given quote.
+#[inline(always)]
+fn is_quote_at(reads: &mut Reads, quote: Quote, text: &[u8], at: usize) -> bool
+    ensures value { result ≡ (get_or text.now at 0 == quote_byte quote) }
+    ensures reads { reads.new ≡ more_reads reads.old 1 }
+{
+    match reads.at(text, at) {
+        Some(byte) => is_quote(quote, byte),
+        None => false,
+    }
+}
+
+/// Length in bytes of the body of a literal without escapes that one quote closes.
+///
+/// `text` begins after the opener. The error is the length of the first run, for any other literal:
+/// one with escapes or three quotes, or one that isn't closed.
+pub fn plain_body_len(
+    reads: &mut Reads,
+    kind: LiteralKind,
+    is_raw: bool,
+    quote: Quote,
+    text: &str,
+) -> Result<usize, usize>
+    ensures plain { IfOk result (λ len. IsPlainBody kind is_raw quote text.now len) }
+    ensures reads { IfOk result (λ len. AreReads (len + 1) (2 * len + 3) reads.old reads.new) }
+    ensures other { IfErr result (λ run. (run ≤ length text.now) × AreReads 0 (2 * run + 3) reads.old reads.new) }
+{
+    let opening = Opening {
+        is_raw,
+        quote,
+        is_triple: false,
+    };
+    let literal = Literal { kind, opening };
+    let len = first_run(reads, literal, text).len();
+    let bytes = text.as_bytes();
+    if !is_quote_at(reads, quote, bytes, len) {
+        return Err(len);
+    }
+    if len == 0 && is_quote_at(reads, quote, bytes, 1) {
+        return Err(len);
+    }
+    Ok(len)
+}
+
+/// The stop of an f-string's text, if closing quotes or an expression are there.
+///
+/// `front` is the first three bytes there, read already.
+#[inline(always)]
+fn stop_by(opening: Opening, front: &[u8]) -> Option<Stop>
+    ensures { IfSome result (λ stop. (text : Text) → front.now ≡ take 3 text → found_at (fstring_literal (opening_view opening)) text ≡ Stops (stop_view stop)) }
+{
+    if closes(opening, front) {
+        return Some(Stop::Closing);
+    }
+    let [first, second, ..] = front else {
+        return None;
+    };
+    if *first == b'{' && *second != b'{' {
+        Some(Stop::OpeningBrace)
+    } else {
+        None
+    }
+}
+
+/// Length in bytes and stop of an f-string's text that has no escapes.
+///
+/// The error is the length of the first run, for any other text: one with escapes, doubled braces,
+/// or a fault.
+#[inline(always)]
+pub fn plain_chunk_len(
+    reads: &mut Reads,
+    opening: Opening,
+    text: &str,
+) -> Result<(usize, Stop), usize>
+    ensures plain { IfOk result (λ found. IsPlainChunk (opening_view opening) text.now found.0 (stop_view found.1)) }
+    ensures reads { IfOk result (λ found. AreReads (found.0 + 3) (2 * found.0 + 4) reads.old reads.new) }
+    ensures other { IfErr result (λ run. (run ≤ length text.now) × AreReads 0 (2 * run + 4) reads.old reads.new) }
+{
+    let literal = Literal {
+        kind: LiteralKind::FString,
+        opening,
+    };
+    let len = first_run(reads, literal, text).len();
+    let rest = &text.as_bytes()[len..];
+    let Some(stop) = stop_by(opening, reads.front(rest, 3)) else {
+        return Err(len);
+    };
+    Ok((len, stop))
+}

@@ -1,0 +1,261 @@
+//! Reads bytes of a text, and counts the reads.
+
+ghost use Rattle.std.specs.Prelude.{◌≡◌, ◌==◌, get_or, ◌≤◌, ◌<◌, ◌+◌, ◌-◌, ◌^◌, ℕ, length, take, nat_eq};
+ghost use Rattle.std.specs.Char.{is_ascii_digit, is_ascii_hexdigit};
+ghost use Rattle.std.specs.List.{prefix_len, slice_get};
+ghost use Rattle.std.specs.Str.{IsCharBoundary};
+ghost use Rattle.starlark_grammar.specs.Characters.{first_character};
+ghost use Rattle.starlark_grammar.specs.Words as grammar;
+ghost use Rattle.starlark_words.specs.Inner.Reads.{more_reads};
+
+use crate::lanes::LANES;
+use std::marker::Model;
+
+/// Number of spaces at the start of a text. The caller has to count the reads.
+#[inline(always)]
+pub fn uncounted_spaces_len(text: &[u8]) -> usize
+    ensures value { result ≡ prefix_len (nat_eq 32) text.now }
+    ensures within { result ≤ length text.now }
+{
+    text.iter().take_while(|byte| **byte == b' ').count()
+}
+
+/// Length in bytes of the first character of a text; 0 if the text is empty. Not counted.
+fn first_character_len(text: &str) -> usize
+    ensures character { take result text.now ≡ first_character text.now }
+    ensures whole { result ≡ length (first_character text.now) }
+    ensures boundary { IsCharBoundary text.now result }
+{
+    match text.chars().next() {
+        Some(character) => character.len_utf8(),
+        None => 0,
+    }
+}
+
+/// A counter of reads of bytes, which saturates.
+///
+/// All code that decides by bytes of a text reads them through this type, so that contracts can
+/// bound the reads. A `_len` call returns the length of the longest run at the start of a text; the
+/// byte that ends the run is read too. In a contract it is the count.
+#[derive(Drop)]
+pub struct Reads {
+    count: u64,
+}
+
+impl Model for Reads {
+    ghost Value = { ℕ };
+
+    ghost view = { λ reads. reads.count };
+}
+
+impl Reads {
+    /// A counter at 0.
+    pub fn new() -> Self
+        ensures { result ≡ 0 }
+    {
+        Reads { count: 0 }
+    }
+
+    /// Number of reads so far. A byte that was read twice counts twice.
+    pub fn count(&self) -> u64
+        ensures { result ≡ self.now }
+    {
+        self.count
+    }
+
+    /// Adds to the count.
+    #[inline(always)]
+    fn add(&mut self, more: usize)
+        ensures { self.new ≡ more_reads self.old more }
+    {
+        self.count = self.count.saturating_add(more as u64);
+    }
+
+    /// Counts a run of `len` bytes that was read one by one, and the byte that ended it.
+    #[inline(always)]
+    pub fn count_run(&mut self, len: usize)
+        requires { len < 2 ^ 64 - 1 }
+        ensures { self.new ≡ more_reads self.old (len + 1) }
+    {
+        self.add(len + 1);
+    }
+
+    /// Counts the 16 bytes of a SIMD step.
+    #[inline(always)]
+    pub fn count_lanes(&mut self)
+        ensures { self.new ≡ more_reads self.old 16 }
+    {
+        self.add(LANES);
+    }
+
+    /// Counts a run of `len` bytes that was read one by one, and the SIMD step after it.
+    #[inline(always)]
+    pub fn count_run_and_lanes(&mut self, len: usize)
+        requires { len < 2 ^ 64 - 16 }
+        ensures { self.new ≡ more_reads self.old (len + 16) }
+    {
+        self.add(len + LANES);
+    }
+
+    /// Whether the last byte of a text is a CR.
+    pub fn ends_with_return(&mut self, text: &[u8]) -> bool
+        ensures value { result ≡ (get_or text.now (length text.now - 1) 0 == 13) }
+        ensures reads { self.new ≡ more_reads self.old 1 }
+    {
+        self.add(1);
+        matches!(text, [.., b'\r'])
+    }
+
+    /// The byte at an offset of a text; `None` if the text is no longer than that.
+    #[inline(always)]
+    pub fn at(&mut self, text: &[u8], place: usize) -> Option<u8>
+        ensures byte { result ≡ slice_get text.now place }
+        ensures reads { self.new ≡ more_reads self.old 1 }
+    {
+        self.add(1);
+        text.get(place).copied()
+    }
+
+    /// Length in bytes of the first character of a text; 0 if the text is empty.
+    pub fn character_len(&mut self, text: &str) -> usize
+        ensures character { take result text.now ≡ first_character text.now }
+        ensures whole { result ≡ length (first_character text.now) }
+        ensures boundary { IsCharBoundary text.now result }
+        ensures reads { self.new ≡ more_reads self.old result }
+    {
+        let len = first_character_len(text);
+        self.add(len);
+        len
+    }
+
+    /// The first `most` bytes of a text, or all if it has fewer. `most` reads are counted.
+    #[inline(always)]
+    pub fn front<'a>(&mut self, text: &'a [u8], most: usize) -> &'a [u8]
+        ensures bytes { result.now ≡ take most text.now }
+        ensures reads { self.new ≡ more_reads self.old most }
+    {
+        self.add(most);
+        &text[..most.min(text.len())]
+    }
+
+    /// The first `most` bytes of the text after a run, or all if it has fewer.
+    ///
+    /// The reads of the run are counted here: its `run` bytes, and the byte that ended it.
+    #[inline(always)]
+    pub fn front_after<'a>(&mut self, run: usize, text: &'a [u8], most: usize) -> &'a [u8]
+        requires { run + most + 1 < 2 ^ 64 }
+        ensures bytes { result.now ≡ take most text.now }
+        ensures reads { self.new ≡ more_reads self.old (run + 1 + most) }
+    {
+        self.add(run + 1 + most);
+        &text[..most.min(text.len())]
+    }
+
+    /// The first `most` bytes of a text, or all if it has fewer. The first `known` aren't counted
+    /// again.
+    #[inline(always)]
+    pub fn more_front<'a>(&mut self, text: &'a [u8], known: usize, most: usize) -> &'a [u8]
+        requires { known ≤ most }
+        ensures bytes { result.now ≡ take most text.now }
+        ensures reads { self.new ≡ more_reads self.old (most - known) }
+    {
+        self.add(most - known);
+        &text[..most.min(text.len())]
+    }
+
+    /// Number of decimal digits at the start of a text.
+    #[inline(always)]
+    pub fn digits_len(&mut self, text: &[u8]) -> usize
+        ensures value { result ≡ prefix_len is_ascii_digit text.now }
+        ensures within { result ≤ length text.now }
+        ensures reads { self.new ≡ more_reads self.old (result + 1) }
+    {
+        let len = text.iter().take_while(|byte| byte.is_ascii_digit()).count();
+        self.add(len + 1);
+        len
+    }
+
+    /// Number of hexadecimal digits at the start of a text.
+    #[inline(always)]
+    pub fn hexadecimal_len(&mut self, text: &[u8]) -> usize
+        ensures value { result ≡ prefix_len is_ascii_hexdigit text.now }
+        ensures within { result ≤ length text.now }
+        ensures reads { self.new ≡ more_reads self.old (result + 1) }
+    {
+        let len = text
+            .iter()
+            .take_while(|byte| byte.is_ascii_hexdigit())
+            .count();
+        self.add(len + 1);
+        len
+    }
+
+    /// Number of octal digits at the start of a text.
+    #[inline(always)]
+    pub fn octal_len(&mut self, text: &[u8]) -> usize
+        ensures value { result ≡ prefix_len grammar.is_octal_digit text.now }
+        ensures within { result ≤ length text.now }
+        ensures reads { self.new ≡ more_reads self.old (result + 1) }
+    {
+        let len = text
+            .iter()
+            .take_while(|byte| matches!(byte, b'0'..=b'7'))
+            .count();
+        self.add(len + 1);
+        len
+    }
+
+    /// Number of binary digits at the start of a text.
+    #[inline(always)]
+    pub fn binary_len(&mut self, text: &[u8]) -> usize
+        ensures value { result ≡ prefix_len grammar.is_binary_digit text.now }
+        ensures within { result ≤ length text.now }
+        ensures reads { self.new ≡ more_reads self.old (result + 1) }
+    {
+        let len = text
+            .iter()
+            .take_while(|byte| matches!(byte, b'0' | b'1'))
+            .count();
+        self.add(len + 1);
+        len
+    }
+
+    /// Number of bytes of a text before its first CR or LF, or all of them.
+    #[inline(always)]
+    pub fn line_len(&mut self, text: &[u8]) -> usize
+        ensures value { result ≡ prefix_len grammar.is_in_line text.now }
+        ensures within { result ≤ length text.now }
+        ensures reads { self.new ≡ more_reads self.old (result + 1) }
+    {
+        let len = text
+            .iter()
+            .take_while(|byte| **byte != b'\r' && **byte != b'\n')
+            .count();
+        self.add(len + 1);
+        len
+    }
+
+    /// Number of spaces at the start of a text.
+    #[inline(always)]
+    pub fn spaces_len(&mut self, text: &[u8]) -> usize
+        ensures value { result ≡ prefix_len (nat_eq 32) text.now }
+        ensures within { result ≤ length text.now }
+        ensures reads { self.new ≡ more_reads self.old (result + 1) }
+    {
+        let len = uncounted_spaces_len(text);
+        self.add(len + 1);
+        len
+    }
+
+    /// Number of tabs at the start of a text.
+    #[inline(always)]
+    pub fn tabs_len(&mut self, text: &[u8]) -> usize
+        ensures value { result ≡ prefix_len (nat_eq 9) text.now }
+        ensures within { result ≤ length text.now }
+        ensures reads { self.new ≡ more_reads self.old (result + 1) }
+    {
+        let len = text.iter().take_while(|byte| **byte == b'\t').count();
+        self.add(len + 1);
+        len
+    }
+}

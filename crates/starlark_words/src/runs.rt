@@ -1,0 +1,122 @@
+//! Runs of a literal's body: characters without escapes, which are copied unchanged.
+
+ghost use Rattle.std.specs.Prelude.{◌≡◌, ◌≤◌, ◌+◌, ◌*◌, ℕ, length, take, true, false};
+ghost use Rattle.std.specs.List.{prefix_len};
+ghost use Rattle.std.specs.Str.{IsCharBoundary};
+ghost use Rattle.starlark_grammar.specs.Items as grammar;
+ghost use Rattle.starlark_words.specs.Inner.Literals.{literal_view};
+ghost use Rattle.starlark_words.specs.Inner.Reads.{AreReads, more_reads};
+ghost use Rattle.starlark_words.specs.Inner.Runs.{is_in_run, is_special};
+
+use super::items::{Literal, ends_line, is_brace, is_quote};
+use super::run_lanes::{Ends, lanes_run_len};
+use crate::lanes::LANES;
+use crate::reads::Reads;
+
+// `.` marks each byte that is in a run of every literal.
+static ORDINARY: [u8; 256] = *b"\
+    ..........\n..\r..................\
+    ..\"....'........................\
+    ............................\\...\
+    ...........................{.}..\
+    ................................\
+    ................................\
+    ................................\
+    ................................";
+
+/// Whether a byte is in a run of every literal.
+#[inline(always)]
+fn is_ordinary(byte: u8) -> bool
+    ensures { result ≡ true → (literal : grammar.Literal) → is_special literal byte ≡ false }
+{
+    ORDINARY[byte as usize] == b'.'
+}
+
+/// Whether a byte ends a run of the literal: quote, backslash, CR, and perhaps LF or a brace.
+fn is_special(literal: Literal, byte: u8) -> bool
+    ensures { result ≡ is_special (literal_view literal) byte }
+{
+    is_quote(literal.opening.quote, byte)
+        || byte == b'\\'
+        || byte == b'\r'
+        || ends_line(literal.opening, byte)
+        || is_brace(literal.kind, byte)
+}
+
+/// Whether a byte is in a run of the literal. The table answers for most bytes.
+#[inline(always)]
+fn is_in_run(literal: Literal, byte: u8) -> bool
+    ensures { result ≡ is_in_run (literal_view literal) byte }
+{
+    is_ordinary(byte) || !is_special(literal, byte)
+}
+
+/// Length of the run at the start of some bytes, one byte at a time.
+#[inline(always)]
+fn short_run_len(reads: &mut Reads, literal: Literal, bytes: &[u8]) -> usize
+    ensures value { result ≡ prefix_len (is_in_run (literal_view literal)) bytes.now }
+    ensures within { result ≤ length bytes.now }
+    ensures reads { reads.new ≡ more_reads reads.old (result + 1) }
+{
+    let mut len = 0;
+    while len < bytes.len() && is_in_run(literal, bytes[len]) {
+        len += 1;
+    }
+    reads.count_run(len);
+    len
+}
+
+/// Length of the run at the start of some bytes, by SIMD with a scalar tail.
+#[inline(never)]
+fn long_run_len(reads: &mut Reads, literal: Literal, bytes: &[u8]) -> usize
+    ensures value { result ≡ prefix_len (is_in_run (literal_view literal)) bytes.now }
+    ensures within { result ≤ length bytes.now }
+    ensures reads { AreReads result (result + 16) reads.old reads.new }
+{
+    let ends = Ends::of(literal);
+    let mut at = 0;
+    while at + LANES <= bytes.len() {
+        let len = lanes_run_len(reads, ends, bytes, at);
+        if len < LANES {
+            return at + len;
+        }
+        at += LANES;
+    }
+    at + short_run_len(reads, literal, &bytes[at..])
+}
+
+/// Length of the run at the start of fewer than 16 bytes, which only the end of a text has.
+#[inline(never)]
+fn last_run_len(reads: &mut Reads, literal: Literal, bytes: &[u8]) -> usize
+    ensures value { result ≡ prefix_len (is_in_run (literal_view literal)) bytes.now }
+    ensures reads { reads.new ≡ more_reads reads.old (result + 1) }
+{
+    short_run_len(reads, literal, bytes)
+}
+
+/// Length of the run at the start of some bytes. It reads 16 bytes one by one, and then 16 at a
+/// time.
+#[inline(always)]
+fn run_len(reads: &mut Reads, literal: Literal, bytes: &[u8]) -> usize
+    ensures value { result ≡ prefix_len (is_in_run (literal_view literal)) bytes.now }
+    ensures reads { AreReads result (2 * result + 1) reads.old reads.new }
+{
+    if bytes.len() < LANES {
+        return last_run_len(reads, literal, bytes);
+    }
+    let len = short_run_len(reads, literal, &bytes[..LANES]);
+    if len < LANES {
+        return len;
+    }
+    LANES + long_run_len(reads, literal, &bytes[LANES..])
+}
+
+/// The run at the start of the rest of a body. It may be empty.
+#[inline(always)]
+pub fn first_run<'a>(reads: &mut Reads, literal: Literal, text: &'a str) -> &'a str
+    ensures value { result.now ≡ take (prefix_len (is_in_run (literal_view literal)) text.now) text.now }
+    ensures boundary { IsCharBoundary text.now (length result.now) }
+    ensures reads { AreReads (length result.now) (2 * length result.now + 1) reads.old reads.new }
+{
+    &text[..run_len(reads, literal, text.as_bytes())]
+}

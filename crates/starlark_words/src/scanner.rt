@@ -1,0 +1,242 @@
+//! Finds the longest word at the front of a text.
+
+ghost use Rattle.std.specs.Prelude.{◌≡◌, false, ◌<◌, ◌≤◌, ◌==◌, ◌+◌, ◌-◌, ◌*◌, ◌^◌, ◌∷◌, IfSome, None, Some, length, nat_eq, take, true};
+ghost use Rattle.std.specs.List.{prefix_len, slice_get};
+ghost use Rattle.std.specs.Option.{option_map};
+ghost use Rattle.starlark_grammar.specs.Front.{language_front};
+ghost use Rattle.starlark_words.specs.Inner.Reads.{AreReads, more_reads};
+ghost use Rattle.starlark_words.specs.Inner.Words.{HasDigit, begins_number, opener_view, short_view, word_len, word_view};
+ghost use Rattle.starlark_grammar.specs.Pieces.{is_bang};
+ghost use Rattle.starlark_grammar.specs.Words as grammar;
+ghost use Rattle.starlark_grammar.specs.declared.class.Class.TheVariants as class;
+ghost use Rattle.starlark_grammar.specs.declared.class.LiteralKind.TheVariants as kind;
+
+mod first;
+mod marks;
+mod names;
+mod numbers;
+mod openers;
+mod word;
+
+use first::is_name_start;
+use crate::lines::front_len;
+use crate::reads::{Reads, uncounted_spaces_len};
+pub use starlark_grammar::class::{Class, LiteralKind, Quote, Terminal};
+pub use word::{ShortWord, TextOpener, Word};
+
+/// Whether a number begins at the front of a text: with a digit, or with a point and a digit.
+fn begins_number(text: &[u8]) -> bool
+    ensures { result ≡ begins_number text.now }
+{
+    match text {
+        [b'.', second, ..] => second.is_ascii_digit(),
+        [first, ..] => first.is_ascii_digit(),
+        [] => false,
+    }
+}
+
+/// Blanks.
+fn skipped(len: usize) -> Word
+    ensures { word_view result ≡ (class.Skipped, len) }
+{
+    Word {
+        class: Class::Skipped,
+        len,
+    }
+}
+
+fn tabs(len: usize) -> Word
+    ensures { word_view result ≡ (class.Tabs, len) }
+{
+    Word {
+        class: Class::Tabs,
+        len,
+    }
+}
+
+fn comment(len: usize) -> Word
+    ensures { word_view result ≡ (class.Comment, len) }
+{
+    Word {
+        class: Class::Comment,
+        len,
+    }
+}
+
+/// A quote that opens a text literal.
+fn quote_word(quote: Quote) -> Word
+    ensures { word_view result ≡ (class.Opener kind.Text false quote, 1) }
+{
+    Word {
+        class: Class::Opener {
+            kind: LiteralKind::Text,
+            is_raw: false,
+            quote,
+        },
+        len: 1,
+    }
+}
+
+/// The length of the run of spaces at the front of a text. `word_after` counts that they were read.
+#[inline(always)]
+pub fn gap_len(text: &str) -> usize
+    ensures word { 0 < result → language_front text.now ≡ Some (class.Skipped, result) }
+    ensures bang { 0 < result → is_bang text.now ≡ false }
+    ensures within { result ≤ length text.now }
+{
+    uncounted_spaces_len(text.as_bytes())
+}
+
+/// The longest word at the front of a text, by its first two bytes, where these tell which it is.
+#[inline(always)]
+fn word_by_front(reads: &mut Reads, front: &[u8], text: &str) -> Option<Word>
+    requires { front.now ≡ take 2 text.now }
+    ensures word { IfSome result (λ word. Some (word_view word) ≡ language_front text.now) }
+    ensures bang { IfSome result (λ word. is_bang text.now ≡ false) }
+    ensures none { result ≡ None → grammar.begins grammar.is_name_start text.now ≡ false }
+    ensures reads { AreReads (word_len result - 1) (5 * word_len result - 4) reads.old reads.new }
+    ensures same { result ≡ None → reads.new ≡ reads.old }
+{
+    let first = *front.first()?;
+    if is_name_start(first) {
+        return Some(names::name_from(reads, text));
+    }
+    if marks::is_mark_alone(front) {
+        return marks::longest_of_one(first);
+    }
+    match first {
+        b'\'' => Some(quote_word(Quote::Single)),
+        b'"' => Some(quote_word(Quote::Double)),
+        _ => None,
+    }
+}
+
+/// The longest word at the front of a text, where its first byte or its first two tell which it is: a name, a
+/// symbol of one byte, an LF, or a quote. `None` where they don't.
+#[inline(always)]
+pub fn common_word(reads: &mut Reads, text: &str) -> Option<Word>
+    ensures word { IfSome result (λ word. Some (word_view word) ≡ language_front text.now) }
+    ensures bang { IfSome result (λ word. is_bang text.now ≡ false) }
+    ensures none { result ≡ None → grammar.begins grammar.is_name_start text.now ≡ false }
+    ensures reads { AreReads (word_len result) ((5 * word_len result - 4) + 2) reads.old reads.new }
+    ensures two { result ≡ None → reads.new ≡ more_reads reads.old 2 }
+{
+    let front = reads.front(text.as_bytes(), 2);
+    word_by_front(reads, front, text)
+}
+
+/// The same of a text behind so many spaces, which are counted with its first two bytes.
+#[inline(always)]
+pub fn word_after(reads: &mut Reads, gap: usize, text: &str) -> Option<Word>
+    requires { gap < 2 ^ 32 }
+    ensures word { IfSome result (λ word. Some (word_view word) ≡ language_front text.now) }
+    ensures bang { IfSome result (λ word. is_bang text.now ≡ false) }
+    ensures reads { AreReads (gap + word_len result) (gap + (5 * word_len result - 4) + 3) reads.old reads.new }
+{
+    let front = reads.front_after(gap, text.as_bytes(), 2);
+    word_by_front(reads, front, text)
+}
+
+/// The longest word at the start of a text if it is a symbol of two bytes or an integer of one digit,
+/// and the byte after it tells so. `front` is the text's first three bytes.
+#[inline(always)]
+pub fn short_word(front: &[u8], text: &str) -> Option<ShortWord>
+    requires { front.now ≡ take 3 text.now }
+    ensures word { IfSome result (λ short. Some (word_view (short_view short)) ≡ language_front text.now) }
+    ensures digit { IfSome result (λ short. HasDigit short text.now) }
+    ensures bang { IfSome result (λ short. is_bang text.now ≡ false) }
+{
+    let first = *front.first()?;
+    if numbers::is_digit_alone(front) {
+        return Some(ShortWord::Digit(first - b'0'));
+    }
+    match marks::mark_of_two(front) {
+        Some(Class::Fixed(terminal)) => Some(ShortWord::Symbol(terminal)),
+        _ => None,
+    }
+}
+
+/// The longest word at the front of a text, where its first two bytes tell that it opens a text literal.
+#[inline(always)]
+pub fn text_opener(reads: &mut Reads, text: &str) -> Option<TextOpener>
+    ensures word { IfSome result (λ opener. Some (opener_view opener) ≡ language_front text.now) }
+    ensures bang { IfSome result (λ opener. is_bang text.now ≡ false) }
+    ensures reads { reads.new ≡ more_reads reads.old 2 }
+{
+    let front = reads.front(text.as_bytes(), 2);
+    openers::text_opener(front)
+}
+
+/// The quote of the opener at the start of a text if that is an `f` and a quote. `front` is the text's
+/// first three bytes.
+#[inline(always)]
+pub fn fstring_opener(front: &[u8], text: &str) -> Option<Quote>
+    requires { front.now ≡ take 3 text.now }
+    ensures word { IfSome result (λ quote. Some (class.Opener kind.FString false quote, 2) ≡ language_front text.now) }
+    ensures bang { IfSome result (λ quote. is_bang text.now ≡ false) }
+{
+    openers::quote_after(b'f', front)
+}
+
+/// The quote of the opener at the start of a text if that is a `b` and a quote. `front` is the text's
+/// first three bytes.
+#[inline(always)]
+pub fn bytes_opener(front: &[u8], text: &str) -> Option<Quote>
+    requires { front.now ≡ take 3 text.now }
+    ensures word { IfSome result (λ quote. Some (class.Opener kind.Bytes false quote, 2) ≡ language_front text.now) }
+    ensures bang { IfSome result (λ quote. is_bang text.now ≡ false) }
+{
+    openers::quote_after(b'b', front)
+}
+
+/// Length of the comment at the start of a text; `None` if something else is there. `front` is the
+/// text's first three bytes.
+#[inline(always)]
+pub fn comment_len(reads: &mut Reads, front: &[u8], text: &str) -> Option<usize>
+    requires { front.now ≡ take 3 text.now }
+    ensures word { IfSome result (λ len. Some (class.Comment, len) ≡ language_front text.now) }
+    ensures bang { IfSome result (λ len. is_bang text.now ≡ false) }
+    ensures reads { IfSome result (λ len. AreReads len (5 * len + 2) reads.old reads.new) }
+    ensures none { result ≡ None → reads.new ≡ reads.old }
+{
+    match front {
+        [b'#', ..] => Some(front_len(reads, text.as_bytes(), b'\r')),
+        _ => None,
+    }
+}
+
+/// The longest word at the front of a text that doesn't begin with a letter or `_`, and of which the first two bytes were read;
+/// `None` where no word stands there.
+pub fn unnamed_word(reads: &mut Reads, text: &str) -> Option<Word>
+    requires { grammar.begins grammar.is_name_start text.now ≡ false }
+    ensures word { option_map word_view result ≡ language_front text.now }
+    ensures bang { IfSome result (λ word. is_bang text.now ≡ false) }
+    ensures reads { AreReads (word_len result - 2) (5 * word_len result + 1) reads.old reads.new }
+{
+    let bytes = text.as_bytes();
+    let front = reads.more_front(bytes, 2, 3);
+    let first = *front.first()?;
+    if begins_number(front) {
+        return Some(numbers::number_from(reads, front, bytes));
+    }
+    match first {
+        b' ' => Some(skipped(reads.spaces_len(bytes))),
+        b'\t' => Some(tabs(reads.tabs_len(bytes))),
+        b'#' => Some(comment(reads.line_len(bytes))),
+        b'\'' => Some(quote_word(Quote::Single)),
+        b'"' => Some(quote_word(Quote::Double)),
+        _ => marks::mark_from(front),
+    }
+}
+
+/// The longest word at the front of a text, or `None` where no word stands there.
+pub fn first_word(reads: &mut Reads, text: &str) -> Option<Word>
+    ensures word { option_map word_view result ≡ language_front text.now }
+    ensures bang { IfSome result (λ word. is_bang text.now ≡ false) }
+    ensures reads { AreReads (word_len result) (5 * word_len result + 3) reads.old reads.new }
+{
+    match common_word(reads, text) {
+        Some(word) => Some(word),
+        None => unnamed_word(reads, text),
+    }
+}

@@ -1,0 +1,228 @@
+//! Words that begin with a letter or `_`: keywords, reserved words, identifiers, and openers that have a prefix.
+
+ghost use Rattle.std.specs.Prelude.{◌≡◌, ◌≤◌, ◌<◌, ◌+◌, ◌-◌, ◌*◌, IfSome, Some, length, slice_get, nat_eq, take, true, unwrap_or};
+ghost use Rattle.std.specs.List.{prefix_len};
+ghost use Rattle.std.specs.Map.{lookup};
+ghost use Rattle.std.specs.Option.{option_map};
+ghost use Rattle.std.specs.Str.{bytes_eq};
+ghost use Rattle.starlark_grammar.specs.Front.{language_front};
+ghost use Rattle.starlark_words.specs.Inner.Reads.{AreReads};
+ghost use Rattle.starlark_words.specs.Inner.Words.{begin_listed_name, class_by_length, is_other_length, is_quote, listing_view, may_be_listed, word_view};
+ghost use Rattle.starlark_grammar.specs.Words as grammar;
+ghost use Rattle.starlark_grammar.specs.declared.class.Class.TheVariants as class;
+
+use super::openers::opener_class;
+use super::{Class, Terminal, Word};
+use crate::names::name_run;
+use crate::reads::Reads;
+
+/// What the list of keywords and reserved words says of a name.
+#[derive(Clone, Copy)]
+enum Listing {
+    Keyword(Terminal),
+    Reserved,
+    Not,
+}
+
+/// The greatest length of a literal's prefix.
+const PREFIX_LEN: usize = 2;
+
+/// Whether a keyword or a reserved word of a length begins with two bytes.
+#[tactic(auto, unfolding(starlark_grammar::specs::Words::names))]
+#[inline(always)]
+fn begin_listed_name(first: u8, second: u8, len: usize) -> bool
+    ensures { result ≡ begin_listed_name first second len }
+{
+    matches!(
+        (first, second, len),
+        (b'a', b'n', 3)
+            | (b'a', b's', 2 | 5 | 6)
+            | (b'a', b'w', 5)
+            | (b'b', b'r', 5)
+            | (b'c', b'l', 5)
+            | (b'c', b'o', 8)
+            | (b'd', b'e', 3)
+            | (b'e', b'l', 4)
+            | (b'e', b'x', 6)
+            | (b'f', b'i', 7)
+            | (b'f', b'o', 3)
+            | (b'f', b'r', 4)
+            | (b'g', b'l', 6)
+            | (b'i', b'f' | b'n' | b's', 2)
+            | (b'i', b'm', 6)
+            | (b'l', b'a', 6)
+            | (b'l', b'o', 4)
+            | (b'n', b'o', 3 | 8)
+            | (b'o', b'r', 2)
+            | (b'p', b'a', 4)
+            | (b'r', b'a', 5)
+            | (b'r', b'e', 6)
+            | (b't', b'r', 3)
+            | (b'w', b'h', 5)
+            | (b'w', b'i', 4)
+            | (b'y', b'i', 5)
+    )
+}
+
+/// Whether a name may be a keyword or a reserved word, by its first two bytes and its length.
+#[inline(always)]
+fn may_be_listed(name: &[u8]) -> bool
+    ensures { result ≡ may_be_listed name.now }
+{
+    match name {
+        [first, second, ..] => begin_listed_name(*first, *second, name.len()),
+        _ => false,
+    }
+}
+
+/// What the list says of a name of two letters.
+fn two_letters(name: &str) -> Listing
+    ensures { listing_view result ≡ class_by_length (nat_eq 2) name.now }
+{
+    match name {
+        "in" => Listing::Keyword(Terminal::In),
+        "if" => Listing::Keyword(Terminal::If),
+        "or" => Listing::Keyword(Terminal::Or),
+        "as" | "is" => Listing::Reserved,
+        _ => Listing::Not,
+    }
+}
+
+/// What the list says of a name of three letters.
+fn three_letters(name: &str) -> Listing
+    ensures { listing_view result ≡ class_by_length (nat_eq 3) name.now }
+{
+    match name {
+        "for" => Listing::Keyword(Terminal::For),
+        "def" => Listing::Keyword(Terminal::Def),
+        "not" => Listing::Keyword(Terminal::Not),
+        "and" => Listing::Keyword(Terminal::And),
+        "del" | "try" => Listing::Reserved,
+        _ => Listing::Not,
+    }
+}
+
+/// What the list says of a name of four letters.
+fn four_letters(name: &str) -> Listing
+    ensures { listing_view result ≡ class_by_length (nat_eq 4) name.now }
+{
+    match name {
+        "load" => Listing::Keyword(Terminal::Load),
+        "else" => Listing::Keyword(Terminal::Else),
+        "elif" => Listing::Keyword(Terminal::Elif),
+        "pass" => Listing::Keyword(Terminal::Pass),
+        "from" | "with" => Listing::Reserved,
+        _ => Listing::Not,
+    }
+}
+
+/// What the list says of a name of five letters.
+fn five_letters(name: &str) -> Listing
+    ensures { listing_view result ≡ class_by_length (nat_eq 5) name.now }
+{
+    match name {
+        "break" => Listing::Keyword(Terminal::Break),
+        "async" | "await" | "class" | "raise" | "while" | "yield" => Listing::Reserved,
+        _ => Listing::Not,
+    }
+}
+
+/// What the list says of a name of six letters.
+fn six_letters(name: &str) -> Listing
+    ensures { listing_view result ≡ class_by_length (nat_eq 6) name.now }
+{
+    match name {
+        "return" => Listing::Keyword(Terminal::Return),
+        "lambda" => Listing::Keyword(Terminal::Lambda),
+        "assert" | "except" | "global" | "import" => Listing::Reserved,
+        _ => Listing::Not,
+    }
+}
+
+/// What the list says of a name of more letters than six, or of fewer than two.
+fn more_letters(name: &str) -> Listing
+    ensures { listing_view result ≡ class_by_length is_other_length name.now }
+{
+    match name {
+        "continue" => Listing::Keyword(Terminal::Continue),
+        "finally" | "nonlocal" => Listing::Reserved,
+        _ => Listing::Not,
+    }
+}
+
+/// What the list says of a name, by the words of its length. Of these, frequent ones are compared first.
+#[inline(never)]
+fn listing_of(name: &str) -> Listing
+    ensures { listing_view result ≡ unwrap_or (lookup (bytes_eq name.now) grammar.names) class.Identifier }
+{
+    match name.len() {
+        2 => two_letters(name),
+        3 => three_letters(name),
+        4 => four_letters(name),
+        5 => five_letters(name),
+        6 => six_letters(name),
+        _ => more_letters(name),
+    }
+}
+
+/// The class of a name. Most names are told by their first two bytes and their length.
+#[inline(always)]
+fn name_class(name: &str) -> Class
+    ensures { result ≡ unwrap_or (lookup (bytes_eq name.now) grammar.names) class.Identifier }
+{
+    if !may_be_listed(name.as_bytes()) {
+        return Class::Identifier;
+    }
+    match listing_of(name) {
+        Listing::Keyword(terminal) => Class::Fixed(terminal),
+        Listing::Reserved => Class::Reserved,
+        Listing::Not => Class::Identifier,
+    }
+}
+
+/// Whether a byte is a quote.
+#[inline(always)]
+fn is_quote(byte: Option<u8>) -> bool
+    ensures { result ≡ is_quote (unwrap_or byte 0) }
+{
+    matches!(byte, Some(b'\'' | b'"'))
+}
+
+/// What opens a literal at the front of a text that begins with a name of the given length: that
+/// name as a prefix, and a quote, which is the byte behind it.
+#[inline(always)]
+fn prefixed_opener(text: &str, len: usize, behind: Option<u8>) -> Option<Class>
+    requires len { len ≡ prefix_len grammar.is_in_name text.now }
+    requires behind { behind ≡ slice_get text.now len }
+    ensures opener { result ≡ lookup (bytes_eq (take (len + 1) text.now)) grammar.openers }
+    ensures within { IfSome result (λ class. len < length text.now) }
+{
+    if len > PREFIX_LEN {
+        return None;
+    }
+    if !is_quote(behind) {
+        return None;
+    }
+    opener_class(&text[..len + 1])
+}
+
+/// The longest word at the front of a text that begins with a letter or `_`, which was read.
+#[inline(always)]
+pub fn name_from(reads: &mut Reads, text: &str) -> Word
+    requires { grammar.begins grammar.is_name_start text.now ≡ true }
+    ensures word { Some (word_view result) ≡ language_front text.now }
+    ensures reads { AreReads (result.len - 1) (5 * result.len - 4) reads.old reads.new }
+{
+    let (more, behind) = name_run(reads, &text.as_bytes()[1..]);
+    let len = 1 + more;
+    match prefixed_opener(text, len, behind) {
+        Some(class) => Word {
+            class,
+            len: len + 1,
+        },
+        None => Word {
+            class: name_class(&text[..len]),
+            len,
+        },
+    }
+}

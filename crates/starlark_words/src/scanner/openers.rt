@@ -1,0 +1,149 @@
+//! Openers: what a literal begins with.
+
+ghost use Rattle.std.specs.Prelude.{◌≡◌, ◌∷◌, []};
+ghost use Rattle.std.specs.Map.{lookup};
+ghost use Rattle.std.specs.Option.{option_map};
+ghost use Rattle.std.specs.Str.{bytes_eq};
+ghost use Rattle.starlark_grammar.specs.Words as grammar;
+ghost use Rattle.starlark_grammar.specs.declared.class.Class.TheVariants as class;
+ghost use Rattle.starlark_words.specs.Inner.Words.{plain_opener, quote_after, quote_of, raw_opener, text_opener};
+
+use super::{Class, LiteralKind, Quote, TextOpener};
+
+/// The quote that a byte is, if it is one.
+#[inline(always)]
+fn quote_of(byte: u8) -> Option<Quote>
+    ensures { result ≡ quote_of byte }
+{
+    match byte {
+        b'\'' => Some(Quote::Single),
+        b'"' => Some(Quote::Double),
+        _ => None,
+    }
+}
+
+/// The opener of a text literal that a quote is without a prefix.
+#[inline(always)]
+fn plain_opener(quote: u8) -> Option<TextOpener>
+    ensures { result ≡ option_map plain_opener (quote_of quote) }
+{
+    match quote_of(quote) {
+        Some(quote) => Some(TextOpener {
+            is_raw: false,
+            quote,
+            len: 1,
+        }),
+        None => None,
+    }
+}
+
+/// The opener of a text literal that a quote is behind an `r`.
+#[inline(always)]
+fn raw_opener(quote: u8) -> Option<TextOpener>
+    ensures { result ≡ option_map raw_opener (quote_of quote) }
+{
+    match quote_of(quote) {
+        Some(quote) => Some(TextOpener {
+            is_raw: true,
+            quote,
+            len: 2,
+        }),
+        None => None,
+    }
+}
+
+/// The opener of a text literal that the first two bytes of a text are, if they are one.
+#[inline(always)]
+pub fn text_opener(text: &[u8]) -> Option<TextOpener>
+    ensures { result ≡ text_opener text.now }
+{
+    let first = *text.first()?;
+    if first != b'r' {
+        return plain_opener(first);
+    }
+    match text.get(1) {
+        Some(second) => raw_opener(*second),
+        None => None,
+    }
+}
+
+/// The quote behind a letter, where the first two bytes of a text are these.
+#[inline(always)]
+pub fn quote_after(letter: u8, text: &[u8]) -> Option<Quote>
+    ensures { result ≡ quote_after letter text.now }
+{
+    match text {
+        [first, second, ..] if *first == letter => quote_of(*second),
+        _ => None,
+    }
+}
+
+/// The opener of a literal of the given kind.
+fn opener(kind: LiteralKind, is_raw: bool, quote: Quote) -> Class
+    ensures { result ≡ class.Opener kind is_raw quote }
+{
+    Class::Opener {
+        kind,
+        is_raw,
+        quote,
+    }
+}
+
+/// The opener that a quote is without a prefix.
+#[tactic(auto, unfolding(starlark_grammar::specs::Words::openers))]
+fn without_prefix(quote: u8) -> Option<Class>
+    ensures { result ≡ lookup (bytes_eq (quote ∷ [])) grammar.openers }
+{
+    match quote {
+        b'\'' => Some(opener(LiteralKind::Text, false, Quote::Single)),
+        b'"' => Some(opener(LiteralKind::Text, false, Quote::Double)),
+        _ => None,
+    }
+}
+
+/// The opener of a prefix of one letter and a quote.
+#[tactic(auto, unfolding(starlark_grammar::specs::Words::openers))]
+fn with_letter(prefix: u8, quote: u8) -> Option<Class>
+    ensures { result ≡ lookup (bytes_eq (prefix ∷ quote ∷ [])) grammar.openers }
+{
+    match (prefix, quote) {
+        (b'r', b'\'') => Some(opener(LiteralKind::Text, true, Quote::Single)),
+        (b'r', b'"') => Some(opener(LiteralKind::Text, true, Quote::Double)),
+        (b'f', b'\'') => Some(opener(LiteralKind::FString, false, Quote::Single)),
+        (b'f', b'"') => Some(opener(LiteralKind::FString, false, Quote::Double)),
+        (b'b', b'\'') => Some(opener(LiteralKind::Bytes, false, Quote::Single)),
+        (b'b', b'"') => Some(opener(LiteralKind::Bytes, false, Quote::Double)),
+        _ => None,
+    }
+}
+
+/// The opener of a prefix of two letters and a quote.
+#[tactic(auto, unfolding(starlark_grammar::specs::Words::openers))]
+fn with_letters(first: u8, second: u8, quote: u8) -> Option<Class>
+    ensures { result ≡ lookup (bytes_eq (first ∷ second ∷ quote ∷ [])) grammar.openers }
+{
+    match (first, second, quote) {
+        (b'f', b'r', b'\'') => Some(opener(LiteralKind::FString, true, Quote::Single)),
+        (b'r', b'f', b'\'') => Some(opener(LiteralKind::FString, true, Quote::Single)),
+        (b'f', b'r', b'"') => Some(opener(LiteralKind::FString, true, Quote::Double)),
+        (b'r', b'f', b'"') => Some(opener(LiteralKind::FString, true, Quote::Double)),
+        (b'b', b'r', b'\'') => Some(opener(LiteralKind::Bytes, true, Quote::Single)),
+        (b'r', b'b', b'\'') => Some(opener(LiteralKind::Bytes, true, Quote::Single)),
+        (b'b', b'r', b'"') => Some(opener(LiteralKind::Bytes, true, Quote::Double)),
+        (b'r', b'b', b'"') => Some(opener(LiteralKind::Bytes, true, Quote::Double)),
+        _ => None,
+    }
+}
+
+/// The opener that a word is, if it is one.
+#[inline(never)]
+pub fn opener_class(word: &str) -> Option<Class>
+    ensures { result ≡ lookup (bytes_eq word.now) grammar.openers }
+{
+    match word.as_bytes() {
+        [quote] => without_prefix(*quote),
+        [prefix, quote] => with_letter(*prefix, *quote),
+        [first, second, quote] => with_letters(*first, *second, *quote),
+        _ => None,
+    }
+}
