@@ -14,7 +14,7 @@ from pathlib import Path
 
 TOP = Path(__file__).resolve().parent.parent
 PAGE = TOP / "docs/API.md"
-CRATES = ["starlark_text", "starlark_base", "starlark_syntax", "starlark_syntax", "starlark_document", "starlark_run"]
+CRATES = ["starlark_text", "starlark_base", "starlark_syntax", "starlark_document", "starlark_run"]
 HEAD = """# Public items
 
 Made by `scripts/api.py` from the sources; `.ci/run` compares it with them. Each item links to its

@@ -4,9 +4,9 @@
 #
 #     scripts/vendor.sh [--run] DIR
 #
-# The crates are `starlark_document`, `starlark_syntax`, `starlark_syntax` and those below them,
-# `starlark_run` among them, since documents count columns by `starlark_run`. So --run changes
-# nothing now. Edits, tests and what checks left are no part of a copy.
+# The crates are `starlark_document`, `starlark_syntax` and those below them. `starlark_run` is among
+# them, since documents count columns by it; so --run changes nothing now. Edits, tests and what
+# checks left are no part of a copy.
 # Crates and lines of DIR/crates.txt that this script didn't write stay as they are.
 set -eu
 
@@ -71,9 +71,9 @@ copy_crate() {
     done
 }
 
-roots='starlark_document starlark_syntax starlark_syntax'
+roots='starlark_document starlark_syntax'
 if [ "${1-}" = --run ]; then
-    roots='starlark_document starlark_syntax starlark_syntax starlark_run'
+    roots='starlark_document starlark_syntax starlark_run'
     shift
 fi
 [ $# = 1 ] && [ -d "$1" ] || usage
@@ -82,7 +82,7 @@ target=$(CDPATH= cd -- "$1" && pwd)
 
 copied=$(crates_copied)
 case " $(echo $copied) " in
-*' starlark_run '*) roots='starlark_document starlark_syntax starlark_syntax starlark_run' ;;
+*' starlark_run '*) roots='starlark_document starlark_syntax starlark_run' ;;
 esac
 names=$(crates_and_below $roots)
 

@@ -1,4 +1,4 @@
--- Where lexing begins again after a fault that is told by its numbers.
+-- Where lexing begins again after a fault that is given by its numbers.
 use Rattle.std.specs.Prelude.{◌≡◌, ◌<◌, ◌≤◌, ◌^◌, ◌-◌, ◌⊎◌, ℕ, length, Some}
 use Rattle.std.specs.Str.{IsCharBoundary, IsUtf8}
 use Rattle.starlark_c.specs.Records.{fault_number}

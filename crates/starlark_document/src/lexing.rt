@@ -10,9 +10,9 @@ ghost use Rattle.starlark_token.specs.Lexemes.{lexeme_view};
 
 use crate::fronts::{Front, is_newline};
 use crate::segments::{Content, PlacedToken, Segment};
-use starlark_syntax::lexer::RecoveringLexer;
 use starlark_syntax::codemap::CodeMap;
 use starlark_syntax::dialect::Dialect;
+use starlark_syntax::lexer::RecoveringLexer;
 use std::alloc::{AllocError, Global};
 use std::boxed::Box;
 

@@ -1,12 +1,11 @@
 //! The lines of lexemes and faults.
 
 use starlark_document::{Faults, Lexemes};
-use starlark_syntax::lexer::RecoveringLexer;
 use starlark_syntax::codemap::{CodeMap, CodeMapId, OrMemory};
 use starlark_syntax::dialect::Dialect;
 use starlark_syntax::error::ErrorKind;
 use starlark_syntax::eval_exception::EvalException;
-use starlark_syntax::lexer::Token;
+use starlark_syntax::lexer::{RecoveringLexer, Token};
 use std::alloc::{AllocError, Global};
 use std::fmt::Write;
 

@@ -1,10 +1,9 @@
 //! A linter: all faults of a file, one rule about its layout, and one about its strings.
 
-use starlark_syntax::lexer::RecoveringLexer;
 use starlark_syntax::codemap::{CodeMap, FileSpanRef, OrMemory, Pos, Span};
 use starlark_syntax::dialect::Dialect;
 use starlark_syntax::eval_exception::EvalException;
-use starlark_syntax::lexer::{SourceError, Token};
+use starlark_syntax::lexer::{RecoveringLexer, SourceError, Token};
 use std::alloc::{AllocError, Global};
 use std::fmt;
 

@@ -1,4 +1,4 @@
--- Margins, and the open widths that are kept.
+-- Margins, and the open widths.
 pub mod Margins
 pub mod CommentLines
 pub mod Blanks

@@ -1,4 +1,4 @@
--- Literals and texts of f-strings as pieces.
+-- Literals and f-string texts as pieces.
 pub mod Pieces
 pub mod Chunks
 pub mod StepReads

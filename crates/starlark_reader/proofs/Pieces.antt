@@ -1,4 +1,4 @@
--- What a reader keeps, takes and hands out.
+-- What a reader stores, takes and yields.
 pub mod PieceReads
 pub mod ReaderReads
 pub mod CodePlaces

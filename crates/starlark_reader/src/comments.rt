@@ -9,8 +9,8 @@ ghost use Rattle.starlark_words.specs.Inner.Reads.{AreReads, more_reads};
 use crate::lf_search::before_lf_len;
 use crate::margins::{blanks_len, line_len};
 use crate::placed_token::PlacedToken;
-use starlark_words::reads::Reads;
 use starlark_token::tokens::Token;
+use starlark_words::reads::Reads;
 use std::alloc::{AllocError, Global};
 
 /// Length in bytes of the first line's comment: without the LF, and without one CR before it.

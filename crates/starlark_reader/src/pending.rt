@@ -9,8 +9,8 @@ ghost use Rattle.starlark_words.specs.Inner.Reads.{more_reads};
 use crate::comments::first_comment;
 use crate::placed_token::PlacedToken;
 use crate::text_end::TextEnd;
-use starlark_words::reads::Reads;
 use starlark_token::tokens::Token;
+use starlark_words::reads::Reads;
 use std::alloc::{AllocError, Global};
 
 /// The lexemes that are pending after the comments. Offsets count bytes.

@@ -2,5 +2,5 @@
 
 use starlark_token::tokens::Token;
 
-/// A token with its begin and end in bytes.
+/// A token with the offsets of its start and its end, in bytes.
 pub type PlacedToken = (usize, Token, usize);

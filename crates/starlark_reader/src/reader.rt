@@ -1,4 +1,4 @@
-//! Reads a text piece by piece, and keeps what later pieces depend on.
+//! The reader: reads a text piece by piece, and stores what later pieces depend on.
 
 ghost use Rattle.std.specs.Prelude.{◌≡◌, ◌≢◌, true, false, ◌<◌, ◌≤◌, ◌+◌, ◌-◌, ◌*◌, ◌^◌, [], ℕ, None, Some, List, Option, codes, drop, length, map, nat_eq, nat_lt, take, OnErr, OnOk, IfErr, IfOk, IfSome};
 ghost use Rattle.std.specs.List.{ends_with};
@@ -26,30 +26,30 @@ ghost use Rattle.starlark_reader.specs.Inner.Nesting.{change_by};
 ghost use Rattle.starlark_reader.specs.declared.changes.Change.TheVariants as change;
 ghost use Rattle.starlark_grammar.specs.Words.{Text};
 
+use crate::indent_stack::IndentStack;
 use crate::literal::{Opening, PlainText, Step, opening_of, plain_text, quotes_of};
+use crate::margins::margin_of;
+use crate::nesting::{LexerMode, Nesting};
+use crate::pending::{Behind, Pending};
+use crate::placed_token::PlacedToken;
 use crate::reading::code::{gap_len, is_code};
 use crate::reading::terminals::token_in;
 use crate::reading::words::digit_token;
 use crate::reading::{Piece, bang_stands, is_outside, line_end_counts, piece_at};
-use starlark_words::reads::Reads;
-use crate::indent_stack::IndentStack;
-use crate::margins::margin_of;
-use crate::pending::{Behind, Pending};
-use crate::placed_token::PlacedToken;
 use crate::text_end::TextEnd;
 use crate::widths::{margin_fault, take_margin};
+use starlark_token::lexeme_error::LexemeError;
+use starlark_token::tokens::Token;
 use starlark_words::plain_body_len;
-use crate::nesting::{LexerMode, Nesting};
+use starlark_words::reads::Reads;
 use starlark_words::scanner::{
     LiteralKind, Quote, ShortWord, Terminal, TextOpener, Word, bytes_opener, comment_len,
     fstring_opener, short_word, text_opener, word_after,
 };
-use starlark_token::lexeme_error::LexemeError;
-use starlark_token::tokens::Token;
 use std::alloc::{AllocError, Global};
 use std::mem;
 
-/// How far a text is read: not at all, up to a place, up to its fault, or to its end.
+/// How far a text is read: not at all, up to an offset, up to its fault, or to its end.
 #[derive(Drop)]
 enum Stage {
     Begin,
@@ -62,7 +62,7 @@ enum Stage {
     Closed,
 }
 
-/// What the piece right before a place is: a margin, a skipped piece, or another.
+/// The kind of the piece right before an offset: a margin, a skipped piece, or another.
 #[derive(Clone, Copy)]
 enum Before {
     Layout,
@@ -71,7 +71,7 @@ enum Before {
 }
 
 impl Before {
-    /// What a piece is that gives nothing: a skipped piece, or a line end that doesn't count.
+    /// The kind of a piece without lexemes: a skipped piece, or a newline that doesn't count.
     fn silent(is_gap: bool) -> Self
         ensures { result ≡ silent_sort is_gap }
     {
@@ -79,8 +79,8 @@ impl Before {
     }
 }
 
-/// What was read of a text up to a place: the brackets, f-strings and widths that are open there, what the piece right
-/// before it is, and what is still to be handed out.
+/// The state of reading a text up to byte `at`. It stores the open brackets, f-strings and indents,
+/// the kind of the piece before, and the pending lexemes.
 #[derive(Drop)]
 pub struct Reader {
     alloc: Global,
@@ -93,7 +93,7 @@ pub struct Reader {
     reads: Reads,
 }
 
-/// What comes next of a text: a lexeme, or its fault with the places where that begins and ends.
+/// The next result of a text: a lexeme, its fault, or nothing more. Offsets count bytes.
 #[derive(Drop)]
 pub enum Next {
     Lexeme(PlacedToken),
@@ -105,7 +105,8 @@ pub enum Next {
     Nothing,
 }
 
-/// What became of a line end: it doesn't count and was passed, a `Newline` stands there, or its margin has a fault.
+/// The outcome of a newline: a fault in the margin after it, a `Newline` token, or nothing because
+/// the newline doesn't count.
 #[derive(Clone, Copy)]
 pub enum LineEnd {
     Fault,
@@ -114,7 +115,7 @@ pub enum LineEnd {
 }
 
 impl Reader {
-    /// A reader at a text's begin. Takes no memory.
+    /// A reader at the start of a text. It doesn't allocate.
     pub fn new(alloc: Global) -> Self
         ensures ahead { (text : Text) → IsAhead text result result.stage (map shown_lexeme (outcome text).lexemes) (outcome text).fault }
         ensures reads { (text : Text) → HasRead text 0 result }
@@ -132,14 +133,14 @@ impl Reader {
         }
     }
 
-    /// How often the bytes of the text were read.
+    /// Number of reads of the text's bytes so far.
     pub fn reads(&self) -> u64
         ensures { result ≡ self.now.reads }
     {
         self.reads.count()
     }
 
-    /// Stops at a fault, from one place to another, in bytes from here on.
+    /// Stops at a fault. `begin` and `end` are in bytes from the reader's offset on.
     fn refuse(&mut self, begin: usize, fault: LexemeError, end: usize)
         requires begin { self.old.at + begin < 2 ^ 64 }
         requires end { self.old.at + end < 2 ^ 64 }
@@ -152,7 +153,7 @@ impl Reader {
         };
     }
 
-    /// Goes on behind a piece of so many bytes, of this sort.
+    /// Advances past a piece of `len` bytes, and records its kind.
     #[inline(always)]
     fn step_over(&mut self, len: usize, before: Before)
         requires fits { self.old.at + len < 2 ^ 64 }
@@ -163,7 +164,7 @@ impl Reader {
         self.before = before;
     }
 
-    /// Reads the margin at the text's begin.
+    /// Reads the margin at the start of the text, or stops at its fault.
     fn read_first_margin(&mut self, text: &str) -> Result<(), AllocError>
         requires fits { length text.now < 2 ^ 32 }
         requires ready { IsReady text.now self.old Stage.Begin }
@@ -183,7 +184,8 @@ impl Reader {
         Ok(())
     }
 
-    /// Reads a line end that counts, and the margin behind it. Answers whether the margin has no fault.
+    /// Reads a newline of `len` bytes that counts, and the margin after it. Returns `false`, and
+    /// stops at the fault, where the margin has one.
     #[inline(always)]
     fn lay_line_end(&mut self, text: &str, len: usize) -> Result<bool, AllocError>
         requires fits { length text.now < 2 ^ 32 }
@@ -209,7 +211,8 @@ impl Reader {
         Ok(true)
     }
 
-    /// Reads a line end that counts, and the margin behind it. Answers its `Newline`; `None` where the margin has a fault.
+    /// Reads a newline of `len` bytes that counts, and the margin after it. Returns its `Newline`;
+    /// `None` where the margin has a fault.
     fn read_line_end(&mut self, text: &str, len: usize) -> Result<Option<PlacedToken>, AllocError>
         requires fits { length text.now < 2 ^ 32 }
         requires stage { self.old.stage ≡ Stage.Onward }
@@ -229,7 +232,7 @@ impl Reader {
         }
     }
 
-    /// Takes the start of an f-string.
+    /// Takes the start of an f-string, which has `len` bytes with its quotes.
     fn begin_fstring(
         &mut self,
         opening: Opening,
@@ -251,7 +254,7 @@ impl Reader {
         Ok((begin, Token::FStringStart(quotes_of(opening)), begin + len))
     }
 
-    /// Goes on behind a token that was read here, of so many bytes.
+    /// Advances past a token of `len` bytes that begins no f-string.
     #[inline(always)]
     fn pass_token(&mut self, token: &Token, len: usize, text: &str)
         requires fits { length text.now < 2 ^ 32 }
@@ -269,7 +272,7 @@ impl Reader {
         self.step_over(len, Before::Other);
     }
 
-    /// Takes a token that was read here.
+    /// Takes a token of `len` bytes that begins no f-string, and returns it with its span.
     fn take_token(&mut self, token: Token, len: usize, text: &str) -> PlacedToken
         requires fits { length text.now < 2 ^ 32 }
         requires stage { self.old.stage ≡ Stage.Onward }
@@ -285,7 +288,9 @@ impl Reader {
         (begin, token, begin + len)
     }
 
-    /// Takes a text of an f-string that was read here, and what ends it. A text that denotes nothing is no lexeme.
+    /// Takes an f-string text of `chunk_len` bytes, and the `len` bytes that end it. Returns the
+    /// text, and what ends it becomes pending. An empty value yields no token: then what ends it is
+    /// returned.
     #[inline(always)]
     fn take_chunk(
         &mut self,
@@ -320,7 +325,7 @@ impl Reader {
         (begin, Token::FStringText(chunk), between)
     }
 
-    /// Takes a token or a fault that was read here.
+    /// Takes a step, and returns its first token. Stops at a fault, and returns `None`.
     #[inline(always)]
     fn take(&mut self, step: Step, text: &str) -> Option<PlacedToken>
         requires fits { length text.now < 2 ^ 32 }
@@ -347,21 +352,21 @@ impl Reader {
         }
     }
 
-    /// Whether a skipped piece stands right before the place.
+    /// Whether a skipped piece is right before the offset.
     fn follows_gap(&self) -> bool
         ensures { (before : grammar.Before) → before_view self.now.before ≡ before → IsAfter result before }
     {
         matches!(self.before, Before::Gap)
     }
 
-    /// Whether a margin stands right before the place.
+    /// Whether a margin is right before the offset.
     fn follows_margin(&self) -> bool
         ensures { result ≡ is_layout (before_view self.now.before) }
     {
         matches!(self.before, Before::Layout)
     }
 
-    /// Whether the place is behind a margin, with no bracket, f-string or width open.
+    /// Whether the offset is right after a margin, with no bracket, f-string or indent open.
     #[tactic(auto, unfolding(starlark_grammar::specs::Cuts::is_settled))]
     pub fn is_settled(&self) -> bool
         ensures { (text : Text) (history : History) → IsStateAfter text history self.now → result ≡ is_settled history }
@@ -372,7 +377,7 @@ impl Reader {
             && self.levels.len() == 0
     }
 
-    /// Whether the text ends with an LF. The look at its last byte is counted.
+    /// Whether the text ends with an LF. It counts one read.
     pub fn ends_with_lf(&mut self, text: &str) -> bool
         ensures value { result ≡ ends_with nat_eq text.now (codes "\n") }
         ensures reads { self.new ≡ record self.old { reads = more_reads self.old.reads 1 } }
@@ -381,15 +386,15 @@ impl Reader {
         text.as_bytes().ends_with(b"\n")
     }
 
-    /// Whether no piece of the text was read. Where the text has a fault, that is its first margin's, which has a tab.
+    /// Whether no piece of the text was read. At a fault this means a tab in the first margin.
     pub fn has_read_none(&self) -> bool
         ensures { result ≡ has_read_none self.now }
     {
         self.at == 0 && !self.follows_margin()
     }
 
-    /// Whether the place is behind a margin before which no width is open, and nothing behind the margin's comments was
-    /// handed out.
+    /// Whether the offset is right after a margin with no indent open before it, and no lexeme
+    /// after its comments was yielded.
     fn is_in_flat_margin(&self) -> bool
         ensures stage { result ≡ true → self.now.stage ≡ Stage.Onward }
         ensures before { result ≡ true → self.now.before ≡ Before.Layout }
@@ -401,9 +406,9 @@ impl Reader {
             && self.pending.is_flat
     }
 
-    /// The place before the text's end where it may be cut, if the lexemes that were handed out so far are those before
-    /// one: behind a line end, or behind a comment-only line, in a margin before which no width is open. Each such place is
-    /// told behind the last lexeme before it.
+    /// The offset where the text may be cut, if the lexemes yielded so far are those before it. It
+    /// is after a newline or a comment-only line, in a margin with no indent open before it. Each
+    /// such offset before the end of the text is found right after the last lexeme before it.
     pub fn cut(&self, text: &str) -> Option<usize>
         ensures kept { IfSome result (λ at. (lexemes : List (Spanned TokenView)) (fault : Option (Spanned Fault)) → IsAhead text.now self.now self.now.stage lexemes fault → IsCutBefore text.now at (length lexemes)) }
         ensures reached { (at : ℕ) → IsReached self.now at → 0 < at → at < length text.now → result ≡ Some at }
@@ -416,7 +421,8 @@ impl Reader {
         }
     }
 
-    /// Closes a text without fault at its end: with a `Newline` of no bytes, and a `Dedent` for each open width.
+    /// Closes a text without fault at its end. Returns a `Newline` of no bytes. A `Dedent` for each
+    /// open indent becomes pending.
     fn close(&mut self, text: &str) -> PlacedToken
         ensures read { (history : History) → IsStateAfter text.now history self.old → step_here text.now history self.old ≡ grammar.Ends → IsRead text.now (left_here text.now history self.old) (Some result) self.new }
         ensures less { left_to_read text.now self.new self.new.stage < left_to_read text.now self.old Stage.Onward }
@@ -430,7 +436,8 @@ impl Reader {
         (self.at, Token::Newline, self.at)
     }
 
-    /// Reads the piece here, where nothing else is to be handed out. Answers its first lexeme, if it has one.
+    /// Reads the piece at the offset, where no lexeme is pending. Returns its first lexeme; `None`
+    /// if it has none.
     fn read_piece(&mut self, text: &str) -> Result<Option<PlacedToken>, AllocError>
         requires fits { length text.now < 2 ^ 32 }
         requires stage { self.old.stage ≡ Stage.Onward }
@@ -458,7 +465,7 @@ impl Reader {
         }
     }
 
-    /// What stands behind the last lexeme of a text that is read: its fault, which isn't answered again, or nothing.
+    /// The result after the last lexeme: the text's fault, which is returned only once, or nothing.
     fn last(&mut self) -> Next
         ensures next { (text : Text) (lexemes : List (Spanned TokenView)) (fault : Option (Spanned Fault)) → IsIdle text self.old.pending → IsOver self.old.stage → IsAhead text self.old self.old.stage lexemes fault → IsNext text lexemes fault result self.new }
         ensures reads { (text : Text) (beside : ℕ) → IsOver self.old.stage → HasReadAt text beside self.old self.old.stage → HasReadNext text beside result self.new }
@@ -469,7 +476,7 @@ impl Reader {
         }
     }
 
-    /// Whether nothing that was read is still to be handed out.
+    /// Whether no lexeme is pending.
     #[inline(always)]
     pub fn is_idle(&self) -> bool
         ensures { result ≡ true → (text : Text) → IsPending text self.now.pending → IsIdle text self.now.pending }
@@ -477,7 +484,7 @@ impl Reader {
         self.pending.is_nothing()
     }
 
-    /// Whether the text is to be read on, and nothing else is to be handed out before.
+    /// Whether the next lexeme is to be read at the offset, and none is pending.
     #[inline(always)]
     pub fn reads_on(&self) -> bool
         ensures stage { result ≡ true → self.now.stage ≡ Stage.Onward }
@@ -486,7 +493,7 @@ impl Reader {
         matches!(self.stage, Stage::Onward) && self.is_idle()
     }
 
-    /// Whether the place is one of code.
+    /// Whether the offset is in code or in an f-string expression.
     #[inline(always)]
     pub fn is_in_code(&self) -> bool
         ensures { result ≡ true → IsInCode self.now }
@@ -494,7 +501,7 @@ impl Reader {
         is_code(self.nesting.place())
     }
 
-    /// Whether the text is to be read on here, at a place of code, and nothing else is to be handed out before.
+    /// Whether the next lexeme is to be read at the offset, in code, and none is pending.
     #[inline(always)]
     pub fn is_at_code(&self) -> bool
         ensures { result ≡ true → (text : Text) → IsPending text self.now.pending → IsAtCode text self.now }
@@ -502,7 +509,7 @@ impl Reader {
         self.reads_on() && self.is_in_code()
     }
 
-    /// Passes the spaces here, at a place of code, and answers how many. Their reads are still to be counted.
+    /// Passes the spaces at the offset, in code. Returns their number, and counts no reads.
     #[inline(always)]
     fn pass_spaces(&mut self, text: &str) -> usize
         requires fits { length text.now < 2 ^ 32 }
@@ -520,8 +527,9 @@ impl Reader {
         gap
     }
 
-    /// The word that comes next, where its first two bytes tell which it is: a name, a symbol of one byte, an LF, or
-    /// a quote. The spaces before it are passed. `None` where something else comes. For places of code.
+    /// The next word if its first two bytes determine it; `None` if something else comes. It is a
+    /// name, a symbol of one byte, an LF, or a quote. The spaces before it are passed. For offsets
+    /// in code.
     #[inline(always)]
     pub fn common_word(&mut self, text: &str) -> Option<Word>
         requires fits { length text.now < 2 ^ 32 }
@@ -552,8 +560,8 @@ impl Reader {
         self.reads.front(text[self.at..].as_bytes(), 3)
     }
 
-    /// The word that comes next if it is a symbol of two bytes or an integer of one digit, and the
-    /// byte after it tells so; `None` if something else comes. For places of code, after their spaces.
+    /// The next word if it is a symbol of two bytes or an integer of one digit; `None` if something
+    /// else comes. The byte after it determines its end. For offsets in code, after spaces.
     #[inline(always)]
     pub fn short_word(&self, front: &[u8], text: &str) -> Option<ShortWord>
         requires fits { length text.now < 2 ^ 32 }
@@ -566,8 +574,8 @@ impl Reader {
         short_word(front, &text[self.at..])
     }
 
-    /// The opener of a text literal that comes next. `None` where something else comes. For places of code, behind their
-    /// spaces.
+    /// The opener of the string literal that comes next; `None` if something else comes. For
+    /// offsets in code, after spaces.
     #[inline(always)]
     pub fn text_opener(&mut self, text: &str) -> Option<TextOpener>
         requires fits { length text.now < 2 ^ 32 }
@@ -582,8 +590,8 @@ impl Reader {
         text_opener(&mut self.reads, &text[self.at..])
     }
 
-    /// The quote of the f-string that comes next if its opener is an `f` and that quote. For places of
-    /// code, after their spaces.
+    /// The quote of the f-string that comes next if its opener is an `f` and that quote. For
+    /// offsets in code, after spaces.
     #[inline(always)]
     pub fn fstring_opener(&self, front: &[u8], text: &str) -> Option<Quote>
         requires fits { length text.now < 2 ^ 32 }
@@ -595,8 +603,8 @@ impl Reader {
         fstring_opener(front, &text[self.at..])
     }
 
-    /// The quote of the bytes literal that comes next if its opener is a `b` and that quote. For places
-    /// of code, after their spaces.
+    /// The quote of the bytes literal that comes next if its opener is a `b` and that quote. For
+    /// offsets in code, after spaces.
     #[inline(always)]
     pub fn bytes_opener(&self, front: &[u8], text: &str) -> Option<Quote>
         requires fits { length text.now < 2 ^ 32 }
@@ -608,7 +616,7 @@ impl Reader {
         bytes_opener(front, &text[self.at..])
     }
 
-    /// Whether the bang of an f-string's expression comes next. For places of code.
+    /// Whether the bang of an f-string expression comes next. For offsets in code.
     #[inline(always)]
     pub fn bang_stands(&self, front: &[u8], text: &str) -> bool
         requires code { IsAtCode text.now self.now }
@@ -618,8 +626,8 @@ impl Reader {
         bang_stands(self.nesting.place(), self.follows_gap(), front)
     }
 
-    /// Length of the comment that comes next; `None` if something else comes. For places of code, after
-    /// their spaces.
+    /// Length in bytes of the comment that comes next; `None` if something else comes. For offsets
+    /// in code, after spaces.
     #[inline(always)]
     pub fn comment_len(&mut self, front: &[u8], text: &str) -> Option<usize>
         requires fits { length text.now < 2 ^ 32 }
@@ -635,7 +643,7 @@ impl Reader {
         comment_len(&mut self.reads, front, &text[self.at..])
     }
 
-    /// The place up to which the text is read, in bytes.
+    /// The offset up to which the text is read, in bytes.
     #[inline(always)]
     pub fn at(&self) -> usize
         ensures { result ≡ self.now.at }
@@ -643,7 +651,7 @@ impl Reader {
         self.at
     }
 
-    /// Passes the line end here, of so many bytes, where it doesn't count. Answers whether it did.
+    /// Passes the newline of `len` bytes here if it doesn't count. Returns whether it was passed.
     #[inline(always)]
     fn pass_line_end(&mut self, len: usize, text: &str) -> bool
         requires fits { length text.now < 2 ^ 32 }
@@ -663,8 +671,8 @@ impl Reader {
         true
     }
 
-    /// Takes the line end here, which counts and has so many bytes, and the margin behind it. Answers whether the margin has
-    /// no fault: then a `Newline` stands here.
+    /// Takes the newline of `len` bytes here, which counts, and the margin after it. Returns
+    /// whether the margin has no fault: then the newline yields a `Newline`.
     #[inline(always)]
     fn take_counting_line_end(&mut self, len: usize, text: &str) -> Result<bool, AllocError>
         requires fits { length text.now < 2 ^ 32 }
@@ -679,8 +687,8 @@ impl Reader {
         self.lay_line_end(text, len)
     }
 
-    /// Takes the line end here, of so many bytes, and the margin behind it where it counts. Answers what became of it. After
-    /// an error the reader isn't to be asked again.
+    /// Takes the newline of `len` bytes here, and the margin after it if it counts. Returns the
+    /// outcome. Don't use the reader after an `AllocError`.
     #[inline(never)]
     pub fn take_line_end(&mut self, len: usize, text: &str) -> Result<LineEnd, AllocError>
         requires fits { length text.now < 2 ^ 32 }
@@ -704,7 +712,7 @@ impl Reader {
         }
     }
 
-    /// Takes the name here, of so many bytes. After an error the reader isn't to be asked again.
+    /// Takes the name of `len` bytes here. Don't use the reader after an `AllocError`.
     #[inline(always)]
     pub fn take_name(&mut self, len: usize, text: &str) -> Result<PlacedToken, AllocError>
         requires fits { length text.now < 2 ^ 32 }
@@ -722,7 +730,7 @@ impl Reader {
         Ok((begin, token, begin + len))
     }
 
-    /// Takes the comment here, of so many bytes. After an error the reader isn't to be asked again.
+    /// Takes the comment of `len` bytes here. Don't use the reader after an `AllocError`.
     #[inline(always)]
     pub fn take_comment(&mut self, len: usize, text: &str) -> Result<PlacedToken, AllocError>
         requires fits { length text.now < 2 ^ 32 }
@@ -741,9 +749,9 @@ impl Reader {
         Ok((begin, token, begin + len))
     }
 
-    /// The length of the body of the literal of the given kind that comes next, behind its opener of so many bytes, where one
-    /// quote closes it and each of its characters denotes itself. Where another literal stands here, how many bytes in front
-    /// denote themselves.
+    /// Length in bytes of the next literal's body, if it has no escapes and one quote closes it.
+    /// Its opener has `len` bytes. For any other literal, the error is the length of the run
+    /// without escapes at its start.
     #[inline(always)]
     pub fn plain_body_len(
         &mut self,
@@ -766,8 +774,8 @@ impl Reader {
         plain_body_len(&mut self.reads, kind, is_raw, quote, &rest[len..])
     }
 
-    /// Takes the text literal here, by its opener and its body of so many bytes, which one quote closes and in which each
-    /// character denotes itself. After an error the reader isn't to be asked again.
+    /// Takes the string literal here, whose opener has `len` bytes and whose body has `body` bytes.
+    /// One quote closes it, and it has no escapes. Don't use the reader after an `AllocError`.
     #[inline(always)]
     pub fn take_plain_text(
         &mut self,
@@ -795,8 +803,9 @@ impl Reader {
         Ok((begin, token, begin + whole))
     }
 
-    /// Takes the bytes literal here, whose opener is a `b` and this quote, by its body of so many bytes, which one quote closes and
-    /// in which each character denotes itself. After an error the reader isn't to be asked again.
+    /// Takes the bytes literal here, whose opener is a `b` and `quote`, and whose body has `body`
+    /// bytes. One quote closes it, and it has no escapes. Don't use the reader after an
+    /// `AllocError`.
     #[inline(always)]
     pub fn take_plain_bytes(
         &mut self,
@@ -824,8 +833,8 @@ impl Reader {
         Ok((begin, token, begin + len))
     }
 
-    /// Takes the start of the f-string here, whose opener is an `f` and this quote. After an error the reader isn't to be asked
-    /// again.
+    /// Takes the start of the f-string here, whose opener is an `f` and `quote`. Don't use the
+    /// reader after an `AllocError`.
     #[inline(always)]
     pub fn take_fstring(&mut self, quote: Quote, text: &str) -> Result<PlacedToken, AllocError>
         requires fits { length text.now < 2 ^ 32 }
@@ -841,7 +850,7 @@ impl Reader {
         self.begin_fstring(opening, len, text)
     }
 
-    /// Whether comments are to be handed out before all else.
+    /// Whether comments are pending. They are yielded before all else.
     #[inline(always)]
     pub fn has_comments(&self) -> bool
         ensures { result ≡ nat_lt self.now.pending.from self.now.pending.to }
@@ -849,7 +858,7 @@ impl Reader {
         self.pending.has_comments()
     }
 
-    /// The comment that is to be handed out next. After an error the reader isn't to be asked again.
+    /// Takes the first pending comment. Don't use the reader after an `AllocError`.
     #[inline(always)]
     pub fn next_comment(&mut self, text: &str) -> Result<PlacedToken, AllocError>
         requires some { self.old.pending.from < self.old.pending.to }
@@ -861,7 +870,7 @@ impl Reader {
         self.pending.next_comment(&mut self.reads, self.alloc, text)
     }
 
-    /// The lexeme that is to be handed out next of those that were read, where no comments are; `None` where there is none.
+    /// Takes the first pending lexeme where no comments are pending; `None` if there is none.
     #[inline(always)]
     pub fn next_mark(&mut self) -> Option<PlacedToken>
         requires none { self.old.pending.to ≤ self.old.pending.from }
@@ -872,8 +881,8 @@ impl Reader {
         self.pending.next_mark()
     }
 
-    /// The text of an f-string that comes next, where each of its characters denotes itself. Where something else comes, how
-    /// many bytes of such a text were looked at.
+    /// The f-string text that comes next, if it has no escapes. Else the error is the length in
+    /// bytes of the run without escapes at its start; 0 outside of f-string text.
     #[inline(always)]
     pub fn plain_text(&mut self, text: &str) -> Result<PlainText, usize>
         requires fits { length text.now < 2 ^ 32 }
@@ -894,8 +903,8 @@ impl Reader {
         }
     }
 
-    /// Takes the text of an f-string here, in which each character denotes itself. A text of no bytes is no lexeme: then what
-    /// ends it is handed out. After an error the reader isn't to be asked again.
+    /// Takes the f-string text here, which has no escapes. An empty text yields no token: then what
+    /// ends it is returned. Don't use the reader after an `AllocError`.
     #[inline(always)]
     pub fn take_text(&mut self, found: PlainText, text: &str) -> Result<PlacedToken, AllocError>
         requires fits { length text.now < 2 ^ 32 }
@@ -910,7 +919,7 @@ impl Reader {
         Ok(self.take_chunk(value, found.len, found.stop, found.stop_len, text))
     }
 
-    /// Takes the keyword or the symbol here, of so many bytes.
+    /// Takes the keyword or symbol of `len` bytes here.
     #[inline(always)]
     pub fn take_terminal(&mut self, terminal: Terminal, len: usize, text: &str) -> PlacedToken
         requires fits { length text.now < 2 ^ 32 }
@@ -926,7 +935,7 @@ impl Reader {
         (begin, token, begin + len)
     }
 
-    /// Takes the integer of one digit here, of such a value.
+    /// Takes the integer of one digit here, whose value is `digit`.
     #[inline(always)]
     pub fn take_digit(&mut self, digit: u8, text: &str) -> PlacedToken
         requires fits { length text.now < 2 ^ 32 }
@@ -943,7 +952,7 @@ impl Reader {
         (begin, token, begin + 1)
     }
 
-    /// Takes the bang here.
+    /// Takes the bang of an f-string expression here.
     #[inline(always)]
     pub fn take_bang(&mut self, text: &str) -> PlacedToken
         requires fits { length text.now < 2 ^ 32 }
@@ -959,8 +968,8 @@ impl Reader {
         (begin, token, begin + 1)
     }
 
-    /// What comes next of the text: a lexeme, its fault behind them, or nothing. After an error the reader isn't to be
-    /// asked again.
+    /// The next result of the text: a lexeme, the fault after the last one, or nothing more. Don't
+    /// use the reader after an `AllocError`.
     pub fn next(&mut self, text: &str) -> Result<Next, AllocError>
         requires fits { length text.now < 2 ^ 32 }
         requires ready { IsReady text.now self.old self.old.stage }

@@ -1,4 +1,4 @@
-//! Reads the one piece that stands at a place behind the text's first margin, or the fault there.
+//! Reads one piece after the first margin of a text, or the fault there.
 
 ghost use Rattle.std.specs.Prelude.{◌≡◌, ℕ, ◌+◌, ◌<◌, ◌^◌, ◌&&◌, None, Some, drop, length, IfOk};
 ghost use Rattle.std.specs.Str.{IsCharBoundary};
@@ -22,37 +22,37 @@ pub mod terminals;
 pub mod words;
 
 use crate::literal::{Opening, Step, chunk_from, literal_piece, opening_of};
-use starlark_words::reads::Reads;
 use crate::nesting::LexerMode;
-use starlark_words::scanner::{Class, LiteralKind, Quote, first_word};
 use starlark_token::lexeme_error::LexemeError;
 use starlark_token::tokens::Token;
+use starlark_words::reads::Reads;
+use starlark_words::scanner::{Class, LiteralKind, Quote, first_word};
 use std::alloc::{AllocError, Global};
 use terminals::terminal_token;
 
-/// What stands at a place. Lengths are in bytes.
+/// A piece of a text, as it is read at an offset. Lengths are in bytes.
 #[derive(Drop)]
 pub enum Piece {
-    /// Bytes that give nothing: a skipped piece, which is a gap, or a line end that doesn't count.
+    /// Bytes without lexemes: a skipped piece if `is_gap`, else a newline that doesn't count.
     Nothing { len: usize, is_gap: bool },
-    /// A line end that counts. The margin behind it belongs to the piece.
+    /// A newline that counts. The margin after it belongs to the piece.
     LineEnd { len: usize },
     /// The start of an f-string.
     FString { opening: Opening, len: usize },
     /// Tokens, or a fault.
     Lexed(Step),
-    /// The text's end.
+    /// The end of the text.
     End,
 }
 
-/// Whether a place is outside of f-strings.
+/// Whether a lexer mode is outside of all f-strings.
 pub fn is_outside(place: LexerMode) -> bool
     ensures { result ≡ is_outside (mode_view place) }
 {
     matches!(place, LexerMode::Outside)
 }
 
-/// Whether line ends count: where all brackets are closed and no f-string is open.
+/// Whether newlines count: all brackets are closed and no f-string is open.
 #[inline(always)]
 pub fn line_end_counts(place: LexerMode, is_balanced: bool) -> bool
     ensures { result ≡ grammar.counts (mode_view place) is_balanced }
@@ -60,14 +60,15 @@ pub fn line_end_counts(place: LexerMode, is_balanced: bool) -> bool
     is_outside(place) && is_balanced
 }
 
-/// Whether a bang may stand at a place: at the top of an expression, and not right behind a skipped piece.
+/// Whether a bang is allowed: at the top of an f-string expression, not right after a skipped
+/// piece.
 fn takes_bang(place: LexerMode, follows_gap: bool) -> bool
     ensures { (before : grammar.Before) → IsAfter follows_gap before → result ≡ grammar.takes_bang (mode_view place) before }
 {
     matches!(place, LexerMode::AtTop) && !follows_gap
 }
 
-/// A line end of so many bytes.
+/// The piece of a newline of `len` bytes.
 fn line_end(place: LexerMode, is_balanced: bool, len: usize) -> Piece
     ensures reads { (rest reads : ℕ) → AreReadsAfter len 9 rest 9 result reads reads }
     ensures piece { (s : grammar.Situation) (front behind text : word.Text) → s.place ≡ mode_view place → s.is_balanced ≡ is_balanced → length front ≡ len → drop len text ≡ behind → IsCharBoundary text len →
@@ -80,7 +81,7 @@ fn line_end(place: LexerMode, is_balanced: bool, len: usize) -> Piece
     }
 }
 
-/// The start of an f-string, by its opener's length and the text behind that.
+/// The start of an f-string. Its opener has `len` bytes, and `behind` is the text after it.
 fn fstring(reads: &mut Reads, is_raw: bool, quote: Quote, len: usize, behind: &str) -> Piece
     requires { len + length behind.now < 2 ^ 64 }
     ensures reads { AreReadsAfter len 9 (length behind.now) 9 result reads.old reads.new }
@@ -92,7 +93,7 @@ fn fstring(reads: &mut Reads, is_raw: bool, quote: Quote, len: usize, behind: &s
     Piece::FString { opening, len }
 }
 
-/// A literal, or the start of an f-string, by its opener's length and the text behind that.
+/// A literal or the start of an f-string. Its opener has `len` bytes, before the text `behind`.
 fn opener(
     reads: &mut Reads,
     alloc: Global,
@@ -118,7 +119,7 @@ fn opener(
     }
 }
 
-/// The piece of a word at the front of a text, cut there.
+/// The piece of the word `front`, whose class is `class`. `behind` is the text after it.
 fn word_piece(
     reads: &mut Reads,
     alloc: Global,
@@ -159,7 +160,7 @@ fn word_piece(
     }
 }
 
-/// The fault of a text at whose front no word stands: its first character.
+/// The fault of a text that begins with no word: its first character.
 fn invalid_input(reads: &mut Reads, alloc: Global, text: &str) -> Result<Step, AllocError>
     ensures reads { IfOk result (λ step. AreStepReads 0 1 (length text.now) 0 step reads.old reads.new) }
     ensures step { IfOk result (IsStep (grammar.fault 0 (InvalidInput (first_character text.now)) (length (first_character text.now)))) }
@@ -172,7 +173,7 @@ fn invalid_input(reads: &mut Reads, alloc: Global, text: &str) -> Result<Step, A
     })
 }
 
-/// Whether an exclamation mark stands at the front of a text, and no `=` behind it.
+/// Whether a text begins with `!`, and not with `!=`.
 fn is_bang(text: &[u8]) -> bool
     ensures { result ≡ grammar.is_bang text.now }
 {
@@ -183,7 +184,7 @@ fn is_bang(text: &[u8]) -> bool
     }
 }
 
-/// Whether a bang stands at the start of a text, by where that is and what stands before.
+/// Whether a bang is at the start of a text, given the lexer mode and the piece before.
 ///
 /// `front` is the text's first two bytes, or more of them.
 #[inline(always)]
@@ -193,7 +194,7 @@ pub fn bang_stands(place: LexerMode, follows_gap: bool, front: &[u8]) -> bool
     takes_bang(place, follows_gap) && is_bang(front)
 }
 
-/// The piece at the start of a text where no word stands: a bang, or the fault of its first character.
+/// The piece at the start of a text that begins with no word: a bang, or the fault there.
 fn wordless_piece(
     reads: &mut Reads,
     alloc: Global,
@@ -216,7 +217,7 @@ fn wordless_piece(
     Ok(Piece::Lexed(invalid_input(reads, alloc, text)?))
 }
 
-/// The piece at the start of a text that is no text of an f-string.
+/// The piece at the start of a text in code or in an f-string expression.
 fn code_piece(
     reads: &mut Reads,
     alloc: Global,
@@ -239,8 +240,8 @@ fn code_piece(
     }
 }
 
-/// The piece at the start of a text, by where that is, whether brackets are balanced there, and
-/// whether a skipped piece is right before it.
+/// The piece at the start of a text, in the lexer mode `place`. It depends on whether brackets are
+/// balanced, and whether a skipped piece is right before it.
 pub fn piece_at(
     reads: &mut Reads,
     alloc: Global,

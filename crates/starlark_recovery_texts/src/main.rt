@@ -8,9 +8,9 @@
 mod item_lines;
 
 use crate::item_lines::{add_fault, add_lexeme};
-use starlark_syntax::lexer::RecoveringLexer;
 use starlark_syntax::codemap::{CodeMap, CodeMapId, OrMemory};
 use starlark_syntax::dialect::Dialect;
+use starlark_syntax::lexer::RecoveringLexer;
 use std::alloc::{AllocError, Global};
 use std::io;
 use std::io::{BufWriter, ErrorKind, Read, Write};

@@ -46,7 +46,7 @@ fn named_prefix(alloc: Global, name: &str) -> Result<String, AllocError>
     Ok(prefix)
 }
 
-/// The begin of each object of JSON, up to the kind.
+/// The start of each JSON object, up to the kind.
 fn json_prefix(alloc: Global, name: &str) -> Result<String, AllocError>
     ensures { IfOk result (λ prefix. string_bytes prefix ≡ codes "{\"file\":" ++ (json_string name.now ++ codes ",\"kind\":\"")) }
 {

@@ -10,10 +10,10 @@ ghost use Rattle.starlark_run.specs.ShownPlaces as spec;
 
 use crate::fault_lines::line_front;
 use crate::position::Position;
-use starlark_words::reads::Reads;
 use starlark_reader::margin_of;
 use starlark_syntax::error::{ErrorKind, ParserMessage};
 use starlark_syntax::lexer::LexemeError;
+use starlark_words::reads::Reads;
 
 /// Where a fault is shown.
 #[derive(Clone, Copy)]

@@ -15,8 +15,8 @@ use crate::eval_exception::EvalException;
 use crate::fault_exception::exception;
 use starlark_base::codemap::{CodeMap, OrMemory};
 use starlark_reader::reader::{LineEnd, Next, Reader};
-use starlark_words::scanner::{Class, LiteralKind, ShortWord, TextOpener, Word};
 use starlark_token::tokens::Token;
+use starlark_words::scanner::{Class, LiteralKind, ShortWord, TextOpener, Word};
 use std::alloc::Global;
 
 /// An item of a lexer: begin in bytes, token, end in bytes; or the fault, or out of memory.

@@ -10,13 +10,13 @@ ghost use Rattle.starlark_syntax.specs.Restarts.{IsPlaceOf};
 ghost use Rattle.starlark_syntax.specs.Exceptions.{IsException};
 ghost use Rattle.starlark_token.specs.Lexemes.{IsWithin};
 
+use crate::error::{ErrorKind, ParserMessage};
+use crate::eval_exception::EvalException;
+use crate::lexemes::Lexer;
 use crate::restarts::{FaultPlace, restart};
 use starlark_base::codemap::{CodeMap, FileSpan, Pos, Span};
 use starlark_base::diagnostic::WithDiagnostic;
 use starlark_base::dialect::Dialect;
-use crate::error::{ErrorKind, ParserMessage};
-use crate::eval_exception::EvalException;
-use crate::lexemes::Lexer;
 use starlark_token::lexeme_error::LexemeError;
 use std::alloc::{AllocError, Global};
 

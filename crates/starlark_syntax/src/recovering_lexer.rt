@@ -5,10 +5,10 @@ ghost use Rattle.std.specs.List.{slice_get};
 ghost use Rattle.starlark_syntax.specs.RecoveringLexer.{all_items, left_after};
 ghost use Rattle.starlark_syntax.specs.Lexer.{AnswersBetween, AnswersNext, AnswersWithin};
 
+use crate::lexemes::{Lexeme, Lexer};
 use crate::passed_faults::pass;
 use starlark_base::codemap::{CodeMap, OrMemory, SourceTooLong};
 use starlark_base::dialect::Dialect;
-use crate::lexemes::{Lexeme, Lexer};
 use std::alloc::Global;
 use std::marker::Model;
 

@@ -8,8 +8,8 @@ ghost use Rattle.starlark_grammar.specs.Tokens.{Fault, Spanned};
 ghost use Rattle.starlark_syntax.specs.Recovery as spec;
 ghost use Rattle.starlark_syntax.specs.Restarts.{IsPlaceOf};
 
-use starlark_words::reads::Reads;
 use starlark_reader::margin_of;
+use starlark_words::reads::Reads;
 
 /// The place of a fault in a text, in bytes, and whether it is the fault of a tab.
 #[derive(Clone, Copy)]

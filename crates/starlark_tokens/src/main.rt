@@ -1,7 +1,7 @@
 //! `starlark_tokens [OPTIONS] [FILE]..` prints the tokens and faults of Starlark files.
 //!
-//! The exit status is 0 where no file has a fault, 1 where one has, 2 where a file couldn't be read
-//! or an option is wrong, and 141 where nobody reads the output any more.
+//! The exit status is 0 where no file has a fault, and 1 where one has. It is 2 where a file couldn't
+//! be read or an option is wrong, and 141 where nobody reads the output any more.
 #![tactic(auto)]
 
 mod requests;

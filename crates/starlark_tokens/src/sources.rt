@@ -4,8 +4,7 @@ ghost use Rattle.std.specs.Prelude.{◌≤◌, IfOk, length, string_bytes};
 ghost use Rattle.starlark_run.specs.declared.ends.TheConstants.{GREATEST_LEN};
 
 use starlark_base::codemap::ResolvedPos;
-use starlark_run::Position;
-use starlark_run::GREATEST_LEN;
+use starlark_run::{GREATEST_LEN, Position};
 use std::alloc::{AllocError, Global};
 use std::io;
 use std::io::Read;

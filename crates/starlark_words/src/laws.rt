@@ -1,9 +1,13 @@
-//! Laws of what the scanner finds, for all texts. Each function here has a law as its contract and nothing to do;
-//! programs don't call them.
+//! Laws on words, for all texts.
+//!
+//! Each law is the contract of a function with an empty body. Programs don't call them.
 
 ghost use Rattle.starlark_words.specs.OneIdentifier.{IdentifiersStay};
 
-/// A text is one identifier exactly where it was one before `rf'` and `rf"` were openers, and the same one.
+/// A text is one identifier exactly if it was one before `rf'` and `rf"` were openers, and it is
+/// the
+
+/// same identifier.
 pub fn identifiers_stay()
     ensures { IdentifiersStay }
 {}

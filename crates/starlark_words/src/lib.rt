@@ -1,9 +1,9 @@
 //! What a text is made of: its words, its numbers, and the bodies of its literals.
 //!
-//! All of it is found from the bytes at one place; nothing is kept between two calls. `reads` counts
-//! the reads of bytes, and `lines`, `names` and `run_lanes` take 16 of them at a time. A body is read
-//! item by item up to its stop: `escapes` decodes escapes; `runs` and `plain` are the fast path for
-//! text that needs no decoding.
+//! All of it is found from the bytes at one place; nothing is kept between two calls. `reads`
+//! counts the reads of bytes, and `lines`, `names` and `run_lanes` take 16 of them at a time. A
+//! body is read item by item up to its stop: `escapes` decodes escapes; `runs` and `plain` are the
+//! fast path for text that needs no decoding.
 #![tactic(auto)]
 
 mod body;

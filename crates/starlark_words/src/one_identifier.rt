@@ -6,11 +6,11 @@ ghost use Rattle.starlark_grammar.specs.Front.{language_front};
 ghost use Rattle.starlark_words.specs.OneIdentifier as spec;
 ghost use Rattle.starlark_grammar.specs.Words.{Text};
 
-use crate::scanner::{Class, Word, first_word};
 use crate::reads::Reads;
+use crate::scanner::{Class, Word, first_word};
 use std::alloc::{AllocError, Global};
 
-/// The length of the skipped piece at the front of a text, if one stands there.
+/// Length of the skipped piece at the front of a text; `None` if there is none.
 fn skipped_len(text: &str) -> Option<usize>
     ensures value { result ≡ spec.if_skipped (language_front text.now) }
     ensures cut { IfSome result (λ len. spec.IsCut text.now len) }
@@ -26,7 +26,7 @@ fn skipped_len(text: &str) -> Option<usize>
     }
 }
 
-/// The length of the identifier at the front of a text, if one stands there.
+/// Length of the identifier at the front of a text; `None` if there is none.
 fn identifier_len(text: &str) -> Option<usize>
     ensures value { result ≡ spec.if_identifier (language_front text.now) }
     ensures cut { IfSome result (λ len. spec.IsCut text.now len) }
@@ -42,7 +42,7 @@ fn identifier_len(text: &str) -> Option<usize>
     }
 }
 
-/// What stands after the skipped pieces at the front of a text.
+/// The rest of a text after the skipped pieces at its front.
 fn after_skipped(text: &str) -> &str
     ensures passed { spec.IsAfterSkipped text.now result.now }
     ensures all { spec.if_skipped (language_front result.now) ≡ None }
@@ -54,7 +54,10 @@ fn after_skipped(text: &str) -> &str
     rest
 }
 
-/// The identifier of a text that has skipped pieces, one identifier, and skipped pieces; `None` for any other text.
+/// The identifier of a text of skipped pieces, one identifier, and skipped pieces; `None` for any
+/// other
+
+/// text.
 ///
 /// Skipped are spaces, and newlines after a backslash. Only an identifier that is found allocates.
 pub fn lex_exactly_one_identifier(alloc: Global, s: &str) -> Result<Option<String>, AllocError>

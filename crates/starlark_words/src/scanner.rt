@@ -18,9 +18,9 @@ mod numbers;
 mod openers;
 mod word;
 
-use first::is_name_start;
 use crate::lines::front_len;
 use crate::reads::{Reads, uncounted_spaces_len};
+use first::is_name_start;
 pub use starlark_grammar::class::{Class, LiteralKind, Quote, Terminal};
 pub use word::{ShortWord, TextOpener, Word};
 
@@ -35,7 +35,7 @@ fn begins_number(text: &[u8]) -> bool
     }
 }
 
-/// Blanks.
+/// A run of spaces, as a word.
 fn skipped(len: usize) -> Word
     ensures { word_view result ≡ (class.Skipped, len) }
 {
@@ -77,7 +77,7 @@ fn quote_word(quote: Quote) -> Word
     }
 }
 
-/// The length of the run of spaces at the front of a text. `word_after` counts that they were read.
+/// Length of the run of spaces at the front of a text. `word_after` counts their reads.
 #[inline(always)]
 pub fn gap_len(text: &str) -> usize
     ensures word { 0 < result → language_front text.now ≡ Some (class.Skipped, result) }
@@ -87,7 +87,7 @@ pub fn gap_len(text: &str) -> usize
     uncounted_spaces_len(text.as_bytes())
 }
 
-/// The longest word at the front of a text, by its first two bytes, where these tell which it is.
+/// The longest word at the front of a text if its first two bytes determine it.
 #[inline(always)]
 fn word_by_front(reads: &mut Reads, front: &[u8], text: &str) -> Option<Word>
     requires { front.now ≡ take 2 text.now }
@@ -111,8 +111,9 @@ fn word_by_front(reads: &mut Reads, front: &[u8], text: &str) -> Option<Word>
     }
 }
 
-/// The longest word at the front of a text, where its first byte or its first two tell which it is: a name, a
-/// symbol of one byte, an LF, or a quote. `None` where they don't.
+/// The longest word at the front of a text if its first two bytes determine it: a name, a symbol of
+
+/// one byte, an LF, or the quote of a text literal. `None` for any other front.
 #[inline(always)]
 pub fn common_word(reads: &mut Reads, text: &str) -> Option<Word>
     ensures word { IfSome result (λ word. Some (word_view word) ≡ language_front text.now) }
@@ -125,7 +126,9 @@ pub fn common_word(reads: &mut Reads, text: &str) -> Option<Word>
     word_by_front(reads, front, text)
 }
 
-/// The same of a text behind so many spaces, which are counted with its first two bytes.
+/// The longest word after `gap` spaces if its first two bytes determine it. Counts the reads of the
+
+/// spaces and of these two bytes.
 #[inline(always)]
 pub fn word_after(reads: &mut Reads, gap: usize, text: &str) -> Option<Word>
     requires { gap < 2 ^ 32 }
@@ -137,8 +140,8 @@ pub fn word_after(reads: &mut Reads, gap: usize, text: &str) -> Option<Word>
     word_by_front(reads, front, text)
 }
 
-/// The longest word at the start of a text if it is a symbol of two bytes or an integer of one digit,
-/// and the byte after it tells so. `front` is the text's first three bytes.
+/// The longest word at the start of a text if it is a symbol of two bytes or an integer of one
+/// digit, and the byte after it tells so. `front` is the text's first three bytes.
 #[inline(always)]
 pub fn short_word(front: &[u8], text: &str) -> Option<ShortWord>
     requires { front.now ≡ take 3 text.now }
@@ -156,7 +159,7 @@ pub fn short_word(front: &[u8], text: &str) -> Option<ShortWord>
     }
 }
 
-/// The longest word at the front of a text, where its first two bytes tell that it opens a text literal.
+/// The longest word at the front of a text if its first two bytes open a text literal.
 #[inline(always)]
 pub fn text_opener(reads: &mut Reads, text: &str) -> Option<TextOpener>
     ensures word { IfSome result (λ opener. Some (opener_view opener) ≡ language_front text.now) }
@@ -167,8 +170,8 @@ pub fn text_opener(reads: &mut Reads, text: &str) -> Option<TextOpener>
     openers::text_opener(front)
 }
 
-/// The quote of the opener at the start of a text if that is an `f` and a quote. `front` is the text's
-/// first three bytes.
+/// The quote of the opener at the start of a text if that is an `f` and a quote. `front` is the
+/// text's first three bytes.
 #[inline(always)]
 pub fn fstring_opener(front: &[u8], text: &str) -> Option<Quote>
     requires { front.now ≡ take 3 text.now }
@@ -178,8 +181,8 @@ pub fn fstring_opener(front: &[u8], text: &str) -> Option<Quote>
     openers::quote_after(b'f', front)
 }
 
-/// The quote of the opener at the start of a text if that is a `b` and a quote. `front` is the text's
-/// first three bytes.
+/// The quote of the opener at the start of a text if that is a `b` and a quote. `front` is the
+/// text's first three bytes.
 #[inline(always)]
 pub fn bytes_opener(front: &[u8], text: &str) -> Option<Quote>
     requires { front.now ≡ take 3 text.now }
@@ -205,8 +208,10 @@ pub fn comment_len(reads: &mut Reads, front: &[u8], text: &str) -> Option<usize>
     }
 }
 
-/// The longest word at the front of a text that doesn't begin with a letter or `_`, and of which the first two bytes were read;
-/// `None` where no word stands there.
+/// The longest word at the front of a text that doesn't begin with a letter or `_`; `None` if there
+/// is
+
+/// none. The caller has counted the reads of the first two bytes.
 pub fn unnamed_word(reads: &mut Reads, text: &str) -> Option<Word>
     requires { grammar.begins grammar.is_name_start text.now ≡ false }
     ensures word { option_map word_view result ≡ language_front text.now }
@@ -229,7 +234,7 @@ pub fn unnamed_word(reads: &mut Reads, text: &str) -> Option<Word>
     }
 }
 
-/// The longest word at the front of a text, or `None` where no word stands there.
+/// The longest word at the front of a text; `None` if there is none.
 pub fn first_word(reads: &mut Reads, text: &str) -> Option<Word>
     ensures word { option_map word_view result ≡ language_front text.now }
     ensures bang { IfSome result (λ word. is_bang text.now ≡ false) }

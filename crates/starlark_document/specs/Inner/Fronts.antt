@@ -96,8 +96,9 @@ pub record IsFront (text : Text) (items : List LexerItem) (front : Front) : Type
   pub boundary : 0 < front.line_end → IsCharBoundary text front.line_end
   pub cut : front.is_cut ≡ true → EndsPlainly text items front.line_end
 
--- At a newline of some bytes after which a line begins plainly, the text so far is closed, and what is found in it is
--- what was found up to there, with the `Dedent`s, but for its closing `Newline`.
+-- A newline of some bytes, after which a line begins plainly, closes the text so far. Its items are those up to there, with
+
+-- the `Dedent`s, but for its closing `Newline`.
 abbrev pub ItemsCut : Type 0
 ItemsCut = (text : Text) (front : List LexerItem) (newline : grammar.Spanned TokenView) (dedents more : List LexerItem)
     → all_items text ≡ front ++ (Given newline ∷ (dedents ++ more)) → IsLineEnd newline

@@ -11,11 +11,11 @@ use Rattle.starlark_grammar.specs.Margins.{is_blank, blanks_len}
 use Rattle.starlark_reader.specs.Inner.Layout.{IsBlanks}
 use Rattle.starlark_reader.specs.declared.margins.Blanks.{Blanks}
 
--- the blanks at the front of a text
+-- the blanks at the start of a text
 abbrev pub blanks_at : Text → Text
 blanks_at text = take (blanks_len text) text
 
--- So far were the blanks of a text passed.
+-- the blanks of a text were counted up to a length
 pub record IsPassed (text : Text) (blanks : Blanks) : Type 0 where
   pub inside : blanks.len ≤ length text
   pub few : blanks.width ≤ blanks.len
@@ -32,7 +32,7 @@ blank_front b bs h = rw (h, one-add) refl
 other_front : (b : ℕ) (bs : Text) → is_blank b ≡ false → blanks_at (b ∷ bs) ≡ []
 other_front b bs h = rw h refl
 
--- what stands at a place
+-- the byte at an offset
 at_front : (text : Text) (n b : ℕ) → n < length text → b ≡ get_or text n 0 → drop n text ≡ b ∷ drop (n + 1) text
 at_front text n b inside e = drop-cons text n 0 inside ∙ ap (λ x. x ∷ drop (suc n) text) (sym e) ∙ ap (λ i. b ∷ drop i text) one
   where
@@ -69,7 +69,7 @@ one_passed text old new b passed less here blank is_len is_width is_tab =
     either true false rest = refl
     either false had rest = refl
 
--- all were passed
+-- all blanks were counted
 pub all_passed : (text : Text) (blanks : Blanks) → IsPassed text blanks → blanks_at (drop blanks.len text) ≡ [] → IsBlanks (blanks_at text) blanks
 all_passed text blanks passed none = record {
   len = omega (arith, passed.len, ap (λ (t : Text). length t) none);
@@ -81,7 +81,7 @@ all_passed text blanks passed none = record {
     either true = refl
     either false = refl
 
--- spaces in front
+-- spaces at the start
 pub spaces_passed : (text : Text) (n : ℕ) → n ≤ prefix_len (nat_eq 32) text → IsPassed text (record { len = n; width = n; has_tab = false })
 spaces_passed text zero inside = none_passed text
 spaces_passed text (suc n) inside =
@@ -91,13 +91,13 @@ spaces_passed text (suc n) inside =
     space : (b : ℕ) → nat_eq 32 b ≡ true → 32 ≡ b
     space b e = grind (arith, nat_tests)
 
--- and a tab or a CR behind them
+-- spaces at the start, and a tab or a CR after them
 pub blank_passed : (text : Text) (spaces : ℕ) (is_tab : Bool) → spaces ≤ prefix_len (nat_eq 32) text → spaces < length text → get_or text spaces 0 ≡ (if is_tab then 9 else 13)
     → IsPassed text (record { len = spaces + 1; width = spaces; has_tab = is_tab })
 blank_passed text spaces true few less next = one_passed text (record { len = spaces; width = spaces; has_tab = false }) (record { len = spaces + 1; width = spaces; has_tab = true }) 9 (spaces_passed text spaces few) less (sym next) refl refl (omega arith) refl
 blank_passed text spaces false few less next = one_passed text (record { len = spaces; width = spaces; has_tab = false }) (record { len = spaces + 1; width = spaces; has_tab = false }) 13 (spaces_passed text spaces few) less (sym next) refl refl (omega arith) refl
 
--- spaces alone, behind which no tab and no CR stands
+-- spaces alone, with no tab and no CR after them
 pub only_spaces : (text : Text) (n : ℕ) → n ≡ prefix_len (nat_eq 32) text → (n < length text → get_or text n 0 ≡ 9 → ⊥) → (n < length text → get_or text n 0 ≡ 13 → ⊥)
     → IsBlanks (blanks_at text) (record { len = n; width = n; has_tab = false })
 only_spaces text n is no_tab no_return = all_passed text _ (spaces_passed text n (omega (arith, is))) (none (drop n text) refl)

@@ -42,7 +42,7 @@ part_end line front len test e f h =
     let cut : front ≡ take (prefix_len is_other line) line = f ∙ ap (λ n. take n line) e in
     sym (ap (λ (t : Text). length (without_return t)) (sym cut) ∙ returned front ∙ ap (λ b. cond b (length front - 1) (length front)) h ∙ ap (λ n. cond test (n - 1) n) whole)
 
--- What the comment says
+-- The value of a comment
 
 front_taken : (t : Text) → without_return t ≡ take (length (without_return t)) t
 front_taken [] = refl
@@ -53,7 +53,7 @@ front_taken (b ∷ []) = go (b == 13)
     go false = refl
 front_taken (b ∷ c ∷ t) = ap (λ (s : Text). b ∷ s) (front_taken (c ∷ t))
 
--- a part ends before its line's LF
+-- the comment's part of a line ends before its LF
 pub part_before_feed : (line : Text) → length (comment_part line) ≤ prefix_len is_other line
 part_before_feed line = omega (arith, returned_less (take (prefix_len is_other line) line), (take_fits (prefix_len is_other line) line).1)
   where
@@ -66,11 +66,11 @@ part_before_feed line = omega (arith, returned_less (take (prefix_len is_other l
         go false = omega arith
     returned_less (b ∷ c ∷ t) = let more = returned_less (c ∷ t) in omega (arith, more)
 
--- a part is a front of its line
+-- the comment's part of a line is at its start
 part_taken : (line : Text) → comment_part line ≡ take (length (comment_part line)) line
 part_taken line = front_taken (take (prefix_len is_other line) line) ∙ take-take (length (comment_part line)) (prefix_len is_other line) line (part_before_feed line)
 
--- a line that lies in a text
+-- a line of a text
 abbrev line_at : Text → ℕ → ℕ → Text
 line_at text at len = take len (drop at text)
 
@@ -89,7 +89,7 @@ comment_value text at len from to h e f =
     let part : comment_part line ≡ take (suc k + rest) (drop at text) = part_taken line ∙ take-take n len (drop at text) inside ∙ ap (λ i. take i (drop at text)) whole in
     sym (ap (drop (suc k)) part ∙ drop-take (suc k) rest (drop at text) ∙ ap (take rest) (sym (drop-sum at (suc k) text)) ∙ ap (λ i. take rest (drop i text)) (sym place) ∙ ap (λ i. take i (drop from text)) (sym count))
 
--- behind the mark that begins the comment
+-- a character boundary is after the `#` that begins the comment
 pub comment_begin : (text : Text) (at len from : ℕ) → IsUtf8 text → at + len ≤ length text → is_comment_only (line_at text at len) ≡ true → from ≡ at + blanks_len (line_at text at len) → IsCharBoundary text (from + 1)
 comment_begin text at len from utf8 inside h e =
     let line = line_at text at len in

@@ -16,12 +16,12 @@ pub dedented : (levels : List ℕ) (seen : Margin) → (nat_lt 0 (width_of seen)
 unfolding indentation
 dedented levels seen h = rw h refl
 
--- as many of them later
+-- `Dedent`s moved to a later offset
 pub moved_dedents : (n count at : ℕ) → map (moved n) (replicate count (record { begin = at; node = Dedent; end = at })) ≡ replicate count (record { begin = n + at; node = Dedent; end = n + at })
 moved_dedents n zero at = refl
 moved_dedents n (suc count) at = ap (λ lexemes. record { begin = n + at; node = Dedent; end = n + at } ∷ lexemes) (moved_dedents n count at)
 
--- What stands behind a margin's comments
+-- Lexemes after a margin's comments
 
 pub one_indented : (begin : ℕ) (levels : List ℕ) (margin : Measured) (seen : Margin) → IsMargin seen margin → margin.is_content ≡ true → (nat_lt 0 margin.blanks.width && is_widest margin.blanks.width levels) ≡ true
     → record { begin = begin + margin.at; node = Indent; end = begin + margin.at + margin.blanks.len } ∷ [] ≡ map (moved begin) (margin_indentation levels seen)

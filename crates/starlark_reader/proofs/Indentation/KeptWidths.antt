@@ -17,7 +17,7 @@ use Rattle.starlark_reader.specs.declared.pending.Behind.{Behind}
 use Rattle.starlark_reader.proofs.Indentation.Indents.{dedented}
 use Rattle.starlark_reader.proofs.Indentation.Laid.{decided_blank, decided_fits}
 
--- 1 where a test passes, and else 0
+-- 1 if a test passes, and else 0
 abbrev bit : Bool → ℕ
 bit b = cond b 1 0
 
@@ -29,7 +29,7 @@ pub record HasGreatest (levels : List ℕ) : Type 0 where
   pub are_less : list_all (λ w. nat_lt w greatest) less ≡ true
   pub positive : nat_lt 0 greatest ≡ true
 
--- Each of some widths is positive and less than all behind it.
+-- each width is positive and less than all after it
 abbrev pub Rising : List ℕ → Type 0
 Rising [] = ⊤
 Rising (width ∷ levels) = (nat_lt 0 width ≡ true) × (list_all (nat_lt width) levels ≡ true) × Rising levels
@@ -68,7 +68,7 @@ rises (w ∷ l ∷ levels) rising =
     let first : nat_lt w more.greatest ≡ true = (and_parts (nat_lt w more.greatest) true two.1).0 in
     record { less = w ∷ more.less; greatest = more.greatest; parts = ap (λ ws. w ∷ ws) more.parts; are_less = rw first more.are_less; positive = more.positive }
 
--- The greatest one among them
+-- The greatest of the widths
 
 module _ (levels : List ℕ) (has : HasGreatest levels) where
   pub is_greatest : greatest_of levels ≡ has.greatest
@@ -120,7 +120,7 @@ module _ (levels : List ℕ) (has : HasGreatest levels) where
           let two = and_parts (nat_lt w has.greatest) (list_all (λ w. nat_lt w has.greatest) ws) h in
           rw two.0 (ap (λ more. w ∷ more) (go ws two.1))
 
--- A width that fits the open ones, begins no block and ends none, and leaves them as they are.
+-- the width fits the open ones, and neither opens nor closes an indent
 pub record LeavesWidths (levels : List ℕ) (width : ℕ) : Type 0 where
   pub fitting : fits width levels ≡ true
   pub is_no_indent : (nat_lt 0 width && is_widest width levels) ≡ false
@@ -146,11 +146,11 @@ leaves_all (width ∷ more) has =
     and_false true = refl
     and_false false = refl
 
--- the greatest open width is such a one
+-- the greatest open width neither opens nor closes an indent
 pub greatest_leaves : (widths : List ℕ) → LeavesWidths (open_widths widths) (greatest_of (open_widths widths))
 greatest_leaves widths = leaves_all (open_widths widths) (rises (open_widths widths) (is_rising widths))
 
--- A margin that leaves the open widths as they are is laid out, and gives nothing behind its comments.
+-- a margin that keeps the open widths is taken, and has no lexeme after its comments
 module _ (levels widths : List ℕ) (margin : Measured) (seen : Margin) (same : IsMargin seen margin) (open_now : levels ≡ open_widths widths) (keeps : keeps_widths margin levels ≡ true) where
   leaves : margin.is_content ≡ true → (margin.blanks.has_tab ≡ false) × LeavesWidths levels margin.blanks.width
   leaves some =

@@ -1,4 +1,4 @@
--- What a margin comes to, and what was done about it.
+-- The lexemes of a margin, and what taking it does.
 use Rattle.std.proofs.Common.{◌≡◌, ℕ, ◌+◌, Bool, true, false, List, [], ◌∷◌, ◌++◌, ap, ◌∙◌, sym, subst, refl, arith, add_assoc, map, zero-add, drop, append-nil}
 use Rattle.std.specs.Str.{IsUtf8, IsCharBoundary}
 use Rattle.std.proofs.lemmas.List.{map-append}
@@ -16,7 +16,7 @@ use Rattle.starlark_reader.specs.declared.pending.Pending.{Pending}
 use Rattle.starlark_token.specs.declared.lexeme_error.LexemeError.{LexemeError}
 use Rattle.starlark_reader.proofs.Indentation.Pending.{are_comments, margin_between}
 
--- What stands there
+-- The margin's step
 
 module _ (len : ℕ) (before : List Lexeme) (levels : List ℕ) (seen : Margin) (margin : Measured) (same : IsMargin seen margin) where
   pub decided_blank : margin.is_content ≡ false → margin_step len before levels seen ≡ Stands (margin_piece len before levels seen)
@@ -50,7 +50,7 @@ left_tab levels seen margin same some is_tab behind =
       same = refl;
     }
 
--- Places
+-- Offsets
 
 moved_once : (n m : ℕ) (lexeme : Lexeme) → moved n (moved m lexeme) ≡ moved (n + m) lexeme
 moved_once n m lexeme = rw (← add_assoc n m lexeme.begin, ← add_assoc n m lexeme.end) refl
@@ -63,9 +63,9 @@ pub moved_none : (lexemes : List Lexeme) → map (moved 0) lexemes ≡ lexemes
 moved_none [] = refl
 moved_none (lexeme ∷ lexemes) = rw (zero-add lexeme.begin, zero-add lexeme.end, moved_none lexemes) refl
 
--- What is still to be handed out
+-- Pending lexemes
 
--- what is behind no lexemes is none
+-- if no lexeme is pending, none is after the comments
 pub behind_none : (text : Text) (pending : Pending) → pending_lexemes text pending ≡ [] → lexemes_after pending.behind ≡ []
 unfolding pending_lexemes
 behind_none text pending none = go (comments_from pending.from (lines_between text pending.from pending.to)) none
@@ -74,7 +74,7 @@ behind_none text pending none = go (comments_from pending.from (lines_between te
     go [] h = h
     go (comment ∷ comments) h = cc
 
--- of a margin that begins somewhere
+-- the pending lexemes of a margin that begins at byte `begin`
 abbrev margin_pending : ℕ → ℕ → Behind → Bool → Pending
 margin_pending begin at behind flat = record { from = begin; to = begin + at; behind = behind; is_flat = flat }
 
@@ -88,7 +88,7 @@ module _ (text : Text) (begin : ℕ) (margin : Measured) (utf8 : IsUtf8 text) (h
         map-append (moved begin) (margin_of (drop begin text)).comments (margin_indentation levels (margin_of (drop begin text))) ∙ rw (both, e) refl,
       )
 
--- What was done
+-- What taking a margin does
 
 module _ (text : Text) (begin : ℕ) (pending : Pending) (margin : Measured) (utf8 : IsUtf8 text) (here : IsCharBoundary text begin) (same : IsMargin (margin_of (drop begin text)) margin) (old : List ℕ) (of : IsOfMargin begin margin.at old pending) where
   of_margin : margin_pending begin margin.at pending.behind pending.is_flat ≡ pending
@@ -97,13 +97,13 @@ module _ (text : Text) (begin : ℕ) (pending : Pending) (margin : Measured) (ut
       go : (from to : ℕ) → from ≡ begin → to ≡ begin + margin.at → margin_pending begin margin.at pending.behind pending.is_flat ≡ record { from = from; to = to; behind = pending.behind; is_flat = pending.is_flat }
       go from to e f = rw (e, f) refl
 
-  -- the lexemes of a margin wait, if what stands behind its comments does
+  -- all lexemes of a margin are pending if those after its comments are
   waits : (levels : List ℕ) → lexemes_after pending.behind ≡ map (moved begin) (margin_indentation levels (margin_of (drop begin text)))
       → IsPending text pending × (map (moved begin) (margin_lexemes levels (margin_of (drop begin text))) ≡ pending_lexemes text pending)
   waits levels e = subst (λ p. IsPending text p × (map (moved begin) (margin_lexemes levels (margin_of (drop begin text))) ≡ pending_lexemes text p)) of_margin
       (margin_waits text begin margin utf8 here same levels pending.behind pending.is_flat e)
 
-  -- the comments alone, if nothing does
+  -- only the comments are pending if no lexeme after them is
   comments_wait : lexemes_after pending.behind ≡ [] → IsPending text pending × (map (moved begin) (margin_of (drop begin text)).comments ≡ pending_lexemes text pending)
   unfolding pending_lexemes
   comments_wait none = subst (λ p. IsPending text p × (map (moved begin) (margin_of (drop begin text)).comments ≡ pending_lexemes text p)) of_margin (
@@ -141,7 +141,7 @@ module _ (text : Text) (levels now : List ℕ) (margin : Measured) (pending : Pe
         open_now = left.levels ∙ none_open levels none;
       }
 
--- the lexeme of a line end
+-- the lexeme of a newline of `len` bytes
 abbrev newline : ℕ → Lexeme
 newline len = record { begin = 0; node = Newline; end = len }
 

@@ -78,13 +78,13 @@ feed_after_blanks (b ∷ bs) = go (is_blank b) refl (feed_after_blanks bs)
         let one : 1 + blanks_len bs ≡ suc (blanks_len bs) = omega arith in
         rw (blank_other b e, one) (omega (arith, more))
 
--- the length of a line without its LF, of which the blanks were passed before
+-- the length of a line without its LF, after its blanks were counted
 pub feed_measured : (text behind : Text) (k n : ℕ) → k ≡ blanks_len text → behind ≡ drop k text → n ≡ prefix_len is_other behind → k + n ≡ prefix_len is_other text
 feed_measured text behind k n e f h =
     let there : n ≡ prefix_len is_other (drop (blanks_len text) text) = h ∙ ap (prefix_len is_other) (f ∙ ap (λ i. drop i text) e) in
     omega (arith, e, there, feed_after_blanks text)
 
--- a line that is cut off behind its blanks
+-- a line that is cut off after its blanks
 cut_blanks : (text : Text) (n : ℕ) → drop (blanks_len (take (blanks_len text + suc n) text)) (take (blanks_len text + suc n) text) ≡ take (suc n) (drop (blanks_len text) text)
 cut_blanks [] n = rw zero-add refl
 cut_blanks (b ∷ bs) n = go (is_blank b) refl (cut_blanks bs n)
@@ -120,7 +120,7 @@ first_comment text (suc n) h line inside =
     let passes : is_comment_only (take (k + suc n) text) ≡ true = ap begins_comment (cut_blanks text n) ∙ begins_taken n (drop k text) h in
     (ap (take_while is_comment_only) all ∙ rw (passes, one-add) refl, omega arith, omega (arith, inside, there, length-drop k text))
 
--- a comment at the front of a line is one at the front of the text
+-- a comment at the start of a line is one at the start of the text
 comment_front : (line rest : Text) → is_comment_only line ≡ true → begins_comment (drop (blanks_len (line ++ rest)) (line ++ rest)) ≡ true
 comment_front [] rest h = cc
 comment_front (b ∷ bs) rest h = go (is_blank b) h (comment_front bs rest)
@@ -157,7 +157,7 @@ line_whole (b ∷ bs) len e some h =
 
 -- One pass over a margin
 
--- So many bytes are comment-only lines at the front of a text.
+-- the first `at` bytes of a text are comment-only lines
 pub record ArePassed (text : Text) (at : ℕ) : Type 0 where
   pub inside : at ≤ length text
   pub total : at + lines_sum (comment_lines (drop at text)) ≡ lines_sum (comment_lines text)

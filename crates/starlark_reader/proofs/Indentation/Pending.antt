@@ -1,4 +1,4 @@
--- Comments of the lines of a text from one place to another.
+-- Comments of the lines of a text between two offsets.
 use Rattle.std.proofs.Common.{◌≡◌, ℕ, zero, suc, ◌+◌, ◌-◌, ◌≤◌, ◌<◌, Bool, true, false, cond, List, [], ◌∷◌, ◌++◌, length, map, take, drop, refl, ap, ◌∙◌, sym, subst, arith, one-add}
 use Rattle.std.specs.Prelude.{if◌then◌else◌, take_while}
 use Rattle.std.specs.List.{prefix_len, onto_first, AllByRecursion}
@@ -66,7 +66,7 @@ blanks_front (b ∷ bs) rest h = go (is_blank b) h (blanks_front bs rest)
     go true h more = ap (λ n. 1 + n) (more (rw one-add at h))
     go false h more = refl
 
--- as much as passes lies in a front that is longer
+-- a run that passes a test is the same in a prefix that is long enough
 passed_front : (p : ℕ → Bool) (n : ℕ) (xs : Text) → prefix_len p xs ≤ n → prefix_len p (take n xs) ≡ prefix_len p xs
 passed_front p zero [] h = refl
 passed_front p (suc n) [] h = refl
@@ -112,7 +112,7 @@ module _ (text : Text) (from to feed len : ℕ) (is : IsComments text from to) (
   pub line_len : length (take len (drop from text)) ≡ len
   line_len = ap (λ (t : Text). length t) (sym line_is) ∙ length-take-le len (between text from to) inside
 
-  -- what is left behind it
+  -- the lines after the first line
   rest_is : drop len (between text from to) ≡ between text (from + len) to
   rest_is =
       let whole : to - from ≡ len + (to - (from + len)) = omega (arith, line_inside) in
@@ -132,7 +132,7 @@ module _ (text : Text) (from to feed len : ℕ) (is : IsComments text from to) (
       ap_edges : AllByRecursion (AtBoundaries text) (comments_from (from + length (take len (drop from text))) (lines_between text (from + len) to)) → AllByRecursion (AtBoundaries text) (comments_from (from + len) (lines_between text (from + len) to))
       ap_edges h = subst (λ n. AllByRecursion (AtBoundaries text) (comments_from (from + n) (lines_between text (from + len) to))) line_len h
 
--- What was measured of the first line, of so many bytes: its blanks, and how far its comment goes.
+-- the lengths found in the first line, which has `len` bytes: of its blanks, and of its comment
 pub record IsMeasured (text : Text) (from to k n len : ℕ) : Type 0 where
   pub passes : is_comment_only (take len (drop from text)) ≡ true
   pub blanks : k ≡ blanks_len (take len (drop from text))
@@ -168,7 +168,7 @@ measured text from to feed len blanks part is some e split inside least b p =
 
 -- The comments of a margin
 
--- The first of a text's lines, which is the first of each front of the text that it lies in.
+-- the first line of a text, which is the first of each prefix of the text that it is in
 record IsCut (text line : Text) (more : List Text) : Type 0 where
   rest : Text
   whole : text ≡ line ++ rest
@@ -193,7 +193,7 @@ cut_by (b ∷ bs) = go (is_lf b) refl (lines bs) (cut_by bs) refl
     go false f [] none k = record { rest = []; whole = ap (λ (t : Text). b ∷ t) none; left = refl; front = λ n. last n f }
     go false f (l ∷ ls) cut k = record { rest = cut.rest; whole = ap (λ (t : Text). b ∷ t) cut.whole; left = cut.left; front = λ n. rw f (ap (onto_first b) (cut.front n)) }
 
--- the front of a text that its comment-only lines are has these lines
+-- the lines of the prefix of comment-only lines are these lines
 front_lines : (ls : List Text) (text : Text) → lines text ≡ ls → lines (take (lines_sum (take_while is_comment_only ls)) text) ≡ take_while is_comment_only ls
 unfolding lines
 front_lines [] text e = refl
@@ -232,14 +232,14 @@ comments_later n at (line ∷ ls) =
     let ends : n + at + length (comment_part line) ≡ n + (at + length (comment_part line)) = omega arith in
     rw (begins, ends, next, comments_later n (at + length line) ls) refl
 
--- the comment-only lines of a margin that begins at a place of a text
+-- the comment-only lines of a margin that begins at byte `begin`
 pub margin_lines : (text : Text) (begin at : ℕ) → at ≡ (margin_of (drop begin text)).at → lines_between text begin (begin + at) ≡ comment_lines (drop begin text)
 unfolding margin_of
 margin_lines text begin at same =
     let len : begin + at - begin ≡ lines_sum (comment_lines (drop begin text)) = omega (arith, same) in
     ap (λ n. lines (take n (drop begin text))) len ∙ front_lines (lines (drop begin text)) (drop begin text) refl
 
--- a margin that begins at a place of a text
+-- a margin that begins at byte `begin`
 module _ (text : Text) (begin at : ℕ) (utf8 : IsUtf8 text) (here : IsCharBoundary text begin) (same : at ≡ (margin_of (drop begin text)).at) where
   -- its comments
   pub margin_between : map (moved begin) (margin_of (drop begin text)).comments ≡ comments_from begin (lines_between text begin (begin + at))

@@ -1,4 +1,4 @@
--- Widths that a content line opens and closes, and those that don't fit.
+-- Widths that a content line opens and closes, and those of no open indent.
 use Rattle.std.proofs.Common.{◌≡◌, ℕ, ◌+◌, ◌-◌, ◌<◌, ◌≤◌, Bool, true, false, List, [], ◌∷◌, ◌++◌, length, refl, ap, ◌∙◌, sym, subst, arith, cond, nat_eq, nat_lt, ◌||◌, eqb, ltb, append-nil, drop, map, take}
 use Rattle.std.specs.Prelude.{◌&&◌, ◌==◌, count_by, filter}
 use Rattle.std.specs.List.{list_all, list_any}
@@ -20,7 +20,7 @@ use Rattle.starlark_reader.proofs.Indentation.Indents.{one_indented, some_dedent
 use Rattle.starlark_reader.proofs.Indentation.Laid.{decided_fits, decided_misfit}
 use Rattle.starlark_reader.proofs.Indentation.KeptWidths.{LeavesWidths, Rises, first_rising, is_greatest, is_rising, leaves_all, rises}
 
--- 1 where a test passes, and else 0
+-- 1 if a test passes, and else 0
 abbrev bit : Bool → ℕ
 bit b = cond b 1 0
 
@@ -86,7 +86,7 @@ module _ (width : ℕ) where
           let passes : nat_lt w width ≡ true = lt-ltb w width (omega (arith, first, h)) in
           rw passes (go h ws two.1)
 
--- A width that is greater than the greatest open one opens a block.
+-- a width that is greater than all open ones opens an indent
 pub record OpensWidth (levels : List ℕ) (width : ℕ) : Type 0 where
   pub fitting : fits width levels ≡ true
   pub is_indent : (nat_lt 0 width && is_widest width levels) ≡ true
@@ -108,14 +108,15 @@ opens_width widths width h =
     or_true false true = refl
     or_true false false = refl
 
--- A width that is the greatest of those that it leaves open ends a block for each of the others.
+-- a width that is the greatest of the first `count` open ones closes an indent for each of the
+-- others
 pub record ClosesWidths (levels : List ℕ) (width count : ℕ) : Type 0 where
   pub fitting : fits width levels ≡ true
   pub is_no_indent : (nat_lt 0 width && is_widest width levels) ≡ false
   pub dedents : length levels - count ≡ count_by (nat_lt width) levels
   pub pushed : filter (λ w. nat_lt w width) levels ++ newest width ≡ take count levels
 
--- the same of widths in two parts
+-- open widths in two parts: the width keeps those in `low`, and is less than all in `high`
 module _ (low high : List ℕ) (width : ℕ) (leaves : LeavesWidths low width) (greater : list_all (nat_lt width) high ≡ true) where
   parts_indent : (nat_lt 0 width && is_widest width (low ++ high)) ≡ false
   parts_indent = rw (list_all-append (λ w. nat_lt w width) low high) (go (nat_lt 0 width) (is_widest width low) (is_widest width high) leaves.is_no_indent)
@@ -169,7 +170,7 @@ closes_widths widths width count left is =
       pushed = ap (λ ls. filter (λ w. nat_lt w width) ls ++ newest width) (sym whole) ∙ parts_pushed low high width leaves left.closed;
     }
 
--- A width that isn't, and isn't greater than all open ones, doesn't fit.
+-- a width that isn't open, and isn't greater than all open ones, doesn't fit
 pub misfits : (widths : List ℕ) (width count : ℕ) → IsLeftBy (open_widths widths) width count → width ≤ greatest_of (open_widths widths) → (greatest_of (take count (open_widths widths)) ≡ width → ⊥) → fits width (open_widths widths) ≡ false
 unfolding fits
 misfits widths width count left few other =

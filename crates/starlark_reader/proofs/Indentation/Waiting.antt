@@ -1,4 +1,4 @@
--- Lexemes that are still to be handed out.
+-- Pending lexemes.
 use Rattle.std.proofs.Common.{arith, ◌≡◌, Bool, false, ℕ, ◌+◌, ◌<◌, ◌≤◌, List, [], ◌∷◌, ◌++◌, ap, sym, ◌∙◌, map, refl, Some, None}
 use Rattle.std.specs.Prelude.{Option, Result, Ok, Err, OnErr, option_to_list}
 use Rattle.starlark_grammar.specs.Words.{Text}
@@ -11,7 +11,7 @@ use Rattle.starlark_reader.specs.declared.pending.Pending.{Pending}
 use Rattle.starlark_token.specs.declared.tokens.Token.{Token}
 use Rattle.starlark_reader.proofs.Indentation.Pending.{no_comments, no_lines_between, some_lines}
 
--- the first of the comments
+-- the first comment
 pub comment_first : (text : Text) (old : Pending) (found : ℕ × Token × ℕ) (len : ℕ) → IsFirstComment text old.from old.to found len → IsFirst text old (record { from = old.from + len; to = old.to; behind = old.behind; is_flat = old.is_flat }) (Some found)
 unfolding pending_lexemes
 comment_first text old found len is =
@@ -22,7 +22,7 @@ comment_first text old found len is =
       ap (λ ls. map shown_lexeme (ls ++ lexemes_after old.behind)) all ∙ ap (λ v. v ∷ map shown_lexeme (later ++ lexemes_after old.behind)) (sym is.comment),
     )
 
--- comments are still to be handed out
+-- if comments are pending, so is a lexeme
 pub comments_left : (text : Text) (old : Pending) → IsPending text old → old.from < old.to → pending_lexemes text old ≡ [] → ⊥
 unfolding pending_lexemes
 comments_left text old is some none = go (lines_between text old.from old.to) refl none
@@ -31,24 +31,24 @@ comments_left text old is some none = go (lines_between text old.from old.to) re
     go [] e h = some_lines text old.from old.to some is.inside e
     go (l ∷ ls) e h = cc
 
--- where no comments are, what stands behind them
+-- if no comments are pending, the first lexeme is the one after them
 pub after_first : (text : Text) (old : Pending) (new : Behind) (flat : Bool) (found : Option (ℕ × Token × ℕ)) → IsPending text old → old.to ≤ old.from → IsFirstAfter old.behind new found → (found ≡ None → flat ≡ old.is_flat)
     → IsFirst text old (record { from = old.from; to = old.to; behind = new; is_flat = flat }) found
 unfolding pending_lexemes
 after_first text old new flat None is none h same = (rw (no_lines_between text old.from old.to none) h.0, rw (h.1, same refl) refl)
 after_first text old new flat (Some found) is none h same = (is, rw (no_lines_between text old.from old.to none) h)
 
--- nothing is left where no comments are and nothing stands behind them
+-- no lexeme is pending if no comments are and no lexeme after them is
 pub nothing_left : (text : Text) (pending : Pending) → pending.to ≤ pending.from → lexemes_after pending.behind ≡ [] → pending_lexemes text pending ≡ []
 unfolding pending_lexemes
 nothing_left text pending none empty = rw (no_lines_between text pending.from pending.to none, empty) refl
 
--- what is so after each error
+-- a statement that holds also holds after an error
 pub after_error : {A E : Type 0} (result : Result A E) (P : Type 0) → P → OnErr result P
 after_error (Ok x) P p = tt
 after_error (Err e) P p = p
 
--- Lexemes of the grammar of which the first may be handed out, and the others are still to be.
+-- the first of the lexemes may be the one given, and the others are pending
 abbrev pub Hands : Text → Option (ℕ × Token × ℕ) → Pending → List Lexeme → Type 0
 Hands text given pending lexemes = IsPending text pending × (map shown_lexeme lexemes ≡ map lexeme_view (option_to_list given) ++ map shown_lexeme (pending_lexemes text pending))
 
@@ -58,14 +58,14 @@ hands_none text pending idle = (idle.0, sym (ap (map shown_lexeme) idle.1))
 pub hands_one : (text : Text) (pending : Pending) (found : ℕ × Token × ℕ) (lexeme : Lexeme) → IsIdle text pending → lexeme_view found ≡ shown_lexeme lexeme → Hands text (Some found) pending (lexeme ∷ [])
 hands_one text pending found lexeme idle e = (idle.0, ap (λ v. v ∷ []) (sym e) ∙ ap (λ ls. lexeme_view found ∷ map shown_lexeme ls) (sym idle.1))
 
--- one, and more
+-- one lexeme, and more
 pub hands_first : (text : Text) (pending : Pending) (found : ℕ × Token × ℕ) (lexeme : Lexeme) (more : List Lexeme) → IsPending text pending → lexeme_view found ≡ shown_lexeme lexeme → more ≡ pending_lexemes text pending → Hands text (Some found) pending (lexeme ∷ more)
 hands_first text pending found lexeme more is e f = (is, ap (λ v. v ∷ map shown_lexeme more) (sym e) ∙ ap (λ ls. lexeme_view found ∷ map shown_lexeme ls) f)
 
 pub hands_later : (text : Text) (pending : Pending) (lexemes : List Lexeme) → IsPending text pending → lexemes ≡ pending_lexemes text pending → Hands text None pending lexemes
 hands_later text pending lexemes is e = (is, ap (map shown_lexeme) e)
 
--- what stands behind no comments
+-- pending lexemes without comments before them
 pub only_behind : (text : Text) (behind : Behind) → (pending_lexemes text (record { from = 0; to = 0; behind = behind; is_flat = false }) ≡ lexemes_after behind) × IsPending text (record { from = 0; to = 0; behind = behind; is_flat = false })
 unfolding pending_lexemes
 only_behind text behind = (rw (no_lines_between text 0 0 (omega arith)) refl, no_comments text 0 (omega arith))

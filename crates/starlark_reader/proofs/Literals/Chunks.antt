@@ -1,4 +1,4 @@
--- Texts of f-strings, by what was read of them.
+-- F-string texts as steps.
 use Rattle.std.proofs.Common.{◌≡◌, ℕ, ◌+◌, ◌-◌, ◌≤◌, [], ◌∷◌, ◌++◌, length, drop, refl, sym, subst, arith}
 use Rattle.std.specs.Prelude.{codes}
 use Rattle.starlark_grammar.specs.Words.{Text}
@@ -12,7 +12,7 @@ use Rattle.std.proofs.lemmas.List.{length-drop}
 abbrev pub chunk_piece : ℕ → Text → Token → ℕ → Step
 chunk_piece text_len value node len = piece (text_len + len) (chunk_text text_len value ++ record { begin = text_len; node = node; end = text_len + len } ∷ [])
 
--- what a chunk comes to, by the length, the value and the stop of its body
+-- the step of an f-string text, by the length, the value and the stop of its body
 abbrev pub chunk_of : Opening → Text → ℕ → Text → Stop → Step
 chunk_of opening text len value OpeningBrace = chunk_piece len value FStringExprStart 1
 chunk_of opening text len value Closing = chunk_piece len value FStringEnd (length (closing_quotes opening))
@@ -34,7 +34,7 @@ chunk_is opening text len value stop same denoted why = rw (same, denoted, why) 
     by_stop Line = refl
     by_stop Ended = refl
 
--- the last character of a bad escape is a part of it, and it lies inside
+-- the last character of a bad escape is part of it, and is in the text
 pub bad_chunk_fits : (opening : Opening) (text : Text) (len read last : ℕ) → len ≡ body_len (body_at (fstring_literal opening) text) → BadEscape read last ≡ (body_at (fstring_literal opening) text).stop → (last ≤ read) × (len + read ≤ length text)
 bad_chunk_fits opening text len read last same why =
     let body = body_at (fstring_literal opening) text in

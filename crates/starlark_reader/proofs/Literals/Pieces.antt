@@ -1,4 +1,4 @@
--- String and bytes literals, by what was read of them.
+-- String and bytes literals as steps.
 use Rattle.std.proofs.Common.{◌≡◌, ◌≢◌, ℕ, zero, suc, ◌+◌, ◌-◌, ◌≤◌, ◌==◌, true, false, not, [], ◌∷◌, length, take, drop, get_or, nat_eq, refl, sym, ap, subst, ◌∙◌, arith, Ok, Err}
 use Rattle.std.proofs.lemmas.List.{get_or-drop, length-drop}
 use Rattle.std.proofs.lemmas.Str.{IsCharBoundary-after_ascii, IsUtf8-drop}
@@ -37,7 +37,7 @@ pub escape_some : (begin : ℕ) (read : Text) → (length read == 0) ≡ false �
 escape_some begin [] h = grind arith
 escape_some begin (b ∷ bs) h = let same : begin + length (92 ∷ b ∷ bs) ≡ begin + 1 + length (b ∷ bs) = omega arith in ap (fault begin (InvalidEscapeSequence (b ∷ bs))) same
 
--- Where a body of this length stops, its stop has its bytes inside.
+-- a body that stops after `len` bytes has its stop in the text
 pub closing_fits : (literal : Literal) (text : Text) (len : ℕ) → len ≡ body_len (body_at literal text) → (body_at literal text).stop ≡ Closing → len + length (closing_quotes literal.opening) ≤ length text
 closing_fits literal text len same closing =
     let fits = body_fits literal text in
@@ -50,7 +50,7 @@ bad_fits literal text len read last same bad =
     let inside = subst (StopFits literal.opening (drop (body_len (body_at literal text)) text)) bad fits.1 in
     (omega (arith, inside.0, inside.1), omega (arith, fits.0, inside.2, same, length-drop (body_len (body_at literal text)) text))
 
--- The backslash of a bad escape and its last character end between characters.
+-- the backslash of a bad escape and its last character end at character boundaries
 pub bad_edges : (literal : Literal) (text : Text) (len read last : ℕ) → IsUtf8 text → IsCharBoundary text len → len ≡ body_len (body_at literal text) → (body_at literal text).stop ≡ BadEscape read last
     → IsCharBoundary text (len + 1) × IsCharBoundary text (len + read)
 bad_edges literal text len read last utf8 here same bad =
@@ -65,7 +65,7 @@ bad_edges literal text len read last utf8 here same bad =
     no_more : len ≡ len + 0
     no_more = omega arith
 
--- what was read behind the backslash, cut out in one step
+-- the text after the backslash, cut out in one step
 take-none : (n : ℕ) → ◌≡◌ {A = Text} (take n []) []
 take-none zero = refl
 take-none (suc n) = refl
@@ -90,12 +90,12 @@ pub if_ok : {A E : Type 0} (P Q : A → Type 0) (result : Result A E) → ((valu
 if_ok P Q (Ok value) more h = more value h
 if_ok P Q (Err e) more h = tt
 
--- behind two more quotes
+-- a character boundary is after two more quotes
 pub triple_edge : (text : Text) (quote : Quote) → IsUtf8 text → starts_with nat_eq text (quote_byte quote ∷ quote_byte quote ∷ []) ≡ true → IsCharBoundary text 2
 triple_edge text SingleQuote utf8 h = behind_plain text (39 ∷ 39 ∷ []) (drop 2 text) utf8 (starts_split text (39 ∷ 39 ∷ []) h) refl
 triple_edge text DoubleQuote utf8 h = behind_plain text (34 ∷ 34 ∷ []) (drop 2 text) utf8 (starts_split text (34 ∷ 34 ∷ []) h) refl
 
--- without two more quotes the literal begins right behind its opener
+-- a literal without two more quotes begins right after its opener
 pub opener_plain : (place : Mode) (kind : Kind) (opening : Opening) (len : ℕ) (behind : Text) → kind ≢ OfFString → opening.is_triple ≡ false → pieces.opener place kind opening len behind ≡ pieces.literal place kind opening len behind
 opener_plain place kind opening len behind other single = by_kind kind other
   where

@@ -1,4 +1,4 @@
--- How often the bytes of a literal are read.
+-- Reads of a literal's bytes.
 use Rattle.std.proofs.Common.{◌≡◌, ◌≤◌, ◌+◌, ◌-◌, ◌*◌, ℕ, Bool, true, false, length, refl, arith}
 use Rattle.starlark_grammar.specs.Items.{closing_quotes}
 use Rattle.starlark_grammar.specs.Tokens.{Opening}
@@ -7,7 +7,7 @@ use Rattle.starlark_reader.specs.Inner.Reads.{AreWordReads, IsFault}
 use Rattle.starlark_reader.specs.declared.literal.pieces.Step.{Step}
 use Rattle.starlark_reader.specs.declared.literal.pieces.Step.TheVariants as step
 
--- one quote closes a literal, or three do
+-- a literal is closed by one quote or by three
 pub closing_some : (opening : Opening) → (1 ≤ length (closing_quotes opening)) × (length (closing_quotes opening) ≤ 3)
 closing_some opening = by_quotes opening.is_triple refl
   where
@@ -20,13 +20,13 @@ fault_reads passed factor more rest extra (step.Fault begin fault end) before af
 fault_reads passed factor more rest extra (step.Token token len) before after is few = absurd is
 fault_reads passed factor more rest extra (step.Text text text_len stop len) before after is few = absurd is
 
--- the reads of what stands behind an opener of one quote, and of the two bytes that tell it
+-- the reads after an opener of one quote, with the two bytes that determine that
 pub single_reads : (passed rest : ℕ) (step : Step) (before between after : ℕ) → between ≡ more_reads before 2 → AreWordReads passed 9 0 rest 6 step between after → AreWordReads passed 9 2 rest 9 step before after
 single_reads passed rest (step.Token token len) before between after told reads = ((omega (arith, told, reads.0.0), omega (arith, told, reads.0.1)), reads.1)
 single_reads passed rest (step.Fault begin fault end) before between after told reads = omega (arith, told, reads)
 single_reads passed rest (step.Text text text_len stop len) before between after told reads = absurd reads
 
--- the same behind an opener of three
+-- the reads after an opener of three quotes
 pub triple_reads : (passed behind rest : ℕ) (step : Step) (before between after : ℕ) → behind ≡ rest - 2 → between ≡ more_reads before 2 → AreWordReads (passed + 2) 9 0 behind 6 step between after → AreWordReads passed 9 2 rest 9 step before after
 triple_reads passed behind rest (step.Token token len) before between after shorter told reads = ((omega (arith, told, reads.0.0, reads.1), omega (arith, told, reads.0.1, reads.1)), omega (arith, reads.1))
 triple_reads passed behind rest (step.Fault begin fault end) before between after shorter told reads = omega (arith, shorter, told, reads)

@@ -55,7 +55,7 @@ peak_less before after h (place ∷ places) =
     let here = h place in
     omega (arith, old, new, rest, here)
 
--- a height that is one more where there was any, and nowhere more than one more
+-- a height that rises by one if it was positive, and by at most one
 record Rises (before after : ℕ) : Type 0 where
   least : 1 + before ≤ max 1 after
   most : after ≤ 1 + before

@@ -18,7 +18,7 @@ use Rattle.starlark_reader.proofs.OpenBrackets.Counts.{opened_onward, closed_onw
 
 -- The open f-strings
 
--- what an open f-string's own tokens have in brackets
+-- the brackets among an open f-string's own tokens
 abbrev own_brackets : Option (Opening × List Token) → ℕ
 own_brackets None = 0
 own_brackets (Some found) = brackets_of found.1
@@ -50,7 +50,7 @@ own_brackets_fit zero (node ∷ before) =
     omega (arith, rest, all, more)
 own_brackets_fit (suc n) (node ∷ before) = let rest = own_brackets_fit (suc n) before in let all = brackets_onward node before in omega (arith, rest, all)
 
--- whether a token leaves the open f-strings open, and begins none
+-- whether a token neither begins nor ends an f-string
 abbrev pub keeps : Token → Bool
 keeps (FStringStart opening) = false
 keeps FStringEnd = false
@@ -87,7 +87,7 @@ keeps_fstrings (FStringStart opening) h g = cc
 keeps_fstrings FStringEnd h g = absurd (g refl)
 keeps_fstrings node h g = refl
 
--- f-strings, the innermost first, that are those open behind tokens
+-- the f-strings, innermost first, are those open after the tokens
 abbrev pub AreOpen : List OpenFString → List Token → Type 0
 AreOpen fstrings tokens = (n : ℕ) → option_map fstring_view (slice_get fstrings n) ≡ option_map fstring_of (open_fstring n tokens)
 
@@ -192,7 +192,7 @@ pub begun_closed : (opening : Opening) (tokens : List Token) → count_by is_any
 unfolding change_by
 begun_closed opening tokens = let all = closed_onward (FStringStart opening) tokens in omega (arith, all)
 
--- brackets that were counted, behind one more token
+-- the bracket counts are those of the tokens
 pub record AreCounted (brackets : Brackets) (tokens : List Token) : Type 0 where
   pub opened : brackets.opened ≡ count_by is_any_opening tokens
   pub closed : brackets.closed ≡ count_by is_any_closing tokens
@@ -204,7 +204,7 @@ counted change node tokens before after e h opened closed = record {
   closed = ap (λ (brackets : Brackets). brackets.closed) h ∙ rw (e, closed) (sym (closed_onward node tokens));
 }
 
--- A nesting that has not changed represents what it did.
+-- an unchanged nesting represents the same tokens
 pub still_represents : (tokens : List Token) (old new : Nesting) → IsUnchanged old new → Represents tokens old → Represents tokens new
 still_represents tokens old new same h = record {
   fstrings = subst (λ (fstrings : List OpenFString). AreOpen (reverse fstrings) tokens) (sym same.0) h.fstrings;

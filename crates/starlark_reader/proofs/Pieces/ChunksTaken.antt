@@ -1,4 +1,4 @@
--- Texts of f-strings as lexemes that are handed out, and as tokens of a history.
+-- F-string texts as lexemes that are yielded, and as tokens of a history.
 use Rattle.std.proofs.Common.{◌≡◌, ℕ, ◌+◌, ◌==◌, true, false, List, [], ◌∷◌, ◌++◌, map, length, refl, ap, sym, ◌∙◌, arith, Some, String, string_bytes}
 use Rattle.std.specs.declared.alloc.Global.{Global}
 use Rattle.starlark_grammar.specs.Words.{Text}
@@ -38,7 +38,7 @@ pub own_end : (stop : TextEnd) → is_fstring_start (text_end_node stop) ≡ fal
 own_end ends.Expression = refl
 own_end ends.FString = refl
 
--- a text that denotes something is handed out, and what ends it is still to be
+-- an f-string text whose value isn't empty is yielded, and what ends it is pending
 pub text_hands : (text : Text) (pending : Pending) (at len more : ℕ) (chunk : String Global) (node : grammar.Token) → (length (string_bytes chunk) == 0) ≡ false
     → (pending_lexemes text pending ≡ record { begin = at + len; node = node; end = at + len + more } ∷ []) × IsPending text pending
     → Hands text (Some (at, token.FStringText chunk, at + len)) pending (map (moved at) (chunk_text len (string_bytes chunk) ++ record { begin = len; node = node; end = len + more } ∷ []))
@@ -58,7 +58,7 @@ text_hands text pending at len more chunk node some waits = go (string_bytes chu
         (ap (λ n. record { begin = n; node = Whole (grammar.FStringText (string_bytes chunk)); end = at + len }) none ∙ ap (λ v. record { begin = at + 0; node = Whole (grammar.FStringText v); end = at + len }) same)
         (ap (λ n. record { begin = at + len; node = node; end = n } ∷ []) far ∙ sym waits.0)
 
--- behind one that denotes nothing, what ends it is handed out
+-- what ends an f-string text is yielded if the text's value is empty
 pub end_hands : (text : Text) (pending : Pending) (at len more : ℕ) (value : Text) (found : Token) (node : grammar.Token) → token_view found ≡ Whole node → is_fstring_start node ≡ false → (length value == 0) ≡ true → IsIdle text pending
     → Hands text (Some (at + len, found, at + len + more)) pending (map (moved at) (chunk_text len value ++ record { begin = len; node = node; end = len + more } ∷ []))
 end_hands text pending at len more (b ∷ bs) found node view own none idle = grind arith

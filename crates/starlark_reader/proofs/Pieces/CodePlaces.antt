@@ -1,4 +1,4 @@
--- What stands at a place: in an f-string's text its next part, and at a place of code what the word there says.
+-- The step at an offset: the next part of an f-string text, or what the word in code determines.
 use Rattle.std.proofs.Common.{◌≡◌, ℕ, ◌≤◌, ◌<◌, Bool, true, false, ◌&&◌, [], ◌∷◌, length, take, drop, refl, ap, sym, ◌∙◌, arith, None, Some}
 use Rattle.std.proofs.lemmas.List.{length-take-le}
 use Rattle.std.specs.Str.{IsUtf8, IsCharBoundary}
@@ -12,7 +12,7 @@ use Rattle.starlark_grammar.proofs.Order.WholeTexts.{word_edge}
 use Rattle.starlark_grammar.proofs.Words.Fronts.{front_sound}
 use Rattle.starlark_reader.specs.Inner.Pieces.{IsAfter, is_code}
 
--- behind something that was read the place decides
+-- the lexer mode determines the step after something that was read
 pub by_read : (follows_gap : Bool) (s : Situation) (text : Text) → IsAfter follows_gap s.before → step_at language s text ≡ by_place language s s.place text
 unfolding step_at
 by_read follows_gap s text behind = go s.before behind
@@ -23,11 +23,11 @@ by_read follows_gap s text behind = go s.before behind
     go Gap h = refl
     go Other h = refl
 
--- in the text of an f-string
+-- the step in f-string text
 pub in_text : (follows_gap : Bool) (s : Situation) (text : Text) (opening : Opening) → IsAfter follows_gap s.before → s.place ≡ InText opening → step_at language s text ≡ chunk opening text
 in_text follows_gap s text opening behind here = by_read follows_gap s text behind ∙ ap (λ p. by_place language s p text) here
 
--- at a place of code
+-- the step in code
 pub code_at : (follows_gap : Bool) (s : Situation) (text : Text) (at : Mode) → is_code at ≡ true → IsAfter follows_gap s.before → s.place ≡ at → step_at language s text ≡ in_code language s text
 code_at follows_gap s text at code behind here = by_read follows_gap s text behind ∙ ap (λ p. by_place language s p text) here ∙ go at code
   where
@@ -50,13 +50,13 @@ pub bang_in_code : (s : Situation) (text : Text) → (takes_bang s.place s.befor
 bang_in_code s [] bang = cc (both_false (takes_bang s.place s.before), bang)
 bang_in_code s (b ∷ bs) bang = rw bang refl
 
--- where neither a bang nor a word stands, the first character is a fault
+-- the first character is a fault where neither a bang nor a word is
 pub in_code_none : (s : Situation) (text : Text) → 0 < length text → language_front text ≡ None → (takes_bang s.place s.before && is_bang text) ≡ false → in_code language s text ≡ front_step s text None
 unfolding language_front longest_front
 in_code_none s [] some front bang = absurd (omega (arith, some))
 in_code_none s (b ∷ bs) some front bang = rw (bang, front) refl
 
--- whether a bang stands is told by two bytes
+-- two bytes determine whether a text begins with a bang
 pub bang_in_two : (text : Text) → is_bang (take 2 text) ≡ is_bang text
 bang_in_two [] = refl
 bang_in_two (b ∷ []) = refl
@@ -67,20 +67,20 @@ bang_in_three [] = refl
 bang_in_three (b ∷ []) = refl
 bang_in_three (b ∷ c ∷ bs) = refl
 
--- whether a bang stands, by the situation
+-- whether the step is a bang, by the situation
 pub bang_by : (s : Situation) (text : Text) (at : Mode) (stands known : Bool) → s.place ≡ at → stands ≡ (takes_bang at s.before && is_bang text) → stands ≡ known → (takes_bang s.place s.before && is_bang text) ≡ known
 bang_by s text at stands known here is e = ap (λ p. takes_bang p s.before && is_bang text) here ∙ sym is ∙ e
 
--- a bang that may stand there is the piece
+-- a bang that is allowed is the step
 pub bang_at : (follows_gap : Bool) (s : Situation) (text : Text) (at : Mode) → is_code at ≡ true → IsAfter follows_gap s.before → s.place ≡ at → (takes_bang at s.before && is_bang text) ≡ true → step_at language s text ≡ token 1 FStringBang
 bang_at follows_gap s text at code behind here bang = code_at follows_gap s text at code behind here ∙ bang_in_code s text (ap (λ p. takes_bang p s.before && is_bang text) here ∙ bang)
 
--- the word there decides, where no bang stands
+-- the word determines the step, where no bang is
 pub word_at : (follows_gap : Bool) (s : Situation) (text : Text) (at : Mode) (class : Class) (len : ℕ) → is_code at ≡ true → IsAfter follows_gap s.before → s.place ≡ at → language_front text ≡ Some (class, len) → is_bang text ≡ false
     → step_at language s text ≡ word_step s class (take len text) (drop len text)
 word_at follows_gap s text at class len code behind here front bang = code_at follows_gap s text at code behind here ∙ in_code_front s text class len front bang
 
--- a word lies inside of its text, which may be cut behind it
+-- a word is in its text, and its end is a character boundary
 pub word_len : (text : Text) (class : Class) (len : ℕ) → language_front text ≡ Some (class, len) → length (take len text) ≡ len
 unfolding language_front
 word_len text class len front =
@@ -91,12 +91,12 @@ pub word_inside : (text : Text) (class : Class) (len : ℕ) → language_front t
 unfolding language_front
 word_inside text class len front = (front_sound (class_in language) text class len front).1
 
--- it has a byte at least
+-- a word isn't empty
 pub word_some : (text : Text) (class : Class) (len : ℕ) → language_front text ≡ Some (class, len) → 1 ≤ len
 unfolding language_front
 word_some text class len front = (front_sound (class_in language) text class len front).0
 
--- and it is of its class
+-- a word has its class
 pub word_class : (text : Text) (class : Class) (len : ℕ) → language_front text ≡ Some (class, len) → class_in language (take len text) ≡ Some class
 unfolding language_front
 word_class text class len front = (front_sound (class_in language) text class len front).2

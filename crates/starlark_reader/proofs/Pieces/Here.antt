@@ -1,4 +1,4 @@
--- What stands where a reader is lies inside the text.
+-- The piece at a reader's offset is in the text.
 use Rattle.std.proofs.Common.{◌≡◌, ℕ, ◌+◌, ◌<◌, ◌≤◌, false, length, drop, refl, ap, sym, ◌∙◌, arith}
 use Rattle.std.proofs.lemmas.List.{length-drop}
 use Rattle.starlark_grammar.specs.Words.{Text, language}
@@ -33,7 +33,7 @@ behind_some last before h = (ap is_nothing (sym h) ∙ begun last, ap least_len 
     one sort.Gap = refl
     one sort.Other = refl
 
--- between two readers at most the stage, and what was read and is still to be handed out, differ
+-- two readers differ at most in stage, pending lexemes and reads
 pub record IsHere (old new : Reader) : Type 0 where
   pub at : new.at ≡ old.at
   pub nesting : new.nesting ≡ old.nesting
@@ -52,7 +52,7 @@ kept_here text history old new here kept = record {
   read = rw here.at kept.read;
 }
 
--- a piece here has some bytes, and all of them lie inside
+-- a piece here is not empty, and is in the text
 pub piece_here : (text : Text) (history : History) (reader : Reader) (piece : Piece) → IsStateAfter text history reader → step_here text history reader ≡ Stands piece → (1 ≤ piece.len) × (reader.at + piece.len ≤ length text)
 piece_here text history reader piece kept stands =
     let fits = piece_fits language history (drop reader.at text) piece stands in
@@ -61,7 +61,7 @@ piece_here text history reader piece kept stands =
     let inside : piece.len ≤ length (drop reader.at text) = fits.inside in
     (omega (arith, least, some), omega (arith, inside, length-drop reader.at text, kept.inside))
 
--- a fault here lies inside
+-- a fault here is in the text
 pub fault_here : (text : Text) (history : History) (reader : Reader) (fault : Spanned Fault) → IsStateAfter text history reader → step_here text history reader ≡ Fails fault → (fault.begin ≤ fault.end) × (reader.at + fault.end ≤ length text)
 fault_here text history reader fault kept fails =
     let fits = fault_fits language history (drop reader.at text) fault fails in
@@ -73,26 +73,26 @@ pub shown_own : (node : grammar.Token) → is_fstring_start node ≡ false → s
 shown_own (grammar.FStringStart opening) h = cc
 shown_own node h = refl
 
--- a token of the code that is one of the grammar, so many bytes further on
+-- a token of the code that is one of the grammar, moved by `at` bytes
 pub shown_at : (at begin end : ℕ) (token : Token) (node : grammar.Token) → token_view token ≡ Whole node → is_fstring_start node ≡ false
     → lexeme_view (at + begin, token, at + end) ≡ shown_lexeme (moved at (record { begin = begin; node = node; end = end }))
 shown_at at begin end token node view own = rw (view, shown_own node own) refl
 
--- the same of a token from here on
+-- a token of the code that is one of the grammar, from byte `at` on
 pub shown_here : (at end : ℕ) (token : Token) (node : grammar.Token) → token_view token ≡ Whole node → is_fstring_start node ≡ false
     → lexeme_view (at, token, at + end) ≡ shown_lexeme (moved at (record { begin = 0; node = node; end = end }))
 shown_here at end token node view own =
     let none : at ≡ at + 0 = omega arith in
     ap (λ n. lexeme_view (n, token, at + end)) none ∙ shown_at at 0 end token node view own
 
--- behind a piece less is left to read
+-- less is left to read after a piece
 pub less_onward : (text : Text) (old new : Reader) (len : ℕ) → new.stage ≡ stage.Onward → new.at ≡ old.at + len → 1 ≤ len → old.at + len ≤ length text → left_to_read text new new.stage < left_to_read text old stage.Onward
 less_onward text old new len onward at some inside = rw onward (omega (arith, at, some, inside))
 
--- at a fault too
+-- less is left to read at a fault
 pub less_fault : (text : Text) (old new : Reader) (begin end : ℕ) (error : LexemeError) → new.stage ≡ stage.Fault begin error end → left_to_read text new new.stage < left_to_read text old stage.Onward
 less_fault text old new begin end error fault = rw fault (omega arith)
 
--- a run after a place lies inside
+-- a run after an offset is in the text
 pub run_inside : (text : Text) (at run : ℕ) → at ≤ length text → run ≤ length (drop at text) → at + run ≤ length text
 run_inside text at run inside few = omega (arith, inside, few, length-drop at text)

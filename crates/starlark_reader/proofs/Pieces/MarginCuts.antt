@@ -1,4 +1,4 @@
--- Where a reader may be asked for a cut: in margins before which nothing is open.
+-- Cuts that a reader finds, in margins with nothing open before them.
 use Rattle.std.proofs.Common.{◌≡◌, ℕ, suc, ◌+◌, ◌≤◌, ◌<◌, true, false, List, [], ◌∷◌, ◌++◌, length, take, drop, map, refl, ap, ◌∙◌, sym, subst, Option, None, Some, arith, length-append, inl, inr, ◌⊎◌}
 use Rattle.std.specs.Prelude.{codes, nat_eq, not, ⊤}
 use Rattle.std.specs.List.{AllByRecursion, ends_with, list_all, prefix_len}
@@ -57,7 +57,7 @@ read_first text next piece stands is = record {
   reach = omega (arith, sum_by-cons (λ (piece : Piece). piece.len) piece [], is);
 }
 
--- Lexemes of what was read, and of what is left
+-- Lexemes that were read, and those that are left
 
 along_rest : (history : History) (at : ℕ) (text : Text) (pieces : List Piece) → is_nothing history.before ≡ false → IsReading language history text pieces
     → length (remaining_outcome history at text).lexemes ≡ length (lexemes_along at pieces) + length (remaining_outcome (after_all history pieces) (at + pieces_len pieces) (drop (pieces_len pieces) text)).lexemes
@@ -79,7 +79,7 @@ along_rest history at text (piece ∷ pieces) begun reads =
       ap (λ (o : Outcome). length o.lexemes) rest,
     )
 
--- All lexemes of a text, by a place that is reached.
+-- the number of all lexemes of a text, by the pieces up to an offset
 all_lexemes : (text : Text) (history : History) (at : ℕ) (read : IsReadTo text history at) → is_nothing history.before ≡ false → length (outcome text).lexemes ≡ length (lexemes_along 0 read.pieces) + length (remaining_outcome history at (drop at text)).lexemes
 all_lexemes text history at read begun =
     go read.pieces read.reads read.is_history
@@ -107,7 +107,7 @@ all_lexemes text history at read begun =
 
 -- Margins
 
--- The comment-only lines of a margin are the first lines from its begin on.
+-- the comment-only lines of a margin are the first lines from its start on
 lines_ahead : (text : Text) (begin : ℕ) (levels : List ℕ) (pending : Pending) → IsOfMargin begin (margin_of (drop begin text)).at levels pending
     → lines (drop pending.from text) ≡ lines_between text pending.from pending.to ++ drop (prefix_len is_comment_only (lines (drop begin text))) (lines (drop begin text))
 lines_ahead text begin levels pending of =
@@ -132,7 +132,7 @@ first_ahead_cut text levels piece pending stands of lexemes =
       count = omega (arith, ap length goes.lexemes, length-append (map (moved 0) piece.lexemes) (remaining_outcome (after nothing piece) (0 + piece.len) (drop piece.len text)).lexemes, ap length lexemes);
     }
 
--- A line end that counts has its `Newline` first.
+-- a newline that counts has its `Newline` first
 abbrev BeginsWith : List Lexeme → Piece → Type 0
 BeginsWith line piece = (more : List Lexeme) × (piece.lexemes ≡ line ++ more)
 
@@ -219,7 +219,7 @@ module _ (text : Text) (history : History) (at len : ℕ) (piece : Piece) (read 
   unfolding laid lines
   lexemes_there = laid_lexemes text (at + len) laid ∙ ap (λ (t : Text). length (lexemes_along 0 read.pieces) + (1 + length (lines t))) no_lines
 
-  -- A line end and its margin were taken, where no width is open before.
+  -- a newline and its margin were taken, with no indent open before
   pub line_ahead_cut : (levels : List ℕ) (given : Lexeme) (pending : Pending) → IsOfMargin (at + len) (margin_of (drop (at + len) text)).at levels pending → map (moved at) piece.lexemes ≡ given ∷ pending_lexemes text pending
       → IsMarginAhead text pending (length (pending_lexemes text pending) + length (remaining_outcome (after history piece) (at + piece.len) (drop piece.len (drop at text))).lexemes)
   line_ahead_cut levels given pending of lexemes =
@@ -237,7 +237,7 @@ module _ (text : Text) (history : History) (at len : ℕ) (piece : Piece) (read 
         count = omega (arith, all, ap length goes.lexemes, length-append (map (moved at) piece.lexemes) (remaining_outcome (after history piece) (at + piece.len) (drop piece.len (drop at text))).lexemes, ap length lexemes);
       }
 
--- One of the lines was passed.
+-- one of the pending lines was passed
 pub passed_cut : (text : Text) (old new : Pending) (ahead : ℕ) → IsPending text old → IsPassedLine text old new → new.from < length text → IsMarginAhead text old (suc ahead) → IsMarginAhead text new ahead
 passed_cut text old new ahead is passed inside at =
     let cut = split in
@@ -282,7 +282,7 @@ passed_cut text old new ahead is passed inside at =
         let both = line_behind line comment split.one ends (take old.from text) cut.0 in
         (ap is_clean_cut front ∙ both.0, ap (λ (t : Text). length (without_closing (outcome t).lexemes)) front ∙ both.1 ∙ ap (λ n. n + 1) cut.1)
 
--- There the text may be cut.
+-- the text may be cut at `pending.from`
 pub cut_ahead : (text : Text) (pending : Pending) (ahead : ℕ) → IsPending text pending → IsMarginAhead text pending ahead → 0 < pending.from → pending.from < length text → IsCutBefore text pending.from ahead
 cut_ahead text pending ahead is at some inside = go at.known
   where
@@ -294,13 +294,14 @@ cut_ahead text pending ahead is at some inside = go at.known
       count = omega (arith, cut.1, at.count);
     }
 
--- Kept cuts by the lexemes behind them
+-- Kept cuts by the lexemes after them
 
--- what is left of a text behind a piece
+-- the outcome that is left after a piece
 abbrev left_behind : Text → History → ℕ → Piece → Outcome
 left_behind text history at piece = remaining_outcome (after history piece) (at + piece.len) (drop piece.len (drop at text))
 
--- One with fewer lexemes behind it than from a piece on, and no fewer than behind that, lies in the piece's margin.
+-- a cut is in a piece's margin if fewer lexemes are after it than after the piece's start, and no
+-- fewer than after its end
 pub cut_of_piece : (text : Text) (history : History) (at : ℕ) (piece : Piece) (read : IsReadTo text history at) → is_nothing history.before ≡ false → next_step language history (drop at text) ≡ Stands piece
     → (x behind : ℕ) → IsCutBefore text x behind → length (left_behind text history at piece).lexemes ≤ behind → behind < length piece.lexemes + length (left_behind text history at piece).lexemes → IsInMargin text x read.pieces
 cut_of_piece text history at piece read begun stands x behind is least most =
@@ -314,7 +315,8 @@ cut_of_piece text history at piece read begun stands x behind is least most =
     (omega (arith, all, ap length goes.lexemes, whole, length-map piece.lexemes (moved at), count, most))
     (omega (arith, all, ap length goes.lexemes, whole, length-map piece.lexemes (moved at), count, least))
 
--- the same of the text's first margin
+-- a cut is in a text's first margin if fewer lexemes are after it than in the text, and no fewer
+-- than after the margin
 cut_of_first : (text : Text) (piece : Piece) → first_margin text ≡ Stands piece
     → (x behind : ℕ) → IsCutBefore text x behind → length (left_behind text nothing 0 piece).lexemes ≤ behind → behind < length piece.lexemes + length (left_behind text nothing 0 piece).lexemes → IsInMargin text x []
 cut_of_first text piece stands x behind is least most =
@@ -326,7 +328,7 @@ cut_of_first text piece stands x behind is least most =
     (omega (arith, ap length goes.lexemes, whole, length-map piece.lexemes (moved 0), count, most))
     (omega (arith, ap length goes.lexemes, whole, length-map piece.lexemes (moved 0), count, least))
 
--- the lines of a margin are those of which the comments are still to be handed out
+-- the lines of a margin are the pending ones
 lines_ahead_of : (text : Text) (x behind ahead : ℕ) (pieces : List Piece) (n line begin : ℕ) (levels : List ℕ) (pending : Pending) (found : HasPassed text x pieces n line) → IsOfMargin begin (margin_of (drop begin text)).at levels pending
     → pieces_len pieces + n ≡ begin → behind + found.passed ≡ ahead → IsAfterLines text pending x behind ahead
 lines_ahead_of text x behind ahead pieces n line begin levels pending found of place count =
@@ -342,7 +344,8 @@ lines_ahead_of text x behind ahead pieces n line begin levels pending found of p
 
 module _ (text : Text) (history : History) (at len : ℕ) (piece : Piece) (read : IsReadTo text history at) (begun : is_nothing history.before ≡ false) (stands : next_step language history (drop at text) ≡ Stands piece)
     (is : line_end len (open_widths history.widths) (drop (at + len) text) ≡ Stands piece) (layout : is_layout piece.sort ≡ true) where
-  -- One in the margin behind a line end that was taken: no width is open before it, and it lies behind some of its lines.
+  -- a cut in the margin after a newline has no indent open before it, and is after some of the
+  -- lines
   pub line_cut : (levels : List ℕ) (given : Lexeme) (pending : Pending) → IsOfMargin (at + len) (margin_of (drop (at + len) text)).at levels pending → map (moved at) piece.lexemes ≡ given ∷ pending_lexemes text pending
       → (x behind : ℕ) → IsCutBefore text x behind → length (left_behind text history at piece).lexemes ≤ behind → behind < length piece.lexemes + length (left_behind text history at piece).lexemes
       → (open_widths history.widths ≡ []) × IsAfterLines text pending x behind (length (pending_lexemes text pending) + length (left_behind text history at piece).lexemes)
@@ -372,7 +375,7 @@ module _ (text : Text) (history : History) (at len : ℕ) (piece : Piece) (read 
           let same : n ≡ len = ap len_of both in
           lines_ahead_of text x behind _ read.pieces n 1 (at + len) levels pending found of (omega (arith, read.reach, same)) (count_of found.passed found.count)
 
--- One in the text's first margin
+-- a cut in the first margin of the text
 pub first_cut : (text : Text) (levels : List ℕ) (piece : Piece) (pending : Pending) → first_margin text ≡ Stands piece → IsOfMargin 0 (margin_of (drop 0 text)).at levels pending → map (moved 0) piece.lexemes ≡ pending_lexemes text pending
     → (x behind : ℕ) → IsCutBefore text x behind → length (left_behind text nothing 0 piece).lexemes ≤ behind → behind < length piece.lexemes + length (left_behind text nothing 0 piece).lexemes
     → IsAfterLines text pending x behind (length (pending_lexemes text pending) + length (left_behind text nothing 0 piece).lexemes)
@@ -388,7 +391,7 @@ first_cut text levels piece pending stands of lexemes x behind cut least most =
         lines_ahead_of text x behind _ [] n 0 0 levels pending found of (omega (arith, zero_len)) (omega (arith, ap length goes.lexemes, whole, count, found.count, ap length lexemes))
     by n (Behind started counted front) found = cc
 
--- None lies behind the lexemes of all pieces.
+-- no cut is after the lexemes of all pieces
 pub none_at_end : (text : Text) (history : History) (at : ℕ) (read : IsReadTo text history at) → is_nothing history.before ≡ false → next_step language history (drop at text) ≡ Ends
     → (x behind : ℕ) → IsCutBefore text x behind → behind < length (remaining_outcome history at (drop at text)).lexemes → ⊥
 none_at_end text history at read begun ends x behind is most =
@@ -400,7 +403,7 @@ none_at_end text history at read begun ends x behind is most =
     let count = is.count in
     omega (arith, all, count, most, few, ap (λ (ps : List Piece). length (lexemes_along 0 ps)) same.0)
 
--- None lies in a text whose first margin has a fault.
+-- no cut is in a text whose first margin has a fault
 pub none_at_fault : (text : Text) (fault : Spanned grammar.Fault) → first_margin text ≡ Fails fault → (x behind : ℕ) → IsCutBefore text x behind → ⊥
 none_at_fault text fault fails x behind is =
     let parts = kept_parts text x is.is_kept in

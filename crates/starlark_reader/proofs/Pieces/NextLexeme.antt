@@ -1,4 +1,4 @@
--- What a reader hands out next.
+-- What a reader yields next.
 use Rattle.std.proofs.Common.{◌≡◌, Bool, true, false, ℕ, zero, suc, ◌+◌, ◌<◌, ◌≤◌, length, length-append, take, arith, List, [], ◌∷◌, ◌++◌, map, drop, refl, sym, ap, subst, ◌∙◌, None, Some, ◌⊎◌, inl, inr}
 use Rattle.std.specs.Prelude.{Option, Result, Ok, Err, IfOk, OnOk, nat_lt, sum_by}
 use Rattle.starlark_grammar.specs.Words.{Text, language}
@@ -32,7 +32,7 @@ same_left text old new stage.Onward left here h = (h.0, kept_here text h.0 old n
 same_left text old new (stage.Fault begin fault end) left here h = (h.0, h.1, h.2, rw (here.at, here.before) h.3, rw here.at h.4)
 same_left text old new stage.Closed left here h = (h.0, kept_here text (history_of text) old new here h.1)
 
--- whatever is still to be read, a reader lies inside of its text
+-- at each stage the reader's offset is in its text
 left_inside : (text : Text) (reader : Reader) (stage : Stage) (left : Outcome) → IsLeft text reader stage left → reader.at ≤ length text
 left_inside text reader stage.Begin left is = omega (arith, is.1)
 left_inside text reader stage.Onward left is = is.1.inside
@@ -45,7 +45,7 @@ ready_inside text reader ready = left_inside text reader reader.stage ready.2.le
 flat_here : (old new : Reader) (now later : Stage) → IsHere old new → new.pending ≡ old.pending → later ≡ now → IsInFlatMargin old now → IsInFlatMargin new later
 flat_here old new now later here pending same is = (same ∙ is.0, here.before ∙ is.1, ap (λ (p : Pending). p.is_flat) pending ∙ is.2)
 
--- what is ahead of a reader is ahead of one that stands where it does
+-- what is ahead of a reader is ahead of one with the same state
 pub ahead_here : (text : Text) (old new : Reader) (lexemes : List (Spanned TokenView)) (fault : Option (Spanned Fault)) → IsHere old new → new.stage ≡ old.stage → new.pending ≡ old.pending → IsAhead text old old.stage lexemes fault → IsAhead text new new.stage lexemes fault
 ahead_here text old new lexemes fault here same pending ahead = record {
   left = ahead.left;
@@ -69,7 +69,7 @@ lines_some text from to some = go (nat_lt from to) refl
     go true e = ltb-true from to e
     go false e = absurd (omega (arith, some, ap length (no_lines_between text from to (ltb-false from to e))))
 
--- behind one line fewer, where one was passed
+-- a cut is after one pending line fewer, once the first was passed
 behind_passed : (text : Text) (old new : Pending) (at behind ahead : ℕ) → IsPassedLine text old new → IsAfterLines text old at behind (1 + ahead) → behind ≤ ahead → IsAfterLines text new at behind ahead
 behind_passed text old new at behind ahead passed is few = go is.passed is.few is.place is.count
   where
@@ -84,7 +84,7 @@ behind_passed text old new at behind ahead passed is few = go is.passed is.few i
           count = omega (arith, count);
         }
 
--- the first lexeme that was read and is to be handed out
+-- the first pending lexeme is yielded
 pub lexeme_next : (text : Text) (old new : Reader) (x : ℕ × Token × ℕ) (lexemes : List (Spanned TokenView)) (fault : Option (Spanned Fault)) → IsHere old new → new.stage ≡ old.stage → IsFirst text old.pending new.pending (Some x) → IsLinePassed text old.pending new.pending (Some x)
     → (old.pending.from < old.pending.to → new.pending.is_flat ≡ old.pending.is_flat) → IsAhead text old old.stage lexemes fault → IsAheadAfter text (Some x) new lexemes fault
 lexeme_next text old new x lexemes fault here same first lines stays ahead = (
@@ -122,19 +122,19 @@ lexeme_next text old new x lexemes fault here same first lines stays ahead = (
           behind_passed text old.pending new.pending at behind (length more) passed (subst (IsAfterLines text old.pending at behind) all lies.1) most,
         )
 
--- the first comment, where one is to be handed out and memory is there for it
+-- the first pending comment is yielded, unless memory runs out
 pub comment_next : {E : Type 0} (result : Result (ℕ × Token × ℕ) E) (text : Text) (old new : Reader) → IsHere old new → new.stage ≡ old.stage → IfOk result (λ x. IsFirst text old.pending new.pending (Some x)) → IfOk result (λ x. IsLinePassed text old.pending new.pending (Some x))
     → OnOk result (new.pending.is_flat ≡ old.pending.is_flat) → IfOk result (λ x. (lexemes : List (Spanned TokenView)) (fault : Option (Spanned Fault)) → IsAhead text old old.stage lexemes fault → IsAheadAfter text (Some x) new lexemes fault)
 comment_next (Ok x) text old new here same first lines flat = λ lexemes fault ahead. lexeme_next text old new x lexemes fault here same first lines (λ some. flat) ahead
 comment_next (Err e) text old new here same first lines flat = tt
 
--- what stands behind the comments, where none is to be handed out
+-- the first lexeme after the comments is yielded, where no comment is pending
 pub mark_next : (text : Text) (old new : Reader) (found : Option (ℕ × Token × ℕ)) (lexemes : List (Spanned TokenView)) (fault : Option (Spanned Fault)) → IsHere old new → new.stage ≡ old.stage → old.pending.to ≤ old.pending.from → IsFirst text old.pending new.pending found
     → IsLinePassed text old.pending new.pending found → IsAhead text old old.stage lexemes fault → IsAheadAfter text found new lexemes fault
 mark_next text old new None lexemes fault here same none first lines ahead = ahead_here text old new lexemes fault here same first.1 ahead
 mark_next text old new (Some x) lexemes fault here same none first lines ahead = lexeme_next text old new x lexemes fault here same first lines (λ some. absurd (omega (arith, none, some))) ahead
 
--- what comes behind the last lexeme
+-- the fault is returned after the last lexeme
 pub fault_next : (text : Text) (reader : Reader) (lexemes : List (Spanned TokenView)) (fault : Option (Spanned Fault)) (begin : ℕ) (error : LexemeError) (end : ℕ) → IsIdle text reader.pending → reader.stage ≡ stage.Fault begin error end → IsAhead text reader reader.stage lexemes fault
     → (node : Fault) × (fault_view error ≡ Some node) × (lexemes ≡ []) × (fault ≡ Some (record { begin = begin; node = node; end = end })) × (has_read_none reader ≡ begins_with_tab text)
 fault_next text reader lexemes fault begin error end idle e ahead =
@@ -198,7 +198,7 @@ onward_something text reader lexemes fault idle e ahead =
     let both = none_before text reader reader.stage lexemes fault _ idle ahead is.2 in
     λ empty faultless. rest_something is.0 reader.at (drop reader.at text) (sym both.0 ∙ empty) (sym both.1 ∙ faultless)
 
--- lexemes that were read are still to be handed out
+-- something is ahead if a lexeme is pending
 pub pending_something : (text : Text) (reader : Reader) (lexemes : List (Spanned TokenView)) (fault : Option (Spanned Fault)) → (pending_lexemes text reader.pending ≡ [] → ⊥) → IsAhead text reader reader.stage lexemes fault → IsSomething lexemes fault
 pending_something text reader lexemes fault some ahead = λ empty faultless. go (pending_lexemes text reader.pending) refl (sym ahead.ahead ∙ empty)
   where
@@ -206,17 +206,17 @@ pending_something text reader lexemes fault some ahead = λ empty faultless. go 
     go [] e h = some e
     go (l ∷ ls) e h = cc
 
--- where no lexeme came, none was left
+-- no lexeme is pending if none was taken
 pub none_left : (text : Text) (old : Reader) (new : Pending) (found : Option (ℕ × Token × ℕ)) → ((x : ℕ × Token × ℕ) → found ≡ Some x → ⊥) → IsFirst text old.pending new found → IsReady text old old.stage → IsIdle text old.pending × (new ≡ old.pending)
 none_left text old new None none first ready = ((ready.2.is_pending, first.0), first.1)
 none_left text old new (Some x) none first ready = absurd (none x refl)
 
--- what is ahead stays so
+-- what was ahead is still ahead
 pub ahead_now : (text : Text) (old : Reader) (new : Pending) (now : Stage) (lexemes : List (Spanned TokenView)) (fault : Option (Spanned Fault)) → new ≡ old.pending → old.stage ≡ now → IsAhead text old old.stage lexemes fault → IsAhead text (record old { pending = new }) now lexemes fault
 ahead_now text old new now lexemes fault same e ahead =
     subst (λ (s : Stage). IsAhead text (record old { pending = new }) s lexemes fault) e (ahead_here text old (record old { pending = new }) lexemes fault (record { at = refl; nesting = refl; levels = refl; before = refl }) refl same ahead)
 
--- behind the last lexeme
+-- all pieces are read at a fault and at the end
 pub over : (now : Stage) → ((begin : ℕ) × (error : LexemeError) × (end : ℕ) × (now ≡ stage.Fault begin error end)) ⊎ (now ≡ stage.Closed) → IsOver now
 over now (inl at_fault) = subst IsOver (sym at_fault.3) tt
 over now (inr closed) = subst IsOver (sym closed) tt

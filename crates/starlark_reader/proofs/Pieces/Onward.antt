@@ -1,4 +1,4 @@
--- What the rest of a text comes to, one piece further.
+-- The outcome of the rest of a text, one piece further.
 use Rattle.std.proofs.Common.{◌≡◌, ℕ, ◌+◌, false, List, [], ◌∷◌, ◌++◌, drop, map, refl, ap, ◌∙◌, Some, None, arith, append_assoc}
 use Rattle.std.proofs.lemmas.List.Sums.{sum_by-cons}
 use Rattle.starlark_grammar.specs.Words.{Text, language}
@@ -10,12 +10,12 @@ use Rattle.starlark_reader.specs.Inner.Reader.{history_from, history_of, outcome
 use Rattle.starlark_grammar.proofs.Reading.Readings.{longest_onward, one_longest, piece_fits, read_from_is, read_is, started, stops_here}
 use Rattle.starlark_grammar.proofs.Reading.Steps.{is_nothing}
 
--- One piece's lexemes, and then what is left behind it.
+-- an outcome is one piece's lexemes, and then what is left after it
 pub record GoesOn (at : ℕ) (piece : Piece) (whole left : Outcome) : Type 0 where
   pub lexemes : whole.lexemes ≡ map (moved at) piece.lexemes ++ left.lexemes
   pub fault : whole.fault ≡ left.fault
 
--- where one piece more is counted
+-- the length with one more piece
 total_len : (at : ℕ) (piece : Piece) (pieces : List Piece) → at + pieces_len (piece ∷ pieces) ≡ at + piece.len + pieces_len pieces
 total_len at piece pieces = let total = sum_by-cons (λ (piece : Piece). piece.len) piece pieces in omega (arith, total)
 
@@ -32,14 +32,14 @@ along_onward history at piece pieces (Fails fault) = record { lexemes = refl; fa
 along_onward history at piece pieces (Stands more) = record { lexemes = to_end history at piece pieces; fault = refl }
 along_onward history at piece pieces Ends = record { lexemes = to_end history at piece pieces; fault = refl }
 
--- A longest reading from a place on tells what is left of the text.
+-- the outcome of the rest of a text is that of its longest reading
 left_by : (history : History) (at : ℕ) (text : Text) (pieces : List Piece) (last : Step) → is_nothing history.before ≡ false → IsLongestReading language history text pieces last → remaining_outcome history at text ≡ outcome_along history at pieces last
 unfolding remaining_outcome
 left_by history at text pieces last h longest =
     let both = one_longest language history text (read_from language history 0 text).pieces pieces (read_from language history 0 text).last last (read_from_is language history 0 text h) longest in
     ap (λ (ps : List Piece). outcome_along history at ps (read_from language history 0 text).last) both.0 ∙ ap (outcome_along history at pieces) both.1
 
--- the longest reading behind a piece
+-- the longest reading after a piece
 longest_behind : (history : History) (text : Text) (piece : Piece) → next_step language history text ≡ Stands piece
     → IsLongestReading language (after history piece) (drop piece.len text) (read_from language (after history piece) 0 (drop piece.len text)).pieces (read_from language (after history piece) 0 (drop piece.len text)).last
 longest_behind history text piece stands =
@@ -80,7 +80,7 @@ history_ends history text h ends =
     let both = one_longest language history text _ [] _ Ends (read_from_is language history 0 text h) (stops_here language history text Ends ends (λ piece e. cc)) in
     ap (after_all history) both.0
 
--- The text's begin
+-- The start of the text
 
 pub margin_first : (text : Text) → next_step language nothing text ≡ first_margin text
 unfolding next_step situation step_at
@@ -92,7 +92,7 @@ whole_by text pieces last longest =
     let both = one_longest language nothing text (read language text).pieces pieces (read language text).last last (read_is language text) longest in
     ap (λ (ps : List Piece). outcome_of text ps (read language text).last) both.0 ∙ ap (outcome_of text pieces) both.1
 
--- from a text's begin on the outcome is what is read along it
+-- from the start of a text its outcome is that of its pieces
 begun_along : (text : Text) (piece : Piece) (pieces : List Piece) (last : Step) → outcome_of text (piece ∷ pieces) last ≡ outcome_along nothing 0 (piece ∷ pieces) last
 begun_along text piece pieces (Fails fault) = let same : pieces_len (piece ∷ pieces) ≡ 0 + pieces_len (piece ∷ pieces) = omega arith in ap (λ n. record { lexemes = lexemes_along 0 (piece ∷ pieces); fault = Some (moved n fault) }) same
 begun_along text piece pieces (Stands more) = let same : pieces_len (piece ∷ pieces) ≡ 0 + pieces_len (piece ∷ pieces) = omega arith in ap (λ n. record { lexemes = lexemes_along 0 (piece ∷ pieces) ++ closing n (after_all nothing (piece ∷ pieces)); fault = None }) same

@@ -1,4 +1,4 @@
--- How often the bytes of a piece are read.
+-- Reads of a piece's bytes.
 use Rattle.std.proofs.Common.{◌≡◌, ◌≤◌, ◌<◌, ◌+◌, ◌*◌, ℕ, arith}
 use Rattle.starlark_words.specs.Inner.Reads.{AreReads, more_reads}
 use Rattle.starlark_reader.specs.Inner.Reads.{ArePieceReads, AreReadsAfter, AreStepReads, AreWordlessReads, AreWordReads, IsOfWord}
@@ -7,13 +7,13 @@ use Rattle.starlark_reader.specs.declared.literal.pieces.Step.TheVariants as ste
 use Rattle.starlark_reader.specs.declared.reading.Piece.{Piece}
 use Rattle.starlark_reader.specs.declared.reading.Piece.TheVariants as piece
 
--- a word that is a token, or a fault, of which two bytes are read once more at most
+-- a word that is a token or a fault, of which at most two bytes are read once more
 pub word_reads : (len rest : ℕ) (step : Step) (before after : ℕ) → more_reads before 0 ≤ after → after ≤ before + 2 → IsOfWord len step → AreWordReads len 9 2 rest 9 step before after
 word_reads len rest (steps.Token token taken) before after least most is = ((omega (arith, is, least), omega (arith, is, most)), omega (arith, is))
 word_reads len rest (steps.Text text text_len stop taken) before after least most is = absurd is
 word_reads len rest (steps.Fault begin fault end) before after least most is = omega (arith, most)
 
--- a piece behind its word
+-- a piece after its word
 pub piece_reads : (passed behind rest : ℕ) (piece : Piece) (before between after : ℕ) → 0 < passed → rest ≡ passed + behind → AreReads passed (5 * passed + 3) before between
     → AreReadsAfter passed 9 behind 9 piece between after → ArePieceReads 10 rest 7 piece before after
 piece_reads passed behind rest (piece.Nothing len is_gap) before between after some whole word reads =
@@ -30,7 +30,7 @@ piece_reads passed behind rest (piece.Lexed step) before between after some whol
     by_step (steps.Fault begin fault end) reads = omega (arith, some, whole, word.1, reads)
 piece_reads passed behind rest piece.End before between after some whole word reads = absurd reads
 
--- a bang, or a fault, where no word stands
+-- a bang or a fault, where no word is
 pub none_reads : (rest : ℕ) (piece : Piece) (before between after : ℕ) → 0 < rest → AreReads 0 3 before between → AreWordlessReads rest piece between after → ArePieceReads 10 rest 7 piece before after
 none_reads rest (piece.Nothing len is_gap) before between after some none reads = absurd reads
 none_reads rest (piece.LineEnd len) before between after some none reads = absurd reads
@@ -43,13 +43,13 @@ none_reads rest (piece.Lexed step) before between after some none reads = by_ste
     by_step (steps.Fault begin fault end) reads = omega (arith, some, none.1, reads)
 none_reads rest piece.End before between after some none reads = absurd reads
 
--- a fault, after the look for a bang
+-- a fault, after the lookahead for a bang
 pub wordless_reads : (rest : ℕ) (step : Step) (before between after : ℕ) → between ≡ more_reads before 2 → AreStepReads 0 1 rest 0 step between after → AreStepReads 0 3 rest 2 step before after
 wordless_reads rest (steps.Token token len) before between after bang reads = ((omega (arith, bang, reads.0.0), omega (arith, bang, reads.0.1, reads.1)), reads.1)
 wordless_reads rest (steps.Text text text_len stop len) before between after bang reads = ((omega (arith, bang, reads.0.0), omega (arith, bang, reads.0.1, reads.1)), reads.1)
 wordless_reads rest (steps.Fault begin fault end) before between after bang reads = omega (arith, bang, reads)
 
--- a text of an f-string
+-- an f-string text
 pub chunk_reads : (rest : ℕ) (step : Step) (before after : ℕ) → AreStepReads 0 8 rest 6 step before after → AreStepReads 0 10 rest 7 step before after
 chunk_reads rest (steps.Token token len) before after reads = ((reads.0.0, omega (arith, reads.0.1)), reads.1)
 chunk_reads rest (steps.Text text text_len stop len) before after reads = ((reads.0.0, omega (arith, reads.0.1)), reads.1)

@@ -1,4 +1,4 @@
--- What a reader makes of the piece that stands where it is.
+-- What a reader does with the piece at its offset.
 use Rattle.std.proofs.Common.{◌≡◌, ◌≢◌, ℕ, ◌+◌, ◌≤◌, ◌==◌, ◌&&◌, Bool, true, false, List, [], ◌∷◌, length, drop, refl, sym, ap, ◌∙◌, subst, arith, append-nil, take, None}
 use Rattle.std.specs.Prelude.{IfOk, Ok, Err, Result, Option, String, Vec, string_bytes, if◌then◌else◌}
 use Rattle.std.specs.Str.{IsCharBoundary, IsUtf8}
@@ -48,7 +48,7 @@ use Rattle.starlark_reader.proofs.Pieces.Here.{piece_here}
 use Rattle.starlark_reader.proofs.Pieces.Taken.{none_before, read_ahead, took}
 use Rattle.starlark_reader.proofs.Indentation.Waiting.{hands_none}
 
--- what was read at a reader's place stands there
+-- the piece that was read is the step at the reader's offset
 pub piece_read : (text : Text) (history : History) (reader : Reader) (place : LexerMode) (balanced follows_gap : Bool) (rest : Text) (piece : code.Piece) → rest ≡ drop reader.at text → IsStateAfter text history reader
     → ((tokens : List Rattle.starlark_grammar.specs.Tokens.Token) → Represents tokens reader.nesting → mode_view place ≡ mode_after tokens)
     → ((tokens : List Rattle.starlark_grammar.specs.Tokens.Token) → Represents tokens reader.nesting → balanced ≡ is_balanced tokens)
@@ -69,7 +69,7 @@ behind_sort before.Layout before is = subst (IsAfter false) is refl
 behind_sort before.Gap before is = subst (IsAfter true) is refl
 behind_sort before.Other before is = subst (IsAfter false) is refl
 
--- the same of a gap
+-- the gap that was read is the step at the reader's offset
 pub gap_read : (text : Text) (history : History) (reader : Reader) (rest : Text) (len : ℕ) → rest ≡ drop reader.at text → IsStateAfter text history reader → IsInCode reader
     → ((s : Situation) (follows_gap : Bool) → is_code s.place ≡ true → IsAfter follows_gap s.before → step_at language s rest ≡ pieces.gap len)
     → step_here text history reader ≡ pieces.gap len
@@ -77,7 +77,7 @@ unfolding next_step situation
 gap_read text history reader rest len e kept code is =
     subst (λ (t : Text). step_at language (situation history) t ≡ pieces.gap len) e (is (situation history) (is_gap_sort reader.before) (code history.tokens kept.nesting) (behind_sort reader.before history.before kept.before))
 
--- the same of a text of an f-string that denotes itself
+-- the f-string text without escapes that was read is the step at the reader's offset
 plain_read : (text rest : Text) (history : History) (reader : Reader) (opening : Opening) (found : PlainText) → rest ≡ drop reader.at text → IsStateAfter text history reader → mode_after history.tokens ≡ InText (opening_view opening)
     → IsPlainText opening rest found → step_here text history reader ≡ text_step found.len (take found.len (drop reader.at text)) found.stop found.stop_len
 unfolding next_step situation
@@ -95,7 +95,7 @@ plain_here text rest reader place opening (Ok found) e on idle in_text here is =
   stands = λ history kept. plain_read text rest history reader opening found e kept (sym (here history.tokens kept.nesting) ∙ ap mode_view in_text) is;
 }
 
--- what a word here comes to
+-- the step of a word at the reader's offset
 pub word_read : (text : Text) (history : History) (reader : Reader) (word : Word) → IsStateAfter text history reader → IsWordHere text reader word
     → step_here text history reader ≡ pieces.word_step (situation history) word.class (take word.len (drop reader.at text)) (drop word.len (drop reader.at text))
 unfolding next_step situation
@@ -139,12 +139,12 @@ pub comment_changes : (value : String Global) → change_by (token_view (token.C
 unfolding token_view change_by
 comment_changes value = refl
 
--- nor does an integer of one digit
+-- an integer of one digit changes neither brackets nor f-strings
 pub digit_changes : (found : Token) (digit : ℕ) → token_view found ≡ Whole (Tokens.Int (integer_of 10 ((digit + 48) ∷ []))) → change_by (token_view found) ≡ change.Nothing
 unfolding change_by
 digit_changes found digit view = ap change_by view
 
--- an integer of one digit
+-- the step of an integer of one digit
 digit_word : (s : Situation) (digit : ℕ) (word behind : Text) → word ≡ (digit + 48) ∷ [] → pieces.word_step s class.Decimal word behind ≡ pieces.token 1 (Tokens.Int (integer_of 10 word))
 digit_word s digit word behind e = rw e (rw (and_false (digit + 48 == 48)) refl)
   where
@@ -161,7 +161,7 @@ digit_step text history reader digit found kept here at view = (
   word_read text history reader (record { class = class.Decimal; len = 1 }) kept here ∙ digit_word (situation history) digit (take 1 (drop reader.at text)) (drop 1 (drop reader.at text)) at.1,
 )
 
--- a bang, by what was read of the place
+-- a bang at the reader's offset, by its mode and the piece before
 pub bang_read : (text : Text) (history : History) (reader : Reader) (place : LexerMode) (follows_gap : Bool) (rest : Text) → rest ≡ drop reader.at text → IsStateAfter text history reader → IsInCode reader
     → ((tokens : List Tokens.Token) → Represents tokens reader.nesting → mode_view place ≡ mode_after tokens)
     → ((before : pieces.Before) → before_view reader.before ≡ before → IsAfter follows_gap before)
@@ -182,7 +182,7 @@ pub bang_changes : change_by (token_view token.FStringBang) ≡ change.Nothing
 unfolding change_by token_view
 bang_changes = refl
 
--- a literal that one quote closes, and whose characters denote themselves
+-- a literal without escapes that one quote closes
 plain_opener : (place : Mode) (kind : LiteralKind) (is_raw : Bool) (quote : Quote) (begin count : ℕ) (behind : Text) → kind ≢ OfFString → IsPlainBody kind is_raw quote behind count
     → pieces.opener place kind (pieces.opening_of is_raw quote behind) begin behind ≡ pieces.token (begin + count + 1) (pieces.literal_token kind (take count behind))
 plain_opener place kind is_raw quote begin count behind other plain =
@@ -241,7 +241,7 @@ terminal_step text history reader terminal len found kept here view own = (
       ∙ ap (λ n. pieces.token n (pieces.terminal_token (mode_after history.tokens) terminal)) (word_len (drop reader.at text) (class.Fixed terminal) len (sym here.front)),
 )
 
--- the start of an f-string, by its opener and the text behind that
+-- the step of an f-string's start, from its opener and the text after that
 pub fstring_step : (text : Text) (history : History) (reader : Reader) (quote : Quote) (opening : Tokens.Opening) (len : ℕ) → IsStateAfter text history reader → IsWordHere text reader (record { class = class.Opener OfFString false quote; len = 2 })
     → opening ≡ pieces.opening_of false quote (drop 2 (drop reader.at text)) → len ≡ 2 + pieces.more_quotes opening
     → step_here text history reader ≡ pieces.token len (Tokens.FStringStart opening)
@@ -251,7 +251,7 @@ fstring_step text history reader quote opening len kept here is whole =
     ∙ ap (λ n. pieces.opener (mode_after history.tokens) OfFString (pieces.opening_of false quote (drop 2 (drop reader.at text))) n (drop 2 (drop reader.at text))) (word_len (drop reader.at text) (class.Opener OfFString false quote) 2 (sym here.front))
     ∙ ap (λ o. pieces.token (2 + pieces.more_quotes o) (Tokens.FStringStart o)) (sym is) ∙ ap (λ n. pieces.token n (Tokens.FStringStart opening)) (sym whole)
 
--- a line end here, which counts or doesn't
+-- the step of a newline at the reader's offset, which counts or doesn't
 pub line_end_step : (text : Text) (history : History) (reader : Reader) (len : ℕ) → IsStateAfter text history reader → IsWordHere text reader (record { class = class.LineEnd; len = len })
     → step_here text history reader ≡ (if pieces.counts (mode_after history.tokens) (is_balanced history.tokens) then pieces.line_end len (open_widths history.widths) (drop len (drop reader.at text)) else pieces.piece len [])
 unfolding situation
@@ -259,7 +259,7 @@ line_end_step text history reader len kept here =
     word_read text history reader (record { class = class.LineEnd; len = len }) kept here
     ∙ ap (λ n. if pieces.counts (mode_after history.tokens) (is_balanced history.tokens) then pieces.line_end n (open_widths history.widths) (drop len (drop reader.at text)) else pieces.piece n []) (word_len (drop reader.at text) class.LineEnd len (sym here.front))
 
--- one that doesn't count gives nothing
+-- a newline that doesn't count yields no lexeme
 pub silent_line_end : (text : Text) (history : History) (reader : Reader) (len : ℕ) (place : LexerMode) (balanced : Bool) → IsStateAfter text history reader → IsWordHere text reader (record { class = class.LineEnd; len = len })
     → ((before : List Tokens.Token) → Represents before reader.nesting → mode_view place ≡ mode_after before)
     → ((before : List Tokens.Token) → Represents before reader.nesting → balanced ≡ is_balanced before)
@@ -269,7 +269,7 @@ silent_line_end text history reader len place balanced kept here at count silent
     ∙ ap (λ (b : Bool). if b then pieces.line_end len (open_widths history.widths) (drop len (drop reader.at text)) else pieces.piece len [])
     (ap (λ m. pieces.counts m (is_balanced history.tokens)) (sym (at history.tokens kept.nesting)) ∙ ap (pieces.counts (mode_view place)) (sym (count history.tokens kept.nesting)) ∙ silent)
 
--- one that counts takes its margin with it
+-- a newline that counts takes its margin with it
 pub counting_line_end : (text : Text) (history : History) (reader : Reader) (len : ℕ) → IsStateAfter text history reader → IsWordHere text reader (record { class = class.LineEnd; len = len })
     → ((before : List Tokens.Token) → Represents before reader.nesting → pieces.counts (mode_after before) (is_balanced before) ≡ true)
     → step_here text history reader ≡ pieces.line_end len (open_widths history.widths) (drop len (drop reader.at text))
@@ -277,11 +277,11 @@ counting_line_end text history reader len kept here counts =
     line_end_step text history reader len kept here
     ∙ ap (λ (b : Bool). if b then pieces.line_end len (open_widths history.widths) (drop len (drop reader.at text)) else pieces.piece len []) (counts history.tokens kept.nesting)
 
--- what is left where a reader goes on
+-- what is left after the reader's offset
 pub left_onward : (text : Text) (reader : Reader) (lexemes : List (Spanned TokenView)) (fault : Option (Spanned Fault)) → reader.stage ≡ stage.Onward → IsAhead text reader reader.stage lexemes fault → IsAhead text reader stage.Onward lexemes fault
 left_onward text reader lexemes fault on ahead = subst (λ (s : Stage). IsAhead text reader s lexemes fault) on ahead
 
--- what is ahead stays ahead where what stands here is read, behind whichever history it is
+-- what is ahead is still ahead after the piece here is read, whatever the history
 pub onward_ahead : (text : Text) (old : Reader) (given : Option (ℕ × Token × ℕ)) (new : Reader) (lexemes : List (Spanned TokenView)) (fault : Option (Spanned Fault)) → ((history : History) → IsStateAfter text history old → IsRead text (left_here text history old) given new)
     → IsIdle text old.pending → IsAhead text old stage.Onward lexemes fault → IsAheadAfter text given new lexemes fault
 onward_ahead text old given new lexemes fault read idle ahead =
@@ -301,14 +301,14 @@ nothing_len : (len : ℕ) (is_gap : Bool) → (nothing_piece len is_gap).len ≡
 nothing_len len true = refl
 nothing_len len false = refl
 
--- bytes that give nothing have some length, and lie inside
+-- a piece without lexemes is not empty, and is in the text
 pub nothing_here : (text : Text) (history : History) (reader : Reader) (len : ℕ) (is_gap : Bool) → IsStateAfter text history reader → step_here text history reader ≡ nothing_of len is_gap → (1 ≤ len) × (reader.at + len ≤ length text)
 nothing_here text history reader len is_gap kept stands =
     let here = piece_here text history reader (nothing_piece len is_gap) kept (stands ∙ nothing_stands len is_gap) in
     let same = nothing_len len is_gap in
     (omega (arith, here.0, same), omega (arith, here.1, same))
 
--- they leave all as it is but for the place and what stands before it
+-- a piece without lexemes changes only the offset and the kind of the piece before it
 pub nothing_taken : (text : Text) (history : History) (old new : Reader) (len : ℕ) (is_gap : Bool) → IsUtf8 text → IsStateAfter text history old → step_here text history old ≡ nothing_of len is_gap → IsIdle text old.pending
     → new ≡ record old { at = old.at + len; before = silent_sort is_gap; stage = stage.Onward } → IsRead text (left_here text history old) None new
 nothing_taken text history old new len true utf8 kept stands idle is =

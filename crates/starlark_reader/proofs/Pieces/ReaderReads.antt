@@ -1,4 +1,4 @@
--- How often a reader has read bytes, behind each of its steps.
+-- The reads of a reader after each of its steps.
 use Rattle.std.proofs.Common.{◌≡◌, ◌≤◌, ◌<◌, ◌+◌, ◌-◌, ◌*◌, ◌∙◌, ℕ, List, Option, drop, length, refl, subst, sym, arith}
 use Rattle.std.specs.Prelude.{IfErr, Result, Ok, Err}
 use Rattle.starlark_grammar.specs.Reading.{History}
@@ -16,17 +16,17 @@ use Rattle.starlark_reader.specs.declared.reader.Reader.{Reader}
 use Rattle.starlark_reader.specs.declared.reader.Stage.{Stage}
 use Rattle.starlark_reader.specs.declared.reader.Stage.TheVariants as stages
 
--- what a reader has read before a place, as numbers
+-- the reads of a reader before byte `at`, as numbers
 abbrev pub IsReadBefore : (beside before at owes : ℕ) → Type 0
 IsReadBefore beside before at owes = (more_reads 0 at ≤ before) × (before + 5 * owes ≤ beside + 10 * at + 2)
 
--- behind a piece of so many bytes
+-- the reads after a piece of `len` bytes
 pub onward_reads : (text : Text) (beside len before : ℕ) (old new : Reader) → IsReadBefore beside before old.at (owed old.pending) → AreReads len (10 * len) before old.reads
     → IsPassedBy (old.at + len) old new × (new.stage ≡ stages.Onward) → HasRead text beside new
 onward_reads text beside len before old new has read passed =
     subst (HasReadAt text beside new) (sym passed.1) (omega (arith, has.0, read.0, passed.0.0, passed.0.1), omega (arith, has.1, read.1, passed.0.0, passed.0.1, passed.0.2))
 
--- behind a token, a text of an f-string, or at a fault
+-- the reads after a token or an f-string text, or at a fault
 pub step_reads : (text : Text) (beside rest before : ℕ) (step : Step) (old new : Reader) → length text ≡ old.at + rest → IsReadBefore beside before old.at (owed old.pending)
     → AreStepReads 0 10 rest 7 step before old.reads → IsPassed old step new → HasRead text beside new
 step_reads text beside rest before (steps.Token token len) old new whole has read passed = onward_reads text beside len before old new has (omega (arith, read.0.0), omega (arith, read.0.1)) passed
@@ -34,7 +34,7 @@ step_reads text beside rest before (steps.Text chunk chunk_len stop len) old new
 step_reads text beside rest before (steps.Fault begin fault end) old new whole has read passed =
     subst (HasReadAt text beside new) (sym passed.1) (omega (arith, whole, has.1, read, passed.0.1, passed.0.2))
 
--- behind a line end and its margin
+-- the reads after a newline and its margin
 pub line_reads : (text : Text) (beside len before : ℕ) (old new : Reader) → old.at + len ≤ length text → IsReadBefore beside before old.at (owed old.pending) → AreReads len (10 * len - 2) before old.reads → 0 < len
     → IsMarginRead text len old new new.stage → HasRead text beside new
 line_reads text beside len before old new inside has read some margin = go new.stage margin
@@ -45,13 +45,13 @@ line_reads text beside len before old new inside has read some margin = go new.s
     go (stages.Fault begin fault end) margin = omega (arith, inside, has.1, read.1, some, margin.0, margin.1)
     go stages.Closed margin = absurd margin
 
--- at the text's end
+-- the reads at the end of the text
 pub end_reads : (text : Text) (beside rest before : ℕ) (old new : Reader) → length text ≡ old.at + rest → IsReadBefore beside before old.at (owed old.pending) → (old.reads ≡ before) × (rest ≡ 0)
     → IsPassedBy old.at old new × (new.stage ≡ stages.Closed) → HasRead text beside new
 end_reads text beside rest before old new whole has read passed =
     subst (HasReadAt text beside new) (sym passed.1) (omega (arith, whole, has.0, read.0, read.1, passed.0.1), omega (arith, whole, has.1, read.0, passed.0.1, passed.0.2))
 
--- behind a lexeme that was handed out
+-- the reads after a pending lexeme was yielded
 pub pending_reads : (text : Text) (beside : ℕ) (old new : Reader) → new.at ≡ old.at → more_reads old.reads 0 ≤ new.reads → new.reads + 5 * owed new.pending ≤ old.reads + 5 * owed old.pending
     → (stage : Stage) → HasReadAt text beside old stage → HasReadAt text beside new stage
 pending_reads text beside old new same least most stages.Begin has = (omega (arith, same, has.0), omega (arith, has.1, most))
@@ -59,14 +59,14 @@ pending_reads text beside old new same least most stages.Onward has = (omega (ar
 pending_reads text beside old new same least most (stages.Fault begin fault end) has = omega (arith, has, most)
 pending_reads text beside old new same least most stages.Closed has = (omega (arith, has.0, least), omega (arith, has.1, most))
 
--- more may be beside the walk
+-- the bound holds with more reads beside those of the pieces
 pub read_more : (text : Text) (beside more : ℕ) (reader : Reader) → beside ≤ more → (stage : Stage) → HasReadAt text beside reader stage → HasReadAt text more reader stage
 read_more text beside more reader less stages.Begin has = (has.0, omega (arith, less, has.1))
 read_more text beside more reader less stages.Onward has = (has.0, omega (arith, less, has.1))
 read_more text beside more reader less (stages.Fault begin fault end) has = omega (arith, less, has)
 read_more text beside more reader less stages.Closed has = (has.0, omega (arith, less, has.1))
 
--- what is looked at in vain is beside it
+-- lookahead that takes nothing counts beside the reads of the pieces
 pub looked_reads : (text : Text) (beside least most : ℕ) (old new : Reader) → old.stage ≡ stages.Onward → HasRead text beside old → HasLooked least most old new → HasRead text (beside + most) new
 looked_reads text beside least most old new onward has looked =
     let on : HasReadAt text beside old stages.Onward = subst (HasReadAt text beside old) onward has in
@@ -81,13 +81,13 @@ here_reads text beside least most old new has looked = subst (HasReadAt text (be
     by_stage (stages.Fault begin fault end) has = omega (arith, looked.2, looked.3.1, has)
     by_stage stages.Closed has = (omega (arith, looked.3.0, has.0), omega (arith, looked.2, looked.3.1, has.1))
 
--- where something else stands, what was looked at of it lies inside of the text
+-- the run that was peeked is in the text, where something else follows
 pub other_reads : {A : Type 0} (text rest : Text) (from extra reads : ℕ) (reader : Reader) (found : Result A ℕ) → rest ≡ drop from text → from ≤ length text → IfErr found (λ run. (run ≤ length rest) × AreReads 0 (2 * run + extra) reader.reads reads)
     → IfErr found (λ run. (from + run ≤ length text) × HasLookedHere 0 (2 * run + extra) reader (record reader { reads = reads }))
 other_reads text rest from extra reads reader (Ok value) cut inside other = tt
 other_reads text rest from extra reads reader (Err run) cut inside other = (run_inside text from run inside (subst (λ (t : Text). run ≤ length t) cut other.0), (refl, refl, omega arith, other.1))
 
--- what is looked at and then taken is part of it
+-- lookahead that is then taken is part of the reads of its piece
 pub taken_reads : (text : Text) (beside least most len : ℕ) (old mid new : Reader) → old.stage ≡ stages.Onward → HasRead text beside old → HasLooked least most old mid → len ≤ least → most ≤ 10 * len
     → IsPassedBy (mid.at + len) mid new × (new.stage ≡ stages.Onward) → HasRead text beside new
 taken_reads text beside least most len old mid new onward has looked enough few passed =
@@ -102,14 +102,14 @@ here_taken_reads text beside least most len old mid new onward has looked enough
     subst (HasReadAt text beside new) (sym passed.1)
     (omega (arith, enough, looked.0, looked.3.0, on.0, passed.0.0, passed.0.1), omega (arith, few, looked.0, looked.2, looked.3.1, on.1, passed.0.0, passed.0.1, passed.0.2))
 
--- and so is the start of an f-string, whose opener was looked at
+-- lookahead at an f-string's opener is part of the reads of its start
 pub begun_reads : (text : Text) (beside : ℕ) (old mid new : Reader) → old.stage ≡ stages.Onward → HasRead text beside old → HasLookedHere 3 3 old mid → HasStarted mid new → HasRead text beside new
 begun_reads text beside old mid new onward has looked begun =
     let on : HasReadAt text beside old stages.Onward = subst (HasReadAt text beside old) onward has in
     subst (HasReadAt text beside new) (sym begun.2)
     (omega (arith, looked.0, looked.3.0, on.0, begun.1, begun.4.0), omega (arith, looked.0, looked.2, looked.3.1, on.1, begun.0, begun.3, begun.4.1))
 
--- and so is a line end with its margin
+-- lookahead at a newline is part of the reads of it and its margin
 pub margin_reads : (text : Text) (beside len : ℕ) (old mid new : Reader) → mid.at + len ≤ length text → 1 ≤ len → old.stage ≡ stages.Onward → HasRead text beside old → HasLooked len ((5 * len - 4) + 3) old mid
     → IsMarginRead text len mid new new.stage → HasRead text beside new
 margin_reads text beside len old mid new inside some onward has looked margin =
@@ -118,7 +118,7 @@ margin_reads text beside len old mid new inside some onward has looked margin =
     let read : AreReads len (10 * len - 2) (old.reads + (mid.at - old.at)) mid.reads = (omega (arith, looked.0, looked.3.0), omega (arith, some, looked.0, looked.3.1)) in
     line_reads text beside len (old.reads + (mid.at - old.at)) mid new inside before read some margin
 
--- what is kept of a history doesn't speak of reads
+-- a state doesn't depend on the number of reads
 pub state_reads : (text : Text) (history : History) (reader : Reader) (reads : ℕ) → IsStateAfter text history reader → IsStateAfter text history (record reader { reads = reads })
 state_reads text history reader reads state =
     record { nesting = state.nesting; levels = state.levels; before = state.before; inside = state.inside; boundary = state.boundary; few = state.few; onward = state.onward; read = state.read }

@@ -47,13 +47,13 @@ use Rattle.starlark_grammar.proofs.Joining.KeptPlaces.{IsInMargin}
 use Rattle.starlark_grammar.proofs.Joining.LaidCuts.{Behind, First, MarginAt, line_laid}
 use Rattle.starlark_reader.proofs.Indentation.Waiting.{Hands, hands_first, hands_later}
 
--- What is kept is kept behind the text's first margin.
+-- a state is always after the first margin of the text
 begun : (text : Text) (history : History) (reader : Reader) → IsStateAfter text history reader → is_nothing history.before ≡ false
 begun text history reader kept = (behind_some reader.before history.before kept.before).0
 
 -- Layout
 
--- a token that changes neither brackets nor f-strings: one of layout, or a text of an f-string
+-- whether a token changes neither brackets nor f-strings: one of layout, or an f-string text
 abbrev pub is_quiet : grammar.Token → Bool
 is_quiet (grammar.FStringText value) = true
 is_quiet grammar.Newline = true
@@ -82,7 +82,7 @@ quiet_keeps grammar.Indent h = refl
 quiet_keeps grammar.Dedent h = refl
 quiet_keeps node h = cc
 
--- Such tokens leave brackets and f-strings as they are.
+-- tokens of layout and f-string texts leave brackets and f-strings unchanged
 pub quiet_kept : (lexemes : List Lexeme) (tokens : List grammar.Token) (nesting : Nesting) → AllQuiet lexemes → Represents tokens nesting → Represents (tokens_onto tokens lexemes) nesting
 quiet_kept [] tokens nesting h same = same
 quiet_kept (lexeme ∷ lexemes) tokens nesting h same = quiet_kept lexemes (lexeme.node ∷ tokens) nesting h.1 (one_kept lexeme.node tokens nesting (quiet_keeps lexeme.node h.0) (quiet_changes lexeme.node h.0) same)
@@ -111,7 +111,7 @@ indentation_is_quiet levels margin = go (nat_lt 0 (width_of margin) && is_widest
     go true = (refl, tt)
     go false = dedents_quiet margin.at (count_by (nat_lt (width_of margin)) levels)
 
--- A margin, with or without a line end before it: tokens of layout alone.
+-- a margin with or without a newline before it: tokens of layout alone
 pub record IsLayout (piece : Piece) : Type 0 where
   pub tokens : AllQuiet piece.lexemes
   pub sort : piece.sort ≡ Layout
@@ -137,7 +137,7 @@ first_is_quiet text piece e = subst (Each IsLayout (λ fault. ⊤)) e (margin_is
 
 -- A piece
 
--- what is kept behind one piece more
+-- the state after one more piece
 kept_behind : (text : Text) (history : History) (at : ℕ) (new : Reader) (piece : Piece) → IsUtf8 text → IsCharBoundary text at → next_step language history (drop at text) ≡ Stands piece
     → Represents (tokens_onto history.tokens piece.lexemes) new.nesting → new.levels ≡ open_widths (history.widths ++ option_to_list piece.width) → before_view new.before ≡ piece.sort → new.at ≡ at + piece.len → bracket_count new.nesting ≤ new.at
     → history_from (after history piece) (drop piece.len (drop at text)) ≡ history_of text → IsReadTo text (after history piece) new.at → IsStateAfter text (after history piece) new
@@ -157,13 +157,13 @@ kept_behind text history at new piece utf8 here stands nesting levels before is_
       read = read;
     }
 
--- What is known of the cuts of a piece that was read: that the place reached may be one, and where each lies.
+-- the cuts after a piece that was read: whether its offset is one, and where each is
 pub record AreCutsBehind (text : Text) (history : History) (at : ℕ) (piece : Piece) (new : Reader) : Type 0 where
   pub cut : IsCutAhead text new stage.Onward (length (pending_lexemes text new.pending) + length (remaining_outcome (after history piece) (at + piece.len) (drop piece.len (drop at text))).lexemes)
   pub cuts : HoldsCuts text new stage.Onward (length (remaining_outcome (after history piece) (at + piece.len) (drop piece.len (drop at text))).lexemes) (length piece.lexemes + length (remaining_outcome (after history piece) (at + piece.len) (drop piece.len (drop at text))).lexemes)
       (length (pending_lexemes text new.pending) + length (remaining_outcome (after history piece) (at + piece.len) (drop piece.len (drop at text))).lexemes)
 
--- a piece was read, by what is left behind it
+-- a piece was read, and the rest is left after it
 read_piece : (text : Text) (whole : Outcome) (history : History) (at : ℕ) (given : Option (ℕ × Token × ℕ)) (new : Reader) (piece : Piece) → GoesOn at piece whole (remaining_outcome (after history piece) (at + piece.len) (drop piece.len (drop at text)))
     → IsStateAfter text (after history piece) new → new.at ≡ at + piece.len → new.stage ≡ stage.Onward → Hands text given new.pending (map (moved at) piece.lexemes) → AreCutsBehind text history at piece new → IsRead text whole given new
 read_piece text whole history at given new piece goes kept is_at is_onward hands cuts =
@@ -190,7 +190,7 @@ took_by text history old given new piece utf8 kept stands cuts nesting levels be
     read_piece text (left_here text history old) history old.at given new piece (onward_stands history old.at (drop old.at text) piece (begun text history old kept) stands)
     (kept_behind text history old.at new piece utf8 kept.boundary stands nesting levels before is_at few (sym (history_onward history (drop old.at text) piece (begun text history old kept) stands) ∙ kept.onward) (read_more text history old.at new.at piece kept.read stands is_at)) is_at is_onward hands cuts
 
--- no cut lies in a piece that is no margin
+-- no cut is in a piece that is no margin
 no_cut_in : (text : Text) (history : History) (at : ℕ) (piece : Piece) (read : IsReadTo text history at) → is_nothing history.before ≡ false → next_step language history (drop at text) ≡ Stands piece → is_layout piece.sort ≡ false
     → (x : ℕ) → IsInMargin text x read.pieces → ⊥
 no_cut_in text history at piece read begun stands other x found = by found.n found.margin
@@ -247,7 +247,7 @@ not_zero (suc n) some = go (suc n == 0) refl
     go true e = absurd (omega (arith, eqb-true (suc n) 0 e))
     go false e = refl
 
--- one that stands has no tab before content
+-- a first margin without fault has no tab before content
 pub no_tab : (text : Text) (piece : Piece) → first_margin text ≡ Stands piece → begins_with_tab text ≡ false
 no_tab text piece stands = go (begins_with_tab text) refl
   where
@@ -258,7 +258,7 @@ no_tab text piece stands = go (begins_with_tab text) refl
         let both : Stands piece ≡ Fails tab = sym stands ∙ margin_tab 0 [] [] (margin_of text) (record { content = parts.0; is = parts.1 }) in
         cc
 
--- it stands where something was read
+-- where something was read, the first margin has no tab before content
 state_begun : (text : Text) (history : History) (reader : Reader) → IsStateAfter text history reader → has_read_none reader ≡ begins_with_tab text
 unfolding after
 state_begun text history reader kept = go kept.read.pieces kept.read.reads kept.read.is_history kept.read.reach
@@ -277,7 +277,7 @@ state_begun text history reader kept = go kept.read.pieces kept.read.reads kept.
     go [] reads same reach = let both : true ≡ false = ap (λ (h : History). is_nothing h.before) same ∙ begun text history reader kept in cc
     go (piece ∷ pieces) reads same reach = unread piece pieces reads same reach ∙ sym (no_tab text piece (sym (margin_first text) ∙ reads.0))
 
--- a reader that stands where another does
+-- `has_read_none` depends on the offset and the kind of the piece before
 same_place : (old new : Reader) → new.at ≡ old.at → new.before ≡ old.before → has_read_none new ≡ has_read_none old
 same_place old new at before = ap (λ n. n == 0 && not (is_layout (before_view new.before))) at ∙ ap (λ b. old.at == 0 && not (is_layout (before_view b))) before
 
@@ -330,7 +330,7 @@ closed text history old given new here kept ends hands is =
       cuts = λ x behind cut least most. absurd (none_at_end text history old.at kept.read (begun text history old kept) ends x behind cut (omega (arith, most, ap (λ (o : Outcome). length o.lexemes) left)));
     }
 
--- what closes a text
+-- the lexemes that close a text
 pub closing_hands : (text : Text) (history : History) (at count : ℕ) (levels : List ℕ) (pending : Pending) (found : Token) → token_view found ≡ Whole grammar.Newline → levels ≡ open_widths history.widths → count ≡ length levels
     → (pending_lexemes text pending ≡ replicate count (record { begin = at; node = grammar.Dedent; end = at })) × IsPending text pending → Hands text (Some (at, found, at)) pending (closing at history)
 closing_hands text history at count levels pending found is open_now counted waits =
@@ -340,7 +340,7 @@ closing_hands text history at count levels pending found is open_now counted wai
 
 -- What is ahead, where something was read
 
--- a cut behind none of the lines is reached
+-- a cut before all pending lines is reached
 pub reached_by : (text : Text) (reader : Reader) (at ahead : ℕ) → IsInFlatMargin reader reader.stage × IsAfterLines text reader.pending at ahead ahead → IsReached reader at
 reached_by text reader at ahead is =
     let none : is.1.passed ≡ 0 = omega (arith, is.1.count) in
@@ -416,11 +416,11 @@ none_open (level ∷ levels) h = absurd (omega (arith, eqb-true (length (level �
 
 module _ (text : Text) (history : History) (old : Reader) (len : ℕ) (kept : IsStateAfter text history old)
     (here : step_here text history old ≡ line_end len (open_widths history.widths) (drop len (drop old.at text))) where
-  -- the lexeme of the line end
+  -- the lexeme of the newline
   abbrev given_line : List Lexeme
   given_line = record { begin = old.at; node = grammar.Newline; end = old.at + len } ∷ []
 
-  -- what stands here, by the text behind the line end
+  -- the step here, by the text after the newline
   line_here : step_here text history old ≡ line_end len (open_widths history.widths) (drop (old.at + len) text)
   line_here = here ∙ ap (line_end len (open_widths history.widths)) (sym (drop-sum old.at len text))
 
@@ -452,7 +452,7 @@ module _ (text : Text) (history : History) (old : Reader) (len : ℕ) (kept : Is
   line_refused new error end refused is at before =
       failed text history old new (record { begin = 0; node = refused.node; end = end }) error kept (line_here ∙ refused.stands) refused.is is (hands_later text new.pending [] refused.is_pending refused.lexemes) at before
 
--- Nothing is kept yet.
+-- a reader that has read nothing
 pub record IsNew (reader : Reader) : Type 0 where
   pub at : reader.at ≡ 0
   pub nesting : Represents [] reader.nesting
@@ -480,7 +480,7 @@ module _ (text : Text) (old new : Reader) (is_new : IsNew old) where
   margin_refused error end refused is at before =
       failed_first text new (record { begin = 0; node = refused.node; end = end }) error refused.stands refused.is (is ∙ ap (λ n. stage.Fault (n + 0) error (n + end)) is_new.at) (hands_later text new.pending _ refused.is_pending refused.lexemes) (at ∙ is_new.at) (before ∙ is_new.before)
 
--- what is ahead where nothing is to be handed out before it
+-- what is ahead where no lexeme is pending
 pub none_before : (text : Text) (reader : Reader) (now : Stage) (lexemes : List (Spanned TokenView)) (fault : Option (Spanned grammar.Fault)) (left : Outcome) → IsIdle text reader.pending → (ahead : IsAhead text reader now lexemes fault) → ahead.left ≡ left
     → (lexemes ≡ map shown_lexeme left.lexemes) × (fault ≡ left.fault)
 none_before text reader now lexemes fault left idle ahead e = (
@@ -488,7 +488,7 @@ none_before text reader now lexemes fault left idle ahead e = (
   ahead.those_after ∙ ap (λ (o : Outcome). o.fault) e,
 )
 
--- what a text comes to is ahead, where something was read from its begin on
+-- the outcome of a text is ahead, where something was read from its start on
 pub first_ahead : (text : Text) (old new : Reader) (lexemes : List (Spanned TokenView)) (fault : Option (Spanned grammar.Fault)) → IsRead text (outcome text) None new → IsIdle text old.pending → IsAhead text old stage.Begin lexemes fault → IsAhead text new new.stage lexemes fault
 first_ahead text old new lexemes fault read idle ahead =
     let both = none_before text old stage.Begin lexemes fault (outcome text) idle ahead ahead.is_left.0 in

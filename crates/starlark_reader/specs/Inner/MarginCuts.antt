@@ -1,4 +1,4 @@
--- Places where a text may be cut, in margins of which the lexemes are still to be handed out.
+-- Where a text may be cut, in margins with pending lexemes.
 use Rattle.std.specs.Prelude.{◌≡◌, ◌≤◌, ◌<◌, true, ℕ, ◌+◌, List, ◌++◌, length, drop, sum_by, take, ◌⊎◌}
 use Rattle.starlark_grammar.specs.Words.{Text, language}
 use Rattle.starlark_grammar.specs.Margins.{lines}
@@ -7,26 +7,26 @@ use Rattle.starlark_grammar.specs.Cuts.{is_clean_cut, is_kept_cut, without_closi
 use Rattle.starlark_reader.specs.Inner.Pending.{lines_between}
 use Rattle.starlark_reader.specs.declared.pending.Pending.{Pending}
 
--- how many lexemes of a text stand before a kept cut
+-- the number of lexemes of a text before a kept cut
 abbrev pub lexemes_before : Text → ℕ → ℕ
 lexemes_before text at = length (without_closing (outcome (take at text)).lexemes)
 
--- A kept cut of a text, which lies before its end, behind all lexemes but so many.
+-- byte `at` is a kept cut before the text's end, and `ahead` lexemes are after it
 pub record IsCutBefore (text : Text) (at ahead : ℕ) : Type 0 where
   pub inside : at < length text
   pub is_kept : is_kept_cut text at ≡ true
   pub count : lexemes_before text at + ahead ≡ length (outcome text).lexemes
 
--- A place lies behind so many of the lines of which the comments are still to be handed out: behind all lexemes of the text
--- but so many.
+-- byte `at` is after some of the lines whose comments are pending: `behind` lexemes are after it,
+-- if `ahead` are after byte `pending.from`
 pub record IsAfterLines (text : Text) (pending : Pending) (at behind ahead : ℕ) : Type 0 where
   pub passed : ℕ
   pub few : passed ≤ length (lines_between text pending.from pending.to)
   pub place : at ≡ pending.from + sum_by (λ (line : Text). length line) (take passed (lines_between text pending.from pending.to))
   pub count : behind + passed ≡ ahead
 
--- In a margin before which nothing is open, all lexemes before a place were handed out, and so many of the text are ahead.
--- The place is the margin's begin, or behind a line of it.
+-- in a margin with no indent open before it, byte `pending.from` is the margin's start or after a
+-- line of it; all lexemes before that byte were yielded, and `ahead` of the text are left
 pub record IsMarginAhead (text : Text) (pending : Pending) (ahead : ℕ) : Type 0 where
   pub before : ℕ
   pub more : List Text

@@ -1,4 +1,4 @@
--- What the reader of a text has in front of it, as the grammar sees it.
+-- What is ahead of a reader in its text, as the grammar sees it.
 use Rattle.std.specs.Prelude.{◌≡◌, ◌==◌, ◌&&◌, not, Bool, true, false, ℕ, ◌+◌, ◌-◌, ◌≤◌, ◌<◌, List, [], ◌∷◌, ◌++◌, map, length, drop, take, Option, Some, None, option_to_list, ⊤}
 use Rattle.std.specs.Str.{IsCharBoundary}
 use Rattle.starlark_grammar.specs.Words.{Text, language}
@@ -32,46 +32,46 @@ use Rattle.starlark_reader.specs.declared.reader.Next.TheVariants as next
 use Rattle.starlark_reader.specs.declared.reader.Stage.{Stage}
 use Rattle.starlark_reader.specs.declared.reader.Stage.TheVariants as stage
 
--- what pieces come to that are read from a place on, behind a history, and what stands behind them
+-- the outcome of pieces from byte `at` on, after a history, and of the step after them
 abbrev pub outcome_along : History → ℕ → List Piece → Step → grammar.Outcome
 outcome_along history at pieces (Fails fault) = record { lexemes = lexemes_along at pieces; fault = Some (grammar.moved (at + pieces_len pieces) fault) }
 outcome_along history at pieces step = record { lexemes = lexemes_along at pieces ++ closing (at + pieces_len pieces) (after_all history pieces); fault = None }
 
--- What the rest of a text comes to, from a place on and behind a history.
+-- the outcome of the rest of a text from byte `at` on, after a history
 unfoldable pub remaining_outcome : History → ℕ → Text → grammar.Outcome
 remaining_outcome history at text = go (read_from language history 0 text)
   where
     go : Reading → grammar.Outcome
     go reading = outcome_along history at reading.pieces reading.last
 
--- the history at a text's end, behind all that is read of it
+-- the history after all pieces of a text
 unfoldable pub history_of : Text → History
 history_of text = after_all nothing (read language text).pieces
 
--- the history behind all that is read of the rest of a text, from one before it
+-- the history after all pieces of the rest of a text, given the one before it
 unfoldable pub history_from : History → Text → History
 history_from history text = after_all history (read_from language history 0 text).pieces
 
--- what the last piece was
+-- the kind of the last piece, as the grammar names it
 abbrev pub before_view : code.Before → Before
 before_view before.Layout = Layout
 before_view before.Gap = Gap
 before_view before.Other = Other
 
--- what a piece is that gives nothing
+-- the kind of a piece without lexemes: a gap, or another
 abbrev pub silent_sort : Bool → code.Before
 silent_sort true = before.Gap
 silent_sort false = before.Other
 
--- Pieces of a text up to a place, behind which a history is that of the text.
+-- the history is that of a text's pieces up to byte `at`
 pub record IsReadTo (text : Text) (history : History) (at : ℕ) : Type 0 where
   pub pieces : List Piece
   pub reads : IsReading language nothing text pieces
   pub is_history : after_all nothing pieces ≡ history
   pub reach : pieces_len pieces ≡ at
 
--- What is kept of a history before a place is what its tokens, widths and last piece say, and what is read from there on
--- leads to the history at the text's end.
+-- the reader stores what the history says at its offset: tokens, widths and last piece; reading on
+-- from there leads to the history at the text's end
 pub record IsStateAfter (text : Text) (history : History) (reader : Reader) : Type 0 where
   pub nesting : Represents history.tokens reader.nesting
   pub levels : reader.levels ≡ open_widths history.widths
@@ -82,7 +82,7 @@ pub record IsStateAfter (text : Text) (history : History) (reader : Reader) : Ty
   pub onward : history_from history (drop reader.at text) ≡ history_of text
   pub read : IsReadTo text history reader.at
 
--- whether a text's first margin has a tab before content, so that it is a fault
+-- whether a text's first margin has a tab before content, which is a fault
 abbrev pub begins_with_tab : Text → Bool
 begins_with_tab text = is_content (margin_of text).behind && has_tab (margin_of text)
 
@@ -90,35 +90,37 @@ begins_with_tab text = is_content (margin_of text).behind && has_tab (margin_of 
 abbrev pub has_read_none : Reader → Bool
 has_read_none reader = reader.at == 0 && not (is_layout (before_view reader.before))
 
--- What is still to be read at a stage: the whole text, the rest from a place on, a fault, or nothing. The place lies
--- inside of the text.
+-- what is still to be read at a stage: the whole text, the rest from the reader's offset on, a
+-- fault, or nothing; the offset is in the text
 abbrev pub IsLeft : Text → Reader → Stage → grammar.Outcome → Type 0
 IsLeft text reader stage.Begin left = (left ≡ outcome text) × (reader.at ≡ 0) × (Represents [] reader.nesting) × (reader.levels ≡ []) × (bracket_count reader.nesting ≡ 0) × (reader.before ≡ before.Other)
 IsLeft text reader stage.Onward left = (history : History) × IsStateAfter text history reader × (left ≡ remaining_outcome history reader.at (drop reader.at text))
 IsLeft text reader (stage.Fault begin fault end) left = (node : grammar.Fault) × (fault_view fault ≡ Some node) × (left ≡ record { lexemes = []; fault = Some (record { begin = begin; node = node; end = end }) }) × (has_read_none reader ≡ begins_with_tab text) × (reader.at ≤ length text)
 IsLeft text reader stage.Closed left = (left ≡ record { lexemes = []; fault = None }) × IsStateAfter text (history_of text) reader
 
--- Whether the place that is reached in a margin is one where the text may be cut, where so many lexemes are ahead.
+-- in a flat margin, if `pending.from` isn't the text's end: all lexemes before that byte were
+-- yielded, and `ahead` are left
 abbrev pub IsCutAhead : Text → Reader → Stage → ℕ → Type 0
 IsCutAhead text reader now ahead =
     now ≡ stage.Onward → reader.before ≡ before.Layout → reader.pending.is_flat ≡ true → reader.pending.from < length text → IsMarginAhead text reader.pending ahead
 
--- It is in a margin before which no width is open, and nothing behind the margin's comments was handed out.
+-- the reader is after a margin with no indent open before it, and no lexeme after the margin's
+-- comments was yielded
 abbrev pub IsInFlatMargin : Reader → Stage → Type 0
 IsInFlatMargin reader now = (now ≡ stage.Onward) × (reader.before ≡ before.Layout) × (reader.pending.is_flat ≡ true)
 
--- Each kept cut before a text's end behind which as many lexemes stand as one number says or more, and fewer than another
--- says, lies in such a margin, where so many lexemes are ahead.
+-- each kept cut with `least` or more lexemes after it, and fewer than `most`, is in the reader's
+-- flat margin; `ahead` lexemes are left there
 abbrev pub HoldsCuts : Text → Reader → Stage → ℕ → ℕ → ℕ → Type 0
 HoldsCuts text reader now least most ahead =
     (at behind : ℕ) → IsCutBefore text at behind → least ≤ behind → behind < most → IsInFlatMargin reader now × IsAfterLines text reader.pending at behind ahead
 
--- A place is the one that is reached in such a margin.
+-- byte `at` is the offset reached in the reader's flat margin
 abbrev pub IsReached : Reader → ℕ → Type 0
 IsReached reader at = IsInFlatMargin reader reader.stage × (at ≡ reader.pending.from)
 
--- What is still to be handed out of a text: the lexemes that were read, those still to be read, and the fault behind
--- them.
+-- the lexemes and the fault that are still to be yielded: pending lexemes, those still to be read,
+-- and the fault after them
 pub record IsAhead (text : Text) (reader : Reader) (stage : Stage) (lexemes : List (grammar.Spanned TokenView)) (fault : Option (grammar.Spanned grammar.Fault)) : Type 0 where
   pub left : grammar.Outcome
   pub is_left : IsLeft text reader stage left
@@ -128,16 +130,17 @@ pub record IsAhead (text : Text) (reader : Reader) (stage : Stage) (lexemes : Li
   pub cut : IsCutAhead text reader stage (length lexemes)
   pub cuts : HoldsCuts text reader stage (length left.lexemes) (length lexemes) (length lexemes)
 
--- Something is still to be handed out, if only the end.
+-- something is still to be yielded, if only the end
 abbrev pub IsReady : Text → Reader → Stage → Type 0
 IsReady text reader stage = (lexemes : List (grammar.Spanned TokenView)) × (fault : Option (grammar.Spanned grammar.Fault)) × IsAhead text reader stage lexemes fault
 
--- The same behind a lexeme, where one was handed out. A kept cut that lies right behind it is reached.
+-- what is ahead after a lexeme was yielded, if one was; a kept cut right after it is reached
 abbrev pub IsAheadAfter : Text → Option (ℕ × Token × ℕ) → Reader → List (grammar.Spanned TokenView) → Option (grammar.Spanned grammar.Fault) → Type 0
 IsAheadAfter text None reader lexemes fault = IsAhead text reader reader.stage lexemes fault
 IsAheadAfter text (Some lexeme) reader lexemes fault = (more : List (grammar.Spanned TokenView)) × (lexemes ≡ lexeme_view lexeme ∷ more) × IsAhead text reader reader.stage more fault × ((at : ℕ) → IsCutBefore text at (length more) → IsReached reader at)
 
--- Some lexemes of an outcome were read, of which the first may be handed out, and the rest of it is still to be read.
+-- lexemes of an outcome were read: the first may be the one given, the others are pending, and the
+-- rest of the outcome is still to be read
 pub record IsRead (text : Text) (whole : grammar.Outcome) (given : Option (ℕ × Token × ℕ)) (new : Reader) : Type 0 where
   pub lexemes : List grammar.Lexeme
   pub left : grammar.Outcome
@@ -149,15 +152,15 @@ pub record IsRead (text : Text) (whole : grammar.Outcome) (given : Option (ℕ �
   pub cut : IsCutAhead text new new.stage (length (pending_lexemes text new.pending) + length left.lexemes)
   pub cuts : HoldsCuts text new new.stage (length left.lexemes) (length lexemes + length left.lexemes) (length (pending_lexemes text new.pending) + length left.lexemes)
 
--- the step that stands where a reader is, behind a history
+-- the step at the reader's offset, after a history
 abbrev pub step_here : Text → History → Reader → Step
 step_here text history reader = next_step language history (drop reader.at text)
 
--- what is left of a text from where a reader is, behind a history
+-- the outcome of a text from the reader's offset on, after a history
 abbrev pub left_here : Text → History → Reader → grammar.Outcome
 left_here text history reader = remaining_outcome history reader.at (drop reader.at text)
 
--- A number that is less after each piece.
+-- a measure that decreases with each piece
 abbrev pub left_to_read : Text → Reader → Stage → ℕ
 left_to_read text reader stage.Begin = length text + 3
 left_to_read text reader stage.Onward = length text - reader.at + 2
@@ -174,23 +177,24 @@ IsOver now = ⊥
 abbrev pub IsSomething : List (grammar.Spanned TokenView) → Option (grammar.Spanned grammar.Fault) → Type 0
 IsSomething lexemes fault = lexemes ≡ [] → fault ≡ None → ⊥
 
--- What comes next, and what is ahead behind it: the first lexeme that is ahead, the fault where none is, or neither.
+-- what is returned next, and what is ahead after it: the first lexeme ahead, else the fault, else
+-- nothing
 abbrev pub IsNext : Text → List (grammar.Spanned TokenView) → Option (grammar.Spanned grammar.Fault) → Next → Reader → Type 0
 IsNext text lexemes fault (next.Lexeme lexeme) reader = IsAheadAfter text (Some lexeme) reader lexemes fault
 IsNext text lexemes fault (next.Fault begin error end) reader = (node : grammar.Fault) × (fault_view error ≡ Some node) × (lexemes ≡ []) × (fault ≡ Some (record { begin = begin; node = node; end = end })) × (has_read_none reader ≡ begins_with_tab text)
 IsNext text lexemes fault next.Nothing reader = (lexemes ≡ []) × (fault ≡ None) × IsAhead text reader reader.stage [] None × IsStateAfter text (history_of text) reader
 
--- A reader is at a place of code.
+-- the reader is in code or in an f-string expression
 abbrev pub IsInCode : Reader → Type 0
 IsInCode reader = (before : List grammar.Token) → Represents before reader.nesting → is_code (mode_after before) ≡ true
 
--- The text is to be read on where a reader is, at a place of code, and nothing else is to be handed out before.
+-- the next lexeme is to be read at the reader's offset, in code, and none is pending
 pub record IsAtCode (text : Text) (reader : Reader) : Type 0 where
   pub stage : reader.stage ≡ stage.Onward
   pub idle : IsIdle text reader.pending
   pub code : IsInCode reader
 
--- A word stands where a reader is, at a place of code, and nothing else is to be handed out before it.
+-- a word is at the reader's offset, in code, and no lexeme is pending
 pub record IsWordHere (text : Text) (reader : Reader) (word : Word) : Type 0 where
   pub stage : reader.stage ≡ stage.Onward
   pub idle : IsIdle text reader.pending
@@ -198,30 +202,30 @@ pub record IsWordHere (text : Text) (reader : Reader) (word : Word) : Type 0 whe
   pub front : Some (word_view word) ≡ language_front (drop reader.at text)
   pub bang : is_bang (drop reader.at text) ≡ false
 
--- The bang of an f-string's expression stands where a reader is, and nothing else is to be handed out before it.
+-- the bang of an f-string expression is at the reader's offset, and no lexeme is pending
 pub record IsBangHere (text : Text) (reader : Reader) : Type 0 where
   pub stage : reader.stage ≡ stage.Onward
   pub idle : IsIdle text reader.pending
   pub code : IsInCode reader
   pub stands : (history : History) → IsStateAfter text history reader → step_here text history reader ≡ pieces.token 1 grammar.FStringBang
 
--- A text of an f-string that denotes itself stands where a reader is, and nothing else is to be handed out before it.
+-- an f-string text without escapes is at the reader's offset, and no lexeme is pending
 pub record IsPlainTextHere (text : Text) (reader : Reader) (found : PlainText) : Type 0 where
   pub stage : reader.stage ≡ stage.Onward
   pub idle : IsIdle text reader.pending
   pub boundary : IsCharBoundary (drop reader.at text) found.len
   pub stands : (history : History) → IsStateAfter text history reader → step_here text history reader ≡ text_step found.len (take found.len (drop reader.at text)) found.stop found.stop_len
 
--- Line ends count where a reader is: all brackets are closed, and no f-string is open.
+-- newlines count at the reader's offset: all brackets are closed, and no f-string is open
 abbrev pub CountsLineEnds : Reader → Type 0
 CountsLineEnds reader = (before : List grammar.Token) → Represents before reader.nesting → counts (mode_after before) (is_balanced before) ≡ true
 
--- The `Newline` of a line end at a place, of so many bytes, if its margin has no fault.
+-- the `Newline` of a newline of `len` bytes at byte `at`, if its margin has no fault
 abbrev pub newline_if : Bool → ℕ → ℕ → Option (ℕ × Token × ℕ)
 newline_if true at len = Some (at, token.Newline, at + len)
 newline_if false at len = None
 
--- The `Newline` of a line end at a place, of so many bytes, by what became of it.
+-- the `Newline` of a newline of `len` bytes at byte `at`, if that is its outcome
 abbrev pub newline_of : LineEnd → ℕ → ℕ → Option (ℕ × Token × ℕ)
 newline_of line_end.Newline at len = newline_if true at len
 newline_of line_end at len = None

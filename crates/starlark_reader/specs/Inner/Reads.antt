@@ -1,4 +1,4 @@
--- How often the bytes of what was read are read.
+-- Numbers of reads of bytes, by what was read.
 use Rattle.std.specs.Prelude.{◌≡◌, ◌≤◌, ◌<◌, ◌+◌, ◌-◌, ◌*◌, ℕ, ⊤, length}
 use Rattle.starlark_grammar.specs.Words.{Text}
 use Rattle.starlark_words.specs.Inner.Reads.{AreReads, more_reads}
@@ -13,30 +13,31 @@ use Rattle.starlark_reader.specs.declared.reader.Stage.{Stage}
 use Rattle.starlark_reader.specs.declared.reader.Stage.TheVariants as stage
 use Rattle.starlark_reader.specs.Inner.Pending.{owed}
 
--- Reads of a token or a fault behind what was passed of it, in a text that goes on for `rest` bytes: so many a byte.
+-- reads of a step after its first `passed` bytes: at most `factor` a byte; a fault is read in a
+-- text that goes on for `rest` bytes
 abbrev pub AreStepReads : (passed factor rest extra : ℕ) → Step → (before after : ℕ) → Type 0
 AreStepReads passed factor rest extra (step.Token token len) before after = AreReads (len - passed) (factor * (len - passed)) before after × (passed < len)
 AreStepReads passed factor rest extra (step.Text text text_len stop len) before after = AreReads (text_len + len - passed) (factor * (text_len + len - passed)) before after × (passed < text_len + len)
 AreStepReads passed factor rest extra (step.Fault begin fault end) before after = after ≤ before + factor * rest + extra
 
--- A step of a word: it takes the whole word of so many bytes, or is a fault.
+-- the step takes a whole word of `len` bytes, or is a fault
 abbrev pub IsOfWord : ℕ → Step → Type 0
 IsOfWord len (step.Token token taken) = taken ≡ len
 IsOfWord len (step.Text text text_len stop taken) = ⊥
 IsOfWord len (step.Fault begin fault end) = ⊤
 
--- A step is a fault.
+-- the step is a fault
 abbrev pub IsFault : Step → Type 0
 IsFault (step.Fault begin fault end) = ⊤
 IsFault step = ⊥
 
--- Reads of a token or a fault behind its word of so many bytes, which may be the whole of it.
+-- reads of a token or a fault after its word of `passed` bytes, which may be all of it
 abbrev pub AreWordReads : (passed factor more rest extra : ℕ) → Step → (before after : ℕ) → Type 0
 AreWordReads passed factor more rest extra (step.Token token len) before after = AreReads (len - passed) (factor * (len - passed) + more) before after × (passed ≤ len)
 AreWordReads passed factor more rest extra (step.Text text text_len stop len) before after = ⊥
 AreWordReads passed factor more rest extra (step.Fault begin fault end) before after = after ≤ before + factor * rest + extra
 
--- Reads of a piece in a text that goes on for `rest` bytes: so many a byte.
+-- reads of a piece in a text that goes on for `rest` bytes: at most `factor` a byte
 abbrev pub ArePieceReads : (factor rest extra : ℕ) → Piece → (before after : ℕ) → Type 0
 ArePieceReads factor rest extra (piece.Nothing len is_gap) before after = AreReads len (factor * len) before after × (0 < len)
 ArePieceReads factor rest extra (piece.LineEnd len) before after = AreReads len (factor * len - 2) before after × (0 < len)
@@ -44,12 +45,12 @@ ArePieceReads factor rest extra (piece.FString opening len) before after = AreRe
 ArePieceReads factor rest extra (piece.Lexed step) before after = AreStepReads 0 factor rest extra step before after
 ArePieceReads factor rest extra piece.End before after = (after ≡ before) × (rest ≡ 0)
 
--- Reads of a piece where no word stands: of a bang, or of a character that no word begins with.
+-- reads of a piece that is no word: a bang, or a character that no word begins with
 abbrev pub AreWordlessReads : (rest : ℕ) → Piece → (before after : ℕ) → Type 0
 AreWordlessReads rest (piece.Lexed step) before after = AreStepReads 0 3 rest 2 step before after
 AreWordlessReads rest piece before after = ⊥
 
--- Reads of a piece behind its word of so many bytes, which were read before.
+-- reads of a piece after its word of `passed` bytes, which were read before
 abbrev pub AreReadsAfter : (passed factor rest extra : ℕ) → Piece → (before after : ℕ) → Type 0
 AreReadsAfter passed factor rest extra (piece.Nothing len is_gap) before after = (len ≡ passed) × (after ≡ before)
 AreReadsAfter passed factor rest extra (piece.LineEnd len) before after = (len ≡ passed) × (after ≡ before)
@@ -57,42 +58,43 @@ AreReadsAfter passed factor rest extra (piece.FString opening len) before after 
 AreReadsAfter passed factor rest extra (piece.Lexed step) before after = AreWordReads passed factor 2 rest extra step before after
 AreReadsAfter passed factor rest extra piece.End before after = ⊥
 
--- A reader went on to a place, and read nothing.
+-- the reader advanced to byte `at`, and read nothing
 abbrev pub IsPassedBy : ℕ → Reader → Reader → Type 0
 IsPassedBy at old new = (new.at ≡ at) × (new.reads ≡ old.reads) × (owed new.pending ≤ owed old.pending)
 
--- A reader took a piece of so many bytes, and read nothing.
+-- the reader took a piece of `len` bytes, and read nothing
 abbrev pub IsTaken : ℕ → Reader → Reader → Type 0
 IsTaken len old new = (0 < len) × IsPassedBy (old.at + len) old new × (new.stage ≡ stage.Onward)
 
--- A reader looked at bytes, at least and at most so often, and once more at each byte that it went on by.
+-- the reader peeked with `least` to `most` reads, and one more for each byte that it advanced
 abbrev pub HasLooked : (least most : ℕ) → Reader → Reader → Type 0
 HasLooked least most old new =
     (old.at ≤ new.at) × (new.stage ≡ old.stage) × (owed new.pending ≤ owed old.pending) × AreReads (new.at - old.at + least) (new.at - old.at + most) old.reads new.reads
 
--- A reader looked at bytes, at least and at most so often, and stays where it was.
+-- the reader peeked with `least` to `most` reads, and its offset is unchanged
 abbrev pub HasLookedHere : (least most : ℕ) → Reader → Reader → Type 0
 HasLookedHere least most old new = (new.at ≡ old.at) × (new.stage ≡ old.stage) × (owed new.pending ≤ owed old.pending) × AreReads least most old.reads new.reads
 
--- A reader took the start of an f-string, whose opener has two bytes, and looked at the two bytes behind that.
+-- the reader took the start of an f-string, whose opener has two bytes, and read the two bytes
+-- after that
 abbrev pub HasStarted : Reader → Reader → Type 0
 HasStarted old new = (old.at + 2 ≤ new.at) × (new.at ≤ old.at + 4) × (new.stage ≡ stage.Onward) × (owed new.pending ≤ owed old.pending) × AreReads 2 2 old.reads new.reads
 
--- A reader went on behind a token of so many bytes, or stopped at a fault, and read nothing.
+-- the reader advanced past the step, or stopped at its fault, and read nothing
 abbrev pub IsPassed : Reader → Step → Reader → Type 0
 IsPassed old (step.Token token len) new = IsPassedBy (old.at + len) old new × (new.stage ≡ stage.Onward)
 IsPassed old (step.Text text text_len stop len) new = IsPassedBy (old.at + (text_len + len)) old new × (new.stage ≡ stage.Onward)
 IsPassed old (step.Fault begin fault end) new = IsPassedBy old.at old new × (new.stage ≡ stage.Fault (old.at + begin) fault (old.at + end))
 
--- A margin behind a line end of so many bytes was read.
+-- the margin after a newline of `len` bytes was read
 abbrev pub IsMarginRead : Text → ℕ → Reader → Reader → Stage → Type 0
 IsMarginRead text len old new stage.Onward =
     AreReads (new.at - (old.at + len)) (5 * (new.at - (old.at + len)) + 2) old.reads new.reads × (old.at + len + owed new.pending ≤ new.at)
 IsMarginRead text len old new (stage.Fault begin fault end) = (new.reads ≤ old.reads + 5 * (length text - (old.at + len)) + 2) × (owed new.pending ≤ length text - (old.at + len))
 IsMarginRead text len old new stage = ⊥
 
--- How often a reader has read bytes at a stage: at least once each byte that it passed, and at most ten times, and so
--- many times beside. What it owes, it may read five times more.
+-- the reads at a stage: one to ten for each byte passed, and `beside` others; the upper bound
+-- includes five for each byte of pending comments
 abbrev pub HasReadAt : (text : Text) (beside : ℕ) → Reader → Stage → Type 0
 HasReadAt text beside reader stage.Begin = (reader.at ≡ 0) × (reader.reads + 5 * owed reader.pending ≤ beside)
 HasReadAt text beside reader stage.Onward = (more_reads 0 reader.at ≤ reader.reads) × (reader.reads + 5 * owed reader.pending ≤ beside + 10 * reader.at + 2)
@@ -102,7 +104,7 @@ HasReadAt text beside reader stage.Closed = (more_reads 0 (length text) ≤ read
 abbrev pub HasRead : (text : Text) (beside : ℕ) → Reader → Type 0
 HasRead text beside reader = HasReadAt text beside reader reader.stage
 
--- the same behind a lexeme that was handed out, behind a fault, and at the text's end
+-- the reads after `next` was returned: a lexeme, the fault, or the end
 abbrev pub HasReadNext : (text : Text) (beside : ℕ) → Next → Reader → Type 0
 HasReadNext text beside (next.Lexeme lexeme) reader = HasRead text beside reader
 HasReadNext text beside (next.Fault begin fault end) reader = reader.reads ≤ beside + 10 * (length text + 1)

@@ -1,4 +1,4 @@
--- What was read at a place of a text, and what stands there.
+-- Steps of the code, as the grammar sees them.
 use Rattle.std.specs.Prelude.{◌≡◌, ℕ, ◌+◌, ◌++◌, ◌∷◌, [], false, Some, string_bytes, take}
 use Rattle.std.specs.Str.{IsCharBoundary}
 use Rattle.starlark_grammar.specs.Words.{Text}
@@ -15,17 +15,18 @@ use Rattle.starlark_reader.specs.declared.literal.chunks.PlainText.{PlainText}
 use Rattle.starlark_reader.specs.declared.literal.pieces.Step.{Step}
 use Rattle.starlark_reader.specs.declared.literal.pieces.Step.TheVariants as step
 
--- a text of an f-string of so many bytes, what it denotes, and what ends it
+-- the step of an f-string text of `text_len` bytes, its value, and the `len` bytes that end it
 abbrev pub text_step : ℕ → Text → TextEnd → ℕ → pieces.Step
 text_step text_len value stop len = pieces.piece (text_len + len) (pieces.chunk_text text_len value ++ record { begin = text_len; node = text_end_node stop; end = text_len + len } ∷ [])
 
--- A token, which begins no f-string, or a fault that was read stands at the place.
+-- the step of the grammar is the one read: a token that begins no f-string, an f-string text, or a
+-- fault
 abbrev pub IsStep : pieces.Step → Step → Type 0
 IsStep stands (step.Token token len) = (node : grammar.Token) × (token_view token ≡ Whole node) × (is_fstring_start node ≡ false) × (stands ≡ pieces.token len node)
 IsStep stands (step.Text text text_len stop len) = stands ≡ text_step text_len (string_bytes text) stop len
 IsStep stands (step.Fault begin fault end) = (node : grammar.Fault) × (fault_view fault ≡ Some node) × (stands ≡ pieces.fault begin node end)
 
--- At the front of a text stands a text of an f-string that denotes itself, and what ends it.
+-- the text begins with an f-string text without escapes, and what ends it
 pub record IsPlainText (opening : Opening) (text : Text) (found : PlainText) : Type 0 where
   pub boundary : IsCharBoundary text found.len
   pub stands : pieces.chunk (opening_view opening) text ≡ text_step found.len (take found.len text) found.stop found.stop_len

@@ -1,4 +1,4 @@
-//! Texts of f-strings, up to an expression or the closing quotes.
+//! F-string texts, up to an expression or the closing quotes.
 
 ghost use Rattle.std.specs.Prelude.{◌<◌, ◌≤◌, ◌+◌, ◌*◌, IfErr, IfOk, length};
 ghost use Rattle.starlark_words.specs.Inner.Reads.{AreReads};
@@ -8,17 +8,15 @@ ghost use Rattle.starlark_grammar.specs.Inner.Openings.{opening_view};
 ghost use Rattle.starlark_grammar.specs.Pieces as grammar;
 
 use super::pieces::Step;
-use starlark_words::reads::Reads;
-use starlark_grammar::class::Opening;
 use crate::text_end::TextEnd;
-use starlark_words::{
-    Body, Literal, LiteralValue, Stop, closing_len, plain_chunk_len, read_body,
-};
-use starlark_words::scanner::LiteralKind;
+use starlark_grammar::class::Opening;
 use starlark_token::lexeme_error::LexemeError;
+use starlark_words::reads::Reads;
+use starlark_words::scanner::LiteralKind;
+use starlark_words::{Body, Literal, LiteralValue, Stop, closing_len, plain_chunk_len, read_body};
 use std::alloc::{AllocError, Global};
 
-/// The text of an f-string up to its first stop.
+/// The f-string text up to its first stop: an expression, the closing quotes, or a fault.
 pub fn chunk_from(
     reads: &mut Reads,
     alloc: Global,
@@ -76,8 +74,7 @@ pub fn chunk_from(
     }
 }
 
-/// A text of an f-string in which each character denotes itself: its length, what ends it, and the length of that. Lengths
-/// are in bytes.
+/// An f-string text without escapes: its length, what ends it, and the length of that, in bytes.
 #[derive(Clone, Copy)]
 pub struct PlainText {
     pub len: usize,
@@ -85,8 +82,8 @@ pub struct PlainText {
     pub stop_len: usize,
 }
 
-/// The text of an f-string up to its first stop, where each of its characters denotes itself. Where another text stands
-/// there, or a fault, how many bytes in front denote themselves.
+/// The f-string text up to its first stop, if it has no escapes. For any other text, or a fault,
+/// the error is the length in bytes of the run without escapes at its start.
 #[inline(always)]
 pub fn plain_text(reads: &mut Reads, opening: Opening, text: &str) -> Result<PlainText, usize>
     ensures plain { IfOk result (IsPlainText opening text.now) }

@@ -16,19 +16,19 @@ ghost use Rattle.starlark_token.specs.TokenViews.{Whole, fstring_quote_view, tok
 ghost use Rattle.starlark_grammar.specs.declared.class.LiteralKind.{LiteralKind as Kind};
 ghost use Rattle.starlark_grammar.specs.declared.class.LiteralKind.TheVariants.{FString as OfFString};
 
-use starlark_words::reads::Reads;
-use starlark_grammar::class::Opening;
 use crate::text_end::TextEnd;
-use starlark_words::{Literal, LiteralValue, Stop, closing_len, read_body};
-use starlark_words::scanner::{LiteralKind, Quote};
+use starlark_grammar::class::Opening;
 use starlark_token::fstring_style::FStringQuote;
 use starlark_token::lexeme_error::LexemeError;
 use starlark_token::tokens::Token;
+use starlark_words::reads::Reads;
+use starlark_words::scanner::{LiteralKind, Quote};
+use starlark_words::{Literal, LiteralValue, Stop, closing_len, read_body};
 use std::alloc::{AllocError, Global};
 
-/// What stands at a place: a token of so many bytes; a text of an f-string, of `text_len` bytes, which is no lexeme
-/// where it denotes nothing, and what ends it; or a fault, from one place to another. Places are in bytes from
-/// there on.
+/// A step at an offset: a token, an f-string text with its end, or a fault. Offsets and lengths are
+/// in bytes, from there on. An f-string text has `text_len` bytes; if its value is empty, it yields
+/// no token.
 #[derive(Drop)]
 pub enum Step {
     Token {
@@ -57,7 +57,7 @@ fn is_plain(opening: Opening, text: &[u8]) -> bool
     })
 }
 
-/// The fault of a literal that isn't closed, by the text behind its opening.
+/// The fault of a literal that isn't closed. `behind` is the text after its opening.
 fn unfinished(reads: &mut Reads, outside: bool, literal: Literal, behind: &str) -> LexemeError
     ensures fault { (place : Mode) → is_outside place ≡ outside → fault_view result ≡ Some (grammar.unfinished place literal.kind (opening_view literal.opening) behind.now) }
     ensures reads { AreReads 0 (length behind.now) reads.old reads.new }
@@ -85,7 +85,7 @@ fn literal_token(value: LiteralValue) -> Token
     }
 }
 
-/// The fault of a bad escape, by the text that was read behind its backslash.
+/// The fault of a bad escape at byte `begin`. `read` is the text of the escape after its backslash.
 fn escape_fault(alloc: Global, begin: usize, read: &str) -> Result<Step, AllocError>
     requires { begin + 1 + length read.now < 2 ^ 64 }
     ensures step { IfOk result (IsStep (grammar.escape_fault begin read.now)) }
@@ -106,7 +106,7 @@ fn escape_fault(alloc: Global, begin: usize, read: &str) -> Result<Step, AllocEr
     })
 }
 
-/// A string or bytes literal, by the bytes of its opening and the text behind them.
+/// A string or bytes literal. Its opening has `len` bytes, and `behind` is the text after it.
 fn literal_from(
     reads: &mut Reads,
     alloc: Global,
@@ -145,7 +145,7 @@ fn literal_from(
     }
 }
 
-/// The quotes of an opening, which a token tells.
+/// The quotes of an opening, as the token of an f-string's start has them.
 pub fn quotes_of(opening: Opening) -> FStringQuote
     ensures { fstring_quote_view result ≡ record { is_raw = false; quote = opening.quote; is_triple = opening.is_triple } }
 {
@@ -157,7 +157,7 @@ pub fn quotes_of(opening: Opening) -> FStringQuote
     }
 }
 
-/// Whether two more of its quotes stand behind an opener.
+/// Whether two more of the opener's quotes follow it.
 fn is_triple(reads: &mut Reads, quote: Quote, behind: &str) -> bool
     ensures value { result ≡ (grammar.opening_of false quote behind.now).is_triple }
     ensures reads { reads.new ≡ more_reads reads.old 2 }
@@ -171,7 +171,7 @@ fn is_triple(reads: &mut Reads, quote: Quote, behind: &str) -> bool
         .starts_with(quotes.as_bytes())
 }
 
-/// How a literal begins, by its opener and the text behind that.
+/// The opening of a literal, from its opener and the text after that.
 pub fn opening_of(reads: &mut Reads, is_raw: bool, quote: Quote, behind: &str) -> Opening
     ensures reads { reads.new ≡ more_reads reads.old 2 }
     ensures opening { opening_view result ≡ grammar.opening_of is_raw quote behind.now }
@@ -183,7 +183,7 @@ pub fn opening_of(reads: &mut Reads, is_raw: bool, quote: Quote, behind: &str) -
     }
 }
 
-/// The string or bytes literal of an opener of so many bytes, by the text behind that.
+/// A string or bytes literal. Its opener has `len` bytes, and `behind` is the text after it.
 pub fn literal_piece(
     reads: &mut Reads,
     alloc: Global,

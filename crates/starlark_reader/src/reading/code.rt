@@ -1,4 +1,4 @@
-//! Places of code, and the spaces there.
+//! Lexer modes of code, and spaces in code.
 
 ghost use Rattle.std.specs.Prelude.{◌≡◌, ◌<◌, ◌≤◌, Bool, length, true};
 ghost use Rattle.starlark_grammar.specs.Pieces as grammar;
@@ -9,7 +9,7 @@ ghost use Rattle.starlark_reader.specs.Inner.Pieces.{IsAfter, is_code};
 use crate::nesting::LexerMode;
 use starlark_words::scanner;
 
-/// Whether a place is one of code, and not in the text of an f-string.
+/// Whether a lexer mode is code or an f-string expression, and not f-string text.
 #[inline(always)]
 pub fn is_code(place: LexerMode) -> bool
     ensures { result ≡ is_code (mode_view place) }
@@ -17,8 +17,8 @@ pub fn is_code(place: LexerMode) -> bool
     !matches!(place, LexerMode::InText(_))
 }
 
-/// The length of the run of spaces at a place, by the text from there on. At each place of code it is a gap. Its reads are
-/// counted with those of the word behind it.
+/// Length in bytes of the run of spaces at the start of a text. In code it is a gap. Its reads are
+/// counted with those of the word after it.
 #[inline(always)]
 pub fn gap_len(text: &str) -> usize
     ensures gap { 0 < result → (s : grammar.Situation) (follows_gap : Bool) → is_code s.place ≡ true → IsAfter follows_gap s.before → grammar.step_at language s text.now ≡ grammar.gap result }

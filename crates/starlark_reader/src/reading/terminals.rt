@@ -9,10 +9,10 @@ ghost use Rattle.starlark_grammar.specs.Tokens as Tokens;
 ghost use Rattle.starlark_grammar.specs.Tokens.{Word};
 
 use crate::nesting::{LexerMode, Nesting};
-use starlark_words::scanner::Terminal;
 use starlark_token::tokens::Token;
+use starlark_words::scanner::Terminal;
 
-/// The token of a word that is one of its own.
+/// The token of a keyword or symbol by itself, whatever the lexer mode.
 #[tactic(auto, unfolding(starlark_token::specs::TokenViews::token_view))]
 #[inline(always)]
 fn own_token(terminal: Terminal) -> Token
@@ -80,7 +80,8 @@ fn own_token(terminal: Terminal) -> Token
     }
 }
 
-/// The token of such a word at a place. At the top of an expression of an f-string a closing brace ends the expression.
+/// The token of a keyword or symbol in a lexer mode. At the top of an f-string expression a `}`
+/// ends the expression.
 #[tactic(auto, unfolding(starlark_token::specs::TokenViews::token_view))]
 #[inline(always)]
 pub fn terminal_token(place: LexerMode, terminal: Terminal) -> Token
@@ -96,7 +97,7 @@ pub fn terminal_token(place: LexerMode, terminal: Terminal) -> Token
     }
 }
 
-/// The token of such a word behind what is open. Of all of them a closing brace alone depends on the place.
+/// The token of a keyword or symbol inside a nesting. Only that of a `}` depends on the nesting.
 #[inline(always)]
 pub fn token_in(nesting: &Nesting, terminal: Terminal) -> Token
     ensures token { (before : List Tokens.Token) → Represents before nesting.now → token_view result ≡ Whole (grammar.terminal_token (mode_after before) terminal) }

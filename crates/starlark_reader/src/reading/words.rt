@@ -1,4 +1,4 @@
-//! Words of many texts as tokens, or their faults. Each is read by its whole text.
+//! Words with many spellings, as tokens or faults.
 
 ghost use Rattle.std.specs.Prelude.{◌≡◌, ◌≤◌, ◌<◌, ◌+◌, ◌∷◌, [], Some, drop, length, true, IfOk};
 ghost use Rattle.std.specs.Char.{is_digit};
@@ -13,14 +13,14 @@ ghost use Rattle.starlark_grammar.specs.Words.{Text, class_in, is_run, language}
 ghost use Rattle.starlark_token.specs.TokenViews.{Whole, token_view};
 
 use crate::literal::Step;
-use starlark_words::reads::Reads;
 use starlark_token::lexeme_error::LexemeError;
 use starlark_token::number_text::number_in;
 use starlark_token::token_int::TokenInt;
 use starlark_token::tokens::Token;
+use starlark_words::reads::Reads;
 use std::alloc::{AllocError, Global};
 
-/// A comment, whose value leaves out the `#`.
+/// The token of a comment, whose value leaves out the `#`.
 pub fn comment(alloc: Global, word: &str) -> Result<Step, AllocError>
     requires { class_in language word.now ≡ Some class.Comment }
     ensures step { IfOk result (IsStep (grammar.token (length word.now) (tokens.Comment (drop 1 word.now)))) }
@@ -32,7 +32,7 @@ pub fn comment(alloc: Global, word: &str) -> Result<Step, AllocError>
     })
 }
 
-/// Tabs outside of a margin. The fault is where they begin.
+/// The fault of tabs outside of a margin, at their start.
 pub fn tabs() -> Step
     ensures step { IsStep (grammar.fault 0 tokens.InvalidTab 0) result }
     ensures word { IsOfWord 1 result }
@@ -44,7 +44,7 @@ pub fn tabs() -> Step
     }
 }
 
-/// A reserved word, which is a fault.
+/// The fault of a reserved word.
 pub fn reserved(alloc: Global, word: &str) -> Result<Step, AllocError>
     ensures step { IfOk result (IsStep (grammar.fault 0 (tokens.ReservedKeyword word.now) (length word.now))) }
     ensures word { IfOk result (IsOfWord (length word.now)) }
@@ -56,7 +56,7 @@ pub fn reserved(alloc: Global, word: &str) -> Result<Step, AllocError>
     })
 }
 
-/// An identifier, with its name.
+/// The token of an identifier, with its name.
 #[inline(always)]
 pub fn identifier(alloc: Global, word: &str) -> Result<Step, AllocError>
     ensures step { IfOk result (IsStep (grammar.token (length word.now) (tokens.Identifier word.now))) }
@@ -68,7 +68,7 @@ pub fn identifier(alloc: Global, word: &str) -> Result<Step, AllocError>
     })
 }
 
-/// A float, whose value is its text.
+/// The token of a float, whose value is its text.
 pub fn float(alloc: Global, word: &str) -> Result<Step, AllocError>
     ensures step { IfOk result (IsStep (grammar.token (length word.now) (tokens.Float word.now))) }
     ensures word { IfOk result (IsOfWord (length word.now)) }
@@ -79,7 +79,7 @@ pub fn float(alloc: Global, word: &str) -> Result<Step, AllocError>
     })
 }
 
-/// The integer of digits of a base, as a token of `len` bytes.
+/// The token of an integer of `len` bytes, from its digits in a base.
 fn integer(alloc: Global, digits: &str, base: u32, len: usize) -> Result<Step, AllocError>
     requires least { 2 ≤ base }
     requires most { base ≤ 36 }
@@ -96,7 +96,7 @@ fn integer(alloc: Global, digits: &str, base: u32, len: usize) -> Result<Step, A
     }
 }
 
-/// The integer of one digit, by its value. Takes no memory.
+/// The token of an integer of one digit, from its value. It doesn't allocate.
 #[inline(always)]
 pub fn digit_token(digit: u8) -> Token
     requires { digit < 10 }
@@ -112,7 +112,7 @@ fn starts_zero(word: &[u8]) -> bool
     matches!(word, [b'0', _, ..])
 }
 
-/// A decimal integer. One that begins with a 0 too many is a fault.
+/// The token of a decimal integer, or the fault of a leading 0 before more digits.
 pub fn decimal(reads: &mut Reads, alloc: Global, word: &str) -> Result<Step, AllocError>
     requires { class_in language word.now ≡ Some class.Decimal }
     ensures reads { reads.new ≡ more_reads reads.old 2 }
@@ -129,7 +129,7 @@ pub fn decimal(reads: &mut Reads, alloc: Global, word: &str) -> Result<Step, All
     integer(alloc, word, 10, word.len())
 }
 
-/// A hexadecimal integer.
+/// The token of a hexadecimal integer.
 pub fn hexadecimal(alloc: Global, word: &str) -> Result<Step, AllocError>
     requires { class_in language word.now ≡ Some class.Hexadecimal }
     ensures step { IfOk result (IsStep (grammar.token (length word.now) (tokens.Int (integer_of 16 (drop 2 word.now))))) }
@@ -138,7 +138,7 @@ pub fn hexadecimal(alloc: Global, word: &str) -> Result<Step, AllocError>
     integer(alloc, &word[2..], 16, word.len())
 }
 
-/// An octal integer.
+/// The token of an octal integer.
 pub fn octal(alloc: Global, word: &str) -> Result<Step, AllocError>
     requires { class_in language word.now ≡ Some class.Octal }
     ensures step { IfOk result (IsStep (grammar.token (length word.now) (tokens.Int (integer_of 8 (drop 2 word.now))))) }
@@ -147,7 +147,7 @@ pub fn octal(alloc: Global, word: &str) -> Result<Step, AllocError>
     integer(alloc, &word[2..], 8, word.len())
 }
 
-/// A binary integer.
+/// The token of a binary integer.
 pub fn binary(alloc: Global, word: &str) -> Result<Step, AllocError>
     requires { class_in language word.now ≡ Some class.Binary }
     ensures step { IfOk result (IsStep (grammar.token (length word.now) (tokens.Int (integer_of 2 (drop 2 word.now))))) }

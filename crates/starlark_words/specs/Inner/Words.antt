@@ -1,4 +1,4 @@
--- What the scanner finds, and what it looks for.
+-- Words, and the tables and tests by which the scanner finds them.
 use Rattle.std.specs.Prelude.{◌≡◌, ℕ, ◌+◌, ◌<◌, ⊤, if◌then◌else◌, Bool, true, false, not, ◌&&◌, ◌||◌, ◌==◌, nat_eq, List, [], ◌∷◌, ◌++◌, take, length, codes, Option, None, Some, unwrap_or}
 use Rattle.std.specs.List.{filter, list_any}
 use Rattle.std.specs.Map.{lookup}
@@ -22,7 +22,7 @@ use Rattle.starlark_words.specs.declared.scanner.word.TextOpener.{TextOpener}
 abbrev pub word_view : Word → Class × ℕ
 word_view word = (word.class, word.len)
 
--- the length of a word, and 0 where none stands
+-- the length of a word; 0 if there is none
 abbrev pub word_len : Option Word → ℕ
 word_len None = 0
 word_len (Some word) = word.len
@@ -39,12 +39,12 @@ is_quote b = b == 39 || b == 34
 abbrev pub begin_listed_name : ℕ → ℕ → ℕ → Bool
 begin_listed_name a b len = list_any (λ row. bytes_eq (take 2 row.0) (a ∷ b ∷ []) && length row.0 == len) grammar.names
 
--- A keyword or a reserved word may begin as a name does and be as long. Every one passes this test.
+-- a name may be a keyword or a reserved word, by its first two bytes and its length: each of them passes this test
 abbrev pub may_be_listed : grammar.Text → Bool
 may_be_listed (a ∷ b ∷ rest) = begin_listed_name a b (length (a ∷ b ∷ rest))
 may_be_listed text = false
 
--- what the list of keywords and reserved words says of a name, as a class
+-- the class of an entry in the table of keywords and reserved words
 abbrev pub listing_view : Listing → Class
 listing_view (Keyword terminal) = Fixed terminal
 listing_view OfReserved = Reserved
@@ -54,7 +54,7 @@ listing_view Not = Identifier
 abbrev pub names_by_length : (ℕ → Bool) → List (grammar.Text × Class)
 names_by_length test = filter (λ row. test (length row.0)) grammar.names
 
--- the class of a name by these
+-- the class of a name by its entry among some keywords and reserved words
 abbrev pub class_by_length : (ℕ → Bool) → grammar.Text → Class
 class_by_length test word = unwrap_or (lookup (bytes_eq word) (names_by_length test)) Identifier
 
@@ -62,25 +62,25 @@ class_by_length test word = unwrap_or (lookup (bytes_eq word) (names_by_length t
 abbrev pub is_other_length : ℕ → Bool
 is_other_length len = not (list_any (nat_eq len) (2 ∷ 3 ∷ 4 ∷ 5 ∷ 6 ∷ []))
 
--- a mark of one byte with which no longer mark begins
+-- a mark of one byte that begins no longer one
 abbrev pub is_lone_mark : ℕ → Bool
 is_lone_mark b = list_any (nat_eq b) (codes "\n,;:~[{(]})")
 
--- a byte that is a symbol, with which longer ones may begin
+-- a byte that is a symbol and begins longer ones
 abbrev pub is_symbol : ℕ → Bool
 is_symbol b = list_any (nat_eq b) (codes "=.<>-+*%/&|^")
 
--- a symbol may go on with the byte after it, and only a point does so with a point or a digit
+-- a symbol may go on with the byte after it; only a point goes on with a point or a digit
 abbrev pub goes_on : ℕ → ℕ → Bool
 goes_on b c = list_any (nat_eq c) (codes "=*/<>") || (b == 46 && list_any (nat_eq c) (codes ".0123456789"))
 
--- the first byte is a mark, which the byte behind it makes no longer
+-- the first byte is a mark that the next byte doesn't extend
 abbrev pub is_mark_alone : grammar.Text → Bool
 is_mark_alone [] = false
 is_mark_alone (b ∷ []) = is_lone_mark b
 is_mark_alone (b ∷ c ∷ rest) = is_lone_mark b || (is_symbol b && not (goes_on b c))
 
--- a digit, or a point and a digit, stands at the front
+-- the text begins with a digit, or with a point and a digit
 abbrev pub begins_number : grammar.Text → Bool
 begins_number [] = false
 begins_number (a ∷ []) = is_ascii_digit a
@@ -91,31 +91,31 @@ abbrev pub short_view : ShortWord → Word
 short_view (Symbol terminal) = record { class = Fixed terminal; len = 2 }
 short_view (Digit value) = record { class = Decimal; len = 1 }
 
--- a digit of so much stands at the front
+-- the text begins with a digit of this value
 abbrev pub IsDigitAt : ℕ → grammar.Text → Type 0
 IsDigitAt value text = (value < 10) × (take 1 text ≡ (value + 48) ∷ [])
 
--- the digit of a short word stands at the front, if it is one
+-- if the short word is a digit, the text begins with it
 abbrev pub HasDigit : ShortWord → grammar.Text → Type 0
 HasDigit (Symbol terminal) text = ⊤
 HasDigit (Digit value) text = IsDigitAt value text
 
--- the class of a mark of two bytes, which no `=` behind it can make longer
+-- the class of a mark of two bytes, if no `=` follows, which may extend it
 abbrev pub mark_of_two : grammar.Text → Option Class
 mark_of_two (a ∷ b ∷ rest) = if grammar.begins (nat_eq 61) rest then None else grammar.class_in marks (a ∷ b ∷ [])
 mark_of_two text = None
 
--- a byte that may stand in a number
+-- a byte that may be part of a number
 abbrev pub may_be_in_number : ℕ → Bool
 may_be_in_number c = grammar.is_in_name c || c == 46
 
--- a digit stands at the front, and behind it no byte that may stand in a number
+-- the text begins with a digit, and the next byte can't be part of a number
 abbrev pub is_digit_alone : grammar.Text → Bool
 is_digit_alone [] = false
 is_digit_alone (a ∷ []) = is_ascii_digit a
 is_digit_alone (a ∷ b ∷ rest) = is_ascii_digit a && not (may_be_in_number b)
 
--- the quote that a byte is
+-- a byte as a quote
 abbrev pub quote_of : ℕ → Option Quote
 quote_of b = if b == 39 then Some Single else if b == 34 then Some Double else None
 
@@ -129,13 +129,13 @@ plain_opener quote = record { is_raw = false; quote = quote; len = 1 }
 abbrev pub raw_opener : Quote → TextOpener
 raw_opener quote = record { is_raw = true; quote = quote; len = 2 }
 
--- the opener of a text literal that the first two bytes of a text are
+-- the opener of a text literal at the front of a text, by its first two bytes
 abbrev pub text_opener : grammar.Text → Option TextOpener
 text_opener [] = None
 text_opener (a ∷ []) = option_map plain_opener (quote_of a)
 text_opener (a ∷ b ∷ rest) = if a == 114 then option_map raw_opener (quote_of b) else option_map plain_opener (quote_of a)
 
--- the quote that stands behind a letter at the front of a text
+-- the quote of a text that begins with a letter and a quote
 abbrev pub quote_after : ℕ → grammar.Text → Option Quote
 quote_after letter (a ∷ b ∷ rest) = if a == letter then quote_of b else None
 quote_after letter text = None

@@ -1,11 +1,13 @@
-//! What the first byte of a word tells.
+//! Classes of bytes: which words may begin or go on with a byte.
 
 ghost use Rattle.std.specs.Prelude.{◌≡◌};
 ghost use Rattle.starlark_grammar.specs.Words as grammar;
 ghost use Rattle.starlark_words.specs.Inner.Words.{goes_on, is_lone_mark, is_symbol};
 
-// An `n` stands at each byte with which a name may begin, an `l` at a mark with which no longer mark begins, and an
-// `s` at a symbol with which longer ones may begin.
+// One letter for each byte: `n` if a name may begin with it, `l` if it is a mark that begins no
+// longer
+
+// one, `s` if it is a symbol that begins longer ones.
 static FIRST: [u8; 256] = *b"\
     ----------l---------------------\
     -----ss-llsslsss----------llsss-\
@@ -16,7 +18,7 @@ static FIRST: [u8; 256] = *b"\
     --------------------------------\
     --------------------------------";
 
-// An `x` stands at each byte with which any symbol may go on, and a `p` at each with which only a point goes on.
+// One letter for each byte: `x` if any symbol may go on with it, `p` if only a point does.
 static GOES_ON: [u8; 256] = *b"\
     --------------------------------\
     ----------x---pxpppppppppp--xxx-\
@@ -35,7 +37,7 @@ pub fn is_name_start(byte: u8) -> bool
     FIRST[byte as usize] == b'n'
 }
 
-/// Whether a byte is a mark with which no longer mark begins.
+/// Whether a byte is a mark that begins no longer one.
 #[inline(always)]
 pub fn is_lone_mark(byte: u8) -> bool
     ensures { result ≡ is_lone_mark byte }
@@ -43,7 +45,7 @@ pub fn is_lone_mark(byte: u8) -> bool
     FIRST[byte as usize] == b'l'
 }
 
-/// Whether a byte is a symbol, with which longer ones may begin.
+/// Whether a byte is a symbol that begins longer ones.
 #[inline(always)]
 pub fn is_symbol(byte: u8) -> bool
     ensures { result ≡ is_symbol byte }
@@ -51,7 +53,9 @@ pub fn is_symbol(byte: u8) -> bool
     FIRST[byte as usize] == b's'
 }
 
-/// Whether a symbol may go on with the byte after it. Only a point does so with a point or a digit: `...`, `.5`.
+/// Whether a symbol may go on with the byte after it. Only a point goes on with a point or a digit:
+
+/// `...`, `.5`.
 #[inline(always)]
 pub fn goes_on(first: u8, next: u8) -> bool
     ensures { result ≡ goes_on first next }

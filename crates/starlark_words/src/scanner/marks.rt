@@ -9,7 +9,7 @@ ghost use Rattle.starlark_grammar.specs.Words.{class_in};
 use super::first::{goes_on, is_lone_mark, is_symbol};
 use super::{Class, Terminal, Word};
 
-/// Whether the first byte of a text is a mark, which the byte behind it makes no longer.
+/// Whether the first byte of a text is a mark that the next byte doesn't extend.
 #[inline(always)]
 pub fn is_mark_alone(text: &[u8]) -> bool
     ensures { result ≡ is_mark_alone text.now }
@@ -105,8 +105,8 @@ fn triple(first: u8, second: u8, third: u8) -> Option<Class>
     }
 }
 
-/// The class of the mark of two bytes at the front of a text, where no `=` stands behind it: such a mark is no part of a
-/// longer one.
+/// Class of the mark of two bytes at the front of a text. `None` before an `=`, which may extend
+/// it.
 #[inline(always)]
 pub fn mark_of_two(text: &[u8]) -> Option<Class>
     ensures { result ≡ mark_of_two text.now }
@@ -152,7 +152,7 @@ fn longest_of_three(first: u8, second: u8, third: u8) -> Option<Word>
     }
 }
 
-/// The longest mark at the front of a text, or `None` where no mark stands there.
+/// The longest mark at the front of a text; `None` if there is none.
 #[inline(never)]
 pub fn mark_from(text: &[u8]) -> Option<Word>
     ensures word { option_map word_view result ≡ longest_front (class_in marks) text.now }

@@ -1,4 +1,5 @@
-//! Words that begin with a letter or `_`: keywords, reserved words, identifiers, and openers that have a prefix.
+//! Words that begin with a letter or `_`: keywords, reserved words, identifiers, and openers with a
+//! prefix.
 
 ghost use Rattle.std.specs.Prelude.{◌≡◌, ◌≤◌, ◌<◌, ◌+◌, ◌-◌, ◌*◌, IfSome, Some, length, slice_get, nat_eq, take, true, unwrap_or};
 ghost use Rattle.std.specs.List.{prefix_len};
@@ -16,7 +17,7 @@ use super::{Class, Terminal, Word};
 use crate::names::name_run;
 use crate::reads::Reads;
 
-/// What the list of keywords and reserved words says of a name.
+/// Entry of a name in the table of keywords and reserved words.
 #[derive(Clone, Copy)]
 enum Listing {
     Keyword(Terminal),
@@ -75,7 +76,7 @@ fn may_be_listed(name: &[u8]) -> bool
     }
 }
 
-/// What the list says of a name of two letters.
+/// Entry of a name of two letters in the table of keywords.
 fn two_letters(name: &str) -> Listing
     ensures { listing_view result ≡ class_by_length (nat_eq 2) name.now }
 {
@@ -88,7 +89,7 @@ fn two_letters(name: &str) -> Listing
     }
 }
 
-/// What the list says of a name of three letters.
+/// Entry of a name of three letters in the table of keywords.
 fn three_letters(name: &str) -> Listing
     ensures { listing_view result ≡ class_by_length (nat_eq 3) name.now }
 {
@@ -102,7 +103,7 @@ fn three_letters(name: &str) -> Listing
     }
 }
 
-/// What the list says of a name of four letters.
+/// Entry of a name of four letters in the table of keywords.
 fn four_letters(name: &str) -> Listing
     ensures { listing_view result ≡ class_by_length (nat_eq 4) name.now }
 {
@@ -116,7 +117,7 @@ fn four_letters(name: &str) -> Listing
     }
 }
 
-/// What the list says of a name of five letters.
+/// Entry of a name of five letters in the table of keywords.
 fn five_letters(name: &str) -> Listing
     ensures { listing_view result ≡ class_by_length (nat_eq 5) name.now }
 {
@@ -127,7 +128,7 @@ fn five_letters(name: &str) -> Listing
     }
 }
 
-/// What the list says of a name of six letters.
+/// Entry of a name of six letters in the table of keywords.
 fn six_letters(name: &str) -> Listing
     ensures { listing_view result ≡ class_by_length (nat_eq 6) name.now }
 {
@@ -139,7 +140,7 @@ fn six_letters(name: &str) -> Listing
     }
 }
 
-/// What the list says of a name of more letters than six, or of fewer than two.
+/// Entry of a name in the table of keywords, if it has one letter, or seven or more.
 fn more_letters(name: &str) -> Listing
     ensures { listing_view result ≡ class_by_length is_other_length name.now }
 {
@@ -150,7 +151,10 @@ fn more_letters(name: &str) -> Listing
     }
 }
 
-/// What the list says of a name, by the words of its length. Of these, frequent ones are compared first.
+/// Entry of a name in the table of keywords: it is compared with the words of its length, frequent
+/// ones
+
+/// first.
 #[inline(never)]
 fn listing_of(name: &str) -> Listing
     ensures { listing_view result ≡ unwrap_or (lookup (bytes_eq name.now) grammar.names) class.Identifier }
@@ -165,7 +169,8 @@ fn listing_of(name: &str) -> Listing
     }
 }
 
-/// The class of a name. Most names are told by their first two bytes and their length.
+/// The class of a name. For most names the first two bytes and the length show that it is no
+/// keyword.
 #[inline(always)]
 fn name_class(name: &str) -> Class
     ensures { result ≡ unwrap_or (lookup (bytes_eq name.now) grammar.names) class.Identifier }
@@ -188,8 +193,9 @@ fn is_quote(byte: Option<u8>) -> bool
     matches!(byte, Some(b'\'' | b'"'))
 }
 
-/// What opens a literal at the front of a text that begins with a name of the given length: that
-/// name as a prefix, and a quote, which is the byte behind it.
+/// Opener at the front of a text that begins with a name of `len` bytes: that name as a prefix, and
+
+/// the next byte as its quote.
 #[inline(always)]
 fn prefixed_opener(text: &str, len: usize, behind: Option<u8>) -> Option<Class>
     requires len { len ≡ prefix_len grammar.is_in_name text.now }
@@ -206,7 +212,10 @@ fn prefixed_opener(text: &str, len: usize, behind: Option<u8>) -> Option<Class>
     opener_class(&text[..len + 1])
 }
 
-/// The longest word at the front of a text that begins with a letter or `_`, which was read.
+/// The longest word at the front of a text that begins with a letter or `_`. The caller has counted
+/// the
+
+/// read of that byte.
 #[inline(always)]
 pub fn name_from(reads: &mut Reads, text: &str) -> Word
     requires { grammar.begins grammar.is_name_start text.now ≡ true }

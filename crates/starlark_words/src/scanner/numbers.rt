@@ -1,4 +1,4 @@
-//! Numbers: which one stands at the front of a text, and how long it is.
+//! Numbers: the class and the length of the one at the front of a text.
 
 ghost use Rattle.std.specs.Prelude.{◌≡◌, ◌≤◌, ◌<◌, ◌+◌, ◌-◌, ◌*◌, ◌^◌, ◌==◌, if◌then◌else◌, Some, None, length, take, true};
 ghost use Rattle.std.specs.Option.{option_map};
@@ -12,14 +12,14 @@ use super::first::is_name_start;
 use super::{Class, Word};
 use crate::reads::Reads;
 
-/// Whether a sign stands at the front of a text.
+/// Whether a text begins with a sign.
 fn is_sign(text: &[u8]) -> bool
     ensures { result ≡ grammar.begins grammar.is_sign text.now }
 {
     matches!(text, [b'+' | b'-', ..])
 }
 
-/// The length of the sign at the front of a text, and 0 where none stands there.
+/// Length of the sign at the front of a text; 0 if there is none.
 fn sign_len(reads: &mut Reads, text: &[u8]) -> usize
     ensures value { result ≡ grammar.sign_len text.now }
     ensures within { result ≤ length text.now }
@@ -47,14 +47,15 @@ fn is_point(text: &[u8]) -> bool
     matches!(text, [b'.', ..])
 }
 
-/// Whether `0` and one of two letters stand at the front of a text.
+/// Whether a text begins with `0` and one of two letters.
 fn has_base(text: &[u8], lower: u8, upper: u8) -> bool
     ensures value { result ≡ grammar.has_base lower upper text.now }
 {
     matches!(text, [b'0', letter, ..] if *letter == lower || *letter == upper)
 }
 
-/// Length of the exponent at the start of a text that begins with its letter; 0 if no digits follow.
+/// Length of the exponent at the start of a text that begins with its letter; 0 if no digits
+/// follow.
 fn exponent_from(reads: &mut Reads, text: &[u8]) -> usize
     requires { grammar.begins grammar.is_exponent_letter text.now ≡ true }
     ensures value { result ≡ longest_len grammar.is_exponent text.now }
@@ -80,7 +81,10 @@ fn exponent_len(reads: &mut Reads, text: &[u8]) -> usize
     }
 }
 
-/// The length of the fraction at the front of a text that begins with a point, with that and its exponent.
+/// Length of the fraction at the front of a text that begins with a point: the point, the digits
+/// and
+
+/// the exponent.
 fn fraction_len(reads: &mut Reads, text: &[u8]) -> usize
     requires { grammar.begins grammar.is_point text.now ≡ true }
     ensures value { result ≡ longest_len grammar.is_fraction text.now }
@@ -124,7 +128,7 @@ fn is_binary_digit(byte: u8) -> bool
     matches!(byte, b'0' | b'1')
 }
 
-/// The integer of a class with so many digits behind its base, if it has any.
+/// The integer of a class with a base and `digits` digits; `None` without digits.
 fn based_word(class: Class, digits: usize) -> Option<Word>
     requires { digits + 2 < 2 ^ 64 }
     ensures { result ≡ if digits == 0 then None else Some (record { class = class; len = digits + 2 }) }
@@ -138,7 +142,9 @@ fn based_word(class: Class, digits: usize) -> Option<Word>
     })
 }
 
-/// The longest integer of another base than 10 at the front of a text, the first three bytes of which were read.
+/// The longest integer with a base at the front of a text. The caller has counted the reads of the
+
+/// first three bytes.
 fn based_front(reads: &mut Reads, front: &[u8], text: &[u8]) -> Option<Word>
     requires { front.now ≡ take 3 text.now }
     ensures value { option_map word_view result ≡ longest_front (grammar.class_in grammar.based) text.now }
@@ -157,7 +163,7 @@ fn based_front(reads: &mut Reads, front: &[u8], text: &[u8]) -> Option<Word>
     None
 }
 
-/// Whether a byte may stand in a number.
+/// Whether a byte may be part of a number.
 #[inline(always)]
 fn may_be_in_number(byte: u8) -> bool
     ensures { result ≡ may_be_in_number byte }
@@ -165,7 +171,7 @@ fn may_be_in_number(byte: u8) -> bool
     is_name_start(byte) || byte.is_ascii_digit() || byte == b'.'
 }
 
-/// Whether a digit stands at the front of a text, and behind it no byte that may stand in a number.
+/// Whether a text begins with a digit, and the next byte can't be part of a number.
 #[inline(always)]
 pub fn is_digit_alone(text: &[u8]) -> bool
     ensures { result ≡ is_digit_alone text.now }
@@ -177,7 +183,10 @@ pub fn is_digit_alone(text: &[u8]) -> bool
     }
 }
 
-/// The longest number at the front of a text that begins with one, the first three bytes of which were read.
+/// The longest number at the front of a text that begins with one. The caller has counted the reads
+/// of
+
+/// the first three bytes.
 pub fn number_from(reads: &mut Reads, front: &[u8], text: &[u8]) -> Word
     requires number { begins_number text.now ≡ true }
     requires front { front.now ≡ take 3 text.now }

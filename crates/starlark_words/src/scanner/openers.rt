@@ -1,4 +1,4 @@
-//! Openers: what a literal begins with.
+//! Openers: the prefix and quotes that open a literal.
 
 ghost use Rattle.std.specs.Prelude.{◌≡◌, ◌∷◌, []};
 ghost use Rattle.std.specs.Map.{lookup};
@@ -10,7 +10,7 @@ ghost use Rattle.starlark_words.specs.Inner.Words.{plain_opener, quote_after, qu
 
 use super::{Class, LiteralKind, Quote, TextOpener};
 
-/// The quote that a byte is, if it is one.
+/// A byte as a quote; `None` if it is none.
 #[inline(always)]
 fn quote_of(byte: u8) -> Option<Quote>
     ensures { result ≡ quote_of byte }
@@ -22,7 +22,7 @@ fn quote_of(byte: u8) -> Option<Quote>
     }
 }
 
-/// The opener of a text literal that a quote is without a prefix.
+/// The opener of a text literal without a prefix.
 #[inline(always)]
 fn plain_opener(quote: u8) -> Option<TextOpener>
     ensures { result ≡ option_map plain_opener (quote_of quote) }
@@ -37,7 +37,7 @@ fn plain_opener(quote: u8) -> Option<TextOpener>
     }
 }
 
-/// The opener of a text literal that a quote is behind an `r`.
+/// The opener of a raw text literal: an `r` and a quote.
 #[inline(always)]
 fn raw_opener(quote: u8) -> Option<TextOpener>
     ensures { result ≡ option_map raw_opener (quote_of quote) }
@@ -52,7 +52,7 @@ fn raw_opener(quote: u8) -> Option<TextOpener>
     }
 }
 
-/// The opener of a text literal that the first two bytes of a text are, if they are one.
+/// The opener of a text literal at the front of a text, by its first two bytes.
 #[inline(always)]
 pub fn text_opener(text: &[u8]) -> Option<TextOpener>
     ensures { result ≡ text_opener text.now }
@@ -67,7 +67,7 @@ pub fn text_opener(text: &[u8]) -> Option<TextOpener>
     }
 }
 
-/// The quote behind a letter, where the first two bytes of a text are these.
+/// The quote of a text that begins with `letter` and a quote.
 #[inline(always)]
 pub fn quote_after(letter: u8, text: &[u8]) -> Option<Quote>
     ensures { result ≡ quote_after letter text.now }
@@ -89,7 +89,7 @@ fn opener(kind: LiteralKind, is_raw: bool, quote: Quote) -> Class
     }
 }
 
-/// The opener that a quote is without a prefix.
+/// The opener of a quote without a prefix.
 #[tactic(auto, unfolding(starlark_grammar::specs::Words::openers))]
 fn without_prefix(quote: u8) -> Option<Class>
     ensures { result ≡ lookup (bytes_eq (quote ∷ [])) grammar.openers }
@@ -135,7 +135,7 @@ fn with_letters(first: u8, second: u8, quote: u8) -> Option<Class>
     }
 }
 
-/// The opener that a word is, if it is one.
+/// The opener of a prefix of up to two letters and a quote; `None` for any other word.
 #[inline(never)]
 pub fn opener_class(word: &str) -> Option<Class>
     ensures { result ≡ lookup (bytes_eq word.now) grammar.openers }

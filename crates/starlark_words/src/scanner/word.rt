@@ -1,4 +1,4 @@
-//! Words as the scanner finds them.
+//! The types of words.
 
 use starlark_grammar::class::{Class, Quote, Terminal};
 
@@ -16,7 +16,8 @@ pub enum ShortWord {
     Digit(u8),
 }
 
-/// What opens a text literal: whether that is raw, its quote, and how many bytes the opener has.
+/// The opener of a text literal: whether the literal is raw, its quote, and the opener's length in
+/// bytes.
 #[derive(Clone, Copy)]
 pub struct TextOpener {
     pub is_raw: bool,

@@ -15,7 +15,7 @@ line_len-len-requires c = feed_measured _ _ _ _ c.blanks_len-blanks.ensures.valu
 pub comment_end-requires : goal.comment_end-requires
 comment_end-requires c = feed_measured _ _ _ _ c.blanks_len-blanks.ensures.value (take_rest _ c.blanks_len-blanks.result) c.before_lf_len.ensures.value
 
--- what was measured of the first line
+-- the lengths found in the first line
 first : (c : goal.After-comment_end) → IsMeasured c.args.text.now c.args.from c.args.to c.blanks_len-blanks.result c.comment_end.result c.line_len-len.result
 first c =
     let bytes = c.as_bytes.ensures.value in

@@ -13,7 +13,7 @@ use Rattle.starlark_reader.proofs.Pieces.PieceReads.{chunk_reads}
 use Rattle.starlark_reader.proofs.Pieces.CodePlaces.{by_read, in_text}
 use Rattle.starlark_reader.proofs.reading.piece_at.Goals as goal
 
--- elsewhere than in the text of an f-string
+-- outside of f-string text
 elsewhere : (follows_gap : Bool) (s : Situation) (text : Text) (at : LexerMode) → ((opening : code.Opening) → at ≡ place.InText opening → ⊥) → IsAfter follows_gap s.before → s.place ≡ mode_view at → step_at language s text ≡ in_code language s text
 elsewhere follows_gap s text at other behind here = by_read follows_gap s text behind ∙ ap (λ p. by_place language s p text) here ∙ go at other
   where
@@ -23,7 +23,7 @@ elsewhere follows_gap s text at other behind here = by_read follows_gap s text b
     go place.AtTop other = refl
     go place.Deeper other = refl
 
--- at the text's end
+-- at the end of the text
 code_ends : (s : Situation) (text : Text) → (length text == 0) ≡ true → in_code language s text ≡ Ends
 code_ends s [] none = refl
 code_ends s (b ∷ bs) none = grind arith

@@ -9,7 +9,7 @@ use Rattle.starlark_reader.proofs.Pieces.PieceReads.{wordless_reads}
 use Rattle.starlark_reader.proofs.reading.wordless_piece.Goals as goal
 use Rattle.starlark_reader.proofs.reading.wordless_piece.Goals.{After-bang_stands}
 
--- whether a bang stands, by the situation and the text
+-- whether a bang is at the start of the text, by the situation
 stands_by : (c : After-bang_stands) → (known : Bool) → c.bang_stands.result ≡ known → (s : Situation) → s.place ≡ mode_view c.args.place → IsAfter c.args.follows_gap s.before → (takes_bang s.place s.before && is_bang c.args.text.now) ≡ known
 stands_by c known e s here behind =
     let front = ap is_bang c.front.ensures.bytes ∙ ap (λ t. is_bang (take 2 t)) c.as_bytes.ensures.value ∙ bang_in_two c.args.text.now in

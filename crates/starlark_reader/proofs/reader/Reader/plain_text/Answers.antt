@@ -12,7 +12,7 @@ returns-in-InText-clause-stands c =
     plain_here c.args.text.now c.range_from.result.now (record c.args.self.now { reads = c.plain_text.new.reads }) c.place.result c.in-InText.opening c.plain_text.result c.range_from.ensures.value (c.reads_on.ensures.stage c.if-not-reads_on.false)
     (c.reads_on.ensures.idle c.if-not-reads_on.false c.args.text.now c.requires.ready.2.is_pending) c.in-InText.is c.place.ensures c.plain_text.ensures.plain
 
--- where nothing is looked at
+-- where nothing is read
 none_looked : (text : Text) (reader : Reader) → reader.at ≤ length text → (reader.at + 0 ≤ length text) × HasLookedHere 0 4 reader reader
 none_looked text reader inside = (omega (arith, inside), (refl, refl, omega arith, (omega arith, omega arith)))
 

@@ -45,7 +45,7 @@ step_over-requires-clause-fits c =
     let here = piece_here c.args.text.now stands.0 c.args.self.now (two (string_bytes c.args.chunk) c.args.chunk_len c.args.len (text_end_node c.args.stop)) stands.1 stands.2 in
     omega (arith, here.1, c.requires.fits)
 
--- the tokens behind the chunk
+-- the tokens after the chunk
 passed : (c : After-pass) (history : History) → Represents history.tokens c.args.self.now.nesting
     → Represents (tokens_onto history.tokens (two (string_bytes c.args.chunk) c.args.chunk_len c.args.len (text_end_node c.args.stop)).lexemes) c.pass.new.self
 passed c history same =

@@ -18,7 +18,7 @@ pub range_from-requires : goal.range_from-requires
 range_from-requires c = λ some.
     word_cut c.range_from-rest.result.now (class.Opener kind.FString false c.args.quote) 2 c.range_from-rest.utf8 (ap language_front c.range_from-rest.ensures.value ∙ sym c.requires.stands.front)
 
--- the start of an f-string is as long as its opener and the quotes behind that
+-- the start of an f-string is as long as its opener and the quotes after that
 triple_len : (opening : Opening) (len : ℕ) → opening.is_triple ≡ true → len ≡ 4 → len ≡ 2 + more_quotes (opening_view opening)
 triple_len opening len is e = rw (is, e) refl
 

@@ -8,7 +8,7 @@ use Rattle.starlark_grammar.specs.Words.{Text}
 use Rattle.starlark_reader.proofs.Literals.Pieces.{if_ok}
 use Rattle.starlark_reader.proofs.reading.words.decimal.Goals as goal
 
--- two bytes tell whether a number begins with a 0 too many
+-- two bytes determine whether a number has a leading 0 before more digits
 zero_by_two : (word : Text) → grammar.starts_zero (take 2 word) ≡ grammar.starts_zero word
 zero_by_two [] = refl
 zero_by_two (a ∷ []) = refl
