@@ -119,7 +119,7 @@ class Source:
             text = row.strip()
             if text.startswith("///"):
                 said.insert(0, text[3:].strip())
-            elif not text.startswith("#["):
+            elif not text.startswith(("#[", "// ")):
                 break
         first = said[: said.index("")] if "" in said else said
         return re.split(r"(?<=\.)\s", " ".join(first) + " ")[0].strip()

@@ -18,8 +18,7 @@ top=$(CDPATH= cd -- "$(dirname -- "$0")/.." && pwd)
 crate="$top/crates/starlark_c"
 archive="$crate/out/libstarlark_c.a"
 made="$top/out/bindings"
-texts="$top/crates/starlark_texts"
-recovery="$top/crates/starlark_recovery_texts"
+stored="$top/crates/starlark_rows"
 
 fail() {
     echo "bindings.sh: $1" >&2
@@ -101,7 +100,7 @@ test_c() {
     compile refused_memory '-Wl,--wrap=malloc,--wrap=realloc'
     compile print_tokens ''
     printf 'C: '
-    "$made/stored_texts" "$texts/stdin" "$texts/stdout" "$recovery/stdin" "$recovery/stdout"
+    "$made/stored_texts" "$stored/stdin" "$stored/stdout"
     printf 'C: '
     "$made/refused_memory"
 }

@@ -3,7 +3,7 @@
 
 usage: document_edits.py [--write] [--edits N] [--seed N]
 
-Without options it compares the stored output of crates/starlark_document_texts with what the plain lexer finds.
+Without options it compares the stored output of the part `documents` of crates/starlark_rows with what the plain lexer finds.
 
 --write    store a list of commands, and what they return
 --edits N  also try N random edits with the built program, with segments of at least 1, 16 and 2048 bytes (0)
@@ -19,15 +19,13 @@ import argparse
 import itertools
 import random
 import re
-import subprocess
 import sys
-from pathlib import Path
 
 from fuzz import INSERTIONS
 from recovered_texts import items_of, random_texts
+from stored_parts import printed_for, read_part, write_part
 
-CRATE = Path(__file__).resolve().parent.parent / "crates/starlark_document_texts"
-PROGRAM = CRATE / "out/starlark_document_texts"
+PART = "documents"
 EDITS_OF_A_TEXT = 20
 SHOWN = 5
 SPAN = re.compile(rb"(fault )?([0-9]+)-([0-9]+)(.*)")
@@ -111,10 +109,9 @@ def random_commands(count, seed):
                 yield b"show\n", text
 
 
-def outputs_for(commands):
-    """What the built program prints for each command."""
-    printed = subprocess.run([PROGRAM], input=b"".join(commands), capture_output=True, check=True).stdout
-    return [part.rstrip(b"\n") for part in re.split(rb"(?m)^[0-9]+ ", printed)[1:]]
+def outputs_of(printed):
+    """What was printed for each command."""
+    return [output.rstrip(b"\n") for output in re.split(rb"(?m)^[0-9]+ ", printed)[1:]]
 
 
 def found_spans(output):
@@ -190,7 +187,7 @@ def fault_at(commands, texts, outputs):
 def compare(what, runs):
     """Runs commands, and says whether what they return is right."""
     commands, texts = [run[0] for run in runs], [run[1] for run in runs]
-    outputs = outputs_for(commands)
+    outputs = outputs_of(printed_for(PART, b"".join(commands)))
     number = fault_at(commands, texts, outputs)
     edits = sum(command.startswith(b"edit") for command in commands)
     if number is None:
@@ -207,14 +204,13 @@ def main():
     parser.add_argument("--seed", type=int, default=1)
     options = parser.parse_args()
     stored = list(stored_commands())
+    commands = b"".join(command for command, _ in stored)
     if options.write:
-        (CRATE / "stdin").write_bytes(b"".join(command for command, _ in stored))
-        printed = subprocess.run([PROGRAM], input=(CRATE / "stdin").read_bytes(), capture_output=True, check=True).stdout
-        (CRATE / "stdout").write_bytes(printed)
-    printed = (CRATE / "stdout").read_bytes()
-    outputs = [part.rstrip(b"\n") for part in re.split(rb"(?m)^[0-9]+ ", printed)[1:]]
+        write_part("stdin", PART, commands)
+        write_part("stdout", PART, printed_for(PART, commands))
+    outputs = outputs_of(read_part("stdout", PART))
     number = fault_at([command for command, _ in stored], [text for _, text in stored], outputs)
-    is_stored = (CRATE / "stdin").read_bytes() == b"".join(command for command, _ in stored)
+    is_stored = read_part("stdin", PART) == commands
     if number is not None or not is_stored:
         print(f"stored command {number} differs" if is_stored else "the stored commands differ")
         return 1

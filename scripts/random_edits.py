@@ -9,21 +9,18 @@ usage: random_edits.py [--texts N] [--chains N] [--edits N] [--seed N]
 --edits N   edits of a list; its first edit alone is tried, too, and then the first two, and so on (10)
 --seed N    another seed gives other texts and edits (1)
 
-The built program crates/starlark_texts/out/starlark_texts hands the edits to `run_edits`. This script edits the texts by
+The built program crates/starlark_rows/out/starlark_rows hands the edits to `run_edits`. This script edits the texts by
 itself, and knows which edit doesn't fit. It prints the first list for which the two differ, and exits with 1; else it says
 how many were compared.
 """
 
 import argparse
 import random
-import subprocess
 import sys
-from pathlib import Path
 
 from fuzz import INSERTIONS, random_text
-from stored_texts import Edit, edited, edited_record, is_utf8, runs_of, stored_runs
-
-PROGRAM = Path(__file__).resolve().parent.parent / "crates/starlark_texts/out/starlark_texts"
+from stored_parts import printed_for
+from stored_texts import PART, Edit, edited, edited_record, is_utf8, runs_of, stored_runs
 
 
 def utf8_text(dice):
@@ -61,9 +58,9 @@ def main():
         parser.add_argument(f"--{name}", type=int, default=count, metavar="N")
     tried = list(cases(parser.parse_args()))
     stored = b"".join(tried)
-    ran = subprocess.run([PROGRAM], input=stored, capture_output=True, check=True)
+    printed = printed_for(PART, stored)
     wanted = [run for _, run in runs_of(stored)]
-    for case, want, answer in zip(tried, wanted, stored_runs(ran.stdout), strict=True):
+    for case, want, answer in zip(tried, wanted, stored_runs(printed), strict=True):
         if answer != want:
             print(f"{case}\n  prints {answer}\n  and not {want}")
             return 1

@@ -3,12 +3,12 @@
 
 usage: recovered_texts.py [--write] [--count N] [--seed N] [--stored] [--reference FOLDER]
 
-Without options it compares the stored output of crates/starlark_recovery_texts with what the plain lexer finds.
+Without options it compares the stored output of the part `recovered` of crates/starlark_rows with what the plain lexer finds.
 
 --write             store what the plain lexer finds
 --count N           also compare the built program on N random texts (0)
 --seed N            another seed gives other texts (1)
---stored            also compare the built program on the texts of crates/starlark_texts
+--stored            also compare the built program on the texts of the part `texts`
 --reference FOLDER  also compare the plain lexer with that of a folder: its recovery.py has `recovered(text)`, all lexemes and
                     all faults, each with its begin and end
 
@@ -18,16 +18,14 @@ It prints the first text for which two of them differ, and exits with 1; else it
 import argparse
 import random
 import re
-import subprocess
 import sys
-from pathlib import Path
 
 from fuzz import INSERTIONS, NAMES, fault_line, lexeme_line, outcome, random_text, several
-from stored_texts import CRATE as TEXTS
+from stored_parts import printed_for, read_part, write_part
+from stored_texts import PART as TEXTS
 from stored_texts import is_utf8, records_of
 
-CRATE = Path(__file__).resolve().parent.parent / "crates/starlark_recovery_texts"
-PROGRAM = CRATE / "out/starlark_recovery_texts"
+PART = "recovered"
 LONGEST = 4096
 LAYOUT = ["a", "if x:\n", "\n", "\n", "\n ", "\n  ", "\n   ", "\n\t", " ", "\t", "# c\n", "\t# c", "#", "\r\n", "\r", "\r\n  ", "x \t"]
 
@@ -100,8 +98,8 @@ def random_texts(count, seed):
 
 
 def stored_texts():
-    """The texts of the other program that are UTF-8 and not long."""
-    for _, text in records_of((TEXTS / "stdin").read_bytes()):
+    """The texts of the part `texts` that are UTF-8 and not long."""
+    for _, text in records_of(read_part("stdin", TEXTS)):
         if is_utf8(text) and len(text) <= LONGEST:
             yield text
 
@@ -116,10 +114,9 @@ def cut(printed):
     return re.split(rb"(?m)^text [0-9]+\n", printed)[1:]
 
 
-def printed_for(texts):
+def printed_for_texts(texts):
     """What the built program prints for each text."""
-    stored = b"".join(f"{len(text)}\n".encode() + text + b"\n" for text in texts)
-    return subprocess.run([PROGRAM], input=stored, capture_output=True, check=True).stdout
+    return printed_for(PART, b"".join(f"{len(text)}\n".encode() + text + b"\n" for text in texts))
 
 
 def compare(what, texts, runs, printed):
@@ -166,16 +163,16 @@ def main():
     parser.add_argument("--stored", action="store_true")
     parser.add_argument("--reference", metavar="FOLDER")
     options = parser.parse_args()
-    rows = [text for _, text in records_of((CRATE / "stdin").read_bytes())]
+    rows = [text for _, text in records_of(read_part("stdin", PART))]
     if options.write:
-        (CRATE / "stdout").write_bytes(written([lines_of(text) for text in rows]))
-    groups = [("stored", rows, (CRATE / "stdout").read_bytes())]
+        write_part("stdout", PART, written([lines_of(text) for text in rows]))
+    groups = [("stored", rows, read_part("stdout", PART))]
     if options.count:
         texts = list(random_texts(options.count, options.seed))
-        groups.append(("random", texts, printed_for(texts)))
+        groups.append(("random", texts, printed_for_texts(texts)))
     if options.stored:
         texts = list(stored_texts())
-        groups.append(("other stored", texts, printed_for(texts)))
+        groups.append(("other stored", texts, printed_for_texts(texts)))
     for what, texts, printed in groups:
         if not compare(what, texts, [lines_of(text) for text in texts], printed):
             return 1

@@ -1,14 +1,14 @@
 #!/usr/bin/env python3
 """Refuses each request for memory of the built programs in turn, and looks at what they answer.
 
-One run has one request refused: the first, then the second, and so on, until a run has no such request. It takes rows
-of `starlark_rows`, one row a run, texts behind edits for `starlark_texts`, texts for `starlark_lex`, texts and files for
-`starlark_tokens` in each form, and edits of documents for `starlark_document_texts`. For each run one of these has to hold:
+One run has one request refused: the first, then the second, and so on, until a run has no such request. `starlark_rows` gets
+stored rows of calls, one row a run, texts behind edits, and edits of documents; `starlark_lex` gets texts, and `starlark_tokens`
+texts and files in each form. For each run one of these has to hold:
 
 - the answer is that of a run with no request refused;
 - the answer is want of memory. A row of the group `refusals` answers that only where the refused call left things as
   they were, and a row of lexemes prints those before it, which have to be a beginning of all of them. What
-  `starlark_lex` has printed, and `starlark_texts` behind edits, has to be a beginning of all its lines. `starlark_tokens`
+  `starlark_lex` has printed, and `starlark_rows` for a text behind edits, has to be a beginning of all its lines. `starlark_tokens`
   ends with status 2 then, and leaves out at most the file for whose text there was no memory. A document whose edit wants
   memory is as it was before.
 
@@ -35,6 +35,7 @@ from collections import Counter
 from concurrent.futures import ThreadPoolExecutor
 from pathlib import Path
 
+from stored_parts import list_of, parts_of, read_part
 from stored_texts import Edit, edited_record, runs_of
 
 TOP = Path(__file__).resolve().parent.parent
@@ -229,9 +230,8 @@ def built_allocator(folder):
 
 def tried_rows(most):
     """The rows to try with their stored answers: whole groups, and a few rows of each call of the others."""
-    folder = TOP / "crates/starlark_rows"
-    rows = (folder / "stdin").read_bytes().splitlines()
-    answers = (folder / "stdout").read_bytes().splitlines()
+    rows = read_part("stdin", "calls").splitlines()
+    answers = read_part("stdout", "calls").splitlines()
     seen = Counter()
     for row, answer in zip(rows, answers, strict=True):
         call = tuple(row.split(b"\t")[:2])
@@ -272,9 +272,21 @@ class Tries:
         self.wrong.append(f"{self.stdin[:200]!r}: more than {MOST_REQUESTS} requests")
 
 
-def tried_answer(allocator, program, stdin, answer, is_kept):
+class PartTries(Tries):
+    """Tries of `starlark_rows` over one part, of which a run has what is printed for the part."""
+
+    def __init__(self, allocator, program, name, part):
+        super().__init__(allocator, program, list_of({name: part}))
+        self.name = name
+
+    def run(self, number):
+        run = super().run(number)
+        run.output = parts_of(run.output).get(self.name, b"")
+        return run
+
+
+def tried_answer(tries, answer, is_kept):
     """An input with each of the program's requests refused in turn. With none refused it has to have its answer."""
-    tries = Tries(allocator, program, stdin)
     whole = tries.run(0)
     if whole.status != 0 or whole.output != answer:
         tries.report(0, whole)
@@ -284,13 +296,15 @@ def tried_answer(allocator, program, stdin, answer, is_kept):
 
 def tried_row(allocator, program, row, answer):
     """A row with each of its requests refused in turn."""
-    return tried_answer(allocator, program, row + b"\n", answer, lambda run: is_row_kept(run, answer, row))
+    tries = PartTries(allocator, program, "calls", row + b"\n")
+    return tried_answer(tries, answer, lambda run: is_row_kept(run, answer, row))
 
 
 def tried_edited(allocator, program, stored):
     """A text behind edits with each of the program's requests refused in turn."""
     [(_, lines)] = runs_of(stored)
-    return tried_answer(allocator, program, stored, lines, lambda run: is_edited_kept(run, lines))
+    tries = PartTries(allocator, program, "texts", stored)
+    return tried_answer(tries, lines, lambda run: is_edited_kept(run, lines))
 
 
 def document_parts(output):
@@ -300,14 +314,16 @@ def document_parts(output):
 
 def tried_document(allocator, program, text, edit):
     """An edit of a document with each of the program's requests refused in turn."""
-    stdin = f"new 1 {len(text)}\n".encode() + text + b"\nshow\n" + edit + b"show\n"
-    answer = Run(program, allocator, stdin, 0).output
-    return tried_answer(allocator, program, stdin, answer, lambda run: is_document_kept(run, answer))
+    commands = f"new 1 {len(text)}\n".encode() + text + b"\nshow\n" + edit + b"show\n"
+    tries = PartTries(allocator, program, "documents", commands)
+    answer = tries.run(0).output
+    return tried_answer(tries, answer, lambda run: is_document_kept(run, answer))
 
 
 def requests_of_join(allocator, program, last):
     """The run of a row that joins two texts of many words, with `last` at the end of the second."""
-    tries = Tries(allocator, program, b"lexed_text\tjoin_reads\t" + MANY_WORDS + b"\t" + MANY_WORDS + last + b"\n")
+    row = b"lexed_text\tjoin_reads\t" + MANY_WORDS + b"\t" + MANY_WORDS + last + b"\n"
+    tries = PartTries(allocator, program, "calls", row)
     run = tries.run(0)
     tries.runs = 1
     return tries, run
@@ -374,15 +390,15 @@ def main():
     arguments.add_argument("--rows", type=int, default=1, metavar="N")
     most = arguments.parse_args().rows
     compiler()
-    rows, texts, lex, tokens, documents = (built(f"starlark_{name}") for name in ("rows", "texts", "lex", "tokens", "document_texts"))
+    rows, lex, tokens = (built(f"starlark_{name}") for name in ("rows", "lex", "tokens"))
     with tempfile.TemporaryDirectory() as folder, ThreadPoolExecutor(os.cpu_count()) as pool:
         allocator = built_allocator(folder)
         started = [pool.submit(tried_row, allocator, rows, row, answer) for row, answer in tried_rows(most)]
         started += [pool.submit(tried_join, allocator, rows)]
-        started += [pool.submit(tried_edited, allocator, texts, stored) for stored in EDITED]
+        started += [pool.submit(tried_edited, allocator, rows, stored) for stored in EDITED]
         started += [pool.submit(tried_text, allocator, lex, text) for text in TEXTS]
         started += started_reports(pool, allocator, tokens, Path(folder))
-        started += [pool.submit(tried_document, allocator, documents, text, edit) for text, edit in DOCUMENT_EDITS]
+        started += [pool.submit(tried_document, allocator, rows, text, edit) for text, edit in DOCUMENT_EDITS]
         tried = [it.result() for it in started]
     wrong = [line for tries in tried for line in tries.wrong]
     for line in wrong:

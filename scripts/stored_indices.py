@@ -4,16 +4,17 @@
     scripts/stored_indices.py            says how many answers agree, or where the first differs
     scripts/stored_indices.py --write    stores the rows and the answers that it made
 
-The files `stdin` and `stdout` of a program over rows of calls have them, in the group `index_grid`.
+The part `calls` of crates/starlark_rows has them in `stdin` and `stdout`, in the group `index_grid`.
 A row has a text and a first index; its answer has the part for each last index. An index is
 missing, or one from -30 to 29. This script makes the answers without the program, from lists of
 characters. The exit status is 0 where all agree, and 1 where one differs.
 """
 
 import sys
-from pathlib import Path
 
-CRATE = Path(__file__).resolve().parent.parent / "crates/starlark_rows"
+from stored_parts import read_part, write_part
+
+PART = "calls"
 GROUP = "index_grid"
 TEXTS = ["", "a", "abcde", "Телемак"]
 INDICES = [None, *range(-30, 30)]
@@ -66,14 +67,14 @@ def rows():
 
 def stored():
     """All rows of the crate with their answers."""
-    files = [(CRATE / name).read_text().splitlines(keepends=True) for name in ("stdin", "stdout")]
+    files = [read_part(file, PART).decode().splitlines(keepends=True) for file in ("stdin", "stdout")]
     return list(zip(*files, strict=True))
 
 
 def write(lines):
     """Stores rows with their answers."""
-    for name, column in zip(("stdin", "stdout"), zip(*lines)):
-        (CRATE / name).write_text("".join(column))
+    for file, column in zip(("stdin", "stdout"), zip(*lines)):
+        write_part(file, PART, "".join(column).encode())
 
 
 def main():

@@ -1,9 +1,9 @@
 #!/usr/bin/env python3
-"""Checks the stored texts of crates/starlark_texts against the plain lexer of fuzz.py.
+"""Checks the stored texts of crates/starlark_rows against the plain lexer of fuzz.py.
 
 usage: stored_texts.py [--write]
 
-The file `stdin` of the crate has texts, and its file `stdout` what the program has to print for them. This script makes
+The part `texts` of the crate's `stdin` has texts, and that of its `stdout` what the program has to print for them. This script makes
 that output again without the program, and says how many texts agree, or prints the first that doesn't and exits with 1.
 
 A text may have edits before it, which are made to it before it is lexed.
@@ -16,12 +16,12 @@ Of a text that is repeated many times it counts the lexemes of few repetitions, 
 import argparse
 import re
 import sys
-from pathlib import Path
 from typing import NamedTuple
 
 from fuzz import expected, outcome
+from stored_parts import read_part, write_part
 
-CRATE = Path(__file__).resolve().parent.parent / "crates/starlark_texts"
+PART = "texts"
 FEW = 12
 STATUSES = {0: "clean", 1: "fault", 2: "input is not UTF-8"}
 
@@ -63,7 +63,7 @@ def edited_record(edits, text):
 
 
 def records_of(stored):
-    """The records that standard input has: what is done with each text, as words, and the text."""
+    """The records of a part: what is done with each text, as words, and the text."""
     place = 0
     while place < len(stored):
         begin = stored.index(b"\n", place) + 1
@@ -166,13 +166,13 @@ def main():
     parser = argparse.ArgumentParser()
     parser.add_argument("--write", action="store_true")
     options = parser.parse_args()
-    pairs = list(runs_of((CRATE / "stdin").read_bytes()))
+    pairs = list(runs_of(read_part("stdin", PART)))
     runs = [run for _, run in pairs]
     if options.write:
-        (CRATE / "stdout").write_bytes(b"".join(runs))
+        write_part("stdout", PART, b"".join(runs))
         print(f"{len(runs)} texts stored")
         return 0
-    stored = (CRATE / "stdout").read_bytes()
+    stored = read_part("stdout", PART)
     if b"".join(runs) == stored:
         print(f"{len(runs)} texts agree")
         return 0

@@ -1,15 +1,15 @@
 /* Lexes the stored texts through the header, and compares with what the programs print of them.
  *
- *     stored_texts STDIN STDOUT [RECOVERY-STDIN RECOVERY-STDOUT]
+ *     stored_texts STDIN STDOUT
  *
- * The first two files are those of crates/starlark_texts: texts, and the lines that are printed of
- * each. Of a record that isn't a plain text (its fronts, a repetition, an edit) nothing is compared.
- * Each text of at most 64 bytes is also lexed in pieces, with buffers of each smaller size: the
- * pieces joined have to be the whole, what a call says it wants has to be enough for the next one,
- * and nothing may be written outside of what a call tells.
+ * The files are those of crates/starlark_rows. Their parts `texts` are texts, and the lines that are
+ * printed of each. Of a record that isn't a plain text (its fronts, a repetition, an edit) nothing is
+ * compared. Each text of at most 64 bytes is also lexed in pieces, with buffers of each smaller size:
+ * the pieces joined have to be the whole, what a call says it wants has to be enough for the next
+ * one, and nothing may be written outside of what a call tells.
  *
- * The other two are those of crates/starlark_recovery_texts, which are lexed on after their faults,
- * with buffers of each size from 0 to what the whole text needs. */
+ * Their parts `recovered` are texts that are lexed on after their faults, with buffers of each size
+ * from 0 to what the whole text needs. */
 #include "starlark_lex.h"
 
 #include <inttypes.h>
@@ -527,24 +527,34 @@ static void compare_all(bytes stored, bytes printed)
     printf("%zu texts, %zu lexemes, %zu calls with small buffers\n", counts.texts, counts.lexemes, counts.calls);
 }
 
-/* Compares the texts of two files by a function. */
-static void compare_files(const char *stored_name, const char *printed_name, void (*compare_texts)(bytes, bytes))
+/* The part of a name in a file, which is a list of parts: a line `part NAME LEN`, and LEN bytes. */
+static bytes part_of(bytes file, const char *name)
 {
-    bytes stored = read_file(stored_name);
-    bytes printed = read_file(printed_name);
-    compare_texts(stored, printed);
-    free(stored.at);
-    free(printed.at);
+    size_t at = 0;
+    while (at < file.len) {
+        size_t begin = line_end(file, at);
+        char found[16];
+        size_t len;
+        if (sscanf((const char *)file.at + at, "part %15s %zu", found, &len) != 2 || len > file.len - begin)
+            stop("a file that is no list of parts");
+        if (strcmp(found, name) == 0)
+            return (bytes){file.at + begin, len};
+        at = begin + len;
+    }
+    stop("a file without a part of texts");
+    return file;
 }
 
 int main(int count, char **words)
 {
-    if (count != 3 && count != 5)
-        stop("usage: stored_texts STDIN STDOUT [RECOVERY-STDIN RECOVERY-STDOUT]");
-    compare_files(words[1], words[2], compare_all);
-    if (count == 5) {
-        refuse_numbers();
-        compare_files(words[3], words[4], compare_all_recovered);
-    }
+    if (count != 3)
+        stop("usage: stored_texts STDIN STDOUT");
+    bytes stored = read_file(words[1]);
+    bytes printed = read_file(words[2]);
+    compare_all(part_of(stored, "texts"), part_of(printed, "texts"));
+    refuse_numbers();
+    compare_all_recovered(part_of(stored, "recovered"), part_of(printed, "recovered"));
+    free(stored.at);
+    free(printed.at);
     return 0;
 }

@@ -17,8 +17,7 @@ from starlark_lexer.__main__ import main
 from starlark_lexer.library import kind_name, place_of
 
 TOP = Path(__file__).resolve().parents[3]
-STORED = TOP / "crates/starlark_texts"
-RECOVERY = TOP / "crates/starlark_recovery_texts"
+STORED = TOP / "crates/starlark_rows"
 QUOTES = {
     Quotes.SINGLE: "Single",
     Quotes.DOUBLE: "Double",
@@ -79,9 +78,21 @@ def lines_of(source: bytes) -> str:
     return "".join([*lines, fault_line(fault)] if fault else lines)
 
 
-def stored_texts(folder: Path) -> Iterator[Tuple[int, str, bytes]]:
-    """The stored texts of a folder, each with its number and its task."""
-    stored = (folder / "stdin").read_bytes()
+def read_part(file: str, name: str) -> bytes:
+    """A part of a stored file, which is a list of parts: a line `part NAME LEN`, and LEN bytes."""
+    stored = (STORED / file).read_bytes()
+    at = 0
+    while True:
+        begin = stored.index(b"\n", at) + 1
+        _, found, length = stored[at : begin - 1].decode().split(" ")
+        at = begin + int(length)
+        if found == name:
+            return stored[begin:at]
+
+
+def stored_texts(part: str) -> Iterator[Tuple[int, str, bytes]]:
+    """The stored texts of a part, each with its number and its task."""
+    stored = read_part("stdin", part)
     at = 0
     number = 0
     while at < len(stored):
@@ -96,9 +107,9 @@ class StoredTexts(unittest.TestCase):
     """Each stored text is lexed as the program lexes it."""
 
     def test_stored_texts(self) -> None:
-        printed = (STORED / "stdout").read_bytes().decode()
+        printed = read_part("stdout", "texts").decode()
         at = 0
-        for number, task, source in stored_texts(STORED):
+        for number, task, source in stored_texts("texts"):
             if task:
                 continue
             begin = printed.index(f"text {number}: ", at)
@@ -117,8 +128,8 @@ class RecoveredTexts(unittest.TestCase):
     """Each stored text is lexed on after its faults as RecoveringLexer does."""
 
     def test_stored_texts(self) -> None:
-        printed = (RECOVERY / "stdout").read_bytes().decode()
-        texts = [source for _, _, source in stored_texts(RECOVERY)]
+        printed = read_part("stdout", "recovered").decode()
+        texts = [source for _, _, source in stored_texts("recovered")]
         parts = [part.partition("\n")[2] for part in ("\n" + printed).split("\ntext ")[1:]]
         self.assertEqual((len(texts), len(parts)), (119, 119))
         for source, part in zip(texts, parts):

@@ -1,9 +1,9 @@
 //! Lexes the stored texts, and compares with what the programs print of them.
 //!
-//! The files are those of `crates/starlark_texts`: texts, and the lines that are printed of each. Of
-//! a record that isn't a plain text (its fronts, a repetition, an edit) nothing is compared. Each
-//! short text is also lexed with buffers of each smaller size. The texts of
-//! `crates/starlark_recovery_texts` are lexed on after their faults.
+//! The files are those of `crates/starlark_rows`. Their parts `texts` are texts, and the lines that
+//! are printed of each. Of a record that isn't a plain text (its fronts, a repetition, an edit)
+//! nothing is compared. Each short text is also lexed with buffers of each smaller size. The texts of
+//! the parts `recovered` are lexed on after their faults.
 
 use starlark_lexer::{
     FStringQuote, Fault, Lexeme, Lexer, LineIndex, Place, RecoveringLexer, Span, Token, TokenInt,
@@ -23,29 +23,43 @@ struct Stored<'a> {
     text: &'a [u8],
 }
 
-/// The bytes of a file of the stored texts.
-fn read(name: &str) -> Vec<u8> {
-    read_of("starlark_texts", name)
+/// The line at the front of bytes, and what follows its LF.
+fn split_line(bytes: &[u8]) -> (&str, &[u8]) {
+    let end = bytes
+        .iter()
+        .position(|&byte| byte == b'\n')
+        .expect("a line has its end");
+    let line = str::from_utf8(&bytes[..end]).expect("a line is UTF-8");
+    (line, &bytes[end + 1..])
 }
 
-/// The bytes of a file of stored texts in the folder of a crate.
-fn read_of(folder: &str, name: &str) -> Vec<u8> {
-    let crates = PathBuf::from(env!("CARGO_MANIFEST_DIR")).join("../../crates");
-    fs::read(crates.join(folder).join(name)).expect("the stored texts are beside the crate")
+/// The part of a name in a file, which is a list of parts: a line `part NAME LEN`, and LEN bytes.
+fn read_part(name: &str, part: &str) -> Vec<u8> {
+    let folder = PathBuf::from(env!("CARGO_MANIFEST_DIR")).join("../../crates/starlark_rows");
+    let file = fs::read(folder.join(name)).expect("the stored texts are beside the crate");
+    let mut rest = file.as_slice();
+    loop {
+        let (line, after) = split_line(rest);
+        let words: Vec<&str> = line.split(' ').collect();
+        let ["part", found, len] = words[..] else {
+            panic!("{line:?} begins no part");
+        };
+        let (bytes, after) = after.split_at(len.parse().expect("a part has a length"));
+        if found == part {
+            return bytes.to_vec();
+        }
+        rest = after;
+    }
 }
 
 /// Splits a file of texts: a line with a length and, where it isn't plain, a task; the bytes; LF.
 fn stored_texts(mut file: &[u8]) -> Vec<Stored<'_>> {
     let mut texts = Vec::new();
     while !file.is_empty() {
-        let end = file
-            .iter()
-            .position(|&byte| byte == b'\n')
-            .expect("a line has its end");
-        let line = str::from_utf8(&file[..end]).expect("a line is UTF-8");
+        let (line, after) = split_line(file);
         let (len, task) = line.split_once(' ').unwrap_or((line, ""));
         let len: usize = len.parse().expect("a line has a length");
-        let (text, rest) = file[end + 1..].split_at(len);
+        let (text, rest) = after.split_at(len);
         let number = texts.len() + 1;
         texts.push(Stored {
             number,
@@ -153,9 +167,10 @@ fn lines_of(stored: &Stored<'_>) -> String {
 
 #[test]
 fn texts_are_lexed_as_the_program_prints_them() {
-    let file = read("stdin");
+    let file = read_part("stdin", "texts");
     let texts = stored_texts(&file);
-    let printed = String::from_utf8(read("stdout")).expect("what is printed is UTF-8");
+    let printed = read_part("stdout", "texts");
+    let printed = String::from_utf8(printed).expect("what is printed is UTF-8");
     let mut compared = 0;
     for (stored, lines) in texts.iter().zip(printed_lines(&printed, &texts)) {
         if stored.is_plain {
@@ -177,9 +192,9 @@ fn recovered_lines(text: &str, lexemes: usize, values: usize) -> String {
 
 #[test]
 fn texts_are_lexed_on_after_faults() {
-    let file = read_of("starlark_recovery_texts", "stdin");
-    let printed = String::from_utf8(read_of("starlark_recovery_texts", "stdout"))
-        .expect("what is printed is UTF-8");
+    let file = read_part("stdin", "recovered");
+    let printed = read_part("stdout", "recovered");
+    let printed = String::from_utf8(printed).expect("what is printed is UTF-8");
     let mut rest = printed.as_str();
     let texts = stored_texts(&file);
     for stored in &texts {
@@ -198,7 +213,7 @@ fn texts_are_lexed_on_after_faults() {
 
 #[test]
 fn small_buffers_give_the_same_lexemes() {
-    let file = read("stdin");
+    let file = read_part("stdin", "texts");
     let mut compared = 0;
     for stored in stored_texts(&file) {
         let Ok(text) = str::from_utf8(stored.text) else {

@@ -275,11 +275,8 @@ fn end_at_fault(
 }
 
 /// Fills the buffers with the lexemes that a new lexer of a text yields, in order.
-
 ///
-
 /// It goes up to the end of the text or its fault, or up to a clean cut where they have no room for
-
 /// more.
 pub fn fill(
     alloc: Global,

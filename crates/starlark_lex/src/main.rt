@@ -9,6 +9,9 @@
 ghost use Rattle.std.specs.Prelude.{◌≡◌};
 ghost use Rattle.starlark_lex.specs.ExitStatus.{exit_status as exit_status_of};
 
+#[cfg(test)]
+mod tests;
+
 use starlark_run::{RunFault, RunStatus, Watched, run};
 use std::env;
 use std::process::ExitCode;

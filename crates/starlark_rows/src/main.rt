@@ -1,67 +1,57 @@
-//! Calls the library as the rows on standard input say, and prints what it answers.
+//! Runs the libraries over stored calls, texts and commands, so that all that they return is
+//! compared with a stored output.
 //!
-//! A row is a line of fields, parted by tabs: the group of calls, the call, and what it is given. A
-//! number that isn't given is an empty field. The answer is printed on a line of its own, as
-//! `{:?}` shows it, or as it prints where that is what the row asks for.
+//! Standard input is a list of parts. A part is a line `part NAME LEN` and its LEN bytes:
+//!
+//! - `calls` has rows, each of which is a call and what it is given (module `calls`);
+//! - `texts` has texts that are lexed up to their fault, and edits of texts (module `texts`);
+//! - `recovered` has texts that are lexed on after their faults (module `recovered`);
+//! - `documents` has commands on documents (module `documents`).
+//!
+//! Standard output is a list of parts, too: of each part what it prints. In each part the numbers of
+//! texts and commands begin at 1. The program ends with an error where standard input is no such
+//! list.
 #![tactic(auto)]
 
-mod code_map_rows;
-mod cursor_rows;
-mod each_byte;
-mod error_rows;
-mod file_rows;
-mod format_rows;
-mod index_grid;
-mod joined_texts;
-mod lexed_text_rows;
-mod lexer_refusal_rows;
-mod place_rows;
-mod refusal_rows;
-mod refused;
-mod row_files;
-mod rows;
-mod string_rows;
-mod token_rows;
-mod word_rows;
+mod calls;
+mod documents;
+mod lexeme_lines;
+mod recovered;
+mod stored_parts;
+mod texts;
 
-use crate::rows::{Answer, Row};
+use crate::stored_parts::{Part, first_part, invalid_data};
 use std::alloc::Global;
 use std::io;
-use std::io::{BufRead, BufReader, BufWriter, Write};
+use std::io::{BufWriter, Read, Write};
 
-/// The answer to a call that takes memory: of lexers and lexed texts, or of what stands below them.
-fn refusals(alloc: Global, row: &Row) -> Answer {
-    match row.text(1) {
-        "lexemes" | "lex" | "join" | "relex" => lexer_refusal_rows::answer(alloc, row),
-        _ => refusal_rows::answer(alloc, row),
-    }
-}
-
-/// What the libraries answer to a row.
-fn answer(alloc: Global, row: &Row) -> Answer {
-    match row.text(0) {
-        "codemap" => code_map_rows::answer(alloc, row),
-        "cursors" => cursor_rows::answer(alloc, row),
-        "errors" => error_rows::answer(alloc, row),
-        "files" => file_rows::answer(alloc, row),
-        "format" => format_rows::answer(alloc, row),
-        "index_grid" => index_grid::answer(alloc, row),
-        "lexed_text" => lexed_text_rows::answer(alloc, row),
-        "places" => place_rows::answer(alloc, row),
-        "refusals" => refusals(alloc, row),
-        "strings" => string_rows::answer(alloc, row),
-        "tokens" => token_rows::answer(alloc, row),
-        "words" => word_rows::answer(alloc, row),
-        group => format!(in alloc; "no group {group}"),
+/// Prints what a part's calls, texts or commands return.
+fn print_part<W: Write>(alloc: Global, out: &mut W, part: Part<'_>) -> io::Result<()> {
+    match part.name {
+        "calls" => calls::print_all(alloc, out, part.bytes),
+        "texts" => texts::print_all(alloc, out, part.bytes),
+        "recovered" => recovered::print_all(alloc, out, part.bytes),
+        "documents" => documents::print_all(alloc, out, part.bytes),
+        _ => Err(invalid_data()),
     }
 }
 
 fn main(rt: HostRuntime) -> io::Result<()> {
     let alloc = rt.alloc();
+    let mut stored = Vec::new(alloc);
+    rt.stdin().read_to_end(&mut stored)?;
     let mut out = BufWriter::new(alloc, rt.stdout())?;
-    for line in BufReader::new(alloc, rt.stdin())?.lines(alloc) {
-        let row = Row::new(alloc, line?.as_str())?;
-        write!(out, "{}\n", answer(alloc, &row)?)?;
+    let mut rest = stored.as_slice();
+    for _ in 0..u64::MAX {
+        if rest.is_empty() {
+            break;
+        }
+        let (part, after) = first_part(rest).ok_or_else(invalid_data)?;
+        let mut printed = Vec::new(alloc);
+        print_part(alloc, &mut printed, part)?;
+        write!(out, "part {} {}\n", part.name, printed.len())?;
+        out.write_all(printed.as_slice())?;
+        rest = after;
     }
     out.flush()
 }

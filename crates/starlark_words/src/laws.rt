@@ -6,7 +6,6 @@ ghost use Rattle.starlark_words.specs.OneIdentifier.{IdentifiersStay};
 
 /// A text is one identifier exactly if it was one before `rf'` and `rf"` were openers, and it is
 /// the
-
 /// same identifier.
 pub fn identifiers_stay()
     ensures { IdentifiersStay }

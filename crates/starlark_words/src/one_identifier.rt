@@ -56,7 +56,6 @@ fn after_skipped(text: &str) -> &str
 
 /// The identifier of a text of skipped pieces, one identifier, and skipped pieces; `None` for any
 /// other
-
 /// text.
 ///
 /// Skipped are spaces, and newlines after a backslash. Only an identifier that is found allocates.

@@ -112,7 +112,6 @@ fn word_by_front(reads: &mut Reads, front: &[u8], text: &str) -> Option<Word>
 }
 
 /// The longest word at the front of a text if its first two bytes determine it: a name, a symbol of
-
 /// one byte, an LF, or the quote of a text literal. `None` for any other front.
 #[inline(always)]
 pub fn common_word(reads: &mut Reads, text: &str) -> Option<Word>
@@ -127,7 +126,6 @@ pub fn common_word(reads: &mut Reads, text: &str) -> Option<Word>
 }
 
 /// The longest word after `gap` spaces if its first two bytes determine it. Counts the reads of the
-
 /// spaces and of these two bytes.
 #[inline(always)]
 pub fn word_after(reads: &mut Reads, gap: usize, text: &str) -> Option<Word>
@@ -210,7 +208,6 @@ pub fn comment_len(reads: &mut Reads, front: &[u8], text: &str) -> Option<usize>
 
 /// The longest word at the front of a text that doesn't begin with a letter or `_`; `None` if there
 /// is
-
 /// none. The caller has counted the reads of the first two bytes.
 pub fn unnamed_word(reads: &mut Reads, text: &str) -> Option<Word>
     requires { grammar.begins grammar.is_name_start text.now ≡ false }

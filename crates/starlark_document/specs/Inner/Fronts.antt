@@ -97,7 +97,6 @@ pub record IsFront (text : Text) (items : List LexerItem) (front : Front) : Type
   pub cut : front.is_cut ≡ true → EndsPlainly text items front.line_end
 
 -- A newline of some bytes, after which a line begins plainly, closes the text so far. Its items are those up to there, with
-
 -- the `Dedent`s, but for its closing `Newline`.
 abbrev pub ItemsCut : Type 0
 ItemsCut = (text : Text) (front : List LexerItem) (newline : grammar.Spanned TokenView) (dedents more : List LexerItem)

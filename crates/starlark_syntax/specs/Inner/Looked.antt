@@ -26,7 +26,6 @@ abbrev pub looked_len : (is_text : Bool) → ℕ → ℕ
 looked_len is_text len = if is_text || len == 1 then len + 1 else len
 
 -- The reads of the lookahead that is still possible are within the bound. After two bytes of lookahead, failed lookahead
-
 -- reaches no further than the end of the word at the reader's offset, if that has two bytes or more and opens no text literal.
 abbrev pub IsLooked : Text → Reader → (to : ℕ) → Looked → Type 0
 IsLooked text reader to looked.Nothing = IsAtCode text reader × (to ≤ reader.at) × HasSpared text 0 reader to
@@ -35,7 +34,6 @@ IsLooked text reader to looked.Front =
 IsLooked text reader to looked.All = HasSpared text 0 reader to
 
 -- Failed lookahead reaches at most one byte past the word at the reader's offset, and the reads of a literal's body are
-
 -- within the bound.
 abbrev pub HasOpened : Text → Reader → (to : ℕ) → Type 0
 HasOpened text reader to = ((class : Class) (len : ℕ) → language_front (drop reader.at text) ≡ Some (class, len) → to ≤ reader.at + len + 1) × HasSpared text 5 reader to

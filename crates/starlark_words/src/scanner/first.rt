@@ -54,7 +54,6 @@ pub fn is_symbol(byte: u8) -> bool
 }
 
 /// Whether a symbol may go on with the byte after it. Only a point goes on with a point or a digit:
-
 /// `...`, `.5`.
 #[inline(always)]
 pub fn goes_on(first: u8, next: u8) -> bool

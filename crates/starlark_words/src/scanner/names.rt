@@ -153,7 +153,6 @@ fn more_letters(name: &str) -> Listing
 
 /// Entry of a name in the table of keywords: it is compared with the words of its length, frequent
 /// ones
-
 /// first.
 #[inline(never)]
 fn listing_of(name: &str) -> Listing
@@ -194,7 +193,6 @@ fn is_quote(byte: Option<u8>) -> bool
 }
 
 /// Opener at the front of a text that begins with a name of `len` bytes: that name as a prefix, and
-
 /// the next byte as its quote.
 #[inline(always)]
 fn prefixed_opener(text: &str, len: usize, behind: Option<u8>) -> Option<Class>
@@ -214,7 +212,6 @@ fn prefixed_opener(text: &str, len: usize, behind: Option<u8>) -> Option<Class>
 
 /// The longest word at the front of a text that begins with a letter or `_`. The caller has counted
 /// the
-
 /// read of that byte.
 #[inline(always)]
 pub fn name_from(reads: &mut Reads, text: &str) -> Word

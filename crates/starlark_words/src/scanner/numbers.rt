@@ -83,7 +83,6 @@ fn exponent_len(reads: &mut Reads, text: &[u8]) -> usize
 
 /// Length of the fraction at the front of a text that begins with a point: the point, the digits
 /// and
-
 /// the exponent.
 fn fraction_len(reads: &mut Reads, text: &[u8]) -> usize
     requires { grammar.begins grammar.is_point text.now ≡ true }
@@ -143,7 +142,6 @@ fn based_word(class: Class, digits: usize) -> Option<Word>
 }
 
 /// The longest integer with a base at the front of a text. The caller has counted the reads of the
-
 /// first three bytes.
 fn based_front(reads: &mut Reads, front: &[u8], text: &[u8]) -> Option<Word>
     requires { front.now ≡ take 3 text.now }
@@ -185,7 +183,6 @@ pub fn is_digit_alone(text: &[u8]) -> bool
 
 /// The longest number at the front of a text that begins with one. The caller has counted the reads
 /// of
-
 /// the first three bytes.
 pub fn number_from(reads: &mut Reads, front: &[u8], text: &[u8]) -> Word
     requires number { begins_number text.now ≡ true }

@@ -1,0 +1,121 @@
+//! Integers, identifiers, and the lexemes of a text as they print.
+
+use crate::calls::row_files::code_map;
+use crate::calls::rows::{Answer, Row, both, given, shown, unknown};
+use starlark_syntax::codemap::OrMemory;
+use starlark_syntax::dialect::Dialect;
+use starlark_syntax::lexer::{Lexer, Token, TokenInt, lex_exactly_one_identifier};
+use std::alloc::{AllocError, Global};
+use std::fmt::{Display, Write};
+
+/// A large integer's sign, digits and base.
+fn shown_large(alloc: Global, is_negative: bool, digits: &str, radix: u32) -> Answer {
+    format!(in alloc; "BigInt {is_negative} {digits} {radix}")
+}
+
+/// An integer's value, or its sign, digits and base where it is a large one.
+fn parts(alloc: Global, number: &TokenInt) -> Answer {
+    match number {
+        TokenInt::I32(value) => format!(in alloc; "I32 {value}"),
+        TokenInt::BigInt(big) => shown_large(alloc, big.is_negative(), big.digits(), big.radix()),
+    }
+}
+
+/// An integer's parts, and how it prints.
+fn shown_integer(alloc: Global, number: &TokenInt) -> Answer {
+    let parts = parts(alloc, number)?;
+    both(alloc, &parts, number)
+}
+
+/// The integer that a text writes in a base, or why there is none.
+fn integer(alloc: Global, text: &str, base: u32) -> Answer {
+    if base < 2 || base > 36 {
+        return String::from_str(alloc, "no such base");
+    }
+    match TokenInt::from_str_radix(alloc, text, base) {
+        Ok(number) => shown_integer(alloc, &number),
+        Err(OrMemory::Error(fault)) => fault.to_string(alloc),
+        Err(OrMemory::Memory) => Err(AllocError),
+    }
+}
+
+/// Adds a token as it prints, after its kind.
+fn add_token<T: Display>(list: &mut String, kind: &str, token: &T) -> Result<(), AllocError> {
+    write!(list, "{kind} {token}; ")
+}
+
+/// Adds the places of a token and a copy of it as it prints.
+pub fn add_placed(
+    alloc: Global,
+    list: &mut String,
+    begin: usize,
+    token: &Token,
+    end: usize,
+) -> Result<(), AllocError> {
+    write!(list, "{begin}-{end} ")?;
+    let copy = token.clone(alloc)?;
+    add_token(list, copy.kind(), &copy)
+}
+
+/// What is said of an allocation failure: after it a lexer has to yield nothing.
+fn after_memory(lexer: &mut Lexer<'_>) -> &'static str {
+    match lexer.next() {
+        None => "out of memory",
+        Some(_) => "more behind want of memory",
+    }
+}
+
+/// Adds the next lexeme, a fault as it prints, or an allocation failure. Returns whether the lexer may have more.
+fn add_next(alloc: Global, list: &mut String, lexer: &mut Lexer<'_>) -> Result<bool, AllocError> {
+    match lexer.next() {
+        None => return Ok(false),
+        Some(Ok((begin, token, end))) => add_placed(alloc, list, begin, &token, end)?,
+        Some(Err(OrMemory::Error(exception))) => write!(list, "{exception}; ")?,
+        Some(Err(OrMemory::Memory)) => {
+            list.push_str(after_memory(lexer))?;
+            return Ok(false);
+        }
+    }
+    Ok(true)
+}
+
+/// A lexer of a text, over a code map of this name and source.
+fn lexer<'a>(
+    alloc: Global,
+    text: &'a str,
+    name: &str,
+    source: &str,
+) -> Result<Lexer<'a>, AllocError> {
+    let map = code_map(alloc, name, source)?;
+    given(Lexer::new(alloc, text, &Dialect::Standard, map))
+}
+
+/// The lexemes of a text, or those before an allocation failure, over a code map of this name and source.
+fn lexemes_in(alloc: Global, text: &str, name: &str, source: &str) -> Answer {
+    let mut lexer = lexer(alloc, text, name, source)?;
+    let mut list = String::new(alloc);
+    for _ in 0..u64::MAX {
+        if !add_next(alloc, &mut list, &mut lexer)? {
+            break;
+        }
+    }
+    Ok(list)
+}
+
+/// The lexemes of a text, or those before an allocation failure, over a code map named `f` that has this source.
+pub fn lexemes(alloc: Global, text: &str, source: &str) -> Answer {
+    lexemes_in(alloc, text, "f", source)
+}
+
+/// The answer to a call with a text.
+pub fn answer(alloc: Global, row: &Row) -> Answer {
+    let text = row.text(2);
+    match row.text(1) {
+        "from_str_radix" => integer(alloc, text, row.count(3)),
+        "lex_exactly_one_identifier" => shown(alloc, &lex_exactly_one_identifier(alloc, text)?),
+        "lexemes" => lexemes(alloc, text, text),
+        "lexemes_of_other_source" => lexemes(alloc, text, row.text(3)),
+        "lexemes_in_file" => lexemes_in(alloc, text, row.text(3), row.text(4)),
+        _ => unknown(alloc, row),
+    }
+}

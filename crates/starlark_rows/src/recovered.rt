@@ -1,0 +1,69 @@
+//! Lexes stored texts on after their faults, and prints all that is found.
+//!
+//! The texts are a list of records: the length of a text in bytes, an LF, the text, and an LF. For
+//! each text a line `text NUMBER` is printed, from 1, and then a line for each lexeme and each
+//! fault, in order.
+
+use crate::lexeme_lines::{add_fault, add_lexeme, file_of};
+use crate::stored_parts::{first_line, first_text, invalid_data};
+use starlark_syntax::codemap::{CodeMap, OrMemory};
+use starlark_syntax::dialect::Dialect;
+use starlark_syntax::lexer::RecoveringLexer;
+use std::alloc::{AllocError, Global};
+use std::io;
+use std::io::Write;
+
+/// The first text of the records, and the rest after it; `None` if no record begins there.
+fn first_record(stored: &[u8]) -> Option<(&str, &[u8])> {
+    let (line, after) = first_line(stored)?;
+    first_text(after, line.parse().ok()?)
+}
+
+/// Appends the line of the next item. Returns whether there was one.
+fn add_next(
+    lines: &mut String,
+    file: &CodeMap,
+    lexer: &mut RecoveringLexer<'_>,
+) -> Result<bool, AllocError> {
+    match lexer.next() {
+        None => return Ok(false),
+        Some(Ok((begin, token, end))) => add_lexeme(lines, file, begin, &token, end)?,
+        Some(Err(OrMemory::Error(fault))) => add_fault(lines, &fault)?,
+        Some(Err(OrMemory::Memory)) => return Err(AllocError),
+    }
+    Ok(true)
+}
+
+/// The lines of all lexemes and all faults of a text.
+///
+/// After the last one a lexer must yield `None` again; a line says where it doesn't.
+fn lines_of(alloc: Global, text: &str) -> Result<String, AllocError> {
+    let file = file_of(alloc, text)?;
+    let lexer = RecoveringLexer::new(alloc, text, &Dialect::Standard, file.dupe()?);
+    let mut lexer = lexer.map_err(|_| AllocError)?;
+    let mut lines = String::new(alloc);
+    for _ in 0..u64::MAX {
+        if !add_next(&mut lines, &file, &mut lexer)? {
+            break;
+        }
+    }
+    if lexer.next().is_some() {
+        lines.push_str("more after the end\n")?;
+    }
+    Ok(lines)
+}
+
+/// Lexes the texts of all records, and prints all that is found in each.
+pub fn print_all<W: Write>(alloc: Global, out: &mut W, stored: &[u8]) -> io::Result<()> {
+    let mut rest = stored;
+    for number in 1..u64::MAX {
+        if rest.is_empty() {
+            break;
+        }
+        let (text, after) = first_record(rest).ok_or_else(invalid_data)?;
+        let lines = lines_of(alloc, text)?;
+        write!(out, "text {number}\n{lines}")?;
+        rest = after;
+    }
+    Ok(())
+}
