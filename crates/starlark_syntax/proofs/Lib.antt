@@ -6,6 +6,7 @@ pub mod LexedTexts
 pub mod Held
 pub mod Recovery
 pub mod Items
+pub mod EarlierLexemes
 pub mod Order
 pub mod NextLines
 pub mod Lefts

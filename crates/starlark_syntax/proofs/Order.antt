@@ -1,16 +1,19 @@
--- All lexemes and faults of a text lie in it, and faults are in order.
-use Rattle.std.proofs.Common.{◌≡◌, ℕ, zero, suc, ◌+◌, ◌-◌, ◌<◌, ◌≤◌, List, [], ◌∷◌, ◌++◌, map, length, drop, refl, ap, sym, subst, ◌∙◌, arith, None, Some, option_to_list}
+-- All lexemes and all faults of a text lie in it, each in order.
+use Rattle.std.proofs.Common.{◌≡◌, ℕ, zero, suc, ◌+◌, ◌-◌, ◌≤◌, List, [], ◌∷◌, ◌++◌, map, length, drop, refl, ap, sym, subst, ◌∙◌, arith, None, Some, option_to_list}
 use Rattle.std.proofs.lemmas.List.{length-drop}
 use Rattle.std.specs.List.{AllByRecursion}
 use Rattle.std.specs.Prelude.{Option, option_map}
 use Rattle.starlark_grammar.proofs.Lists.{drop-behind}
-use Rattle.starlark_grammar.proofs.Order.Inside.{all_within, fault_within}
+use Rattle.starlark_grammar.proofs.Order.Inside.{fault_within}
+use Rattle.starlark_grammar.proofs.Order.Lexemes.{outcome_order}
+use Rattle.starlark_grammar.specs.Gaps.{InOrder}
 use Rattle.starlark_grammar.specs.Reading.{outcome}
 use Rattle.starlark_grammar.specs.Tokens.{Fault, Lexeme, Outcome, Spanned, moved}
 use Rattle.starlark_grammar.specs.Words.{Text}
+use Rattle.starlark_syntax.proofs.EarlierLexemes.{EndBy, lexemes_before_faults}
 use Rattle.starlark_syntax.proofs.Recovery.{empty_faultless, faultless, lexes_on, restart_bounds, restart_later}
 use Rattle.starlark_syntax.specs.Recovery.{faults_of, lexemes_of, moved_outcome, outcomes, recovered, restart}
-use Rattle.starlark_syntax.specs.RecoveryLaws.{AreInOrder, FaultsInOrder, IsInside, LexemesAfterFaults, LexemesInside}
+use Rattle.starlark_syntax.specs.RecoveryLaws.{AreInOrder, FaultsInOrder, IsInside, LexemesAfterFaults, LexemesInOrder, LexemesInside}
 
 -- the lexemes and faults of moved outcomes are moved
 
@@ -32,66 +35,98 @@ faults_moved n (one ∷ more) = fault_moved n one.fault (faults_of (map (moved_o
 
 -- moved spans
 
-all_append : {A : Type 0} (P : A → Type 0) (xs ys : List A) → AllByRecursion P xs → AllByRecursion P ys → AllByRecursion P (xs ++ ys)
-all_append P [] ys one other = other
-all_append P (x ∷ xs) ys one other = (one.0, all_append P xs ys one.1 other)
-
-inside_moved : (n : ℕ) (text rest : Text) (xs : List Lexeme) → n + length rest ≡ length text → AllByRecursion (IsInside rest) xs → AllByRecursion (IsInside text) (map (moved n) xs)
-inside_moved n text rest [] total all = tt
-inside_moved n text rest (x ∷ xs) total all =
-    let order = all.0.0 in
-    let inside = all.0.1 in
-    ((omega (arith, order), omega (arith, inside, total)), inside_moved n text rest xs total all.1)
-
 later_moved : (n : ℕ) (xs : List Lexeme) → AllByRecursion (λ (lexeme : Lexeme). n ≤ lexeme.begin) (map (moved n) xs)
 later_moved n [] = tt
 later_moved n (x ∷ xs) = (omega arith, later_moved n xs)
 
-order_moved : (n from to : ℕ) (xs : List (Spanned Fault)) → AreInOrder from xs to → AreInOrder (n + from) (map (moved n) xs) (n + to)
+order_moved : {A : Type 0} (n from to : ℕ) (xs : List (Spanned A)) → AreInOrder from xs to → AreInOrder (n + from) (map (moved n) xs) (n + to)
 order_moved n from to [] order = omega (arith, order)
 order_moved n from to (x ∷ xs) order =
     let first = order.0 in
     let within = order.1 in
     (omega (arith, first), omega (arith, within), order_moved n x.end to xs order.2)
 
-order_sooner : (a b to : ℕ) (xs : List (Spanned Fault)) → a ≤ b → AreInOrder b xs to → AreInOrder a xs to
+order_sooner : {A : Type 0} (a b to : ℕ) (xs : List (Spanned A)) → a ≤ b → AreInOrder b xs to → AreInOrder a xs to
 order_sooner a b to [] less order = omega (arith, less, order)
 order_sooner a b to (x ∷ xs) less order = let first = order.0 in (omega (arith, less, first), order.1, order.2)
+
+order_both : {A : Type 0} (a b to : ℕ) (xs ys : List (Spanned A)) → AreInOrder a xs b → AreInOrder b ys to → AreInOrder a (xs ++ ys) to
+order_both a b to [] ys one other = order_sooner a b to ys one other
+order_both a b to (x ∷ xs) ys one other = (one.0, one.1, order_both x.end b to xs ys one.2 other)
+
+-- spans of a rest, moved to where it begins
+order_later : {A : Type 0} (at : ℕ) (text rest : Text) (xs : List (Spanned A)) → at + length rest ≡ length text → AreInOrder 0 xs (length rest) → AreInOrder at (map (moved at) xs) (length text)
+order_later at text rest xs total order =
+    let start : at + 0 ≡ at = omega arith in
+    subst (λ n. AreInOrder n (map (moved at) xs) (length text)) start
+    (subst (λ n. AreInOrder (at + 0) (map (moved at) xs) n) total (order_moved at 0 (length rest) xs order))
+
+-- spans in order lie inside
+
+order_reach : {A : Type 0} (from : ℕ) (xs : List (Spanned A)) (to : ℕ) → AreInOrder from xs to → from ≤ to
+order_reach from [] to order = order
+order_reach from (x ∷ xs) to order =
+    let reach = order_reach x.end xs to order.2 in
+    let first = order.0 in
+    let within = order.1 in
+    omega (arith, first, within, reach)
+
+order_inside : (text : Text) (from : ℕ) (xs : List Lexeme) → AreInOrder from xs (length text) → AllByRecursion (IsInside text) xs
+order_inside text from [] order = tt
+order_inside text from (x ∷ xs) order = ((order.1, order_reach x.end xs (length text) order.2), order_inside text x.end xs order.2)
+
+-- lexemes of one outcome, up to an offset that none of them ends after
+order_until : (text : Text) (from : ℕ) (xs : List Lexeme) (to at : ℕ) → InOrder text from xs to → from ≤ at → EndBy at xs → AreInOrder from xs at
+order_until text from [] to at order reach ends = reach
+order_until text from (x ∷ xs) to at order reach ends = (order.0, order.1, order_until text x.end xs to at order.3 ends.0 ends.1)
+
+whole_order : (text : Text) (from : ℕ) (xs : List Lexeme) (to : ℕ) → InOrder text from xs to → AreInOrder from xs to
+whole_order text from [] to order = order.0
+whole_order text from (x ∷ xs) to order = (order.0, order.1, whole_order text x.end xs to order.3)
 
 -- by recursion on the text, as the outcomes are computed
 
 abbrev IsGood : Text → List Outcome → Type 0
-IsGood text found = AllByRecursion (IsInside text) (lexemes_of found) × AreInOrder 0 (faults_of found) (length text)
+IsGood text found = AreInOrder 0 (lexemes_of found) (length text) × AreInOrder 0 (faults_of found) (length text)
 
 good_alone : (text : Text) → (outcome text).fault ≡ None → IsGood text (outcome text ∷ [])
 good_alone text none = (
-  all_append (IsInside text) (outcome text).lexemes [] (all_within text) tt,
+  order_both 0 (length text) (length text) (outcome text).lexemes [] (whole_order text 0 (outcome text).lexemes (length text) ((outcome_order text).1 none)) (omega arith),
   subst (λ (f : Option (Spanned Fault)). AreInOrder 0 (option_to_list f ++ []) (length text)) (sym none) (omega arith),
 )
 
-good_on : (text : Text) (fault : Spanned Fault) → (outcome text).fault ≡ Some fault → 0 < length text → IsGood (drop (restart text fault) text) (outcomes (drop (restart text fault) text))
+good_on : (text : Text) (fault : Spanned Fault) → (outcome text).fault ≡ Some fault → IsGood (drop (restart text fault) text) (outcomes (drop (restart text fault) text))
     → IsGood text (outcome text ∷ map (moved_outcome (restart text fault)) (outcomes (drop (restart text fault) text)))
-good_on text fault has some good =
-    let at : ℕ = restart text fault in
-    let rest : Text = drop at text in
-    let within = fault_within text fault has in
-    let order = within.0 in
-    let bounds = restart_bounds text fault within.1 in
-    let before = bounds.0 in
-    let inside = bounds.1 in
-    let total : at + length rest ≡ length text = omega (arith, inside, length-drop at text) in
-    let lexemes : AllByRecursion (IsInside text) (lexemes_of (map (moved_outcome at) (outcomes rest))) =
-    subst (λ (l : List Lexeme). AllByRecursion (IsInside text) l) (sym (lexemes_moved at (outcomes rest))) (inside_moved at text rest (lexemes_of (outcomes rest)) total good.0) in
-    let start : at + 0 ≡ at = omega arith in
-    let later : AreInOrder at (map (moved at) (faults_of (outcomes rest))) (length text) =
-    subst (λ n. AreInOrder n (map (moved at) (faults_of (outcomes rest))) (length text)) start
-    (subst (λ n. AreInOrder (at + 0) (map (moved at) (faults_of (outcomes rest))) n) total (order_moved at 0 (length rest) (faults_of (outcomes rest)) good.1)) in
-    let behind : AreInOrder fault.end (faults_of (map (moved_outcome at) (outcomes rest))) (length text) =
-    subst (λ (l : List (Spanned Fault)). AreInOrder fault.end l (length text)) (sym (faults_moved at (outcomes rest))) (order_sooner fault.end at (length text) (map (moved at) (faults_of (outcomes rest))) before later) in
-    let faults : AreInOrder 0 (fault ∷ faults_of (map (moved_outcome at) (outcomes rest))) (length text) = (omega arith, order, behind) in (
-      all_append (IsInside text) (outcome text).lexemes (lexemes_of (map (moved_outcome at) (outcomes rest))) (all_within text) lexemes,
-      subst (λ (f : Option (Spanned Fault)). AreInOrder 0 (option_to_list f ++ faults_of (map (moved_outcome at) (outcomes rest))) (length text)) (sym has) faults,
-    )
+good_on text fault has good = (
+  order_both 0 at (length text) (outcome text).lexemes (lexemes_of more) before (subst (λ (l : List Lexeme). AreInOrder at l (length text)) (sym (lexemes_moved at (outcomes rest))) (order_later at text rest (lexemes_of (outcomes rest)) total good.0)),
+  subst (λ (f : Option (Spanned Fault)). AreInOrder 0 (option_to_list f ++ faults_of more) (length text)) (sym has) (omega arith, within.0, behind),
+)
+  where
+    at : ℕ
+    at = restart text fault
+
+    rest : Text
+    rest = drop at text
+
+    more : List Outcome
+    more = map (moved_outcome at) (outcomes rest)
+
+    within : (fault.begin ≤ fault.end) × (fault.end ≤ length text)
+    within = fault_within text fault has
+
+    bounds : (fault.end ≤ at) × (at ≤ length text)
+    bounds = restart_bounds text fault within.1
+
+    total : at + length rest ≡ length text
+    total = let inside = bounds.1 in omega (arith, inside, length-drop at text)
+
+    before : AreInOrder 0 (outcome text).lexemes at
+    before = let order = (outcome_order text).0 in order_until text 0 (outcome text).lexemes order.0 at order.2 (omega arith) (lexemes_before_faults text fault has)
+
+    behind : AreInOrder fault.end (faults_of more) (length text)
+    behind =
+        subst (λ (l : List (Spanned Fault)). AreInOrder fault.end l (length text)) (sym (faults_moved at (outcomes rest)))
+        (order_sooner fault.end at (length text) (map (moved at) (faults_of (outcomes rest))) bounds.0 (order_later at text rest (faults_of (outcomes rest)) total good.1))
 
 good_step : (b : ℕ) (bs : Text) → ((n : ℕ) → IsGood (drop n bs) (outcomes (drop n bs))) → IsGood (b ∷ bs) (outcomes (b ∷ bs))
 good_step b bs again = by (outcome (b ∷ bs)).fault refl
@@ -102,7 +137,7 @@ good_step b bs again = by (outcome (b ∷ bs)).fault refl
         let at : ℕ = restart (b ∷ bs) fault in
         let same : drop (at - 1) bs ≡ drop at (b ∷ bs) = sym (drop-behind at b bs (restart_later (b ∷ bs) fault (omega arith))) in
         let rest : IsGood (drop at (b ∷ bs)) (outcomes (drop at (b ∷ bs))) = subst (λ (t : Text). IsGood t (outcomes t)) same (again (at - 1)) in
-        subst (IsGood (b ∷ bs)) (sym (lexes_on (b ∷ bs) fault is)) (good_on (b ∷ bs) fault is (omega arith) rest)
+        subst (IsGood (b ∷ bs)) (sym (lexes_on (b ∷ bs) fault is)) (good_on (b ∷ bs) fault is rest)
 
 good_empty : IsGood [] (outcomes [])
 good_empty = subst (IsGood []) (sym (faultless [] empty_faultless)) (good_alone [] empty_faultless)
@@ -115,7 +150,11 @@ good_from (suc passed) (b ∷ bs) = good_from passed bs
 
 pub lexemes_inside : LexemesInside
 unfolding recovered
-lexemes_inside text = (good_from 0 text).0
+lexemes_inside text = order_inside text 0 (lexemes_of (outcomes text)) (good_from 0 text).0
+
+pub lexemes_in_order : LexemesInOrder
+unfolding recovered
+lexemes_in_order text = (good_from 0 text).0
 
 pub faults_in_order : FaultsInOrder
 unfolding recovered

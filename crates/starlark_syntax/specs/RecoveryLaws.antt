@@ -45,3 +45,12 @@ FaultsInOrder = (text : Text) → AreInOrder 0 (recovered text).faults (length t
 abbrev pub LexemesAfterFaults : Type 0
 LexemesAfterFaults = (text : Text) (fault : Spanned Fault) → (outcome text).fault ≡ Some fault
     → (more : List Lexeme) × ((recovered text).lexemes ≡ (outcome text).lexemes ++ more) × AllByRecursion (λ (lexeme : Lexeme). restart text fault ≤ lexeme.begin) more
+
+-- No lexeme before a fault ends after the offset where lexing begins again.
+abbrev pub LexemesBeforeFaults : Type 0
+LexemesBeforeFaults = (text : Text) (fault : Spanned Fault) → (outcome text).fault ≡ Some fault
+    → AllByRecursion (λ (lexeme : Lexeme). lexeme.end ≤ restart text fault) (outcome text).lexemes
+
+-- All lexemes of a text are in order, too: none begins before the one before it ends.
+abbrev pub LexemesInOrder : Type 0
+LexemesInOrder = (text : Text) → AreInOrder 0 (recovered text).lexemes (length text)

@@ -4,7 +4,7 @@
 
 ghost use Rattle.starlark_syntax.specs.Held.{FaultHeld, LexemesHeld};
 ghost use Rattle.starlark_syntax.specs.Joining.{ClosedAfterFaults, ClosedOfJoined, ClosedTextsJoin, DecidedFaultsStay, LastNewlineCuts, LineCutsJoin, LineCutsOfJoined, NewlinesCut};
-ghost use Rattle.starlark_syntax.specs.RecoveryLaws.{FaultlessIsOutcome, FaultlessRecovers, FaultsInOrder, LexemesAfterFaults, LexemesInside, LexesOn, RestartsLater};
+ghost use Rattle.starlark_syntax.specs.RecoveryLaws.{FaultlessIsOutcome, FaultlessRecovers, FaultsInOrder, LexemesAfterFaults, LexemesBeforeFaults, LexemesInOrder, LexemesInside, LexesOn, RestartsLater};
 
 pub use starlark_grammar::laws::{
     balanced_layout, integers_keep_their_value, joins_at_clean_cuts, kept_cuts_keep,
@@ -34,10 +34,13 @@ pub fn faults_end_lines()
     ensures restart { RestartsLater }
 {}
 
-/// All lexemes and all faults lie in the text. Faults are in order, and so no two of them overlap.
-/// Lexemes after a fault begin at the line where lexing begins again, or later.
+/// All lexemes and all faults lie in the text, each in order: no two lexemes overlap, and no two
+/// faults. Lexemes before a fault end where lexing begins again, or earlier. Lexemes after it begin
+/// there, or later.
 pub fn found_inside()
     ensures lexemes { LexemesInside }
+    ensures order { LexemesInOrder }
+    ensures earlier { LexemesBeforeFaults }
     ensures later { LexemesAfterFaults }
     ensures faults { FaultsInOrder }
 {}
