@@ -4,9 +4,8 @@
 #
 #     scripts/vendor.sh [--run] DIR
 #
-# The crates are `starlark_document`, `starlark_syntax` and those below them. `starlark_run` is among
-# them, since documents count columns by it; so --run changes nothing now. Edits, tests and what
-# checks left are no part of a copy.
+# The crates are `starlark_document`, `starlark_syntax` and those below them, with --run also
+# `starlark_run`. Edits, tests and what checks left are no part of a copy.
 # Crates and lines of DIR/crates.txt that this script didn't write stay as they are.
 set -eu
 

@@ -1,3 +1,5 @@
+pub mod PlacesAlong
+pub mod Pairs
 pub mod CharacterCounts
 pub mod LineFeeds
 pub mod LineEnds

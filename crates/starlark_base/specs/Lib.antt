@@ -13,4 +13,5 @@ pub mod SourceFiles
 pub mod Refusals
 pub mod Starts
 pub mod Diagnostics
+pub mod Positions
 pub mod Inner

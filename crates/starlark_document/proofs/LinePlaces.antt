@@ -24,10 +24,10 @@ use Rattle.starlark_grammar.specs.Words.{Text}
 use Rattle.starlark_grammar.proofs.Joining.Followed.{ends_line, ends_line_of}
 use Rattle.starlark_syntax.specs.Joining.{is_closed}
 use Rattle.starlark_syntax.proofs.Joining.ClosedTexts.{closed_ends}
-use Rattle.starlark_run.specs.Positions.{pairs_before, pairs_in_line, position_at}
-use Rattle.starlark_run.specs.declared.position.Position.{Position}
-use Rattle.starlark_run.proofs.Pairs.{pairs_along, pairs_bound}
-use Rattle.starlark_run.proofs.Places.{column_bound, is_one_line, line_bound, place_along}
+use Rattle.starlark_base.specs.Positions.{pairs_before, pairs_in_line, position_at}
+use Rattle.starlark_base.specs.declared.position.Position.{Position}
+use Rattle.starlark_base.proofs.Pairs.{pairs_along, pairs_bound}
+use Rattle.starlark_base.proofs.PlacesAlong.{column_bound, is_one_line, line_bound, place_along}
 
 -- the number of LF in two texts
 pub lines-append : (front more : Text) → count_by is_lf (front ++ more) ≡ count_by is_lf front + count_by is_lf more

@@ -4,7 +4,7 @@ use Rattle.std.specs.Str.{IsCharBoundary}
 use Rattle.starlark_base.specs.Places.{place_at}
 use Rattle.starlark_document.specs.declared.line_places.Place.{Place}
 use Rattle.starlark_grammar.specs.Words.{Text}
-use Rattle.starlark_run.specs.Positions.{pairs_before}
+use Rattle.starlark_base.specs.Positions.{pairs_before}
 
 -- The place of an offset. Its column in units of UTF-16 has one unit for each character before it on its line, and one more
 -- for each of those that takes two.

@@ -7,7 +7,7 @@ ghost use Rattle.starlark_document.specs.Inner.Segments.{AreLaid, HaveLines, tex
 ghost use Rattle.starlark_document.specs.Places.{StandsAt, place_of};
 
 use crate::segments::{Segment, segment_at};
-use starlark_run::Position;
+use starlark_base::position::Position;
 
 /// A place of a text: a line, and columns in it. All count from 0.
 #[derive(Clone, Copy)]

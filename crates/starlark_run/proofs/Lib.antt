@@ -7,7 +7,6 @@ pub mod Writing
 pub mod Answered
 pub mod Edited
 pub mod Refusals
-pub mod Pairs
 pub mod JsonPieces
 pub mod ExactValues
 pub mod Reported

@@ -29,7 +29,7 @@ use Rattle.starlark_token.specs.declared.lexeme_error.LexemeError.TheVariants as
 use Rattle.starlark_token.specs.declared.tokens.Token.{Token}
 use Rattle.starlark_run.specs.declared.form.Form.{Form}
 use Rattle.starlark_run.specs.Inner.ShownKinds.{shown_of_kind}
-use Rattle.starlark_run.specs.Positions.{position_at}
+use Rattle.starlark_base.specs.Positions.{position_at}
 use Rattle.starlark_run.specs.Reports.{fault_count, fault_report, is_fault, item_report, items_report, prefix_of, report, token_report}
 use Rattle.starlark_run.specs.ShownPlaces.{shown_at, shown_of}
 

@@ -9,7 +9,6 @@ pub mod Edits
 pub mod PythonLiterals
 pub mod JsonStrings
 pub mod Values
-pub mod Positions
 pub mod Lines
 pub mod ShownPlaces
 pub mod Reports

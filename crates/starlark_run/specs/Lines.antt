@@ -6,9 +6,9 @@ use Rattle.std.specs.Str.{chars}
 use Rattle.starlark_base.specs.Places.{Text, is_lf, place_at, place_text}
 use Rattle.starlark_base.specs.declared.codemap.resolved.ResolvedPos.{ResolvedPos}
 use Rattle.starlark_text.specs.Characters.{starts_character}
-use Rattle.starlark_run.specs.Positions.{utf16_column}
+use Rattle.starlark_base.specs.Positions.{utf16_column}
 use Rattle.starlark_run.specs.PythonLiterals.{is_hidden, one_line}
-use Rattle.starlark_run.specs.declared.position.Position.{Position}
+use Rattle.starlark_base.specs.declared.position.Position.{Position}
 
 -- the line for people up to its value: `line:column-line:column kind`; the prefix names the text
 unfoldable pub readable_head : (prefix : Text) → (begin end : Position) → (kind : Text) → Text

@@ -10,11 +10,11 @@ use Rattle.starlark_token.specs.TokenTexts.{kind_of}
 use Rattle.starlark_token.specs.TokenViews.{TokenView}
 use Rattle.starlark_run.specs.JsonStrings.{json_string}
 use Rattle.starlark_run.specs.Lines.{fault_lines, json_line, line_back, line_front, readable_line}
-use Rattle.starlark_run.specs.Positions.{position_at}
+use Rattle.starlark_base.specs.Positions.{position_at}
 use Rattle.starlark_run.specs.ShownPlaces.{shown_at, shown_of}
 use Rattle.starlark_run.specs.PythonLiterals.{quoted, shown_name}
 use Rattle.starlark_run.specs.Values.{json_of, readable}
-use Rattle.starlark_run.specs.declared.position.Position.{Position}
+use Rattle.starlark_base.specs.declared.position.Position.{Position}
 use Rattle.starlark_run.specs.declared.form.Form.{Form}
 use Rattle.starlark_run.specs.declared.form.Form.TheVariants.{Tokens, NamedTokens, Json, Faults, JsonFaults}
 

@@ -6,8 +6,8 @@ ghost use Rattle.std.specs.List.{flat_map};
 ghost use Rattle.std.specs.Str.{IsCharBoundary, chars};
 ghost use Rattle.starlark_run.specs.Lines as spec;
 
-use crate::position::Position;
 use crate::python_literals::{is_hidden, push_ascii, push_one_line};
+use starlark_base::position::Position;
 use starlark_text::character_starts::count_starts;
 use std::alloc::AllocError;
 

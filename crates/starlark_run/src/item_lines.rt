@@ -13,10 +13,10 @@ ghost use Rattle.starlark_token.specs.TokenViews.{token_view};
 use crate::fault_lines::push_fault_lines;
 use crate::form::Form;
 use crate::json_strings::push_json_string;
-use crate::position::Position;
 use crate::python_literals::push_quoted;
 use crate::token_lines::{push_json_head, push_readable_head};
 use crate::token_values::{push_json_value, push_readable};
+use starlark_base::position::Position;
 use starlark_token::tokens::Token;
 use std::alloc::AllocError;
 

@@ -5,11 +5,11 @@ ghost use Rattle.std.specs.List.{prefix_len, starts_with};
 ghost use Rattle.std.specs.Str.{IsCharBoundary};
 ghost use Rattle.starlark_syntax.specs.Recovery as recovery;
 ghost use Rattle.starlark_run.specs.Inner.ShownKinds.{shown_of_kind};
-ghost use Rattle.starlark_run.specs.Positions.{IsPosition, position_at};
+ghost use Rattle.starlark_base.specs.Positions.{IsPosition, position_at};
 ghost use Rattle.starlark_run.specs.ShownPlaces as spec;
 
 use crate::fault_lines::line_front;
-use crate::position::Position;
+use starlark_base::position::Position;
 use starlark_reader::margin_of;
 use starlark_syntax::error::{ErrorKind, ParserMessage};
 use starlark_syntax::lexer::LexemeError;

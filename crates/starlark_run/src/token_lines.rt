@@ -2,9 +2,9 @@
 
 ghost use Rattle.std.specs.Prelude.{◌≡◌, ◌+◌, ◌++◌, OnOk, codes, decimal, string_bytes};
 ghost use Rattle.starlark_run.specs.Lines.{json_head, json_places, readable_head};
-ghost use Rattle.starlark_run.specs.Positions.{utf16_column};
+ghost use Rattle.starlark_base.specs.Positions.{utf16_column};
 
-use crate::position::Position;
+use starlark_base::position::Position;
 use std::alloc::AllocError;
 
 /// Appends the line for people up to its value: the prefix, the places and the kind.

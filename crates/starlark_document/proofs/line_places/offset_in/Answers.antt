@@ -1,5 +1,5 @@
 use Rattle.std.proofs.Common.{arith}
-use Rattle.starlark_run.proofs.Pairs.{position_start}
+use Rattle.starlark_base.proofs.Pairs.{position_start}
 use Rattle.starlark_document.proofs.LinePlaces.{position_bounds}
 use Rattle.starlark_document.proofs.line_places.offset_in.Goals as goal
 

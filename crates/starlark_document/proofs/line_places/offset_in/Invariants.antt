@@ -1,6 +1,6 @@
 use Rattle.std.proofs.Common.{ℕ, ◌<◌, ◌≤◌}
 use Rattle.starlark_document.specs.Places.{StandsAt}
-use Rattle.starlark_run.specs.Positions.{IsPosition}
+use Rattle.starlark_base.specs.Positions.{IsPosition}
 use Rattle.starlark_document.proofs.line_places.offset_in.Given as goal
 
 abbrev pub invariant-loop-at : goal.invariant-loop-at

@@ -7,7 +7,7 @@ use Rattle.starlark_document.proofs.LinePlaces.{HaveLines-open, Holds, boundary_
 use Rattle.starlark_document.proofs.Places.{HaveLens-laid, end_within, len_at, text_of-split}
 use Rattle.starlark_document.specs.Inner.Segments.{text_in, text_of}
 use Rattle.starlark_document.specs.declared.segments.Content.{Content}
-use Rattle.starlark_run.proofs.Pairs.{position_start}
+use Rattle.starlark_base.proofs.Pairs.{position_start}
 use Rattle.starlark_document.proofs.line_places.place_in.Goals as goal
 
 pub segment_at-first-requires-clause-lens : goal.segment_at-first-requires-clause-lens

@@ -5,7 +5,7 @@ use Rattle.std.proofs.lemmas.List.Sums.{prefix_len_is}
 use Rattle.std.proofs.lemmas.Str.Pattern.{find_char}
 use Rattle.std.specs.List.{prefix_len, slice_range}
 use Rattle.starlark_base.specs.Places.{Text, is_lf}
-use Rattle.starlark_run.proofs.Pairs.{front_range}
+use Rattle.starlark_base.proofs.Pairs.{front_range}
 use Rattle.starlark_run.proofs.fault_lines.line_back.Goals as goal
 
 -- the bytes before the first LF

@@ -2,8 +2,8 @@ use Rattle.std.proofs.Common.{[], arith, ap, sym, ◌∙◌}
 use Rattle.std.proofs.lemmas.Str.Pattern.{rfind_char}
 use Rattle.std.specs.List.{after_last}
 use Rattle.starlark_base.specs.Places.{is_lf}
-use Rattle.starlark_run.proofs.Pairs.{front_range, last_line_behind, last_line_whole}
-use Rattle.starlark_run.proofs.Places.{one_line_by_index}
+use Rattle.starlark_base.proofs.Pairs.{front_range, last_line_behind, last_line_whole}
+use Rattle.starlark_base.proofs.PlacesAlong.{one_line_by_index}
 use Rattle.starlark_run.proofs.fault_lines.line_front.Goals as goal
 
 pub returns-in-None : goal.returns-in-None

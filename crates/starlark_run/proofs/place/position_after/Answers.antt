@@ -1,6 +1,6 @@
 use Rattle.std.proofs.Common.{arith}
 use Rattle.std.proofs.lemmas.Str.Pattern.{rfind_char}
-use Rattle.starlark_run.proofs.Places.{characters_bound, one_line_by_index, place_along, place_behind_last}
+use Rattle.starlark_base.proofs.PlacesAlong.{characters_bound, one_line_by_index, place_along, place_behind_last}
 use Rattle.starlark_run.proofs.place.position_after.Goals as goal
 
 pub overflow_add-result : goal.overflow_add-result

@@ -1,6 +1,6 @@
 use Rattle.std.proofs.Common.{subst, sym}
 use Rattle.std.specs.Str.{IsUtf8}
-use Rattle.starlark_run.proofs.Pairs.{position_start}
+use Rattle.starlark_base.proofs.Pairs.{position_start}
 use Rattle.starlark_tokens.proofs.sources.bad_byte.Goals as goal
 
 pub moved-requires-clause-here : goal.moved-requires-clause-here

@@ -1,7 +1,7 @@
 use Rattle.std.proofs.Common.{◌≡◌, ◌∙◌, ap, arith, length, length-take-le, sym, take}
 use Rattle.std.proofs.lemmas.Str.{IsUtf8-take}
 use Rattle.starlark_base.specs.declared.codemap.resolved.ResolvedPos.{ResolvedPos}
-use Rattle.starlark_run.proofs.Places.{column_bound, line_bound, place_onward}
+use Rattle.starlark_base.proofs.PlacesAlong.{column_bound, line_bound, place_onward}
 use Rattle.starlark_run.proofs.place.Place.moved.Goals as goal
 
 pub position_after-requires-clause-line : goal.position_after-requires-clause-line

@@ -1,4 +1,4 @@
-use Rattle.starlark_run.proofs.Pairs.{position_start}
+use Rattle.starlark_base.proofs.Pairs.{position_start}
 use Rattle.starlark_run.proofs.reporter.Reporter.new.Goals as goal
 
 pub returns-clause-ready : goal.returns-clause-ready

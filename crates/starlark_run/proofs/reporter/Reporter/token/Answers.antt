@@ -5,7 +5,7 @@ use Rattle.starlark_run.specs.Inner.Reporters.{has_only_faults}
 use Rattle.starlark_run.specs.Reports.{token_report}
 use Rattle.starlark_run.specs.declared.form.Form.{Form}
 use Rattle.starlark_run.specs.declared.form.Form.TheVariants.{Tokens, NamedTokens, Json, Faults, JsonFaults}
-use Rattle.starlark_run.specs.declared.position.Position.{Position}
+use Rattle.starlark_base.specs.declared.position.Position.{Position}
 use Rattle.starlark_run.proofs.reporter.Reporter.token.Goals as goal
 
 no_token : (form : Form) (prefix : Text) (begin end : Position) (node : TokenView) → has_only_faults form ≡ true → token_report form prefix begin end node ≡ []

@@ -1,7 +1,7 @@
 use Rattle.std.proofs.Common.{◌∙◌, ap, length}
 use Rattle.memchr.specs.Find.{is_byte, places}
 use Rattle.memchr.proofs.lemmas.CallerLemmas.{length-places}
-use Rattle.starlark_run.proofs.position.newline_count.Goals as goal
+use Rattle.starlark_base.proofs.position.newline_count.Goals as goal
 
 pub returns : goal.returns
 returns c =

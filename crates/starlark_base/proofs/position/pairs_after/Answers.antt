@@ -1,10 +1,10 @@
 use Rattle.std.proofs.Common.{arith}
 use Rattle.std.proofs.lemmas.Str.Pattern.{rfind_char}
 use Rattle.std.proofs.lemmas.List.Sums.{count_by-le-length}
-use Rattle.starlark_run.specs.Positions.{starts_pair}
-use Rattle.starlark_run.proofs.Pairs.{pairs_along, pairs_behind_last}
-use Rattle.starlark_run.proofs.Places.{one_line_by_index}
-use Rattle.starlark_run.proofs.position.pairs_after.Goals as goal
+use Rattle.starlark_base.specs.Positions.{starts_pair}
+use Rattle.starlark_base.proofs.Pairs.{pairs_along, pairs_behind_last}
+use Rattle.starlark_base.proofs.PlacesAlong.{one_line_by_index}
+use Rattle.starlark_base.proofs.position.pairs_after.Goals as goal
 
 pub overflow_add-result : goal.overflow_add-result
 overflow_add-result c = omega (arith, c.pair_count.ensures, count_by-le-length starts_pair c.args.passed.now, c.requires)

@@ -3,7 +3,7 @@ use Rattle.std.specs.Prelude.{◌≡◌, ℕ, ◌+◌, Bool, nat_le, count_by, t
 use Rattle.std.specs.List.{after_last}
 use Rattle.std.specs.Str.{IsCharBoundary}
 use Rattle.starlark_base.specs.Places.{Text, is_lf, place_at}
-use Rattle.starlark_run.specs.declared.position.Position.{Position}
+use Rattle.starlark_base.specs.declared.position.Position.{Position}
 
 -- the first byte of a character that takes two units of UTF-16: it has four bytes
 abbrev pub starts_pair : ℕ → Bool

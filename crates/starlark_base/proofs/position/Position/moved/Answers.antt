@@ -1,10 +1,10 @@
 use Rattle.std.proofs.Common.{◌≡◌, ◌≤◌, ◌∙◌, ap, arith, drop, length, length-take-le, refl, sym, take, take-add, ◌++◌, ◌-◌}
 use Rattle.std.proofs.lemmas.Str.{IsUtf8-take}
-use Rattle.starlark_run.specs.declared.position.Position.{Position}
-use Rattle.starlark_run.proofs.Places.{column_bound, line_bound, place_onward}
-use Rattle.starlark_run.specs.Positions.{pairs_in_line, pairs_before}
-use Rattle.starlark_run.proofs.Pairs.{pairs_bound, pairs_onward}
-use Rattle.starlark_run.proofs.position.Position.moved.Goals as goal
+use Rattle.starlark_base.specs.declared.position.Position.{Position}
+use Rattle.starlark_base.proofs.PlacesAlong.{column_bound, line_bound, place_onward}
+use Rattle.starlark_base.specs.Positions.{pairs_in_line, pairs_before}
+use Rattle.starlark_base.proofs.Pairs.{pairs_bound, pairs_onward}
+use Rattle.starlark_base.proofs.position.Position.moved.Goals as goal
 
 pub place_after-requires-clause-line : goal.place_after-requires-clause-line
 place_after-requires-clause-line c =

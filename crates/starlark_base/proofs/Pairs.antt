@@ -5,10 +5,11 @@ use Rattle.std.proofs.lemmas.List.Sums.{sum_by-append, count_by-le-length, suffi
 use Rattle.std.proofs.lemmas.Bool.{and_parts, not-true}
 use Rattle.std.proofs.lemmas.List.{drop-append-le, get_or-drop, reverse-append}
 use Rattle.std.specs.List.{after_last, slice_range, suffix_len}
+use Rattle.std.proofs.lemmas.Str.{IsCharBoundary-start}
 use Rattle.std.specs.Str.{IsUtf8}
 use Rattle.starlark_base.specs.Places.{Text, is_lf}
-use Rattle.starlark_run.specs.Positions.{IsPosition, pairs_before, pairs_in_line, starts_pair}
-use Rattle.starlark_run.proofs.Places.{after_last_feed, is_one_line, one_line_by_index, place_start}
+use Rattle.starlark_base.specs.Positions.{IsPosition, pairs_before, pairs_in_line, starts_pair}
+use Rattle.starlark_base.proofs.PlacesAlong.{after_last_feed, is_one_line, one_line_by_index, start_place}
 
 -- what is after the last LF, as a text goes on without one
 after_last_push : (front : Text) (b : ℕ) → is_lf b ≡ false → after_last is_lf (front ++ b ∷ []) ≡ after_last is_lf front ++ b ∷ []
@@ -64,8 +65,7 @@ pairs_onward text place to onward =
 -- the start of a text is a position of it
 pub position_start : (text : Text) → IsUtf8 text → IsPosition text (record { at = 0; place = record { line = 0; column = 0 }; pairs = 0 })
 position_start text utf8 =
-    let start = place_start text utf8 in
-    record { boundary = start.boundary; known = ap (λ p. record { at = 0; place = p; pairs = 0 }) start.position }
+    record { boundary = IsCharBoundary-start text utf8; known = ap (λ p. record { at = 0; place = p; pairs = 0 }) (start_place text) }
 
 -- a range from the start
 pub front_range : (text : Text) (n : ℕ) → slice_range text 0 n ≡ take n text

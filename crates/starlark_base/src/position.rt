@@ -4,10 +4,10 @@ ghost use Rattle.std.specs.Prelude.{◌≡◌, ◌+◌, ◌<◌, ◌≤◌, ◌^
 ghost use Rattle.std.specs.Str.{IsCharBoundary, IsUtf8};
 ghost use Rattle.starlark_base.specs.Places as spec;
 ghost use Rattle.starlark_base.specs.Places.{is_lf};
-ghost use Rattle.starlark_run.specs.Positions.{IsPosition, pairs_in_line, position_at, starts_pair};
+ghost use Rattle.starlark_base.specs.Positions.{IsPosition, pairs_in_line, position_at, starts_pair};
 
+use crate::codemap::ResolvedPos;
 use memchr::memchr_iter;
-use starlark_base::codemap::ResolvedPos;
 use starlark_text::character_starts::count_characters;
 
 /// A position in a text: its byte, line and column, and the characters of two UTF-16 units.
