@@ -120,7 +120,8 @@ enum starlark_quotes {
     STARLARK_QUOTES_TRIPLE_DOUBLE = 4
 };
 
-/* How lexing a text ended: what starlark_lex returns. */
+/* How lexing a text ended: what starlark_lex returns. starlark_lex_recovering returns some of them,
+ * and says there what they mean. */
 enum starlark_status {
     STARLARK_WHOLE = 0,    /* the text has no fault, and all its lexemes are in the buffers */
     STARLARK_FAULT = 1,    /* the text has a fault; all lexemes before it are in the buffers */
@@ -219,9 +220,60 @@ uint32_t starlark_lex(const uint8_t *text, size_t text_len,
  *
  * where offsets of lexemes and faults count from `from`. With STARLARK_FULL and `next` 0 larger
  * buffers are wanted. Both calls test that all bytes from there on are UTF-8. So a text with n
- * faults, far from each other, is read n times: see docs/use/c.md. */
+ * faults, far from each other, is read n times. starlark_lex_recovering finds the same in one call,
+ * and reads the text once. */
 size_t starlark_restart(const uint8_t *text, size_t text_len,
                         uint32_t fault_begin, uint32_t fault_end, uint32_t fault_kind);
+
+/* A fault of a text that is lexed on after it. 40 bytes, without padding where a size_t has 64
+ * bits. */
+typedef struct starlark_found_fault {
+    uint32_t kind;         /* an enum starlark_fault */
+    uint32_t begin;        /* offset of its first byte in the text */
+    uint32_t end;          /* offset in the text after its last byte */
+    uint32_t reserved;     /* 0 */
+    size_t lexemes_before; /* how many lexemes of the text are before it */
+    size_t value_begin;    /* offset in the buffer of values of the text that it names */
+    size_t value_len;      /* length of that text in bytes; 0 for a kind that names none */
+} starlark_found_fault;
+
+/* What a call of starlark_lex_recovering did. A field is 0 where its comment doesn't name the
+ * status. */
+typedef struct starlark_recovered {
+    uint32_t status;       /* STARLARK_WHOLE, STARLARK_FULL, STARLARK_NOT_UTF8, STARLARK_TOO_LONG or
+                              STARLARK_MEMORY */
+    size_t lexemes;        /* STARLARK_WHOLE, STARLARK_MEMORY: how many records in the buffer of
+                              lexemes are right */
+    size_t values;         /* STARLARK_WHOLE, STARLARK_MEMORY: how many bytes in the buffer of
+                              values are right */
+    size_t faults;         /* STARLARK_WHOLE, STARLARK_MEMORY: how many records in the buffer of
+                              faults are right */
+    size_t next;           /* STARLARK_WHOLE: the length of the text;
+                              STARLARK_NOT_UTF8: offset of the first byte that is not UTF-8 */
+    size_t wanted_lexemes; /* STARLARK_FULL: how many records of lexemes the whole text needs */
+    size_t wanted_values;  /* STARLARK_FULL: how many bytes of values it needs */
+    size_t wanted_faults;  /* STARLARK_FULL: how many records of faults it needs */
+} starlark_recovered;
+
+/* Lexes a whole text, on after each of its faults, into three buffers. Says in *outcome how that
+ * ended, and returns its status.
+ *
+ * With STARLARK_WHOLE the buffers have all lexemes and all faults of the text, each in order, and
+ * their values. The values are one after another in the order of the text: what a fault names is
+ * after the values of the lexemes before it. All offsets count from the first byte of the text.
+ * After a fault lexing begins again where starlark_restart says.
+ *
+ * With STARLARK_FULL one of the buffers has no room for all, and nothing in them is right. A next
+ * call with buffers of the wanted sizes has room. So one call with empty buffers tells how much a
+ * text needs. With STARLARK_MEMORY the buffers have the first lexemes and faults of the text. After
+ * what is counted the buffers are as they were, except with STARLARK_FULL.
+ *
+ * The call tests once that the bytes are UTF-8, and lexes each byte once. */
+uint32_t starlark_lex_recovering(const uint8_t *text, size_t text_len,
+                                 starlark_lexeme *lexemes, size_t lexemes_cap,
+                                 uint8_t *values, size_t values_cap,
+                                 starlark_found_fault *faults, size_t faults_cap,
+                                 starlark_recovered *outcome);
 
 /* The line and columns of an offset in a text. Each counts from 0. */
 typedef struct starlark_text_place {

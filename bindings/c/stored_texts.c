@@ -9,7 +9,9 @@
  * one, and nothing may be written outside of what a call tells.
  *
  * Their parts `recovered` are texts that are lexed on after their faults, with buffers of each size
- * from 0 to what the whole text needs. */
+ * from 0 to what the whole text needs: by starlark_lex and starlark_restart, and by
+ * starlark_lex_recovering. That call also lexes each text of the parts `texts`, up to whose first
+ * fault it has to find what starlark_lex finds. */
 #include "starlark_lex.h"
 
 #include <inttypes.h>
@@ -21,6 +23,9 @@
 #define SMALL_TEXT 64
 #define GUARD 16
 #define UNTOUCHED 0xA5
+
+_Static_assert(sizeof(size_t) != 8 || sizeof(starlark_lexeme) == 32, "a lexeme has 32 bytes");
+_Static_assert(sizeof(size_t) != 8 || sizeof(starlark_found_fault) == 40, "a found fault has 40 bytes");
 
 typedef struct bytes {
     uint8_t *at;
@@ -181,20 +186,33 @@ static void add_lexeme(text *line, bytes source, size_t from, const starlark_lex
     add_word(line, "\n");
 }
 
-/* Appends the line of the fault of the text from an offset on. */
-static void add_fault(text *line, bytes source, size_t from, const starlark_outcome *outcome, const uint8_t *values)
+/* The fault of an outcome. */
+static starlark_found_fault fault_of(const starlark_outcome *outcome)
 {
-    const uint8_t *named = values + outcome->fault_value_begin;
-    size_t len = starlark_fault_message(outcome->fault_kind, named, outcome->fault_value_len, (uint8_t *)line->at, 0);
+    return (starlark_found_fault){
+        .kind = outcome->fault_kind,
+        .begin = outcome->fault_begin,
+        .end = outcome->fault_end,
+        .lexemes_before = outcome->lexemes,
+        .value_begin = outcome->fault_value_begin,
+        .value_len = outcome->fault_value_len,
+    };
+}
+
+/* Appends the line of a fault of the text from an offset on. */
+static void add_fault(text *line, bytes source, size_t from, const starlark_found_fault *fault, const uint8_t *values)
+{
+    const uint8_t *named = values + fault->value_begin;
+    size_t len = starlark_fault_message(fault->kind, named, fault->value_len, (uint8_t *)line->at, 0);
     uint8_t *message = room_for(len);
-    if (len == 0 || starlark_fault_message(outcome->fault_kind, named, outcome->fault_value_len, message, len) != len)
+    if (len == 0 || starlark_fault_message(fault->kind, named, fault->value_len, message, len) != len)
         stop("a fault without a message");
     add_word(line, "fault ");
-    add_number(line, from + outcome->fault_begin);
+    add_number(line, from + fault->begin);
     add_word(line, "-");
-    add_number(line, from + outcome->fault_end);
+    add_number(line, from + fault->end);
     add_word(line, " <stdin>:");
-    add_place(line, source, from + outcome->fault_begin, from + outcome->fault_end);
+    add_place(line, source, from + fault->begin, from + fault->end);
     add_word(line, " ");
     add(line, message, len);
     add_word(line, "\n");
@@ -206,8 +224,10 @@ static void add_found(text *line, bytes source, size_t from, const starlark_outc
 {
     for (size_t at = 0; at < outcome->lexemes; at++)
         add_lexeme(line, source, from, &lexemes[at], values);
-    if (outcome->status == STARLARK_FAULT)
-        add_fault(line, source, from, outcome, values);
+    if (outcome->status == STARLARK_FAULT) {
+        starlark_found_fault fault = fault_of(outcome);
+        add_fault(line, source, from, &fault, values);
+    }
 }
 
 /* The lines that starlark_lex prints of a lexed text, after one with its number and status. */
@@ -356,6 +376,157 @@ static bool are_all_pieces(const lexed *whole, size_t *calls)
     return true;
 }
 
+/* How much room buffers have, or how much a text needs. */
+typedef struct sizes {
+    size_t lexemes;
+    size_t values;
+    size_t faults;
+} sizes;
+
+/* A call of starlark_lex_recovering: its buffers, with a guard after each, and its outcome. */
+typedef struct recovery {
+    buffers into;
+    starlark_found_fault *faults;
+    size_t faults_cap;
+    starlark_recovered outcome;
+} recovery;
+
+static recovery recover(bytes source, sizes room)
+{
+    size_t faults_len = (room.faults + GUARD) * sizeof(starlark_found_fault);
+    recovery call = {.into = buffers_of(room.lexemes, room.values), .faults = room_for(faults_len), .faults_cap = room.faults};
+    memset(call.faults, UNTOUCHED, faults_len);
+    memset(&call.outcome, UNTOUCHED, sizeof call.outcome);
+    uint32_t status = starlark_lex_recovering(source.at, source.len, call.into.lexemes, room.lexemes, call.into.values, room.values,
+                                              call.faults, room.faults, &call.outcome);
+    if (status != call.outcome.status)
+        stop("another status was returned than told");
+    return call;
+}
+
+static void release_recovery(recovery call)
+{
+    release(call.into);
+    free(call.faults);
+}
+
+/* Whether nothing is written after the first records and bytes of the buffers. */
+static bool is_written_up_to(const recovery *call, sizes written)
+{
+    return written.lexemes <= call->into.lexemes_cap && written.values <= call->into.values_cap && written.faults <= call->faults_cap
+        && is_untouched(call->into.lexemes + written.lexemes, (call->into.lexemes_cap + GUARD - written.lexemes) * sizeof(starlark_lexeme))
+        && is_untouched(call->into.values + written.values, call->into.values_cap + GUARD - written.values)
+        && is_untouched(call->faults + written.faults, (call->faults_cap + GUARD - written.faults) * sizeof(starlark_found_fault));
+}
+
+/* Whether nothing is written after the buffers. */
+static bool is_guarded(const recovery *call)
+{
+    return is_written_up_to(call, (sizes){call->into.lexemes_cap, call->into.values_cap, call->faults_cap});
+}
+
+/* Whether a call tells these counts, and that it wants so much. */
+static bool tells(const starlark_recovered *outcome, sizes counts, sizes wanted)
+{
+    return outcome->lexemes == counts.lexemes && outcome->values == counts.values && outcome->faults == counts.faults
+        && outcome->wanted_lexemes == wanted.lexemes && outcome->wanted_values == wanted.values && outcome->wanted_faults == wanted.faults;
+}
+
+static const sizes nothing = {0, 0, 0};
+
+/* Whether a call found all of a text, with these counts, and wrote nothing else. Its values have to
+ * be one after another in the order of the text. */
+static bool is_whole(const recovery *call, bytes source, sizes counts)
+{
+    const starlark_recovered *outcome = &call->outcome;
+    if (outcome->status != STARLARK_WHOLE || outcome->next != source.len || !tells(outcome, counts, nothing)
+        || !is_written_up_to(call, counts))
+        return false;
+    size_t value = 0;
+    size_t fault = 0;
+    for (size_t at = 0; at <= counts.lexemes; at++) {
+        for (; fault < counts.faults && call->faults[fault].lexemes_before == at; fault++) {
+            if (call->faults[fault].reserved != 0 || call->faults[fault].value_begin != value)
+                return false;
+            value += call->faults[fault].value_len;
+        }
+        if (at < counts.lexemes && call->into.lexemes[at].value_begin != value)
+            return false;
+        value += at < counts.lexemes ? call->into.lexemes[at].value_len : 0;
+    }
+    return fault == counts.faults && value == counts.values;
+}
+
+/* Whether a call with buffers that are too small tells what the text wants, and nothing else. */
+static bool is_full(bytes source, sizes room, sizes wanted)
+{
+    recovery call = recover(source, room);
+    bool is_right = call.outcome.status == STARLARK_FULL && call.outcome.next == 0 && tells(&call.outcome, nothing, wanted)
+        && is_guarded(&call);
+    release_recovery(call);
+    return is_right;
+}
+
+/* Whether each size of a buffer that is less than what a text wants is too small. */
+static bool are_all_full(bytes source, sizes wanted)
+{
+    bool is_right = is_full(source, nothing, wanted);
+    for (size_t less = 0; less < wanted.lexemes; less++)
+        is_right = is_right && is_full(source, (sizes){less, wanted.values, wanted.faults}, wanted);
+    for (size_t less = 0; less < wanted.values; less++)
+        is_right = is_right && is_full(source, (sizes){wanted.lexemes, less, wanted.faults}, wanted);
+    for (size_t less = 0; less < wanted.faults; less++)
+        is_right = is_right && is_full(source, (sizes){wanted.lexemes, wanted.values, less}, wanted);
+    return is_right;
+}
+
+/* Whether a call tells of bytes that are not UTF-8 where the first of them is, and writes nothing. */
+static bool is_not_utf8(bytes source, size_t first)
+{
+    recovery call = recover(source, (sizes){source.len + 1, source.len, source.len});
+    bool is_right = call.outcome.status == STARLARK_NOT_UTF8 && call.outcome.next == first && tells(&call.outcome, nothing, nothing)
+        && is_written_up_to(&call, nothing);
+    release_recovery(call);
+    return is_right;
+}
+
+/* How much room a text wants, which a call with empty buffers tells. */
+static sizes wanted_by(bytes source)
+{
+    recovery call = recover(source, nothing);
+    sizes wanted = {call.outcome.wanted_lexemes, call.outcome.wanted_values, call.outcome.wanted_faults};
+    release_recovery(call);
+    return wanted;
+}
+
+/* Whether two faults are the same. */
+static bool is_fault(const starlark_found_fault *one, const starlark_found_fault *other)
+{
+    return one->kind == other->kind && one->begin == other->begin && one->end == other->end
+        && one->lexemes_before == other->lexemes_before && one->value_begin == other->value_begin
+        && one->value_len == other->value_len;
+}
+
+/* Whether starlark_lex_recovering finds of a text what starlark_lex found, and then what comes after
+ * the fault, if there is one. */
+static bool is_recovered(const lexed *whole)
+{
+    const starlark_outcome *found = &whole->outcome;
+    if (found->status == STARLARK_NOT_UTF8)
+        return is_not_utf8(whole->source, found->next);
+    sizes wanted = wanted_by(whole->source);
+    recovery call = recover(whole->source, wanted);
+    bool has_fault = found->status == STARLARK_FAULT;
+    starlark_found_fault fault = fault_of(found);
+    bool is_right = is_whole(&call, whole->source, wanted)
+        && (has_fault ? wanted.faults > 0 && wanted.lexemes >= found->lexemes && wanted.values >= found->values
+                      : wanted.faults == 0 && wanted.lexemes == found->lexemes && wanted.values == found->values)
+        && memcmp(call.into.lexemes, whole->into.lexemes, found->lexemes * sizeof(starlark_lexeme)) == 0
+        && memcmp(call.into.values, whole->into.values, found->values) == 0 && (!has_fault || is_fault(&call.faults[0], &fault));
+    release_recovery(call);
+    return is_right;
+}
+
 /* The counts of what was compared. */
 typedef struct tally {
     size_t texts;
@@ -381,6 +552,10 @@ static size_t compare(bytes source, size_t number, bytes printed, size_t at, tal
     lexed whole = {source, into, outcome};
     if (source.len <= SMALL_TEXT && outcome.status <= STARLARK_FAULT && !are_all_pieces(&whole, &counts->calls)) {
         fprintf(stderr, "stored_texts: the pieces of text %zu, with small buffers, are not the whole\n", number);
+        exit(1);
+    }
+    if (!is_recovered(&whole)) {
+        fprintf(stderr, "stored_texts: text %zu is lexed otherwise by starlark_lex_recovering\n", number);
         exit(1);
     }
     release(into);
@@ -445,21 +620,81 @@ static size_t add_recovered(text *line, bytes source, size_t lexemes, size_t val
     return calls;
 }
 
-/* Lexes a text on after its faults by buffers of a size, and returns the end of its lines in what has
- * to be printed. */
-static size_t compare_recovered(bytes source, size_t number, bytes printed, size_t at, size_t lexemes, size_t values, tally *counts)
+/* The first line of a text with a number. */
+static text numbered(size_t number)
 {
     text line = {NULL, 0, 0};
     add_word(&line, "text ");
     add_number(&line, number);
     add_word(&line, "\n");
-    counts->calls += add_recovered(&line, source, lexemes, values);
+    return line;
+}
+
+/* Returns the end of the lines of a text in what has to be printed, where they have to be. */
+static size_t compare_lines(text line, size_t number, bytes printed, size_t at)
+{
     if (printed.len - at < line.len || memcmp(printed.at + at, line.at, line.len) != 0) {
         fprintf(stderr, "stored_texts: text %zu is lexed on otherwise:\n%.*s", number, (int)line.len, line.at);
         exit(1);
     }
     free(line.at);
     return at + line.len;
+}
+
+/* Lexes a text on after its faults by buffers of a size, and returns the end of its lines in what has
+ * to be printed. */
+static size_t compare_recovered(bytes source, size_t number, bytes printed, size_t at, size_t lexemes, size_t values, tally *counts)
+{
+    text line = numbered(number);
+    counts->calls += add_recovered(&line, source, lexemes, values);
+    return compare_lines(line, number, printed, at);
+}
+
+/* Appends the lines of all lexemes and all faults that a call found. */
+static void add_all(text *line, bytes source, const recovery *call)
+{
+    size_t fault = 0;
+    for (size_t at = 0; at <= call->outcome.lexemes; at++) {
+        for (; fault < call->outcome.faults && call->faults[fault].lexemes_before == at; fault++)
+            add_fault(line, source, 0, &call->faults[fault], call->into.values);
+        if (at < call->outcome.lexemes)
+            add_lexeme(line, source, 0, &call->into.lexemes[at], call->into.values);
+    }
+}
+
+/* Lexes a text on after its faults by one call with buffers of some sizes, and returns the end of its
+ * lines in what has to be printed. */
+static size_t compare_one_call(bytes source, size_t number, bytes printed, size_t at, sizes room, sizes wanted)
+{
+    recovery call = recover(source, room);
+    text line = numbered(number);
+    if (!is_whole(&call, source, wanted)) {
+        fprintf(stderr, "stored_texts: text %zu isn't lexed on to its end by one call\n", number);
+        exit(1);
+    }
+    add_all(&line, source, &call);
+    release_recovery(call);
+    return compare_lines(line, number, printed, at);
+}
+
+/* Lexes a text on after its faults by starlark_lex_recovering: with the room that it wants, with more
+ * and with less, and with bytes after it that are not UTF-8. Returns the end of its lines in what has
+ * to be printed. */
+static size_t compare_recovering(bytes source, size_t number, bytes printed, size_t at)
+{
+    sizes wanted = wanted_by(source);
+    sizes more = {2 * source.len + 1, 2 * source.len, source.len};
+    size_t end = compare_one_call(source, number, printed, at, wanted, wanted);
+    bool is_right = compare_one_call(source, number, printed, at, more, wanted) == end;
+    bytes longer = {room_for(source.len + 2), source.len + 2};
+    memcpy(longer.at, source.at, source.len);
+    memcpy(longer.at + source.len, "\xe2\x82", 2);
+    if (!is_right || !are_all_full(source, wanted) || !is_not_utf8(longer, source.len)) {
+        fprintf(stderr, "stored_texts: a call tells something wrong of text %zu, with small buffers or not UTF-8\n", number);
+        exit(1);
+    }
+    free(longer.at);
+    return end;
 }
 
 /* Compares all texts that are lexed on after their faults. */
@@ -470,11 +705,11 @@ static void compare_all_recovered(bytes stored, bytes printed)
     for (size_t at = 0; at < stored.len; counts.texts++) {
         size_t begin = line_end(stored, at);
         bytes source = {stored.at + begin, strtoul((char *)stored.at + at, NULL, 10)};
-        size_t end = out;
-        for (size_t room = 0; room <= 2 * source.len + 1; room++) {
-            end = compare_recovered(source, counts.texts + 1, printed, out, room, 2 * source.len, &counts);
-            compare_recovered(source, counts.texts + 1, printed, out, 2 * source.len + 1, room, &counts);
-        }
+        size_t end = compare_recovering(source, counts.texts + 1, printed, out);
+        for (size_t room = 0; room <= 2 * source.len + 1; room++)
+            if (compare_recovered(source, counts.texts + 1, printed, out, room, 2 * source.len, &counts) != end
+                || compare_recovered(source, counts.texts + 1, printed, out, 2 * source.len + 1, room, &counts) != end)
+                stop("a text has more lines with other buffers");
         out = end;
         at = begin + source.len + 1;
     }

@@ -18,7 +18,7 @@ from ctypes import (
 )
 from enum import IntEnum
 from pathlib import Path
-from typing import Any, Optional, Tuple
+from typing import Any, List, Optional, Tuple
 
 NAME = "libstarlark_lex.so"
 PLACE = "STARLARK_LEX_LIBRARY"
@@ -49,6 +49,20 @@ class Lexeme(Structure):
     ]
 
 
+class FoundFault(Structure):
+    """A `starlark_found_fault`."""
+
+    _fields_ = [
+        ("kind", c_uint32),
+        ("begin", c_uint32),
+        ("end", c_uint32),
+        ("reserved", c_uint32),
+        ("lexemes_before", c_size_t),
+        ("value_begin", c_size_t),
+        ("value_len", c_size_t),
+    ]
+
+
 class Outcome(Structure):
     """A `starlark_outcome`."""
 
@@ -64,6 +78,21 @@ class Outcome(Structure):
         ("next", c_size_t),
         ("wanted_lexemes", c_size_t),
         ("wanted_values", c_size_t),
+    ]
+
+
+class Recovered(Structure):
+    """A `starlark_recovered`."""
+
+    _fields_ = [
+        ("status", c_uint32),
+        ("lexemes", c_size_t),
+        ("values", c_size_t),
+        ("faults", c_size_t),
+        ("next", c_size_t),
+        ("wanted_lexemes", c_size_t),
+        ("wanted_values", c_size_t),
+        ("wanted_faults", c_size_t),
     ]
 
 
@@ -86,8 +115,18 @@ def _loaded() -> Any:
         c_size_t,
         POINTER(Outcome),
     ]
-    library.starlark_restart.restype = c_size_t
-    library.starlark_restart.argtypes = [POINTER(c_char), c_size_t, c_uint32, c_uint32, c_uint32]
+    library.starlark_lex_recovering.restype = c_uint32
+    library.starlark_lex_recovering.argtypes = [
+        POINTER(c_char),
+        c_size_t,
+        POINTER(Lexeme),
+        c_size_t,
+        POINTER(c_char),
+        c_size_t,
+        POINTER(FoundFault),
+        c_size_t,
+        POINTER(Recovered),
+    ]
     library.starlark_fault_message.restype = c_size_t
     library.starlark_fault_message.argtypes = [c_uint32, POINTER(c_char), c_size_t, POINTER(c_char), c_size_t]
     library.starlark_kind_name.restype = c_size_t
@@ -105,48 +144,82 @@ def _text(source: bytes) -> Any:
     return create_string_buffer(source, len(source) + 1)
 
 
-class Text:
-    """A text that is copied once, for calls that lex it from an offset on."""
-
-    def __init__(self, source: bytes) -> None:
-        self._length = len(source)
-        self._array = _text(source)
-
-    def rest(self, at: int) -> Tuple[Any, int]:
-        """The pointer and the length of the text from an offset on."""
-        return byref(c_char.from_buffer(self._array, at)), self._length - at
-
-
 class Buffers:
-    """Buffers for the lexemes and the values of a call, and the outcome of the last one."""
+    """Buffers for the lexemes, the values and the faults of a text, with what the last call found."""
 
-    def __init__(self, lexemes: int, values: int) -> None:
-        self.lexemes = (Lexeme * max(lexemes, 1))()
-        self.values = (c_char * max(values, 1))()
-        self.outcome = Outcome()
+    def __init__(self, lexemes: int, values: int, faults: int) -> None:
+        self._lexemes = (Lexeme * max(lexemes, 1))()
+        self._values = (c_char * max(values, 1))()
+        self._faults = (FoundFault * max(faults, 1))()
+        self._lexemes_len = 0
+        self._faults_len = 0
 
-    def lex(self, text: Text, at: int) -> Status:
-        """Lexes a text from an offset on into the buffers. All offsets count from there."""
-        return Status(
-            _LIBRARY.starlark_lex(
-                *text.rest(at),
-                self.lexemes,
-                len(self.lexemes),
-                self.values,
-                len(self.values),
-                byref(self.outcome),
-            )
-        )
+    def lex(self, text: Any, length: int) -> Status:
+        """Lexes a text up to its fault into the buffers."""
+        told = Outcome()
+        lexemes = self._lexemes, len(self._lexemes)
+        values = self._values, len(self._values)
+        status = Status(_LIBRARY.starlark_lex(text, length, *lexemes, *values, byref(told)))
+        self._lexemes_len = told.lexemes
+        if status == Status.FAULT:
+            place = told.fault_begin, told.fault_end
+            value = told.fault_value_begin, told.fault_value_len
+            self._faults[0] = FoundFault(told.fault_kind, *place, 0, told.lexemes, *value)
+            self._faults_len = 1
+        return status
 
-    def restart(self, text: Text, at: int) -> int:
-        """Where lexing begins again after the fault of the text from an offset on, which was lexed last."""
-        told = self.outcome
-        next_at = _LIBRARY.starlark_restart(*text.rest(at), told.fault_begin, told.fault_end, told.fault_kind)
-        return at + int(next_at)
+    def lex_recovering(self, text: Any, length: int) -> Tuple[Status, Tuple[int, int, int]]:
+        """Lexes a text on after its faults into the buffers, and returns how much room it wants where they are full."""
+        told = Recovered()
+        lexemes = self._lexemes, len(self._lexemes)
+        values = self._values, len(self._values)
+        faults = self._faults, len(self._faults)
+        status = Status(_LIBRARY.starlark_lex_recovering(text, length, *lexemes, *values, *faults, byref(told)))
+        self._lexemes_len = told.lexemes
+        self._faults_len = told.faults
+        return status, (told.wanted_lexemes, told.wanted_values, told.wanted_faults)
+
+    def lexemes(self) -> List[Lexeme]:
+        """The lexemes that were found."""
+        return self._lexemes[: self._lexemes_len]
+
+    def faults(self) -> List[FoundFault]:
+        """The faults that were found."""
+        return self._faults[: self._faults_len]
 
     def value(self, begin: int, length: int) -> bytes:
         """The bytes of a value."""
-        return self.values[begin : begin + length]
+        return self._values[begin : begin + length]
+
+
+def lex_to_fault(source: bytes) -> Tuple[Status, Buffers]:
+    """How lexing a text up to its fault ended, and the buffers.
+
+    Where the buffers were full, they have four times the room.
+    """
+    text = _text(source)
+    room = len(source) // 2 + 16
+    buffers = Buffers(room, 2 * room, 1)
+    while (status := buffers.lex(text, len(source))) == Status.FULL:
+        room *= 4
+        buffers = Buffers(room, 2 * room, 1)
+    return status, buffers
+
+
+def lex_recovering(source: bytes) -> Tuple[Status, Buffers]:
+    """How lexing a text on after its faults ended, and the buffers.
+
+    Where the buffers were full, they have the room that the text wants.
+    """
+    text = _text(source)
+    room = len(source) // 2 + 16
+    buffers = Buffers(room, 2 * room, len(source) // 64 + 16)
+    status, wanted = buffers.lex_recovering(text, len(source))
+    if status == Status.FULL:
+        buffers = Buffers(*wanted)
+        status, _ = buffers.lex_recovering(text, len(source))
+        assert status != Status.FULL, "the library wants more room than it told"
+    return status, buffers
 
 
 def kind_name(kind: int) -> str:

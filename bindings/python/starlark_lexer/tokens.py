@@ -5,7 +5,7 @@ from __future__ import annotations
 from typing import Iterator, List, NamedTuple, Optional, Tuple, Union
 
 from .kinds import FaultKind, Kind, Quotes
-from .library import Buffers, Lexeme, Status, Text, fault_message
+from .library import Lexeme, Status, fault_message, lex_recovering, lex_to_fault
 
 Source = Union[str, bytes]
 Place = Tuple[int, int]
@@ -113,81 +113,46 @@ def _check(source: bytes, status: Status) -> None:
         raise MemoryError
 
 
-def _calls(source: bytes, recover: bool) -> Iterator[Tuple[int, Buffers]]:
-    """The calls that lex a text, each with the offset from which it lexes, and its buffers.
-
-    The first one lexes up to the text's fault. Where `recover` is true the others go on, each at the
-    line after a fault. Where the buffers were full, they have four times the room.
-    """
-    text = Text(source)
-    room = len(source) // 2 + 16
-    buffers = Buffers(room, 2 * room)
-    at = 0
-    while True:
-        status = buffers.lex(text, at)
-        _check(source, status)
-        if status == Status.FULL:
-            room *= 4
-            buffers = Buffers(room, 2 * room)
-            continue
-        yield at, buffers
-        if status != Status.FAULT or not recover:
-            return
-        at = buffers.restart(text, at)
-
-
 class _Found:
-    """What the calls find in a text, in order."""
+    """What is found in a text: up to its fault, or of all of it."""
 
-    def __init__(self, source: Source) -> None:
+    def __init__(self, source: Source, recover: bool) -> None:
         self._source = source.encode() if isinstance(source, str) else bytes(source)
-        self._places = _Places(self._source)
+        status, self._buffers = (lex_recovering if recover else lex_to_fault)(self._source)
+        _check(self._source, status)
 
-    def calls(self, recover: bool) -> Iterator[Tuple[int, Buffers]]:
-        """The calls that lex the text."""
-        return _calls(self._source, recover)
+    def tokens(self) -> Iterator[Token]:
+        """The tokens, in order."""
+        places = _Places(self._source)
+        for lexeme in self._buffers.lexemes():
+            span = lexeme.begin, lexeme.end
+            start = places.place(span[0])
+            line = places.line()
+            value = _value_of(lexeme, self._buffers.value(lexeme.value_begin, lexeme.value_len))
+            text = self._source[span[0] : span[1]].decode()
+            yield Token(Kind(lexeme.kind), text, start, places.place(span[1]), line, value, span)
 
-    def tokens(self, at: int, buffers: Buffers) -> Iterator[Token]:
-        """The tokens of a call that lexes from an offset on."""
-        for lexeme in buffers.lexemes[: buffers.outcome.lexemes]:
-            begin, end = at + lexeme.begin, at + lexeme.end
-            start = self._places.place(begin)
-            line = self._places.line()
-            value = _value_of(lexeme, buffers.value(lexeme.value_begin, lexeme.value_len))
-            text = self._source[begin:end].decode()
-            yield Token(Kind(lexeme.kind), text, start, self._places.place(end), line, value, (begin, end))
-
-    def fault(self, at: int, buffers: Buffers) -> Optional[Fault]:
-        """The fault of a call that lexes from an offset on, if it has one."""
-        outcome = buffers.outcome
-        if outcome.status != Status.FAULT:
-            return None
-        named = buffers.value(outcome.fault_value_begin, outcome.fault_value_len)
-        message = fault_message(outcome.fault_kind, named)
-        span = at + outcome.fault_begin, at + outcome.fault_end
-        start = self._places.place(span[0])
-        line = self._places.line()
-        return Fault(FaultKind(outcome.fault_kind), message, start, self._places.place(span[1]), line, span)
+    def faults(self) -> Iterator[Fault]:
+        """The faults, in order."""
+        places = _Places(self._source)
+        for fault in self._buffers.faults():
+            span = fault.begin, fault.end
+            start = places.place(span[0])
+            line = places.line()
+            message = fault_message(fault.kind, self._buffers.value(fault.value_begin, fault.value_len))
+            yield Fault(FaultKind(fault.kind), message, start, places.place(span[1]), line, span)
 
 
 def lex(source: Source) -> Tuple[List[Token], Optional[Fault]]:
     """All tokens of a text and no fault, or the tokens before its fault and that fault."""
-    found = _Found(source)
-    at, buffers = next(found.calls(recover=False))
-    return list(found.tokens(at, buffers)), found.fault(at, buffers)
+    found = _Found(source, recover=False)
+    return list(found.tokens()), next(found.faults(), None)
 
 
 def lex_all(source: Source) -> Tuple[List[Token], List[Fault]]:
     """All tokens and all faults of a text. After each fault lexing begins again at the next line."""
-    found = _Found(source)
-    tokens: List[Token] = []
-    all_faults: List[Fault] = []
-    for at, buffers in found.calls(recover=True):
-        tokens += found.tokens(at, buffers)
-        fault = found.fault(at, buffers)
-        if fault:
-            all_faults.append(fault)
-    return tokens, all_faults
+    found = _Found(source, recover=True)
+    return list(found.tokens()), list(found.faults())
 
 
 def tokenize(source: Source, recover: bool = False) -> Iterator[Token]:
@@ -197,15 +162,13 @@ def tokenize(source: Source, recover: bool = False) -> Iterator[Token]:
     began a text of its own. Bytes that are no UTF-8 raise `UnicodeDecodeError`, a text of more than
     4294967295 bytes `ValueError`.
     """
-    found = _Found(source)
-    for at, buffers in found.calls(recover):
-        yield from found.tokens(at, buffers)
-        fault = None if recover else found.fault(at, buffers)
-        if fault:
-            raise StarlarkFault(fault)
+    found = _Found(source, recover)
+    yield from found.tokens()
+    fault = None if recover else next(found.faults(), None)
+    if fault:
+        raise StarlarkFault(fault)
 
 
 def faults(source: Source) -> List[Fault]:
     """All faults of a text, in order. After each one lexing begins again at the next line."""
-    found = _Found(source)
-    return [fault for at, buffers in found.calls(recover=True) if (fault := found.fault(at, buffers))]
+    return list(_Found(source, recover=True).faults())

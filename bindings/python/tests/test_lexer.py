@@ -10,7 +10,8 @@ import unittest
 from contextlib import redirect_stderr, redirect_stdout
 from pathlib import Path
 from tempfile import TemporaryDirectory
-from typing import Iterator, Optional, Tuple
+from time import process_time
+from typing import Iterator, List, Optional, Tuple
 
 from starlark_lexer import Fault, FaultKind, Kind, Quotes, StarlarkFault, Token, faults, lex, lex_all, tokenize
 from starlark_lexer.__main__ import main
@@ -254,6 +255,37 @@ class Faults(unittest.TestCase):
         tokens, all_faults = lex_all("a = !\n" * 1000)
         self.assertEqual(len(tokens), 2001)
         self.assertEqual([fault.start for fault in all_faults], [(line, 4) for line in range(1, 1001)])
+
+    def test_many_faults_take_no_longer(self) -> None:
+        lines = (
+            ("name = 'é汉🔬' ! # ü\n", "!", FaultKind.INVALID_INPUT, "invalid input `!`"),
+            ("name = 'é汉🔬' 01 'é\n", "01", FaultKind.STARTS_ZERO, "integer cannot have leading 0, got `01`"),
+        )
+        wanted_tokens: List[Token] = []
+        wanted_faults: List[Fault] = []
+        at = 0
+        for number in range(1, 20001):
+            line, word, kind, message = lines[number % 2]
+            places = [(number, column) for column in range(len(line))]
+            wanted_tokens += [
+                Token(Kind.IDENTIFIER, "name", places[0], places[4], line, "name", (at, at + 4)),
+                Token(Kind.EQUAL, "=", places[5], places[6], line, None, (at + 5, at + 6)),
+                Token(Kind.STRING, "'é汉🔬'", places[7], places[12], line, "é汉🔬", (at + 7, at + 18)),
+            ]
+            span = at + 19, at + 19 + len(word)
+            wanted_faults.append(Fault(kind, "Parse error: " + message, places[13], places[13 + len(word)], line, span))
+            at += len(line.encode())
+        end = 20001, 0
+        wanted_tokens.append(Token(Kind.NEWLINE, "", end, end, "", None, (at, at)))
+        source = "".join(lines[number % 2][0] for number in range(1, 20001))
+
+        begin = process_time()
+        found = faults(source)
+        time = process_time() - begin
+        self.assertTrue(found == wanted_faults)
+        self.assertTrue(lex_all(source) == (wanted_tokens, wanted_faults))
+        self.assertTrue(list(tokenize(source, recover=True)) == wanted_tokens)
+        self.assertLess(time, 2)
 
     def test_raised_after_the_tokens_before_it(self) -> None:
         found = []

@@ -14,7 +14,7 @@ from typing import Any, Dict, Iterator, List, Tuple
 from unittest import mock
 
 from starlark_lexer import faults, lex_all
-from test_lexer import RECOVERY, STORED, TOP, stored_texts
+from test_lexer import TOP, stored_texts
 
 
 class _StandInType(tuple):
@@ -90,9 +90,9 @@ def errors(text: str) -> List[Tuple[int, str]]:
     return [(at, value) for at, type_, value in parts_of(text) if type_ == pygments_lexer.Error]
 
 
-def texts_of(folder: Path) -> Iterator[str]:
-    """The stored texts of a folder that are UTF-8."""
-    for _, task, source in stored_texts(folder):
+def texts_of(part: str) -> Iterator[str]:
+    """The stored texts of a part that are UTF-8."""
+    for _, task, source in stored_texts(part):
         try:
             text = source.decode()
         except UnicodeDecodeError:
@@ -138,14 +138,14 @@ class Parts(unittest.TestCase):
             self.check(file.read_bytes().decode())
 
     def test_stored_texts(self) -> None:
-        for folder in (STORED, RECOVERY):
-            for text in texts_of(folder):
+        for part in ("texts", "recovered"):
+            for text in texts_of(part):
                 self.check(text)
 
     def test_only_faults_without_characters_are_empty(self) -> None:
         self.assertEqual(parts_of(""), [])
         self.assertEqual(parts_of("f'{x}")[-1], (5, pygments_lexer.Error, ""))
-        for text in texts_of(RECOVERY):
+        for text in texts_of("recovered"):
             for at, type_, value in parts_of(text):
                 self.assertTrue(value or (type_, at) == (pygments_lexer.Error, len(text)), text)
 
@@ -196,11 +196,11 @@ class Errors(unittest.TestCase):
             self.assertEqual(errors(text), [(at, "\t")], text)
 
     def test_stored_texts(self) -> None:
-        for text in texts_of(RECOVERY):
+        for text in texts_of("recovered"):
             self.assertEqual(len(errors(text)), len(faults(text)), text)
 
     def test_characters_of_stored_texts(self) -> None:
-        for text in texts_of(RECOVERY):
+        for text in texts_of("recovered"):
             found = {(at, at + len(value)) for at, value in errors(text)}
             source = text.encode()
             for fault in lex_all(source)[1]:

@@ -18,7 +18,21 @@ pub(crate) struct LexemeRecord {
     pub value_len: usize,
 }
 
-/// What a call did: a `starlark_outcome` of the header.
+/// A fault: a `starlark_found_fault` of the header. Its offsets count from the start of what was
+/// lexed.
+#[repr(C)]
+#[derive(Clone, Copy, Debug)]
+pub(crate) struct FaultRecord {
+    pub kind: u32,
+    pub begin: u32,
+    pub end: u32,
+    reserved: u32,
+    pub lexemes_before: usize,
+    value_begin: usize,
+    value_len: usize,
+}
+
+/// What a call of `starlark_lex` did: a `starlark_outcome` of the header.
 #[repr(C)]
 #[derive(Clone, Copy, Debug, Default)]
 struct Outcome {
@@ -35,6 +49,20 @@ struct Outcome {
     wanted_values: usize,
 }
 
+/// What a call of `starlark_lex_recovering` did: a `starlark_recovered` of the header.
+#[repr(C)]
+#[derive(Clone, Copy, Debug, Default)]
+struct Recovered {
+    status: u32,
+    lexemes: usize,
+    values: usize,
+    faults: usize,
+    next: usize,
+    wanted_lexemes: usize,
+    wanted_values: usize,
+    wanted_faults: usize,
+}
+
 /// A `starlark_text_place` of the header.
 #[repr(C)]
 #[derive(Clone, Copy, Debug, Default)]
@@ -43,6 +71,9 @@ struct TextPlace {
     column: usize,
     utf16_column: usize,
 }
+
+/// How many bytes of a text have room for one fault at first.
+const BYTES_A_FAULT: usize = 64;
 
 const WHOLE: u32 = 0;
 const FAULT: u32 = 1;
@@ -60,6 +91,18 @@ extern "C" {
         values: *mut u8,
         values_cap: usize,
         outcome: *mut Outcome,
+    ) -> u32;
+
+    fn starlark_lex_recovering(
+        text: *const u8,
+        text_len: usize,
+        lexemes: *mut LexemeRecord,
+        lexemes_cap: usize,
+        values: *mut u8,
+        values_cap: usize,
+        faults: *mut FaultRecord,
+        faults_cap: usize,
+        outcome: *mut Recovered,
     ) -> u32;
 
     fn starlark_place(text: *const u8, text_len: usize, at: usize, place: *mut TextPlace) -> bool;
@@ -84,16 +127,6 @@ extern "C" {
     fn starlark_kind_name(kind: u32, name: *mut u8, name_cap: usize) -> usize;
 }
 
-/// A fault, with the number of its kind. Its offsets count from the start of what was lexed.
-#[derive(Clone, Copy, Debug)]
-pub(crate) struct FaultRecord {
-    pub kind: u32,
-    pub begin: u32,
-    pub end: u32,
-    value_begin: usize,
-    value_len: usize,
-}
-
 /// How lexing a text into buffers ended.
 #[derive(Clone, Copy, Debug)]
 pub(crate) enum Ending {
@@ -107,11 +140,12 @@ pub(crate) enum Ending {
     Full { lexemes: usize, values: usize },
 }
 
-/// Buffers for the lexemes of a text and their values.
+/// Buffers for the lexemes of a text, their values, and the faults after which it was lexed on.
 #[derive(Clone, Debug)]
 pub(crate) struct Buffers {
     lexemes: Vec<LexemeRecord>,
     values: Vec<u8>,
+    faults: Vec<FaultRecord>,
 }
 
 impl Buffers {
@@ -120,6 +154,7 @@ impl Buffers {
         Buffers {
             lexemes: Vec::with_capacity(lexemes),
             values: Vec::with_capacity(values),
+            faults: Vec::new(),
         }
     }
 
@@ -138,12 +173,17 @@ impl Buffers {
         self.lexemes.get(index)
     }
 
+    /// The fault with an index, of those after which the text was lexed on, if there is one.
+    pub(crate) fn fault(&self, index: usize) -> Option<&FaultRecord> {
+        self.faults.get(index)
+    }
+
     /// The bytes of a lexeme's value.
     pub(crate) fn value(&self, lexeme: &LexemeRecord) -> &[u8] {
         &self.values[lexeme.value_begin..][..lexeme.value_len]
     }
 
-    /// The message of the fault of the text that was lexed last.
+    /// The message of a fault of the text that was lexed last.
     pub(crate) fn message(&self, fault: &FaultRecord) -> String {
         let named = &self.values[fault.value_begin..][..fault.value_len];
         let mut message = Vec::with_capacity(named.len() + 128);
@@ -175,8 +215,7 @@ impl Buffers {
     /// where a `Vec` gets none.
     pub(crate) fn lex(&mut self, text: &str) -> Ending {
         let mut outcome = Outcome::default();
-        self.lexemes.clear();
-        self.values.clear();
+        self.clear();
         // SAFETY: `text` is readable for its length, and both buffers are writable for their
         // capacities, which are numbers of records and bytes. The call reads nothing of them.
         // The four are different memory, no pointer is null, and all live until the call returns.
@@ -201,6 +240,67 @@ impl Buffers {
         }
         outcome.ending()
     }
+
+    /// Lexes a text on after its faults into the buffers, which have nothing but its lexemes and
+    /// faults then. They grow where the text needs more room.
+    ///
+    /// The text has at most `u32::MAX` bytes. Where memory runs out the process aborts, as it does
+    /// where a `Vec` gets none.
+    pub(crate) fn lex_recovering(&mut self, text: &str) {
+        self.clear();
+        self.faults.reserve(text.len() / BYTES_A_FAULT + 16);
+        if let Err(wanted) = self.try_lex_recovering(text) {
+            *self = wanted;
+            let is_whole = self.try_lex_recovering(text).is_ok();
+            assert!(is_whole, "the library wants more room than it told");
+        }
+    }
+
+    /// Lexes a text on after its faults into the buffers, which have nothing, if they have room.
+    ///
+    /// # Errors
+    ///
+    /// Empty buffers with the room that the text needs, where these have too little.
+    fn try_lex_recovering(&mut self, text: &str) -> Result<(), Buffers> {
+        let mut outcome = Recovered::default();
+        // SAFETY: `text` is readable for its length, and the three buffers are writable for their
+        // capacities, which are numbers of records and bytes. The call reads nothing of them.
+        // The five are different memory, no pointer is null, and all live until the call returns.
+        unsafe {
+            starlark_lex_recovering(
+                text.as_ptr(),
+                text.len(),
+                self.lexemes.as_mut_ptr(),
+                self.lexemes.capacity(),
+                self.values.as_mut_ptr(),
+                self.values.capacity(),
+                self.faults.as_mut_ptr(),
+                self.faults.capacity(),
+                &mut outcome,
+            );
+        }
+        if let Some(wanted) = outcome.wanted() {
+            return Err(wanted);
+        }
+        assert!(outcome.lexemes <= self.lexemes.capacity());
+        assert!(outcome.values <= self.values.capacity());
+        assert!(outcome.faults <= self.faults.capacity());
+        // SAFETY: the counts are within the capacities, and the call wrote what it counts. All bits
+        // are right for the numbers of a record.
+        unsafe {
+            self.lexemes.set_len(outcome.lexemes);
+            self.values.set_len(outcome.values);
+            self.faults.set_len(outcome.faults);
+        }
+        Ok(())
+    }
+
+    /// Drops what the buffers have, and keeps their room.
+    fn clear(&mut self) {
+        self.lexemes.clear();
+        self.values.clear();
+        self.faults.clear();
+    }
 }
 
 impl Outcome {
@@ -212,6 +312,8 @@ impl Outcome {
                 kind: self.fault_kind,
                 begin: self.fault_begin,
                 end: self.fault_end,
+                reserved: 0,
+                lexemes_before: self.lexemes,
                 value_begin: self.fault_value_begin,
                 value_len: self.fault_value_len,
             }),
@@ -223,6 +325,24 @@ impl Outcome {
             MEMORY => handle_alloc_error(Layout::new::<LexemeRecord>()),
             NOT_UTF8 | TOO_LONG => unreachable!("a `str` is UTF-8, and its length was tested"),
             status => unreachable!("the library has no status {status}"),
+        }
+    }
+}
+
+impl Recovered {
+    /// Buffers with the room that a text needs, where there was too little. The text is UTF-8 that
+    /// isn't too long.
+    fn wanted(&self) -> Option<Buffers> {
+        match self.status {
+            WHOLE => None,
+            FULL => Some(Buffers {
+                lexemes: Vec::with_capacity(self.wanted_lexemes),
+                values: Vec::with_capacity(self.wanted_values),
+                faults: Vec::with_capacity(self.wanted_faults),
+            }),
+            MEMORY => handle_alloc_error(Layout::new::<LexemeRecord>()),
+            NOT_UTF8 | TOO_LONG => unreachable!("a `str` is UTF-8, and its length was tested"),
+            status => unreachable!("the library has no status {status} after faults"),
         }
     }
 }

@@ -103,15 +103,22 @@ impl<'a> Lexer<'a> {
         self.text
     }
 
-    /// Goes on after a fault that was yielded: at the next line, as a text of its own.
+    /// Goes on after a fault that was yielded: at the next line, as a text of its own, to the end of
+    /// the text. The buffers have all lexemes and faults from there on then.
     ///
     /// Nothing changes where none was.
     #[inline]
     pub(crate) fn pass_fault(&mut self) {
         if let After::Passed(record) = self.after {
-            let rest = &self.text[self.from..];
-            self.after = After::Text(self.from + ffi::restart(rest, &record));
+            self.lex_recovering(&record);
         }
+    }
+
+    /// The fault with an index among those that the buffers have, if it comes next.
+    #[inline]
+    pub(crate) fn next_fault(&self, index: usize) -> Option<Fault> {
+        let record = self.buffers.fault(index)?;
+        (record.lexemes_before == self.index).then(|| self.fault(record))
     }
 
     /// The bytes of the text from one offset in the piece to another.
@@ -169,6 +176,15 @@ impl<'a> Lexer<'a> {
         };
     }
 
+    /// Fills the buffers with all lexemes and faults that come after a fault of the piece.
+    #[cold]
+    fn lex_recovering(&mut self, record: &FaultRecord) {
+        self.from += ffi::restart(&self.text[self.from..], record);
+        self.index = 0;
+        self.after = After::End;
+        self.buffers.lex_recovering(&self.text[self.from..]);
+    }
+
     /// Makes the buffers larger, up to the most, and gives them at least this much room.
     fn grow(&mut self, lexemes: usize, values: usize) {
         let room = (
@@ -182,7 +198,7 @@ impl<'a> Lexer<'a> {
         }
     }
 
-    /// The fault of the text, whose record counts from where the piece begins.
+    /// A fault of the text, whose record counts from where the piece begins.
     fn fault(&self, record: &FaultRecord) -> Fault {
         let number = record.kind;
         Fault {

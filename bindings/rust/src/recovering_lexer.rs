@@ -9,8 +9,8 @@ use std::iter::FusedIterator;
 /// as if that began a text of its own: with no open bracket, f-string or block. So an editor keeps
 /// its colours after an open quote, and a linter shows each fault of a file.
 ///
-/// After each fault the rest of the text is tested for UTF-8 twice. So a text with many faults
-/// takes longer, by the number of its faults times its length.
+/// What comes after the first fault is lexed at once, and kept until it is yielded: 32 bytes for each
+/// lexeme, and 40 for each fault. So a text with many faults takes no longer than one with few.
 ///
 /// ```
 /// use starlark_lexer::{RecoveringLexer, Token};
@@ -35,6 +35,8 @@ use std::iter::FusedIterator;
 #[derive(Clone, Debug)]
 pub struct RecoveringLexer<'a> {
     lexer: Lexer<'a>,
+    /// How many faults were yielded of those after the lexer's own.
+    faults: usize,
 }
 
 impl<'a> RecoveringLexer<'a> {
@@ -69,7 +71,7 @@ impl<'a> RecoveringLexer<'a> {
 /// ```
 impl<'a> From<Lexer<'a>> for RecoveringLexer<'a> {
     fn from(lexer: Lexer<'a>) -> Self {
-        RecoveringLexer { lexer }
+        RecoveringLexer { lexer, faults: 0 }
     }
 }
 
@@ -79,7 +81,13 @@ impl<'a> Iterator for RecoveringLexer<'a> {
     #[inline]
     fn next(&mut self) -> Option<Self::Item> {
         self.lexer.pass_fault();
-        self.lexer.next()
+        match self.lexer.next_fault(self.faults) {
+            Some(fault) => {
+                self.faults += 1;
+                Some(Err(fault))
+            }
+            None => self.lexer.next(),
+        }
     }
 }
 

@@ -5,7 +5,9 @@ use starlark_lexer::{
 };
 use std::borrow::Cow;
 use std::error::Error;
+use std::ops::Range;
 use std::thread;
+use std::time::{Duration, Instant};
 
 fn tokens(text: &str) -> Vec<Token<'_>> {
     let lexemes = Lexer::new(text).unwrap();
@@ -177,6 +179,52 @@ fn a_fault_on_each_line() {
     }
     let wanted: Vec<usize> = (0..1000).map(|line| 6 * line + 4).collect();
     assert_eq!((tokens, faults), (2001, wanted));
+}
+
+/// The bytes of an item, and its token, or the kind and the message of its fault.
+type Found<'a> = (Range<usize>, Result<Token<'a>, (FaultKind, String)>);
+
+fn found(item: Result<Lexeme<'_>, Fault>) -> Found<'_> {
+    match item {
+        Ok(lexeme) => (lexeme.span.range(), Ok(lexeme.token)),
+        Err(fault) => {
+            let message = fault.to_string();
+            (fault.span().range(), Err((fault.kind(), message)))
+        }
+    }
+}
+
+#[test]
+fn many_faults_take_no_longer() {
+    let invalid = "Parse error: invalid input `!`";
+    let zero = "Parse error: integer cannot have leading 0, got `01`";
+    let lines = [
+        ("name = 'é汉🔬' !é\n", 1, FaultKind::InvalidInput, invalid),
+        ("name = 'é汉🔬' 01 'é\n", 2, FaultKind::StartsZero, zero),
+    ];
+    let mut text = String::new();
+    let mut wanted: Vec<Found<'_>> = Vec::new();
+    for (line, len, kind, message) in lines.into_iter().cycle().take(20_000) {
+        let at = text.len();
+        text.push_str(line);
+        wanted.extend([
+            (at..at + 4, Ok(Token::Identifier("name".into()))),
+            (at + 5..at + 6, Ok(Token::Equal)),
+            (at + 7..at + 18, Ok(Token::String("é汉🔬".into()))),
+            (at + 19..at + 19 + len, Err((kind, message.to_owned()))),
+        ]);
+    }
+    wanted.push((text.len()..text.len(), Ok(Token::Newline)));
+
+    let begin = Instant::now();
+    let items: Vec<Found<'_>> = RecoveringLexer::new(&text).unwrap().map(found).collect();
+    let time = begin.elapsed();
+    let differs = items
+        .iter()
+        .zip(&wanted)
+        .position(|(one, other)| one != other);
+    assert_eq!((differs, items.len()), (None, wanted.len()));
+    assert!(time < Duration::from_secs(2), "{time:?}");
 }
 
 #[test]

@@ -8,3 +8,5 @@ pub mod Lines
 pub mod KindNames
 pub mod ErrorMessages
 pub mod FaultNumbers
+pub mod AddedItems
+pub mod Recovered

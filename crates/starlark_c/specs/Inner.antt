@@ -1,2 +1,3 @@
 -- Definitions that only inner functions and proofs cite.
 pub mod Filling
+pub mod Recovering

@@ -6,4 +6,6 @@ pub mod Written
 pub mod Messages
 pub mod Places
 pub mod Restarts
+pub mod RecoveredTexts
+pub mod RecoveredOutcomes
 pub mod Inner

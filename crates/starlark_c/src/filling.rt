@@ -25,7 +25,7 @@ use std::alloc::Global;
 
 /// Writes bytes at an offset, and returns the offset after them. `None`, and nothing changes, where
 /// they don't fit.
-fn put_bytes(values: &mut [u8], at: usize, bytes: &[u8]) -> Option<usize>
+pub fn put_bytes(values: &mut [u8], at: usize, bytes: &[u8]) -> Option<usize>
     requires { at ≤ length values.old }
     ensures some { IfSome result (λ end. (end ≡ at + length bytes.now) × (end ≤ length values.old) × (values.new ≡ put at bytes.now values.old)) }
     ensures none { IfNone result ((length values.old < at + length bytes.now) × (values.new ≡ values.old)) }
@@ -41,7 +41,7 @@ fn put_bytes(values: &mut [u8], at: usize, bytes: &[u8]) -> Option<usize>
 /// Puts a lexeme after what fills the buffers, and returns what fills them then.
 ///
 /// `None`, and nothing changes, where there is no room.
-fn put_lexeme(
+pub fn put_lexeme(
     lexemes: &mut [LexemeRecord],
     values: &mut [u8],
     filled: Filled,
@@ -64,7 +64,7 @@ fn put_lexeme(
 }
 
 /// The error of the lexer that an exception of a fault is of.
-fn error_of(exception: &EvalException) -> &LexemeError
+pub fn error_of(exception: &EvalException) -> &LexemeError
     requires { (file : SourceFile) × ((fault : Spanned GrammarFault) × IsException file fault exception.now) }
     ensures { (file : SourceFile) (fault : Spanned GrammarFault) → IsException file fault exception.now → fault_view result.now ≡ Some fault.node }
 {
@@ -75,7 +75,7 @@ fn error_of(exception: &EvalException) -> &LexemeError
 }
 
 /// The span of an exception of a fault.
-fn span_of(exception: &EvalException) -> Span
+pub fn span_of(exception: &EvalException) -> Span
     requires { (file : SourceFile) × ((fault : Spanned GrammarFault) × IsException file fault exception.now) }
     ensures { (file : SourceFile) (fault : Spanned GrammarFault) → IsException file fault exception.now → result ≡ record { begin = fault.begin; end = fault.end } }
 {

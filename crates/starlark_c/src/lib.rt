@@ -10,9 +10,12 @@ ghost use Rattle.starlark_c.specs.Kinds.{NamesTokens, kind_name};
 ghost use Rattle.starlark_c.specs.Messages.{TellsErrors, fault_message};
 ghost use Rattle.starlark_c.specs.Outcomes.{outcome_record};
 ghost use Rattle.starlark_c.specs.Places.{TellsPlace};
+ghost use Rattle.starlark_c.specs.RecoveredOutcomes.{recovered_record};
+ghost use Rattle.starlark_c.specs.RecoveredTexts.{Recovers};
 ghost use Rattle.starlark_c.specs.Restarts.{IsRestart};
 ghost use Rattle.starlark_c.specs.Written.{IsWritten};
 ghost use Rattle.starlark_c.specs.declared.endings.Ending.{Ending};
+ghost use Rattle.starlark_c.specs.declared.recovered_endings.RecoveredEnding.{RecoveredEnding};
 
 mod endings;
 mod filling;
@@ -23,6 +26,9 @@ mod pieces;
 mod places;
 mod progress;
 mod records;
+mod recovered_endings;
+mod recovered_outcomes;
+mod recovering;
 mod restarts;
 mod texts;
 
@@ -31,6 +37,8 @@ use crate::lexing::lex_into;
 use crate::outcomes::{LexOutcome, outcome_of};
 use crate::places::{PlaceRecord, tell_place};
 use crate::records::LexemeRecord;
+use crate::recovered_outcomes::{FoundFault, RecoveredOutcome, recovered_outcome};
+use crate::recovering::recover_into;
 use crate::restarts::restart_of;
 use crate::texts::{write_message, write_text};
 use std::alloc::Global;
@@ -53,6 +61,29 @@ pub extern "C" fn starlark_lex(
     ensures status { result ≡ outcome.new.status }
 {
     *outcome = outcome_of(text.len(), lex_into(alloc, text, lexemes, values));
+    outcome.status
+}
+
+/// Lexes a text on after its faults into three buffers: a record for each lexeme, the values and
+/// the texts that faults name, one after another, and a record for each fault.
+///
+/// The outcome says how that ended, and how much of the buffers is filled; its status is returned
+/// too, and is never `FAULT`. Where some buffer has no room for all, it says how much all of the
+/// text needs. After what is filled the buffers are as they were, except with the status `FULL`.
+#[unsafe(no_mangle)]
+pub extern "C" fn starlark_lex_recovering(
+    alloc: Global,
+    text: &[u8],
+    lexemes: &mut [LexemeRecord],
+    values: &mut [u8],
+    faults: &mut [FoundFault],
+    outcome: &mut RecoveredOutcome,
+) -> u32
+    ensures lexed { (ending : RecoveredEnding) × (outcome.new ≡ recovered_record (length text.now) ending) × Recovers text.now (record { lexemes = lexemes.old; values = values.old; faults = faults.old }) (record { lexemes = lexemes.new; values = values.new; faults = faults.new }) ending }
+    ensures status { result ≡ outcome.new.status }
+{
+    let ending = recover_into(alloc, text, lexemes, values, faults);
+    *outcome = recovered_outcome(text.len(), ending);
     outcome.status
 }
 
