@@ -13,6 +13,7 @@ pub mod Margins
 pub mod Pieces
 pub mod Reading
 pub mod Gaps
+pub mod AfterFaults
 pub mod EarlierLanguage
 pub mod Laws
 pub mod Inner
