@@ -1,5 +1,7 @@
 -- What a reader stores, takes and yields.
+pub mod LineEnds
 pub mod PieceReads
+pub mod MarginReads
 pub mod ReaderReads
 pub mod CodePlaces
 pub mod Here

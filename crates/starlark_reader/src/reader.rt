@@ -17,7 +17,8 @@ ghost use Rattle.starlark_reader.specs.Inner.Pending.{IsIdle, IsPending};
 ghost use Rattle.starlark_reader.specs.Inner.MarginCuts.{IsCutBefore};
 ghost use Rattle.starlark_reader.specs.Inner.Reads.{HasStarted, HasLooked, HasLookedHere, HasRead, HasReadAt, HasReadNext, IsMarginRead, IsPassed, IsPassedBy, IsTaken};
 ghost use Rattle.starlark_reader.specs.Inner.Reader.{CountsLineEnds, has_read_none, IsAhead, IsAheadAfter, IsAtCode, IsBangHere, IsInCode, IsInFlatMargin, IsReached, IsStateAfter, IsNext, IsOver, IsPlainTextHere, IsRead, IsReady, IsSomething, IsWordHere, before_view, left_here, left_to_read, newline_if, newline_of, silent_sort, step_here};
-ghost use Rattle.starlark_reader.specs.Inner.Pieces.{IsAfter};
+ghost use Rattle.starlark_reader.specs.Inner.Pieces.{IsAfter, IsLineEnd};
+ghost use Rattle.starlark_grammar.specs.AfterFaults.{next_line};
 ghost use Rattle.starlark_grammar.specs.Cuts.{is_layout, is_settled};
 ghost use Rattle.starlark_grammar.specs.Reading.{History, outcome};
 ghost use Rattle.starlark_token.specs.TokenViews.{TokenView, token_view};
@@ -196,7 +197,7 @@ impl Reader {
         ensures read { IfOk result (λ is_laid. (history : History) → IsStateAfter text.now history self.old → step_here text.now history self.old ≡ grammar.line_end len (open_widths history.widths) (drop len (drop self.old.at text.now)) →
             IsRead text.now (left_here text.now history self.old) (newline_if is_laid self.old.at len) self.new) }
         ensures less { OnOk result (left_to_read text.now self.new self.new.stage < left_to_read text.now self.old Stage.Onward) }
-        ensures reads { OnOk result (IsMarginRead text.now len self.old self.new self.new.stage) }
+        ensures reads { OnOk result (IsLineEnd len (drop self.old.at text.now) → IsMarginRead text.now len self.old self.new self.new.stage) }
         ensures onward { IfOk result (λ is_laid. is_laid ≡ true → (self.new.stage ≡ Stage.Onward) × (self.new.nesting ≡ self.old.nesting)) }
     {
         let begin = self.at + len;
@@ -222,7 +223,7 @@ impl Reader {
         ensures read { IfOk result (λ given. (history : History) → IsStateAfter text.now history self.old → step_here text.now history self.old ≡ grammar.line_end len (open_widths history.widths) (drop len (drop self.old.at text.now)) →
             IsRead text.now (left_here text.now history self.old) given self.new) }
         ensures less { OnOk result (left_to_read text.now self.new self.new.stage < left_to_read text.now self.old Stage.Onward) }
-        ensures reads { OnOk result (IsMarginRead text.now len self.old self.new self.new.stage) }
+        ensures reads { OnOk result (IsLineEnd len (drop self.old.at text.now) → IsMarginRead text.now len self.old self.new self.new.stage) }
     {
         let begin = self.at;
         if self.lay_line_end(text, len)? {
@@ -768,7 +769,7 @@ impl Reader {
         ensures stands { IsWordHere text.now self.new (record { class = class.Opener kind is_raw quote; len = len }) }
         ensures plain { IfOk result (λ body. IsPlainBody kind is_raw quote (drop len (drop self.new.at text.now)) body) }
         ensures looked { IfOk result (λ body. HasLookedHere (body + 1) (2 * body + 3) self.old self.new) }
-        ensures other { IfErr result (λ run. (self.new.at + len + run ≤ length text.now) × HasLookedHere 0 (2 * run + 3) self.old self.new) }
+        ensures other { IfErr result (λ run. (self.new.at + len + run ≤ next_line text.now self.new.at) × HasLookedHere 0 (2 * run + 3) self.old self.new) }
     {
         let rest = &text[self.at..];
         plain_body_len(&mut self.reads, kind, is_raw, quote, &rest[len..])
@@ -892,7 +893,7 @@ impl Reader {
         ensures stands { IfOk result (λ found. IsPlainTextHere text.now self.new found) }
         ensures some { IfOk result (λ found. (0 < found.stop_len) × (found.stop_len ≤ 3)) }
         ensures looked { IfOk result (λ found. HasLookedHere (found.len + 3) (2 * found.len + 4) self.old self.new) }
-        ensures other { IfErr result (λ run. (self.new.at + run ≤ length text.now) × HasLookedHere 0 (2 * run + 4) self.old self.new) }
+        ensures other { IfErr result (λ run. (self.new.at + run ≤ next_line text.now self.new.at) × HasLookedHere 0 (2 * run + 4) self.old self.new) }
     {
         if !self.reads_on() {
             return Err(0);

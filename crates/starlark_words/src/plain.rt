@@ -1,6 +1,7 @@
 //! Fast path for bodies of literals without escapes.
 
 ghost use Rattle.std.specs.Prelude.{◌≡◌, ◌≤◌, ◌==◌, ◌+◌, ◌*◌, get_or, length, take, IfErr, IfOk, IfSome};
+ghost use Rattle.starlark_grammar.specs.AfterFaults.{next_line};
 ghost use Rattle.starlark_grammar.specs.Items.{Stops, found_at, quote_byte};
 ghost use Rattle.starlark_grammar.specs.Words.{Text};
 ghost use Rattle.starlark_words.specs.Inner.Reads.{AreReads, more_reads};
@@ -37,7 +38,7 @@ pub fn plain_body_len(
 ) -> Result<usize, usize>
     ensures plain { IfOk result (λ len. IsPlainBody kind is_raw quote text.now len) }
     ensures reads { IfOk result (λ len. AreReads (len + 1) (2 * len + 3) reads.old reads.new) }
-    ensures other { IfErr result (λ run. (run ≤ length text.now) × AreReads 0 (2 * run + 3) reads.old reads.new) }
+    ensures other { IfErr result (λ run. (run ≤ next_line text.now 0) × AreReads 0 (2 * run + 3) reads.old reads.new) }
 {
     let opening = Opening {
         is_raw,
@@ -76,10 +77,10 @@ fn stop_by(opening: Opening, front: &[u8]) -> Option<Stop>
     }
 }
 
-/// Length in bytes and stop of an f-string's text that has no escapes.
+/// Length in bytes and stop of an f-string's text that has no escapes and no LF.
 ///
-/// The error is the length of the first run, for any other text: one with escapes, doubled braces,
-/// or a fault.
+/// The error is the length of the first run without an LF, for any other text: one with escapes,
+/// doubled braces, an LF, or a fault.
 #[inline(always)]
 pub fn plain_chunk_len(
     reads: &mut Reads,
@@ -87,14 +88,19 @@ pub fn plain_chunk_len(
     text: &str,
 ) -> Result<(usize, Stop), usize>
     ensures plain { IfOk result (λ found. IsPlainChunk (opening_view opening) text.now found.0 (stop_view found.1)) }
+    ensures line { IfOk result (λ found. found.0 ≤ next_line text.now 0) }
     ensures reads { IfOk result (λ found. AreReads (found.0 + 3) (2 * found.0 + 4) reads.old reads.new) }
-    ensures other { IfErr result (λ run. (run ≤ length text.now) × AreReads 0 (2 * run + 4) reads.old reads.new) }
+    ensures other { IfErr result (λ run. (run ≤ next_line text.now 0) × AreReads 0 (2 * run + 4) reads.old reads.new) }
 {
-    let literal = Literal {
+    let of_one_line = Literal {
         kind: LiteralKind::FString,
-        opening,
+        opening: Opening {
+            is_raw: opening.is_raw,
+            quote: opening.quote,
+            is_triple: false,
+        },
     };
-    let len = first_run(reads, literal, text).len();
+    let len = first_run(reads, of_one_line, text).len();
     let rest = &text.as_bytes()[len..];
     let Some(stop) = stop_by(opening, reads.front(rest, 3)) else {
         return Err(len);

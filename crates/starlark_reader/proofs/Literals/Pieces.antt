@@ -1,5 +1,6 @@
 -- String and bytes literals as steps.
-use Rattle.std.proofs.Common.{◌≡◌, ◌≢◌, ℕ, zero, suc, ◌+◌, ◌-◌, ◌≤◌, ◌==◌, true, false, not, [], ◌∷◌, length, take, drop, get_or, nat_eq, refl, sym, ap, subst, ◌∙◌, arith, Ok, Err}
+use Rattle.std.proofs.Common.{◌≡◌, ◌≢◌, ℕ, zero, suc, ◌+◌, ◌-◌, ◌≤◌, ◌==◌, ◌&&◌, ◌||◌, Bool, true, false, not, [], ◌∷◌, length, take, drop, get_or, nat_eq, refl, sym, ap, subst, ◌∙◌, arith, Ok, Err}
+use Rattle.std.proofs.lemmas.Bool.{and_parts, eqb-true}
 use Rattle.std.proofs.lemmas.List.{get_or-drop, length-drop}
 use Rattle.std.proofs.lemmas.Str.{IsCharBoundary-after_ascii, IsUtf8-drop}
 use Rattle.std.specs.List.{starts_with}
@@ -10,13 +11,15 @@ use Rattle.starlark_grammar.specs.declared.class.Quote.{Quote}
 use Rattle.starlark_grammar.specs.declared.class.Quote.TheVariants.{Single as SingleQuote, Double as DoubleQuote}
 use Rattle.starlark_grammar.specs.declared.class.LiteralKind.{LiteralKind as Kind}
 use Rattle.starlark_grammar.specs.declared.class.LiteralKind.TheVariants.{Text as OfText, Bytes as OfBytes, FString as OfFString}
-use Rattle.starlark_grammar.specs.Tokens.{String, Bytes, Opening, EmptyEscapeSequence, InvalidEscapeSequence}
-use Rattle.starlark_grammar.specs.Items.{Literal, Closing, BadEscape, body_at, body_len, closing_quotes, is_of_bytes, quote_byte}
-use Rattle.starlark_grammar.specs.Depths.{Mode}
+use Rattle.starlark_grammar.specs.Tokens.{String, Bytes, Opening, EmptyEscapeSequence, InvalidEscapeSequence, UnfinishedStringLiteral}
+use Rattle.starlark_grammar.specs.Items.{Literal, Found, Goes, Stops, Closing, Line, BadEscape, body_at, body_from, body_len, body_onward, closing_quotes, found_at, is_of_bytes, quote_byte}
+use Rattle.starlark_grammar.specs.Depths.{Mode, Outside, InText, AtTop, Deeper}
 use Rattle.starlark_grammar.specs.Pieces as pieces
 use Rattle.starlark_grammar.specs.Pieces.{Step, fault, literal_token, escape_fault}
+use Rattle.starlark_grammar.proofs.Choices.{by_test, either}
 use Rattle.starlark_grammar.proofs.Lists.{drop-sum}
 use Rattle.starlark_grammar.proofs.Literals.Bodies.{StopFits, body_fits}
+use Rattle.starlark_grammar.proofs.Literals.Forms.{FoundIs, item_found, item_found_is}
 use Rattle.starlark_grammar.proofs.Order.Edges.{StopAt, behind_plain, boundary_shift, starts_split, stop_at}
 
 pub token_of_text : (kind : Kind) (value : Text) → true ≡ not (is_of_bytes kind) → String value ≡ literal_token kind value
@@ -84,6 +87,68 @@ read_after text len read =
 pub bad_literal : (place : Mode) (literal : Literal) (begin len read last : ℕ) (text : Text) → len ≡ body_len (body_at literal text) → (body_at literal text).stop ≡ BadEscape read last
     → pieces.literal place literal.kind literal.opening begin text ≡ escape_fault (begin + len) (drop 1 (take read (drop len text)))
 bad_literal place literal begin len read last text same bad = rw (bad, same) refl
+
+-- A literal that an LF ends
+
+both_false : (x : Bool) → (x && false) ≡ false
+both_false true = refl
+both_false false = refl
+
+-- it has one line
+line_found : (literal : Literal) (b : ℕ) (bs : Text) → found_at literal (b ∷ bs) ≡ Stops Line → (b == 10 && not literal.opening.is_triple) ≡ true
+unfolding found_at
+line_found literal b bs =
+    let P : Found → Type 0 = (λ found. found ≡ Stops Line → (b == 10 && not literal.opening.is_triple) ≡ true) in
+    either P (starts_with nat_eq (b ∷ bs) (closing_quotes literal.opening)) _ _ (λ e. cc)
+    (by_test P (b == 10 && not literal.opening.is_triple) _ _ (λ ends e. ends) (λ goes e. by_form (item_found literal (b ∷ bs)) e (item_found_is literal (b ∷ bs))))
+  where
+    by_form : (found : Found) → found ≡ Stops Line → FoundIs literal (b ∷ bs) found → (b == 10 && not literal.opening.is_triple) ≡ true
+    by_form found e is =
+        let stops : FoundIs literal (b ∷ bs) (Stops Line) = subst (FoundIs literal (b ∷ bs)) e is in
+        let feed : 10 ≡ b = eqb-true 10 b (and_parts (nat_eq 10 b) true stops.1).0 in
+        rw (stops.0, ← feed) refl
+
+-- so its text isn't plain
+unplain : (opening : Opening) (b : ℕ) (bs : Text) → (b == 10 && not opening.is_triple) ≡ true → pieces.is_plain opening (b ∷ bs) ≡ false
+unplain opening b bs ends = rw ends (by (b == 92) (b == 13))
+  where
+    by : (backslash return : Bool) → (not (backslash || return || true) && pieces.is_plain opening bs) ≡ false
+    by true return = refl
+    by false true = refl
+    by false false = refl
+
+line_unplain : (literal : Literal) (passed : ℕ) (text : Text) → (body_from literal passed text).stop ≡ Line → pieces.is_plain literal.opening text ≡ false
+unfolding body_from
+line_unplain literal zero [] e = cc
+line_unplain literal (suc passed) [] e = cc
+line_unplain literal (suc passed) (b ∷ bs) e = rw (line_unplain literal passed bs e) (both_false _)
+line_unplain literal zero (b ∷ bs) e = go (found_at literal (b ∷ bs)) refl e (λ passed. line_unplain literal passed bs)
+  where
+    go : (found : Found) → found_at literal (b ∷ bs) ≡ found → (body_onward found (λ passed. body_from literal passed bs)).stop ≡ Line
+        → ((passed : ℕ) → (body_from literal passed bs).stop ≡ Line → pieces.is_plain literal.opening bs ≡ false) → pieces.is_plain literal.opening (b ∷ bs) ≡ false
+    go (Goes item) f e more = rw (more (item.len - 1) e) (both_false _)
+    go (Stops stop) f e more = unplain literal.opening b bs (line_found literal b bs (f ∙ ap Stops e))
+
+unfinished_line : (place : Mode) (kind : Kind) (opening : Opening) (text : Text) → pieces.is_plain opening text ≡ false → pieces.unfinished place kind opening text ≡ UnfinishedStringLiteral
+unfinished_line Outside kind opening text e = refl
+unfinished_line (InText other) OfText opening text e = rw e refl
+unfinished_line AtTop OfText opening text e = rw e refl
+unfinished_line Deeper OfText opening text e = rw e refl
+unfinished_line (InText other) OfBytes opening text e = refl
+unfinished_line AtTop OfBytes opening text e = refl
+unfinished_line Deeper OfBytes opening text e = refl
+unfinished_line (InText other) OfFString opening text e = refl
+unfinished_line AtTop OfFString opening text e = refl
+unfinished_line Deeper OfFString opening text e = refl
+
+stops_unplain : (literal : Literal) (text : Text) → (body_at literal text).stop ≡ Line → pieces.is_plain literal.opening text ≡ false
+unfolding body_at
+stops_unplain literal text line = line_unplain literal 0 text line
+
+pub line_literal : (place : Mode) (literal : Literal) (begin len : ℕ) (text : Text) → len ≡ body_len (body_at literal text) → (body_at literal text).stop ≡ Line
+    → pieces.literal place literal.kind literal.opening begin text ≡ fault 0 UnfinishedStringLiteral (begin + len)
+line_literal place literal begin len text same line =
+    rw (line, same) (ap (λ f. fault 0 f (begin + body_len (body_at literal text))) (unfinished_line place literal.kind literal.opening text (stops_unplain literal text line)))
 
 -- what holds of each good result
 pub if_ok : {A E : Type 0} (P Q : A → Type 0) (result : Result A E) → ((value : A) → P value → Q value) → IfOk result P → IfOk result Q

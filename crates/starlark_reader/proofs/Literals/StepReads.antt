@@ -3,7 +3,7 @@ use Rattle.std.proofs.Common.{◌≡◌, ◌≤◌, ◌+◌, ◌-◌, ◌*◌, �
 use Rattle.starlark_grammar.specs.Items.{closing_quotes}
 use Rattle.starlark_grammar.specs.Tokens.{Opening}
 use Rattle.starlark_words.specs.Inner.Reads.{more_reads}
-use Rattle.starlark_reader.specs.Inner.Reads.{AreWordReads, IsFault}
+use Rattle.starlark_reader.specs.Inner.Reads.{AreWordReads, IsFaultTo}
 use Rattle.starlark_reader.specs.declared.literal.pieces.Step.{Step}
 use Rattle.starlark_reader.specs.declared.literal.pieces.Step.TheVariants as step
 
@@ -15,19 +15,19 @@ closing_some opening = by_quotes opening.is_triple refl
     by_quotes true e = rw e (omega arith, omega arith)
     by_quotes false e = rw e (omega arith, omega arith)
 
-pub fault_reads : (passed factor more rest extra : ℕ) (step : Step) (before after : ℕ) → IsFault step → after ≤ before + factor * rest + extra → AreWordReads passed factor more rest extra step before after
-fault_reads passed factor more rest extra (step.Fault begin fault end) before after is few = few
-fault_reads passed factor more rest extra (step.Token token len) before after is few = absurd is
-fault_reads passed factor more rest extra (step.Text text text_len stop len) before after is few = absurd is
+pub fault_reads : (passed factor more line extra end : ℕ) (step : Step) (before after : ℕ) → IsFaultTo end step → passed ≤ end → after ≤ before + factor * (end - passed) + extra → AreWordReads passed factor more line extra step before after
+fault_reads passed factor more line extra end (step.Fault begin fault at) before after is later few = (rw is few, omega (arith, is, later))
+fault_reads passed factor more line extra end (step.Token token len) before after is later few = absurd is
+fault_reads passed factor more line extra end (step.Text text text_len stop len) before after is later few = absurd is
 
 -- the reads after an opener of one quote, with the two bytes that determine that
-pub single_reads : (passed rest : ℕ) (step : Step) (before between after : ℕ) → between ≡ more_reads before 2 → AreWordReads passed 9 0 rest 6 step between after → AreWordReads passed 9 2 rest 9 step before after
-single_reads passed rest (step.Token token len) before between after told reads = ((omega (arith, told, reads.0.0), omega (arith, told, reads.0.1)), reads.1)
-single_reads passed rest (step.Fault begin fault end) before between after told reads = omega (arith, told, reads)
-single_reads passed rest (step.Text text text_len stop len) before between after told reads = absurd reads
+pub single_reads : (passed : ℕ) (step : Step) (before between after : ℕ) → between ≡ more_reads before 2 → AreWordReads passed 9 0 0 6 step between after → AreWordReads passed 9 2 0 9 step before after
+single_reads passed (step.Token token len) before between after told reads = ((omega (arith, told, reads.0.0), omega (arith, told, reads.0.1)), reads.1)
+single_reads passed (step.Fault begin fault end) before between after told reads = (omega (arith, told, reads.0), reads.1)
+single_reads passed (step.Text text text_len stop len) before between after told reads = absurd reads
 
 -- the reads after an opener of three quotes
-pub triple_reads : (passed behind rest : ℕ) (step : Step) (before between after : ℕ) → behind ≡ rest - 2 → between ≡ more_reads before 2 → AreWordReads (passed + 2) 9 0 behind 6 step between after → AreWordReads passed 9 2 rest 9 step before after
-triple_reads passed behind rest (step.Token token len) before between after shorter told reads = ((omega (arith, told, reads.0.0, reads.1), omega (arith, told, reads.0.1, reads.1)), omega (arith, reads.1))
-triple_reads passed behind rest (step.Fault begin fault end) before between after shorter told reads = omega (arith, shorter, told, reads)
-triple_reads passed behind rest (step.Text text text_len stop len) before between after shorter told reads = absurd reads
+pub triple_reads : (passed : ℕ) (step : Step) (before between after : ℕ) → between ≡ more_reads before 2 → AreWordReads (passed + 2) 9 0 0 6 step between after → AreWordReads passed 9 2 0 9 step before after
+triple_reads passed (step.Token token len) before between after told reads = ((omega (arith, told, reads.0.0, reads.1), omega (arith, told, reads.0.1, reads.1)), omega (arith, reads.1))
+triple_reads passed (step.Fault begin fault end) before between after told reads = (omega (arith, told, reads.0), omega (arith, reads.1))
+triple_reads passed (step.Text text text_len stop len) before between after told reads = absurd reads

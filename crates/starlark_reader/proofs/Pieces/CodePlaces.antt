@@ -87,10 +87,6 @@ word_len text class len front =
     let inside : len ≤ length text = (front_sound (class_in language) text class len front).1 in
     length-take-le len text inside
 
-pub word_inside : (text : Text) (class : Class) (len : ℕ) → language_front text ≡ Some (class, len) → len ≤ length text
-unfolding language_front
-word_inside text class len front = (front_sound (class_in language) text class len front).1
-
 -- a word isn't empty
 pub word_some : (text : Text) (class : Class) (len : ℕ) → language_front text ≡ Some (class, len) → 1 ≤ len
 unfolding language_front

@@ -92,7 +92,3 @@ less_onward text old new len onward at some inside = rw onward (omega (arith, at
 -- less is left to read at a fault
 pub less_fault : (text : Text) (old new : Reader) (begin end : ℕ) (error : LexemeError) → new.stage ≡ stage.Fault begin error end → left_to_read text new new.stage < left_to_read text old stage.Onward
 less_fault text old new begin end error fault = rw fault (omega arith)
-
--- a run after an offset is in the text
-pub run_inside : (text : Text) (at run : ℕ) → at ≤ length text → run ≤ length (drop at text) → at + run ≤ length text
-run_inside text at run inside few = omega (arith, inside, few, length-drop at text)

@@ -1,6 +1,7 @@
 -- The pieces of the code, as the grammar sees them.
-use Rattle.std.specs.Prelude.{◌≡◌, ℕ, Bool, true, false, List, [], drop}
+use Rattle.std.specs.Prelude.{◌≡◌, ◌<◌, ⊤, ℕ, Bool, true, false, List, [], drop}
 use Rattle.std.specs.Str.{IsCharBoundary}
+use Rattle.starlark_grammar.specs.AfterFaults.{line_end_len}
 use Rattle.starlark_grammar.specs.Depths.{Mode, InText}
 use Rattle.starlark_grammar.specs.Words.{Text}
 use Rattle.starlark_grammar.specs.Tokens as tokens
@@ -22,6 +23,15 @@ IsPiece levels text stands (piece.LineEnd len) = (stands ≡ grammar.line_end le
 IsPiece levels text stands (piece.FString opening len) = stands ≡ grammar.token len (tokens.FStringStart (opening_view opening))
 IsPiece levels text stands (piece.Lexed step) = IsStep stands step
 IsPiece levels text stands piece.End = stands ≡ grammar.Ends
+
+-- the text begins with a line end of `len` bytes
+abbrev pub IsLineEnd : ℕ → Text → Type 0
+IsLineEnd len text = (0 < len) × (line_end_len text ≡ len)
+
+-- the piece of a newline that counts has the bytes of the line end at the start of the text
+abbrev pub IsLineEndOf : Text → Piece → Type 0
+IsLineEndOf text (piece.LineEnd len) = IsLineEnd len text
+IsLineEndOf text piece = ⊤
 
 -- something was read before, and `follows_gap` says whether a skipped piece was the last
 abbrev pub IsAfter : Bool → grammar.Before → Type 0

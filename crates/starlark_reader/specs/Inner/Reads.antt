@@ -1,6 +1,10 @@
 -- Numbers of reads of bytes, by what was read.
-use Rattle.std.specs.Prelude.{◌≡◌, ◌≤◌, ◌<◌, ◌+◌, ◌-◌, ◌*◌, ℕ, ⊤, length}
+use Rattle.std.specs.Prelude.{◌≡◌, ◌≤◌, ◌<◌, ◌+◌, ◌-◌, ◌*◌, ℕ, Some, length, max}
+use Rattle.starlark_grammar.specs.AfterFaults.{next_line, restart}
+use Rattle.starlark_grammar.specs.Tokens.{Fault}
 use Rattle.starlark_grammar.specs.Words.{Text}
+use Rattle.starlark_token.specs.Lexemes.{fault_view}
+use Rattle.starlark_token.specs.declared.lexeme_error.LexemeError.{LexemeError}
 use Rattle.starlark_words.specs.Inner.Reads.{AreReads, more_reads}
 use Rattle.starlark_reader.specs.declared.literal.pieces.Step.{Step}
 use Rattle.starlark_reader.specs.declared.literal.pieces.Step.TheVariants as step
@@ -13,50 +17,52 @@ use Rattle.starlark_reader.specs.declared.reader.Stage.{Stage}
 use Rattle.starlark_reader.specs.declared.reader.Stage.TheVariants as stage
 use Rattle.starlark_reader.specs.Inner.Pending.{owed}
 
--- reads of a step after its first `passed` bytes: at most `factor` a byte; a fault is read in a
--- text that goes on for `rest` bytes
-abbrev pub AreStepReads : (passed factor rest extra : ℕ) → Step → (before after : ℕ) → Type 0
-AreStepReads passed factor rest extra (step.Token token len) before after = AreReads (len - passed) (factor * (len - passed)) before after × (passed < len)
-AreStepReads passed factor rest extra (step.Text text text_len stop len) before after = AreReads (text_len + len - passed) (factor * (text_len + len - passed)) before after × (passed < text_len + len)
-AreStepReads passed factor rest extra (step.Fault begin fault end) before after = after ≤ before + factor * rest + extra
+-- reads of a step after its first `passed` bytes: at most `factor` a byte; those of a fault are of
+-- bytes up to its end, or of the first `line` bytes
+abbrev pub AreStepReads : (passed factor line extra : ℕ) → Step → (before after : ℕ) → Type 0
+AreStepReads passed factor line extra (step.Token token len) before after = AreReads (len - passed) (factor * (len - passed)) before after × (passed < len)
+AreStepReads passed factor line extra (step.Text text text_len stop len) before after = AreReads (text_len + len - passed) (factor * (text_len + len - passed)) before after × (passed < text_len + len)
+AreStepReads passed factor line extra (step.Fault begin fault end) before after = after ≤ before + factor * max line end + extra
 
--- the step takes a whole word of `len` bytes, or is a fault
+-- the step takes a whole word of `len` bytes, or is a fault that ends after them
 abbrev pub IsOfWord : ℕ → Step → Type 0
 IsOfWord len (step.Token token taken) = taken ≡ len
 IsOfWord len (step.Text text text_len stop taken) = ⊥
-IsOfWord len (step.Fault begin fault end) = ⊤
+IsOfWord len (step.Fault begin fault end) = len ≤ end
 
--- the step is a fault
-abbrev pub IsFault : Step → Type 0
-IsFault (step.Fault begin fault end) = ⊤
-IsFault step = ⊥
+-- the step is a fault that ends at an offset
+abbrev pub IsFaultTo : ℕ → Step → Type 0
+IsFaultTo at (step.Fault begin fault end) = end ≡ at
+IsFaultTo at step = ⊥
 
--- reads of a token or a fault after its word of `passed` bytes, which may be all of it
-abbrev pub AreWordReads : (passed factor more rest extra : ℕ) → Step → (before after : ℕ) → Type 0
-AreWordReads passed factor more rest extra (step.Token token len) before after = AreReads (len - passed) (factor * (len - passed) + more) before after × (passed ≤ len)
-AreWordReads passed factor more rest extra (step.Text text text_len stop len) before after = ⊥
-AreWordReads passed factor more rest extra (step.Fault begin fault end) before after = after ≤ before + factor * rest + extra
+-- reads of a token or a fault after its word of `passed` bytes, which may be all of it; a fault ends
+-- after the word, or the word is in the first `line` bytes
+abbrev pub AreWordReads : (passed factor more line extra : ℕ) → Step → (before after : ℕ) → Type 0
+AreWordReads passed factor more line extra (step.Token token len) before after = AreReads (len - passed) (factor * (len - passed) + more) before after × (passed ≤ len)
+AreWordReads passed factor more line extra (step.Text text text_len stop len) before after = ⊥
+AreWordReads passed factor more line extra (step.Fault begin fault end) before after = (after ≤ before + factor * (end - passed) + extra) × (passed ≤ max line end)
 
--- reads of a piece in a text that goes on for `rest` bytes: at most `factor` a byte
-abbrev pub ArePieceReads : (factor rest extra : ℕ) → Piece → (before after : ℕ) → Type 0
-ArePieceReads factor rest extra (piece.Nothing len is_gap) before after = AreReads len (factor * len) before after × (0 < len)
-ArePieceReads factor rest extra (piece.LineEnd len) before after = AreReads len (factor * len - 2) before after × (0 < len)
-ArePieceReads factor rest extra (piece.FString opening len) before after = AreReads len (factor * len) before after × (0 < len)
-ArePieceReads factor rest extra (piece.Lexed step) before after = AreStepReads 0 factor rest extra step before after
-ArePieceReads factor rest extra piece.End before after = (after ≡ before) × (rest ≡ 0)
+-- reads of a piece at the start of a text: at most `factor` a byte; those of a fault are of bytes up
+-- to its end, or of the text's first line
+abbrev pub ArePieceReads : (factor extra : ℕ) → Text → Piece → (before after : ℕ) → Type 0
+ArePieceReads factor extra text (piece.Nothing len is_gap) before after = AreReads len (factor * len) before after × (0 < len)
+ArePieceReads factor extra text (piece.LineEnd len) before after = AreReads len (factor * len - 2) before after × (0 < len)
+ArePieceReads factor extra text (piece.FString opening len) before after = AreReads len (factor * len) before after × (0 < len)
+ArePieceReads factor extra text (piece.Lexed step) before after = AreStepReads 0 factor (next_line text 0) extra step before after
+ArePieceReads factor extra text piece.End before after = (after ≡ before) × (length text ≡ 0)
 
 -- reads of a piece that is no word: a bang, or a character that no word begins with
-abbrev pub AreWordlessReads : (rest : ℕ) → Piece → (before after : ℕ) → Type 0
-AreWordlessReads rest (piece.Lexed step) before after = AreStepReads 0 3 rest 2 step before after
-AreWordlessReads rest piece before after = ⊥
+abbrev pub AreWordlessReads : Piece → (before after : ℕ) → Type 0
+AreWordlessReads (piece.Lexed step) before after = AreStepReads 0 3 0 2 step before after
+AreWordlessReads piece before after = ⊥
 
 -- reads of a piece after its word of `passed` bytes, which were read before
-abbrev pub AreReadsAfter : (passed factor rest extra : ℕ) → Piece → (before after : ℕ) → Type 0
-AreReadsAfter passed factor rest extra (piece.Nothing len is_gap) before after = (len ≡ passed) × (after ≡ before)
-AreReadsAfter passed factor rest extra (piece.LineEnd len) before after = (len ≡ passed) × (after ≡ before)
-AreReadsAfter passed factor rest extra (piece.FString opening len) before after = (passed ≤ len) × (len ≤ passed + 2) × AreReads 2 2 before after
-AreReadsAfter passed factor rest extra (piece.Lexed step) before after = AreWordReads passed factor 2 rest extra step before after
-AreReadsAfter passed factor rest extra piece.End before after = ⊥
+abbrev pub AreReadsAfter : (passed factor line extra : ℕ) → Piece → (before after : ℕ) → Type 0
+AreReadsAfter passed factor line extra (piece.Nothing len is_gap) before after = (len ≡ passed) × (after ≡ before)
+AreReadsAfter passed factor line extra (piece.LineEnd len) before after = (len ≡ passed) × (after ≡ before)
+AreReadsAfter passed factor line extra (piece.FString opening len) before after = (passed ≤ len) × (len ≤ passed + 2) × AreReads 2 2 before after
+AreReadsAfter passed factor line extra (piece.Lexed step) before after = AreWordReads passed factor 2 line extra step before after
+AreReadsAfter passed factor line extra piece.End before after = ⊥
 
 -- the reader advanced to byte `at`, and read nothing
 abbrev pub IsPassedBy : ℕ → Reader → Reader → Type 0
@@ -86,19 +92,25 @@ IsPassed old (step.Token token len) new = IsPassedBy (old.at + len) old new × (
 IsPassed old (step.Text text text_len stop len) new = IsPassedBy (old.at + (text_len + len)) old new × (new.stage ≡ stage.Onward)
 IsPassed old (step.Fault begin fault end) new = IsPassedBy old.at old new × (new.stage ≡ stage.Fault (old.at + begin) fault (old.at + end))
 
--- the margin after a newline of `len` bytes was read
+-- each offset where lexing begins again after the fault is as `P` says
+abbrev pub AtRestart : Text → ℕ → LexemeError → ℕ → (ℕ → Type 0) → Type 0
+AtRestart text begin fault end P = (node : Fault) → fault_view fault ≡ Some node → P (restart text (record { begin = begin; node = node; end = end }))
+
+-- the margin after a newline of `len` bytes was read; at its fault, lexing begins again after it
 abbrev pub IsMarginRead : Text → ℕ → Reader → Reader → Stage → Type 0
 IsMarginRead text len old new stage.Onward =
     AreReads (new.at - (old.at + len)) (5 * (new.at - (old.at + len)) + 2) old.reads new.reads × (old.at + len + owed new.pending ≤ new.at)
-IsMarginRead text len old new (stage.Fault begin fault end) = (new.reads ≤ old.reads + 5 * (length text - (old.at + len)) + 2) × (owed new.pending ≤ length text - (old.at + len))
+IsMarginRead text len old new (stage.Fault begin fault end) =
+    AtRestart text begin fault end (λ at. (new.reads ≤ old.reads + 5 * (at - (old.at + len)) + 2) × (old.at + len + owed new.pending ≤ at))
 IsMarginRead text len old new stage = ⊥
 
 -- the reads at a stage: one to ten for each byte passed, and `beside` others; the upper bound
--- includes five for each byte of pending comments
+-- includes five for each byte of pending comments; at a fault all bytes up to where lexing begins
+-- again count
 abbrev pub HasReadAt : (text : Text) (beside : ℕ) → Reader → Stage → Type 0
 HasReadAt text beside reader stage.Begin = (reader.at ≡ 0) × (reader.reads + 5 * owed reader.pending ≤ beside)
 HasReadAt text beside reader stage.Onward = (more_reads 0 reader.at ≤ reader.reads) × (reader.reads + 5 * owed reader.pending ≤ beside + 10 * reader.at + 2)
-HasReadAt text beside reader (stage.Fault begin fault end) = reader.reads + 5 * owed reader.pending ≤ beside + 10 * length text + 10
+HasReadAt text beside reader (stage.Fault begin fault end) = AtRestart text begin fault end (λ at. reader.reads + 5 * owed reader.pending ≤ beside + 10 * at + 10)
 HasReadAt text beside reader stage.Closed = (more_reads 0 (length text) ≤ reader.reads) × (reader.reads + 5 * owed reader.pending ≤ beside + 10 * length text + 9)
 
 abbrev pub HasRead : (text : Text) (beside : ℕ) → Reader → Type 0
@@ -107,5 +119,5 @@ HasRead text beside reader = HasReadAt text beside reader reader.stage
 -- the reads after `next` was returned: a lexeme, the fault, or the end
 abbrev pub HasReadNext : (text : Text) (beside : ℕ) → Next → Reader → Type 0
 HasReadNext text beside (next.Lexeme lexeme) reader = HasRead text beside reader
-HasReadNext text beside (next.Fault begin fault end) reader = reader.reads ≤ beside + 10 * (length text + 1)
+HasReadNext text beside (next.Fault begin fault end) reader = AtRestart text begin fault end (λ at. reader.reads ≤ beside + 10 * (at + 1))
 HasReadNext text beside next.Nothing reader = HasRead text beside reader × (more_reads 0 (length text) ≤ reader.reads) × (reader.reads < beside + 10 * (length text + 1))

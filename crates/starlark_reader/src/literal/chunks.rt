@@ -1,6 +1,7 @@
 //! F-string texts, up to an expression or the closing quotes.
 
-ghost use Rattle.std.specs.Prelude.{◌<◌, ◌≤◌, ◌+◌, ◌*◌, IfErr, IfOk, length};
+ghost use Rattle.std.specs.Prelude.{◌<◌, ◌≤◌, ◌+◌, ◌*◌, IfErr, IfOk};
+ghost use Rattle.starlark_grammar.specs.AfterFaults.{next_line};
 ghost use Rattle.starlark_words.specs.Inner.Reads.{AreReads};
 ghost use Rattle.starlark_reader.specs.Inner.Reads.{AreStepReads};
 ghost use Rattle.starlark_reader.specs.Inner.Steps.{IsPlainText, IsStep};
@@ -24,7 +25,7 @@ pub fn chunk_from(
     text: &str,
 ) -> Result<Step, AllocError>
     ensures step { IfOk result (IsStep (grammar.chunk (opening_view opening) text.now)) }
-    ensures reads { IfOk result (λ step. AreStepReads 0 8 (length text.now) 6 step reads.old reads.new) }
+    ensures reads { IfOk result (λ step. AreStepReads 0 8 0 6 step reads.old reads.new) }
 {
     let literal = Literal {
         kind: LiteralKind::FString,
@@ -89,7 +90,7 @@ pub fn plain_text(reads: &mut Reads, opening: Opening, text: &str) -> Result<Pla
     ensures plain { IfOk result (IsPlainText opening text.now) }
     ensures some { IfOk result (λ found. (0 < found.stop_len) × (found.stop_len ≤ 3)) }
     ensures reads { IfOk result (λ found. AreReads (found.len + 3) (2 * found.len + 4) reads.old reads.new) }
-    ensures other { IfErr result (λ run. (run ≤ length text.now) × AreReads 0 (2 * run + 4) reads.old reads.new) }
+    ensures other { IfErr result (λ run. (run ≤ next_line text.now 0) × AreReads 0 (2 * run + 4) reads.old reads.new) }
 {
     let (len, stop) = plain_chunk_len(reads, opening, text)?;
     match stop {

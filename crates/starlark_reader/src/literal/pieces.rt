@@ -5,7 +5,7 @@ ghost use Rattle.starlark_grammar.specs.Depths.{Mode};
 ghost use Rattle.starlark_grammar.specs.Items as items;
 ghost use Rattle.starlark_reader.specs.Inner.Steps.{IsStep};
 ghost use Rattle.starlark_reader.specs.Inner.Nesting.{is_fstring_start};
-ghost use Rattle.starlark_reader.specs.Inner.Reads.{AreWordReads, IsFault};
+ghost use Rattle.starlark_reader.specs.Inner.Reads.{AreWordReads, IsFaultTo};
 ghost use Rattle.starlark_words.specs.Inner.Reads.{AreReads, more_reads};
 ghost use Rattle.starlark_token.specs.Lexemes.{fault_view};
 ghost use Rattle.starlark_grammar.specs.Cuts.{is_outside};
@@ -57,7 +57,8 @@ fn is_plain(opening: Opening, text: &[u8]) -> bool
     })
 }
 
-/// The fault of a literal that isn't closed. `behind` is the text after its opening.
+/// The fault of a literal that goes on to the end of the text. `behind` is the text after its
+/// opening.
 fn unfinished(reads: &mut Reads, outside: bool, literal: Literal, behind: &str) -> LexemeError
     ensures fault { (place : Mode) → is_outside place ≡ outside → fault_view result ≡ Some (grammar.unfinished place literal.kind (opening_view literal.opening) behind.now) }
     ensures reads { AreReads 0 (length behind.now) reads.old reads.new }
@@ -89,7 +90,7 @@ fn literal_token(value: LiteralValue) -> Token
 fn escape_fault(alloc: Global, begin: usize, read: &str) -> Result<Step, AllocError>
     requires { begin + 1 + length read.now < 2 ^ 64 }
     ensures step { IfOk result (IsStep (grammar.escape_fault begin read.now)) }
-    ensures fault { IfOk result IsFault }
+    ensures fault { IfOk result (IsFaultTo (begin + 1 + length read.now)) }
 {
     if read.is_empty() {
         return Ok(Step::Fault {
@@ -117,7 +118,7 @@ fn literal_from(
 ) -> Result<Step, AllocError>
     requires { len + length behind.now < 2 ^ 64 }
     ensures step { IfOk result (λ step. (place : Mode) → is_outside place ≡ outside → IsStep (grammar.literal place literal.kind (opening_view literal.opening) len behind.now) step) }
-    ensures reads { IfOk result (λ step. AreWordReads len 9 0 (length behind.now) 6 step reads.old reads.new) }
+    ensures reads { IfOk result (λ step. AreWordReads len 9 0 0 6 step reads.old reads.new) }
 {
     let body = read_body(reads, alloc, literal, behind)?;
     match body.stop {
@@ -134,7 +135,7 @@ fn literal_from(
         }
         Stop::Line => Ok(Step::Fault {
             begin: 0,
-            fault: unfinished(reads, outside, literal, behind),
+            fault: LexemeError::UnfinishedStringLiteral,
             end: len + body.len,
         }),
         _ => Ok(Step::Fault {
@@ -196,7 +197,7 @@ pub fn literal_piece(
 ) -> Result<Step, AllocError>
     requires kind { kind ≢ OfFString }
     requires fits { len + length behind.now < 2 ^ 64 }
-    ensures reads { IfOk result (λ step. AreWordReads len 9 2 (length behind.now) 9 step reads.old reads.new) }
+    ensures reads { IfOk result (λ step. AreWordReads len 9 2 0 9 step reads.old reads.new) }
     ensures step { IfOk result (λ step. (place : Mode) → is_outside place ≡ outside →
         IsStep (grammar.opener place kind (grammar.opening_of is_raw quote behind.now) len behind.now) step) }
 {

@@ -103,7 +103,7 @@ characters_front literal (c ∷ cs) rest s all =
     in_range (inr h) = h.1
 
 -- the bytes of a run pass its test
-run_all : (p : ℕ → Bool) (xs : Text) → list_all p (take (prefix_len p xs) xs) ≡ true
+pub run_all : (p : ℕ → Bool) (xs : Text) → list_all p (take (prefix_len p xs) xs) ≡ true
 run_all p [] = refl
 run_all p (x ∷ xs) = go (p x) refl (run_all p xs)
   where
@@ -111,14 +111,19 @@ run_all p (x ∷ xs) = go (p x) refl (run_all p xs)
     go false e more = refl
     go true e more = rw (one-add, e) more
 
--- The run at the front of a body denotes itself.
+-- The bytes at the front of a body denote themselves if all are of a run.
+pub bytes_front : (literal : Literal) (text run : Text) (len : ℕ) → IsUtf8 text → IsCharBoundary text len → run ≡ take len text → list_all (is_in_run literal) run ≡ true → IsFront literal text (length run) run
+bytes_front literal text run len utf8 boundary same all =
+    let split : run ++ drop len text ≡ text = ap (λ (t : Text). t ++ drop len text) same ∙ take-append-drop len text in
+    let characters : IsUtf8 run = subst (λ (t : Text). IsUtf8 t) (sym same) (IsUtf8-take text len utf8 boundary) in
+    subst (λ (t : Text). IsFront literal t (length run) run) split
+    (subst (λ (t : Text). IsFront literal (t ++ drop len text) (length t) t) characters.1.1
+    (characters_front literal characters.0 (drop len text) characters.1.0 (subst (λ (t : Text). list_all (is_in_run literal) t ≡ true) (sym characters.1.1) all)))
+
+-- So does the run there.
 pub run_front : (literal : Literal) (text run : Text) → IsUtf8 text → run ≡ take (prefix_len (is_in_run literal) text) text → IsFront literal text (length run) run
 run_front literal text run utf8 same =
-    let split : run ++ drop (prefix_len (is_in_run literal) text) text ≡ text = ap (λ (t : Text). t ++ drop (prefix_len (is_in_run literal) text) text) same ∙ take-append-drop (prefix_len (is_in_run literal) text) text in
-    let characters : IsUtf8 run = subst (λ (t : Text). IsUtf8 t) (sym same) (IsUtf8-take text (prefix_len (is_in_run literal) text) utf8 (run_edge literal text)) in
-    subst (λ (t : Text). IsFront literal t (length run) run) split
-    (subst (λ (t : Text). IsFront literal (t ++ drop (prefix_len (is_in_run literal) text) text) (length t) t) characters.1.1
-    (characters_front literal characters.0 (drop (prefix_len (is_in_run literal) text) text) characters.1.0 (subst (λ (t : Text). list_all (is_in_run literal) t ≡ true) (sym (characters.1.1 ∙ same)) (run_all (is_in_run literal) text))))
+    bytes_front literal text run (prefix_len (is_in_run literal) text) utf8 (run_edge literal text) same (subst (λ (t : Text). list_all (is_in_run literal) t ≡ true) (sym same) (run_all (is_in_run literal) text))
 
 -- a front, and the run behind it
 pub front_run : (literal : Literal) (text rest : Text) (count : ℕ) (denoted run : Text) → IsUtf8 text → IsCharBoundary text count → IsFront literal text count denoted → rest ≡ drop count text → run ≡ take (prefix_len (is_in_run literal) rest) rest

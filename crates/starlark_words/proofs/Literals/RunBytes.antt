@@ -1,5 +1,5 @@
 -- The bytes that end a run.
-use Rattle.std.proofs.Common.{◌≡◌, ℕ, ◌+◌, ◌<◌, Bool, true, cond, get_or, List, [], ◌∷◌, refl, ap, ◌∙◌, arith}
+use Rattle.std.proofs.Common.{◌≡◌, ℕ, ◌+◌, ◌<◌, ◌≤◌, Bool, true, false, cond, get_or, List, [], ◌∷◌, refl, ap, sym, ◌∙◌, arith}
 use Rattle.std.proofs.lemmas.Bool.{not-false}
 use Rattle.std.proofs.lemmas.Bool.Decides.{nat_tests}
 use Rattle.std.proofs.lemmas.List.Sums.{prefix_len-le-length, prefix_len_stops}
@@ -16,6 +16,16 @@ use Rattle.starlark_words.specs.Inner.Runs.{is_in_run, is_special}
 pub same_run : (p q : ℕ → Bool) → ((b : ℕ) → p b ≡ q b) → (xs : List ℕ) → prefix_len p xs ≡ prefix_len q xs
 same_run p q same [] = refl
 same_run p q same (x ∷ xs) = ap (λ n. cond (p x) (1 + n) 0) (same_run p q same xs) ∙ ap (λ b. cond b (1 + prefix_len q xs) 0) (same x)
+
+-- a test that passes more bytes passes a longer run
+pub longer_run : (p q : ℕ → Bool) → ((b : ℕ) → p b ≡ true → q b ≡ true) → (xs : List ℕ) → prefix_len p xs ≤ prefix_len q xs
+longer_run p q more [] = omega arith
+longer_run p q more (x ∷ xs) = by (p x) refl (q x) refl (longer_run p q more xs)
+  where
+    by : (one : Bool) → p x ≡ one → (other : Bool) → q x ≡ other → prefix_len p xs ≤ prefix_len q xs → cond one (1 + prefix_len p xs) 0 ≤ cond other (1 + prefix_len q xs) 0
+    by true e true f rest = omega (arith, rest)
+    by true e false f rest = let wrong : true ≡ false = sym (more x e) ∙ f in cc
+    by false e other f rest = omega arith
 
 special_small : (quote : Quote) (raw triple : Bool) (kind : LiteralKind) (b : ℕ) → is_special (record { kind = kind; opening = record { is_raw = raw; quote = quote; is_triple = triple } }) b ≡ true → b < 128
 special_small SingleQuote raw triple OfFString b h = grind (arith, nat_tests)

@@ -1,5 +1,6 @@
 use Rattle.std.proofs.Common.{◌≡◌, ℕ, Some, ap, sym, ◌∙◌, ◌+◌, ◌*◌, ◌≤◌, length, take, drop, arith}
 use Rattle.std.specs.Str.{IsUtf8, IsCharBoundary}
+use Rattle.starlark_grammar.specs.AfterFaults.{next_line}
 use Rattle.starlark_grammar.specs.Front.{language_front}
 use Rattle.starlark_grammar.specs.Pieces.{Situation, in_code, word_step}
 use Rattle.starlark_grammar.specs.Words.{Text, class_in, language}
@@ -8,6 +9,7 @@ use Rattle.starlark_grammar.proofs.Order.WholeTexts.{word_edge}
 use Rattle.starlark_grammar.proofs.Words.Fronts.{front_sound}
 use Rattle.starlark_words.specs.Inner.Reads.{AreReads}
 use Rattle.starlark_reader.proofs.Literals.Pieces.{if_ok}
+use Rattle.starlark_reader.proofs.NextLines.{front_line}
 use Rattle.starlark_reader.proofs.Pieces.PieceReads.{none_reads, piece_reads}
 use Rattle.starlark_reader.proofs.Pieces.CodePlaces.{in_code_front}
 use Rattle.starlark_reader.proofs.reading.code_piece.Goals as goal
@@ -41,9 +43,9 @@ fits text class len found = let sound = front_sound (class_in language) text cla
 pub returns-in-Some-clause-reads : goal.returns-in-Some-clause-reads
 returns-in-Some-clause-reads c =
     let word = fits c.args.text.now c.in-Some.word.class c.in-Some.word.len c.in-Some.ensures.word in
-    let whole : length c.args.text.now ≡ length c.split_at.result.0.now + length c.split_at.result.1.now = omega (arith, c.split_at.ensures.front_len, c.split_at.ensures.back_len, word.1) in
+    let line : next_line c.split_at.result.0.now 0 ≤ next_line c.args.text.now 0 = rw c.split_at.ensures.front (front_line c.args.text.now c.in-Some.word.len) in
     let read : AreReads (length c.split_at.result.0.now) (5 * length c.split_at.result.0.now + 3) c.args.reads.now c.first_word.new.reads = rw c.split_at.ensures.front_len c.in-Some.ensures.reads in
-    if_ok _ _ c.word_piece.result (λ piece is. piece_reads (length c.split_at.result.0.now) (length c.split_at.result.1.now) (length c.args.text.now) piece _ _ _ (omega (arith, word.0, c.split_at.ensures.front_len)) whole read is) c.word_piece.ensures.reads
+    if_ok _ _ c.word_piece.result (λ piece is. piece_reads (length c.split_at.result.0.now) (next_line c.split_at.result.0.now 0) c.args.text.now piece _ _ _ (omega (arith, word.0, c.split_at.ensures.front_len)) line read is) c.word_piece.ensures.reads
 
 pub wordless_piece-requires-clause-none : goal.wordless_piece-requires-clause-none
 wordless_piece-requires-clause-none c = sym c.in-None.ensures.word
@@ -52,4 +54,4 @@ pub returns-in-None-clause-piece : goal.returns-in-None-clause-piece
 returns-in-None-clause-piece c = if_ok _ _ c.wordless_piece.result (λ piece is s place balanced behind. is s place behind) c.wordless_piece.ensures.piece
 
 pub returns-in-None-clause-reads : goal.returns-in-None-clause-reads
-returns-in-None-clause-reads c = if_ok _ _ c.wordless_piece.result (λ piece is. none_reads (length c.args.text.now) piece _ _ _ c.requires.some c.in-None.ensures.reads is) c.wordless_piece.ensures.reads
+returns-in-None-clause-reads c = if_ok _ _ c.wordless_piece.result (λ piece is. none_reads c.args.text.now piece _ _ _ c.requires.some c.in-None.ensures.reads is) c.wordless_piece.ensures.reads

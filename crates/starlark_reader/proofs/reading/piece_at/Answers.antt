@@ -1,5 +1,6 @@
 use Rattle.std.proofs.Common.{◌≡◌, Bool, true, [], ◌∷◌, length, refl, ap, sym, ◌∙◌, arith}
 use Rattle.std.specs.Prelude.{◌==◌}
+use Rattle.starlark_grammar.specs.AfterFaults.{next_line}
 use Rattle.starlark_grammar.specs.Inner.Openings.{opening_view}
 use Rattle.starlark_reader.specs.Inner.Nesting.{mode_view}
 use Rattle.starlark_grammar.specs.Pieces.{Situation, Ends, in_code, by_place, step_at}
@@ -41,4 +42,4 @@ returns-clause-piece c = if_ok _ _ c.code_piece.result (λ piece is s here balan
     rw (elsewhere c.args.follows_gap s c.args.text.now c.args.place c.in_default.not-InText behind here) (is s here balanced behind)) c.code_piece.ensures.piece
 
 pub returns-in-InText-clause-reads : goal.returns-in-InText-clause-reads
-returns-in-InText-clause-reads c = chunk_reads (length c.args.text.now) c.in_ok-chunk_from.field-0 _ _ c.in_ok-chunk_from.ensures.reads
+returns-in-InText-clause-reads c = chunk_reads (next_line c.args.text.now 0) c.in_ok-chunk_from.field-0 _ _ c.in_ok-chunk_from.ensures.reads

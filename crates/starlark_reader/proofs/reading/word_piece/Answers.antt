@@ -1,5 +1,9 @@
-use Rattle.std.proofs.Common.{refl}
+use Rattle.std.proofs.Common.{ap, length, refl, ◌∙◌, Some}
+use Rattle.starlark_grammar.specs.AfterFaults.{next_line}
 use Rattle.starlark_reader.proofs.Literals.Pieces.{if_ok}
+use Rattle.starlark_reader.proofs.NextLines.{tabs_line}
+use Rattle.starlark_reader.proofs.Pieces.LineEnds.{line_end_piece}
+use Rattle.starlark_reader.proofs.Pieces.PieceReads.{tabs_reads}
 use Rattle.starlark_reader.proofs.reading.word_piece.Goals as goal
 
 pub returns-in-LineEnd-clause-piece : goal.returns-in-LineEnd-clause-piece
@@ -10,3 +14,13 @@ returns-in-Opener-clause-piece c = if_ok _ _ c.opener.result (λ piece is s text
 
 pub returns-in_ok-decimal-in-Decimal-clause-piece : goal.returns-in_ok-decimal-in-Decimal-clause-piece
 returns-in_ok-decimal-in-Decimal-clause-piece c = λ s text place balanced cut edge. rw c.in-Decimal.is (c.in_ok-decimal-in-Decimal.ensures.step s c.args.behind.now)
+
+pub returns-in-LineEnd-clause-line_end : goal.returns-in-LineEnd-clause-line_end
+returns-in-LineEnd-clause-line_end c =
+    let front = c.args.front.now in
+    line_end_piece front (next_line front 0) c.args.reads.now c.args.reads.now c.line_end.result (c.requires.known ∙ ap Some c.in-LineEnd.is) (c.line_end.ensures.reads (next_line front 0) c.args.reads.now)
+
+pub returns-in-Tabs-clause-reads : goal.returns-in-Tabs-clause-reads
+returns-in-Tabs-clause-reads c =
+    let front = c.args.front.now in
+    tabs_reads (length front) (next_line front 0) c.tabs.result c.args.reads.now c.tabs.ensures.fault (tabs_line front (c.requires.known ∙ ap Some c.in-Tabs.is))

@@ -1,7 +1,8 @@
 use Rattle.std.proofs.Common.{◌≡◌, ◌==◌, List, ℕ, get_or, length, true, false, ap, sym, ◌∙◌, arith}
 use Rattle.starlark_grammar.specs.Items.{quote_byte}
 use Rattle.starlark_grammar.specs.Pieces.{opening_of}
-use Rattle.starlark_words.proofs.Literals.PlainBodies.{plain_body, plain_run}
+use Rattle.starlark_grammar.specs.Tokens.{Opening}
+use Rattle.starlark_words.proofs.Literals.PlainBodies.{plain_body, plain_run, run_on_line}
 use Rattle.starlark_words.proofs.plain.plain_body_len.Goals.{else-len-eq0-via-then-len-eq0+else-is_quote_at, else-len-eq0-via-else-len-eq0}
 use Rattle.starlark_words.proofs.plain.plain_body_len.Goals as goal
 
@@ -18,3 +19,10 @@ returns-clause-plain c =
       | else-len-eq0-via-else-len-eq0 w ↦ plain_run c.args.kind c.args.is_raw c.args.quote c.args.text.now run same (λ none. absurd (omega (arith, none, w.if-len-eq0.false)))
     ] in
     plain_body c.args.kind c.args.is_raw c.args.quote c.args.text.now run c.utf8.text same c.first_run-len.ensures.boundary closes single
+
+pub returns-then-not-is_quote_at-clause-other : goal.returns-then-not-is_quote_at-clause-other
+returns-then-not-is_quote_at-clause-other c =
+    let opening : Opening = record { is_raw = c.args.is_raw; quote = c.args.quote; is_triple = false } in
+    let read = c.first_run-len.ensures.reads in
+    let more = c.is_quote_at.ensures.reads in
+    (run_on_line c.args.kind opening c.args.text.now c.first_run-len.result.now c.first_run-len.ensures.value, (omega (arith, read.0, more), omega (arith, read.1, more)))

@@ -1,9 +1,10 @@
-use Rattle.std.proofs.Common.{◌≡◌, ◌≤◌, ◌+◌, ◌*◌, ◌∙◌, ap, arith, length, sym}
+use Rattle.std.proofs.Common.{◌≡◌, ◌≤◌, ◌+◌, ◌-◌, ◌*◌, ◌∙◌, ap, arith, length, refl, sym}
 use Rattle.starlark_reader.proofs.Literals.StepReads.{closing_some, fault_reads}
 use Rattle.starlark_grammar.specs.Items as grammar
+use Rattle.starlark_grammar.specs.Tokens.{UnfinishedStringLiteral}
 use Rattle.starlark_words.specs.Inner.Literals.{literal_view, stop_view, stopped_len}
 use Rattle.starlark_grammar.specs.Inner.Openings.{opening_view}
-use Rattle.starlark_reader.proofs.Literals.Pieces.{bad_edges, bad_fits, bad_literal, closing_fits, if_ok, read_after}
+use Rattle.starlark_reader.proofs.Literals.Pieces.{bad_edges, bad_fits, bad_literal, closing_fits, if_ok, line_literal, read_after}
 use Rattle.starlark_reader.proofs.literal.pieces.literal_from.Goals as goal
 
 pub overflow_add-result-in-Closing : goal.overflow_add-result-in-Closing
@@ -49,8 +50,10 @@ pub returns-in-BadEscape-clause-reads : goal.returns-in-BadEscape-clause-reads
 returns-in-BadEscape-clause-reads c =
     let stop : (grammar.body_at (literal_view c.args.literal) c.args.behind.now).stop ≡ grammar.BadEscape c.in-BadEscape.read c.in-BadEscape.last = sym c.in_ok-body.ensures.body.stop ∙ ap stop_view c.in-BadEscape.is in
     let fits = bad_fits (literal_view c.args.literal) c.args.behind.now c.in_ok-body.body.len c.in-BadEscape.read c.in-BadEscape.last c.in_ok-body.ensures.body.len stop in
-    let few : c.read_body.new.reads ≤ c.args.reads.now + 9 * length c.args.behind.now + 6 = omega (arith, fits.1, ap stopped_len c.in-BadEscape.is, c.in_ok-body.ensures.reads.1) in
-    if_ok _ _ c.escape_fault.result (λ step is. fault_reads c.args.len 9 0 (length c.args.behind.now) 6 step _ _ is few) c.escape_fault.ensures.fault
+    let read : length c.range.result.now ≡ c.in-BadEscape.read - 1 = omega (arith, fits.0, fits.1, c.range.ensures.len) in
+    let end = c.args.len + c.in_ok-body.body.len + 1 + length c.range.result.now in
+    let few : c.read_body.new.reads ≤ c.args.reads.now + 9 * (end - c.args.len) + 6 = omega (arith, fits.0, read, ap stopped_len c.in-BadEscape.is, c.in_ok-body.ensures.reads.1) in
+    if_ok _ _ c.escape_fault.result (λ step is. fault_reads c.args.len 9 0 0 6 end step _ _ is (omega arith) few) c.escape_fault.ensures.fault
 
 pub returns-in-Closing-clause-reads : goal.returns-in-Closing-clause-reads
 returns-in-Closing-clause-reads c =
@@ -63,4 +66,8 @@ returns-in-Closing-clause-reads c =
 pub returns-in-Line-clause-reads : goal.returns-in-Line-clause-reads
 returns-in-Line-clause-reads c =
     let stopped = ap stopped_len c.in-Line.is in
-    omega (arith, c.in_ok-body.ensures.boundary.0, stopped, c.in_ok-body.ensures.reads.1, c.unfinished.ensures.reads.1)
+    (omega (arith, stopped, c.in_ok-body.ensures.reads.1), omega arith)
+
+pub returns-in-Line-clause-step : goal.returns-in-Line-clause-step
+returns-in-Line-clause-step c = λ place outside.
+    (UnfinishedStringLiteral, refl, line_literal place (literal_view c.args.literal) c.args.len c.in_ok-body.body.len c.args.behind.now c.in_ok-body.ensures.body.len (sym c.in_ok-body.ensures.body.stop ∙ ap stop_view c.in-Line.is))

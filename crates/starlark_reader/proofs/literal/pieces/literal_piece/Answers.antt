@@ -1,5 +1,4 @@
-use Rattle.std.proofs.Common.{◌≡◌, ◌∙◌, ◌-◌, ℕ, List, ap, false, length, sym}
-use Rattle.std.proofs.lemmas.List.{length-drop}
+use Rattle.std.proofs.Common.{◌≡◌, ◌∙◌, false, sym}
 use Rattle.starlark_reader.proofs.Literals.StepReads.{single_reads, triple_reads}
 use Rattle.starlark_grammar.specs.Pieces.{opening_of}
 use Rattle.starlark_reader.proofs.Literals.Pieces.{if_ok, opener_plain, triple_edge}
@@ -15,9 +14,8 @@ returns-else-opening-clause-step c =
 
 pub returns-else-opening-clause-reads : goal.returns-else-opening-clause-reads
 returns-else-opening-clause-reads c =
-    if_ok _ _ c.literal_from-else-opening.result (λ step is. single_reads c.args.len (length c.args.behind.now) step _ _ _ c.is_triple.ensures.reads is) c.literal_from-else-opening.ensures.reads
+    if_ok _ _ c.literal_from-else-opening.result (λ step is. single_reads c.args.len step _ _ _ c.is_triple.ensures.reads is) c.literal_from-else-opening.ensures.reads
 
 pub returns-then-opening-clause-reads : goal.returns-then-opening-clause-reads
 returns-then-opening-clause-reads c =
-    let rest : length c.range_from.result.now ≡ length c.args.behind.now - 2 = ap (λ (t : List ℕ). length t) c.range_from.ensures.value ∙ length-drop 2 c.args.behind.now in
-    if_ok _ _ c.literal_from.result (λ step is. triple_reads c.args.len (length c.range_from.result.now) (length c.args.behind.now) step _ _ _ rest c.is_triple.ensures.reads is) c.literal_from.ensures.reads
+    if_ok _ _ c.literal_from.result (λ step is. triple_reads c.args.len step _ _ _ c.is_triple.ensures.reads is) c.literal_from.ensures.reads

@@ -1,4 +1,8 @@
-use Rattle.std.proofs.Common.{◌+◌, ap, drop, refl}
+use Rattle.std.proofs.Common.{◌≡◌, ◌+◌, ◌-◌, ◌∙◌, [], ap, arith, drop, length, refl}
+use Rattle.std.proofs.lemmas.List.{length-drop}
+use Rattle.starlark_grammar.specs.Words.{Text}
+use Rattle.starlark_reader.specs.Inner.Pending.{owed}
+use Rattle.starlark_reader.proofs.Pieces.MarginReads.{refused_reads}
 use Rattle.starlark_grammar.specs.Margins.{margin_of}
 use Rattle.starlark_token.specs.TokenViews.{token_view}
 use Rattle.starlark_token.specs.declared.tokens.Token.TheVariants as token
@@ -47,3 +51,15 @@ returns-clause-less c =
     let taken = end_taken c.args.text.now c.args.self.now.at c.args.len c.args.self.now.levels c.take_margin.new.levels stands.0.widths c.margin_of-margin.result c.take_margin.new.pending stands.1.levels margin c.utf8.text c.requires.cut c.in_ok-take_margin.ensures.place laid in
     line_less c.args.text.now stands.0 c.args.self.now c.args.len stands.1 stands.2 c.step_over.new.self taken
     (ap (λ (reader : Reader). reader.stage) new) (ap (λ (reader : Reader). reader.at) new)
+
+pub returns-then-not-branch-clause-reads : goal.returns-then-not-branch-clause-reads
+returns-then-not-branch-clause-reads c = λ there.
+    let text = c.args.text.now in
+    let begin = c.args.self.now.at + c.args.len in
+    let new = c.refuse.ensures in
+    let seen = margin_of (drop begin text) in
+    let margin : IsMargin seen c.margin_of-margin.result = rw c.range_from.ensures.value at c.margin_of-margin.ensures.margin in
+    let rest : length c.range_from.result.now ≡ length text - begin = ap (λ (t : Text). length t) c.range_from.ensures.value ∙ length-drop begin text in
+    let none = (c.nothing-self.ensures []).1.inside in
+    refused_reads text c.args.len c.margin_fault-fault.result.1 c.margin_of-margin.result c.margin_fault-fault.result.0 c.args.self.now c.refuse.new.self there (omega (arith, rest, c.requires.cut.0, c.margin_of-margin.ensures.within)) margin
+    (c.margin_fault-fault.ensures seen margin) (ap (λ (reader : Reader). reader.stage) new) (omega (arith, ap (λ (reader : Reader). reader.reads) new, c.margin_of-margin.ensures.reads.1)) (omega (arith, ap (λ (reader : Reader). owed reader.pending) new, none))

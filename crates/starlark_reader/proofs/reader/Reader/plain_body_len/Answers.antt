@@ -1,9 +1,9 @@
-use Rattle.std.proofs.Common.{◌≡◌, ◌+◌, ◌≤◌, ◌∙◌, ap, drop, length, sym}
-use Rattle.std.proofs.lemmas.List.{drop-drop}
+use Rattle.std.proofs.Common.{◌≡◌, ◌+◌, ◌≤◌, ◌∙◌, ap, arith, drop, sym}
+use Rattle.starlark_grammar.specs.AfterFaults.{next_line}
 use Rattle.starlark_grammar.specs.Front.{language_front}
 use Rattle.starlark_grammar.specs.declared.class.Class.TheVariants as class
-use Rattle.starlark_reader.proofs.Pieces.CodePlaces.{word_cut, word_inside}
-use Rattle.starlark_reader.proofs.Pieces.Here.{run_inside}
+use Rattle.starlark_reader.proofs.NextLines.{opener_line, rest_line}
+use Rattle.starlark_reader.proofs.Pieces.CodePlaces.{word_cut}
 use Rattle.starlark_reader.proofs.Pieces.NextLexeme.{ready_inside}
 use Rattle.starlark_reader.proofs.Pieces.ReaderReads.{other_reads, reads_ahead}
 use Rattle.starlark_reader.proofs.reader.Reader.plain_body_len.Goals as goal
@@ -19,8 +19,7 @@ returns-clause-ahead c = λ lexemes fault ahead.
 pub returns-clause-other : goal.returns-clause-other
 returns-clause-other c =
     let rest = drop c.args.self.now.at c.args.text.now in
-    let at = ready_inside c.args.text.now c.args.self.now c.requires.ready in
-    let word : c.args.self.now.at + c.args.len ≤ length c.args.text.now =
-    run_inside c.args.text.now c.args.self.now.at c.args.len at (word_inside rest (class.Opener c.args.kind c.args.is_raw c.args.quote) c.args.len (sym c.requires.stands.front)) in
-    let cut : c.range_from.result.now ≡ drop (c.args.self.now.at + c.args.len) c.args.text.now = c.range_from.ensures.value ∙ ap (drop c.args.len) c.range_from-rest.ensures.value ∙ drop-drop c.args.len c.args.self.now.at c.args.text.now in
-    other_reads c.args.text.now c.range_from.result.now (c.args.self.now.at + c.args.len) 3 c.plain_body_len.new.reads c.args.self.now c.plain_body_len.result cut word c.plain_body_len.ensures.other
+    let word = opener_line rest c.args.kind c.args.is_raw c.args.quote c.args.len c.requires.stands.front in
+    let cut : c.range_from.result.now ≡ drop c.args.len rest = c.range_from.ensures.value ∙ ap (drop c.args.len) c.range_from-rest.ensures.value in
+    let line : c.args.self.now.at + c.args.len + next_line c.range_from.result.now 0 ≤ next_line c.args.text.now c.args.self.now.at = rw cut (omega (arith, word.1, rest_line c.args.text.now c.args.self.now.at (ready_inside c.args.text.now c.args.self.now c.requires.ready))) in
+    other_reads c.args.text.now c.range_from.result.now (c.args.self.now.at + c.args.len) 3 c.plain_body_len.new.reads c.args.self.now c.plain_body_len.result line c.plain_body_len.ensures.other

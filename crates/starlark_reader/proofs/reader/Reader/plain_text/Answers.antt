@@ -1,5 +1,7 @@
 use Rattle.std.proofs.Common.{◌≤◌, ◌+◌, arith, length, refl}
+use Rattle.starlark_grammar.specs.AfterFaults.{next_line}
 use Rattle.starlark_grammar.specs.Words.{Text}
+use Rattle.starlark_reader.proofs.NextLines.{rest_line}
 use Rattle.starlark_reader.proofs.Pieces.NextLexeme.{ready_inside}
 use Rattle.starlark_reader.proofs.Pieces.PieceTaken.{plain_here}
 use Rattle.starlark_reader.proofs.Pieces.ReaderReads.{other_reads}
@@ -13,8 +15,8 @@ returns-in-InText-clause-stands c =
     (c.reads_on.ensures.idle c.if-not-reads_on.false c.args.text.now c.requires.ready.2.is_pending) c.in-InText.is c.place.ensures c.plain_text.ensures.plain
 
 -- where nothing is read
-none_looked : (text : Text) (reader : Reader) → reader.at ≤ length text → (reader.at + 0 ≤ length text) × HasLookedHere 0 4 reader reader
-none_looked text reader inside = (omega (arith, inside), (refl, refl, omega arith, (omega arith, omega arith)))
+none_looked : (text : Text) (reader : Reader) → reader.at ≤ length text → (reader.at + 0 ≤ next_line text reader.at) × HasLookedHere 0 4 reader reader
+none_looked text reader inside = (omega (arith, rest_line text reader.at inside), (refl, refl, omega arith, (omega arith, omega arith)))
 
 pub returns-then-not-reads_on-clause-other : goal.returns-then-not-reads_on-clause-other
 returns-then-not-reads_on-clause-other c = none_looked c.args.text.now c.args.self.now (ready_inside c.args.text.now c.args.self.now c.requires.ready)
@@ -24,4 +26,5 @@ returns-in_default-clause-other c = none_looked c.args.text.now c.args.self.now 
 
 pub returns-in-InText-clause-other : goal.returns-in-InText-clause-other
 returns-in-InText-clause-other c =
-    other_reads c.args.text.now c.range_from.result.now c.args.self.now.at 4 c.plain_text.new.reads c.args.self.now c.plain_text.result c.range_from.ensures.value (ready_inside c.args.text.now c.args.self.now c.requires.ready) c.plain_text.ensures.other
+    let line : c.args.self.now.at + next_line c.range_from.result.now 0 ≤ next_line c.args.text.now c.args.self.now.at = rw c.range_from.ensures.value (omega (arith, rest_line c.args.text.now c.args.self.now.at (ready_inside c.args.text.now c.args.self.now c.requires.ready))) in
+    other_reads c.args.text.now c.range_from.result.now c.args.self.now.at 4 c.plain_text.new.reads c.args.self.now c.plain_text.result line c.plain_text.ensures.other

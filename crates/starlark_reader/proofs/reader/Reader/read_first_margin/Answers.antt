@@ -1,7 +1,9 @@
-use Rattle.std.proofs.Common.{[], ap, drop}
+use Rattle.std.proofs.Common.{[], ap, arith, drop}
 use Rattle.starlark_grammar.specs.Margins.{margin_of}
 use Rattle.starlark_reader.specs.declared.reader.Reader.{Reader}
 use Rattle.starlark_reader.specs.Inner.MarginLines.{IsOfMargin}
+use Rattle.starlark_reader.specs.Inner.Pending.{owed}
+use Rattle.starlark_reader.proofs.Pieces.MarginReads.{first_refused_reads}
 use Rattle.starlark_reader.proofs.Indentation.Laid.{behind_none, first_refused, first_taken, none_open}
 use Rattle.starlark_reader.proofs.Pieces.Taken.{first_ahead, margin_refused, margin_taken, new_ahead}
 use Rattle.starlark_reader.proofs.reader.Reader.read_first_margin.Goals as goal
@@ -33,3 +35,12 @@ returns-else-branch-clause-ahead c = λ lexemes fault ahead.
     c.args.self.now.pending.behind left (behind_none text c.args.self.now.pending c.requires.idle.1) c.margin_fault-fault.result.0 c.margin_fault-fault.result.1 (c.margin_fault-fault.ensures (margin_of text) margin) in
     let read = margin_refused text c.args.self.now c.refuse.new.self is_new c.margin_fault-fault.result.0 c.margin_fault-fault.result.1 (rw new refused) (ap (λ (reader : Reader). reader.stage) new) (ap (λ (reader : Reader). reader.at) new) (ap (λ (reader : Reader). reader.before) new) in
     first_ahead text c.args.self.now c.refuse.new.self lexemes fault read c.requires.idle ahead
+
+pub returns-else-branch-clause-reads : goal.returns-else-branch-clause-reads
+returns-else-branch-clause-reads c = λ beside has.
+    let text = c.args.text.now in
+    let new = c.refuse.ensures in
+    let margin = c.margin_of-margin.ensures.margin in
+    let place = c.in_ok-take_margin.ensures.place in
+    first_refused_reads text beside c.margin_fault-fault.result.1 c.margin_of-margin.result c.margin_fault-fault.result.0 c.args.self.now c.refuse.new.self c.margin_of-margin.ensures.within margin
+    (c.margin_fault-fault.ensures (margin_of text) margin) (ap (λ (reader : Reader). reader.stage) new) (omega (arith, ap (λ (reader : Reader). reader.reads) new, c.margin_of-margin.ensures.reads.1)) (omega (arith, ap (λ (reader : Reader). owed reader.pending) new, place.from, place.to)) has

@@ -3,10 +3,11 @@ use Rattle.std.proofs.lemmas.Str.{IsUtf8-drop}
 use Rattle.starlark_grammar.specs.declared.class.Class.TheVariants as class
 use Rattle.starlark_grammar.proofs.Order.Edges.{boundary_shift}
 use Rattle.starlark_reader.proofs.Pieces.CodePlaces.{word_cut}
+use Rattle.starlark_reader.proofs.Pieces.LineEnds.{line_end_here}
 use Rattle.starlark_reader.proofs.Pieces.NextLexeme.{onward_something}
 use Rattle.starlark_reader.proofs.Pieces.PieceTaken.{counting_line_end, left_onward, onward_ahead}
 use Rattle.starlark_reader.proofs.Indentation.Waiting.{after_error}
-use Rattle.std.proofs.lemmas.Result.{IfOk-weaker}
+use Rattle.std.proofs.lemmas.Result.{IfOk-weaker, on_ok_weaker}
 use Rattle.starlark_reader.specs.Inner.Reader.{newline_if}
 use Rattle.starlark_reader.proofs.reader.Reader.take_counting_line_end.Goals as goal
 
@@ -29,3 +30,6 @@ returns-clause-ahead c = IfOk-weaker c.lay_line_end.result _ _ (λ is_laid read 
 
 pub returns-clause-memory : goal.returns-clause-memory
 returns-clause-memory c = after_error c.lay_line_end.result _ (λ lexemes fault ahead. onward_something c.args.text.now c.args.self.now lexemes fault c.requires.stands.idle c.requires.stands.stage ahead)
+
+pub returns-clause-reads : goal.returns-clause-reads
+returns-clause-reads c = on_ok_weaker c.lay_line_end.result (λ read. read (line_end_here (drop c.args.self.now.at c.args.text.now) c.args.len c.requires.stands.front)) c.lay_line_end.ensures.reads

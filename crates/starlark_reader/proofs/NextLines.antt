@@ -1,0 +1,159 @@
+-- The start of the line after an offset, and where lexing begins again.
+use Rattle.std.proofs.Common.{◌≡◌, ℕ, zero, suc, ◌+◌, ◌-◌, ◌<◌, ◌≤◌, ◌∙◌, ◌==◌, Bool, true, false, not, cond, Some, [], ◌∷◌, length, drop, take, refl, ap, sym, arith}
+use Rattle.std.proofs.lemmas.Bool.{and_parts}
+use Rattle.std.proofs.lemmas.List.{length-drop}
+use Rattle.std.proofs.lemmas.List.Sums.{prefix_len-le-length}
+use Rattle.std.specs.List.{list_all, prefix_len}
+use Rattle.std.specs.Prelude.{if◌then◌else◌, max}
+use Rattle.starlark_grammar.specs.AfterFaults.{is_margin_tab, line_end_len, margin_line, next_line, restart, stopped_at}
+use Rattle.starlark_grammar.specs.Margins.{is_lf}
+use Rattle.starlark_grammar.specs.Tokens.{Fault, Spanned}
+use Rattle.starlark_grammar.specs.Front.{language_front}
+use Rattle.starlark_grammar.specs.Words.{Text, class_in, is_in_line, language}
+use Rattle.starlark_grammar.specs.declared.class.Class.TheVariants as class
+use Rattle.starlark_grammar.specs.declared.class.LiteralKind.{LiteralKind}
+use Rattle.starlark_grammar.specs.declared.class.Quote.{Quote}
+use Rattle.starlark_grammar.proofs.Lines.{language_lines}
+use Rattle.starlark_grammar.proofs.Lists.{drop-sum, take_fits}
+use Rattle.starlark_grammar.proofs.Words.Fronts.{front_sound}
+
+abbrev pub in_line : ℕ → Bool
+in_line b = not (is_lf b)
+
+-- a run passes some bytes, and then the run after them
+passes_later : (p : ℕ → Bool) (n : ℕ) (text : Text) → prefix_len p text ≤ n + prefix_len p (drop n text)
+passes_later p zero text = omega arith
+passes_later p (suc n) [] = omega arith
+passes_later p (suc n) (b ∷ bs) = by (p b) (passes_later p n bs)
+  where
+    by : (test : Bool) → prefix_len p bs ≤ n + prefix_len p (drop n bs) → cond test (1 + prefix_len p bs) 0 ≤ suc n + prefix_len p (drop n bs)
+    by true more = omega (arith, more)
+    by false more = omega arith
+
+pub next_line_inside : (text : Text) (at : ℕ) → next_line text at ≤ length text
+unfolding next_line
+next_line_inside text at = omega arith
+
+pub next_line_least : (text : Text) (at : ℕ) → at < length text → at + 1 ≤ next_line text at
+unfolding next_line
+next_line_least text at inside = omega (arith, inside)
+
+pub next_line_later : (text : Text) (at more : ℕ) → at ≤ more → next_line text at ≤ next_line text more
+unfolding next_line
+next_line_later text at more less =
+    let later = passes_later in_line (more - at) (drop at text) in
+    let same : at + (more - at) ≡ more = omega (arith, less) in
+    let rest = sym (drop-sum at (more - at) text) ∙ ap (λ n. drop n text) same in
+    let len = ap (prefix_len in_line) rest in
+    omega (arith, later, len, less)
+
+pub next_line_drop : (text : Text) (at n : ℕ) → at ≤ length text → next_line text (at + n) ≡ at + next_line (drop at text) n
+unfolding next_line
+next_line_drop text at n inside =
+    let rest = ap (prefix_len in_line) (drop-sum at n text) in
+    omega (arith, rest, length-drop at text, inside)
+
+-- the line of an offset is the first of the rest from there on
+pub rest_line : (text : Text) (at : ℕ) → at ≤ length text → at + next_line (drop at text) 0 ≡ next_line text at
+rest_line text at inside =
+    let none : at + 0 ≡ at = omega arith in
+    sym (next_line_drop text at 0 inside) ∙ ap (next_line text) none
+
+-- a text's first line has all bytes before its first LF
+pub first_line : (text : Text) (n : ℕ) → n ≤ prefix_len in_line text → n ≤ next_line text 0
+unfolding next_line
+first_line text n few = omega (arith, few, prefix_len-le-length in_line text)
+
+-- the first line of a front is no longer than that of the text
+pub front_line : (text : Text) (n : ℕ) → next_line (take n text) 0 ≤ next_line text 0
+unfolding next_line
+front_line text n = omega (arith, shorter n text, (take_fits n text).0)
+  where
+    shorter : (n : ℕ) (text : Text) → prefix_len in_line (take n text) ≤ prefix_len in_line text
+    shorter zero text = omega arith
+    shorter (suc n) [] = omega arith
+    shorter (suc n) (b ∷ bs) = by (in_line b) (shorter n bs)
+      where
+        by : (test : Bool) → prefix_len in_line (take n bs) ≤ prefix_len in_line bs → cond test (1 + prefix_len in_line (take n bs)) 0 ≤ cond test (1 + prefix_len in_line bs) 0
+        by true more = omega (arith, more)
+        by false more = omega arith
+
+-- Words in a line
+
+plain_byte : (b : ℕ) → is_in_line b ≡ true → in_line b ≡ true
+plain_byte b plain = (and_parts (not (b == 13)) (not (b == 10)) plain).1
+
+-- a run after bytes that are in a line goes on for them too
+run_after : (n : ℕ) (text : Text) → n ≤ length text → list_all is_in_line (take n text) ≡ true → n + prefix_len in_line (drop n text) ≤ prefix_len in_line text
+run_after zero text inside plain = omega arith
+run_after (suc n) [] inside plain = absurd (omega (arith, inside))
+run_after (suc n) (b ∷ bs) inside plain =
+    let parts = and_parts (is_in_line b) (list_all is_in_line (take n bs)) plain in
+    let more = run_after n bs (omega (arith, inside)) parts.1 in
+    rw (plain_byte b parts.0) (omega (arith, more))
+
+-- a line goes on after a word that is in it
+pub line_after : (n : ℕ) (text : Text) → n ≤ length text → list_all is_in_line (take n text) ≡ true → n + next_line (drop n text) 0 ≤ next_line text 0
+unfolding next_line
+line_after n text inside plain = omega (arith, inside, run_after n text inside plain, length-drop n text)
+
+-- a word of tabs is a line's
+pub tabs_line : (word : Text) → class_in language word ≡ Some class.Tabs → length word ≤ next_line word 0
+tabs_line word known = first_line word (length word) (whole word (language_lines word class.Tabs known))
+  where
+    whole : (word : Text) → list_all is_in_line word ≡ true → length word ≤ prefix_len in_line word
+    whole [] plain = omega arith
+    whole (b ∷ bs) plain =
+        let parts = and_parts (is_in_line b) (list_all is_in_line bs) plain in
+        let more = whole bs parts.1 in
+        rw (plain_byte b parts.0) (omega (arith, more))
+
+-- an opener is in the line of what follows it
+pub opener_line : (text : Text) (kind : LiteralKind) (is_raw : Bool) (quote : Quote) (n : ℕ) → Some (class.Opener kind is_raw quote, n) ≡ language_front text → (n ≤ length text) × (n + next_line (drop n text) 0 ≤ next_line text 0)
+unfolding language_front
+opener_line text kind is_raw quote n front =
+    let sound = front_sound (class_in language) text (class.Opener kind is_raw quote) n (sym front) in
+    (sound.1, line_after n text sound.1 (language_lines (take n text) (class.Opener kind is_raw quote) sound.2))
+
+-- Restarts
+
+-- lexing begins again after the line of each offset up to where the reading stopped
+pub restart_at : (text : Text) (fault : Spanned Fault) (at : ℕ) → at ≤ stopped_at text fault → next_line text at ≤ restart text fault
+unfolding restart
+restart_at text fault at less = next_line_later text at (stopped_at text fault) less
+
+pub restart_inside : (text : Text) (fault : Spanned Fault) → restart text fault ≤ length text
+unfolding restart
+restart_inside text fault = next_line_inside text (stopped_at text fault)
+
+stopped_end : (text : Text) (fault : Spanned Fault) → fault.end - 1 ≤ stopped_at text fault
+unfolding stopped_at
+stopped_end text fault = omega arith
+
+pub restart_end : (text : Text) (fault : Spanned Fault) → fault.end ≤ length text → fault.end ≤ restart text fault
+restart_end text fault inside = by fault.end refl
+  where
+    by : (end : ℕ) → fault.end ≡ end → fault.end ≤ restart text fault
+    by zero e = omega (arith, e)
+    by (suc end) e =
+        let least = next_line_least text (fault.end - 1) (omega (arith, e, inside)) in
+        omega (arith, e, least, restart_at text fault (fault.end - 1) (stopped_end text fault))
+
+stopped_begin : (text : Text) (fault : Spanned Fault) → fault.begin ≤ stopped_at text fault
+unfolding stopped_at
+stopped_begin text fault = by (is_margin_tab text fault)
+  where
+    by : (tab : Bool) → fault.begin ≤ max (fault.end - 1) (if tab then margin_line text (fault.begin + line_end_len (drop fault.begin text)) else fault.begin)
+    by true = omega arith
+    by false = omega arith
+
+pub restart_line : (text : Text) (fault : Spanned Fault) → next_line text fault.begin ≤ restart text fault
+restart_line text fault = restart_at text fault fault.begin (stopped_begin text fault)
+
+stopped_margin : (text : Text) (fault : Spanned Fault) → is_margin_tab text fault ≡ true → margin_line text (fault.begin + line_end_len (drop fault.begin text)) ≤ stopped_at text fault
+unfolding stopped_at
+stopped_margin text fault tab = rw tab (omega arith)
+
+-- after a tab in a margin lexing begins again at the line after the margin's last
+pub restart_margin : (text : Text) (fault : Spanned Fault) → is_margin_tab text fault ≡ true → next_line text (margin_line text (fault.begin + line_end_len (drop fault.begin text))) ≤ restart text fault
+restart_margin text fault tab = restart_at text fault (margin_line text (fault.begin + line_end_len (drop fault.begin text))) (stopped_margin text fault tab)
