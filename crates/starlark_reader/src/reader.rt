@@ -752,7 +752,7 @@ impl Reader {
 
     /// Length in bytes of the next literal's body, if it has no escapes and one quote closes it.
     /// Its opener has `len` bytes. For any other literal, the error is the length of the run
-    /// without escapes at its start.
+    /// without escapes at its start, which is in the opener's line.
     #[inline(always)]
     pub fn plain_body_len(
         &mut self,
@@ -882,8 +882,8 @@ impl Reader {
         self.pending.next_mark()
     }
 
-    /// The f-string text that comes next, if it has no escapes. Else the error is the length in
-    /// bytes of the run without escapes at its start; 0 outside of f-string text.
+    /// The f-string text that comes next, if it has no escapes and no LF. Else the error is the
+    /// length in bytes of the run without these at its start; 0 outside of f-string text.
     #[inline(always)]
     pub fn plain_text(&mut self, text: &str) -> Result<PlainText, usize>
         requires fits { length text.now < 2 ^ 32 }
@@ -970,7 +970,8 @@ impl Reader {
     }
 
     /// The next result of the text: a lexeme, the fault after the last one, or nothing more. Don't
-    /// use the reader after an `AllocError`.
+    /// use the reader after an `AllocError`. Reads up to a fault are at most ten for each byte
+    /// before the offset where lexing begins again, and ten more, beside failed lookahead.
     pub fn next(&mut self, text: &str) -> Result<Next, AllocError>
         requires fits { length text.now < 2 ^ 32 }
         requires ready { IsReady text.now self.old self.old.stage }

@@ -28,7 +28,7 @@ fn is_quote_at(reads: &mut Reads, quote: Quote, text: &[u8], at: usize) -> bool
 /// Length in bytes of the body of a literal without escapes that one quote closes.
 ///
 /// `text` begins after the opener. The error is the length of the first run, for any other literal:
-/// one with escapes or three quotes, or one that isn't closed.
+/// one with escapes or three quotes, or one that isn't closed. The run is in the first line.
 pub fn plain_body_len(
     reads: &mut Reads,
     kind: LiteralKind,

@@ -75,7 +75,7 @@ pub fn chunk_from(
     }
 }
 
-/// An f-string text without escapes: its length, what ends it, and the length of that, in bytes.
+/// An f-string text without escapes and LF: its length, what ends it, and the length of that, in bytes.
 #[derive(Clone, Copy)]
 pub struct PlainText {
     pub len: usize,
@@ -83,8 +83,8 @@ pub struct PlainText {
     pub stop_len: usize,
 }
 
-/// The f-string text up to its first stop, if it has no escapes. For any other text, or a fault,
-/// the error is the length in bytes of the run without escapes at its start.
+/// The f-string text up to its first stop, if it has no escapes and no LF. For any other text, or a
+/// fault, the error is the length in bytes of the run without these at its start.
 #[inline(always)]
 pub fn plain_text(reads: &mut Reads, opening: Opening, text: &str) -> Result<PlainText, usize>
     ensures plain { IfOk result (IsPlainText opening text.now) }
