@@ -15,14 +15,14 @@ returns-then-is_mark_alone-clause-word c =
     let found = front_alone c.args.text.now b (λ i. omega (arith, c.type_inv.text i)) first alone in
     single_word c.longest_of_one.result _ (c.longest_of_one.ensures.word ∙ sym found.0)
 
-pub returns-in-39-clause-word : goal.returns-in-39-clause-word
-returns-in-39-clause-word c =
+pub returns-then-first-eq39-clause-word : goal.returns-then-first-eq39-clause-word
+returns-then-first-eq39-clause-word c =
     let front = c.requires in
-    let first : slice_get c.args.text.now 0 ≡ Some 39 = sym (first_by_two c.args.text.now) ∙ sym (ap (λ (t : List ℕ). slice_get t 0) front) ∙ sym c.in_ok-first.ensures.value ∙ ap Some c.in-39.is in
+    let first : slice_get c.args.text.now 0 ≡ Some 39 = sym (first_by_two c.args.text.now) ∙ sym (ap (λ (t : List ℕ). slice_get t 0) front) ∙ sym c.in_ok-first.ensures.value ∙ ap Some (omega arith) in
     rw (c.quote_word.ensures, front_single_quote c.args.text.now first) refl
 
-pub returns-in-34-clause-word : goal.returns-in-34-clause-word
-returns-in-34-clause-word c =
+pub returns-then-first-eq34-clause-word : goal.returns-then-first-eq34-clause-word
+returns-then-first-eq34-clause-word c =
     let front = c.requires in
-    let first : slice_get c.args.text.now 0 ≡ Some 34 = sym (first_by_two c.args.text.now) ∙ sym (ap (λ (t : List ℕ). slice_get t 0) front) ∙ sym c.in_ok-first.ensures.value ∙ ap Some c.in-34.is in
-    rw (c.quote_word-in-34.ensures, front_double_quote c.args.text.now first) refl
+    let first : slice_get c.args.text.now 0 ≡ Some 34 = sym (first_by_two c.args.text.now) ∙ sym (ap (λ (t : List ℕ). slice_get t 0) front) ∙ sym c.in_ok-first.ensures.value ∙ ap Some (omega arith) in
+    rw (c.quote_word-then-first-eq34.ensures, front_double_quote c.args.text.now first) refl
