@@ -1,9 +1,9 @@
 //! Where lexing begins again after a fault, by the numbers that an outcome tells of it.
 
+ghost use Rattle.starlark_grammar.specs.Recovery as spec;
 ghost use Rattle.std.specs.Prelude.{◌≡◌, ◌≤◌, IfNone, IfSome, length};
 ghost use Rattle.starlark_c.specs.Restarts.{AreOf, IsRestart, IsSpan};
 ghost use Rattle.starlark_grammar.specs.Tokens.{Fault, Spanned};
-ghost use Rattle.starlark_syntax.specs.Recovery as spec;
 
 use starlark_syntax::restarts::{FaultPlace, restart};
 

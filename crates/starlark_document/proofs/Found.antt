@@ -12,7 +12,7 @@ use Rattle.starlark_grammar.proofs.Joining.Joined.{moved_both}
 use Rattle.starlark_grammar.specs.Cuts.{is_newline}
 use Rattle.starlark_grammar.specs.Tokens.{Fault, Lexeme, Spanned, moved}
 use Rattle.starlark_grammar.specs.Words.{Text}
-use Rattle.starlark_syntax.proofs.Order.{faults_in_order, lexemes_inside}
+use Rattle.starlark_grammar.proofs.Recovery.Order.{faults_in_order, lexemes_inside}
 use Rattle.starlark_syntax.specs.Joining.{begins_plainly, has_newline, recovered_joined, without_last_newline}
 use Rattle.starlark_syntax.specs.Recovery.{Recovered, recovered}
 use Rattle.starlark_syntax.specs.RecoveryLaws.{AreInOrder, IsInside}

@@ -18,12 +18,12 @@ use Rattle.starlark_syntax.specs.Joining.{begins_plainly, begins_undented, is_cl
 use Rattle.starlark_syntax.specs.Recovery.{Recovered, faults_of, lexemes_of, outcomes, recovered, restart}
 use Rattle.starlark_syntax.specs.RecoveringLexer.{all_items, items_of, items_of_all}
 use Rattle.starlark_syntax.proofs.Items.{faultless_items, items_on}
-use Rattle.starlark_syntax.proofs.LineCuts.{has_newline_moved, left_out_later, left_out_moved, line_cut, line_cut_faultless, line_cut_some, plain_some}
-use Rattle.starlark_syntax.proofs.NewlineCuts.{last_newline_cuts, newlines_cut}
-use Rattle.starlark_syntax.proofs.Recovery.{faultless_recovers, restart_bounds, restart_later}
-use Rattle.starlark_syntax.proofs.Joining.ClosedTexts.{closed_after_faults, closed_ends, closed_faultless, newline_found, on_fault, recovered_on}
-use Rattle.starlark_syntax.proofs.Joining.DecidedFaults.{decided_faults_stay}
-use Rattle.starlark_syntax.proofs.Joining.ShortenedFaults.{fault_shortened}
+use Rattle.starlark_grammar.proofs.Recovery.LineCuts.{has_newline_moved, left_out_later, left_out_moved, line_cut, line_cut_faultless, line_cut_some, plain_some}
+use Rattle.starlark_grammar.proofs.Recovery.NewlineCuts.{last_newline_cuts, newlines_cut}
+use Rattle.starlark_grammar.proofs.Recovery.Outcomes.{faultless_recovers, restart_bounds, restart_later}
+use Rattle.starlark_grammar.proofs.Recovery.ClosedTexts.{closed_after_faults, closed_ends, closed_faultless, newline_found, on_fault, recovered_on}
+use Rattle.starlark_grammar.proofs.Recovery.DecidedFaults.{decided_faults_stay}
+use Rattle.starlark_grammar.proofs.Recovery.ShortenedFaults.{fault_shortened}
 use Rattle.starlark_token.specs.Lexemes.{shown, shown_lexeme}
 use Rattle.starlark_token.specs.TextItems.{Given, LexerItem, Refused, items}
 use Rattle.starlark_token.specs.TokenViews.{TokenView, Whole}

@@ -2,7 +2,7 @@
 use Rattle.starlark_document.specs.Inner.Fronts.{ItemsAreFound, ItemsClose, ItemsCut}
 use Rattle.starlark_document.proofs.Items as items
 use Rattle.starlark_syntax.specs.Joining.{ClosedOfJoined, ClosedTextsJoin}
-use Rattle.starlark_syntax.proofs.Joining.ClosedTexts.{closed_of_joined, closed_texts_join}
+use Rattle.starlark_grammar.proofs.Recovery.ClosedTexts.{closed_of_joined, closed_texts_join}
 
 pub closed_texts : ClosedTextsJoin
 closed_texts = closed_texts_join

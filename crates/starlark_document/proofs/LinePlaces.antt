@@ -23,7 +23,7 @@ use Rattle.starlark_document.proofs.Places.{HaveLens-laid, IsUtf8-text_of, all_a
 use Rattle.starlark_grammar.specs.Words.{Text}
 use Rattle.starlark_grammar.proofs.Joining.Followed.{ends_line, ends_line_of}
 use Rattle.starlark_syntax.specs.Joining.{is_closed}
-use Rattle.starlark_syntax.proofs.Joining.ClosedTexts.{closed_ends}
+use Rattle.starlark_grammar.proofs.Recovery.ClosedTexts.{closed_ends}
 use Rattle.starlark_base.specs.Positions.{pairs_before, pairs_in_line, position_at}
 use Rattle.starlark_base.specs.declared.position.Position.{Position}
 use Rattle.starlark_base.proofs.Pairs.{pairs_along, pairs_bound}

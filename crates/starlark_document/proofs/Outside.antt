@@ -7,7 +7,7 @@ use Rattle.starlark_document.specs.Documents.{AllInside, SameOutside, faults_of,
 use Rattle.starlark_document.specs.Inner.Segments.{AreLaid, IsBounded, faults_along, lexemes_along, text_in, text_of}
 use Rattle.starlark_document.specs.declared.segments.Segment.{Segment}
 use Rattle.starlark_grammar.specs.Tokens.{Fault, Spanned, moved}
-use Rattle.starlark_syntax.proofs.Order.{faults_in_order}
+use Rattle.starlark_grammar.proofs.Recovery.Order.{faults_in_order}
 use Rattle.starlark_syntax.specs.Recovery.{recovered}
 use Rattle.starlark_token.specs.Lexemes.{lexeme_view}
 use Rattle.starlark_token.specs.TokenViews.{TokenView}

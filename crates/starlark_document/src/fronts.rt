@@ -1,5 +1,6 @@
 //! Lexes a text up to the first offset where it can be cut, or to its end.
 
+ghost use Rattle.starlark_grammar.specs.Joining as spec;
 ghost use Rattle.std.specs.Prelude.{◌≡◌, ◌≤◌, ◌<◌, ◌++◌, ◌||◌, ◌==◌, ◌∷◌, [], IfOk, List, IsSome, OnOk, Some, drop, length, false, not, true};
 ghost use Rattle.std.specs.Str.{IsCharBoundary, byte};
 ghost use Rattle.starlark_base.specs.Sources.{SourceFile};
@@ -8,7 +9,6 @@ ghost use Rattle.starlark_document.specs.Inner.Segments.{IsPlaced};
 ghost use Rattle.starlark_grammar.specs.Margins.{is_blank, is_lf};
 ghost use Rattle.starlark_grammar.specs.Tokens.{Fault, Spanned};
 ghost use Rattle.starlark_grammar.specs.Words.{Text};
-ghost use Rattle.starlark_syntax.specs.Joining as spec;
 ghost use Rattle.starlark_syntax.specs.RecoveringLexer.{left_after};
 ghost use Rattle.starlark_syntax.specs.Exceptions.{IsException};
 ghost use Rattle.starlark_syntax.specs.Lexer.{Answers, AnswersBetween, AnswersWithin};
@@ -31,7 +31,7 @@ fn is_plain(b: u8) -> bool
 }
 
 /// Whether a text begins with content, and not with a blank, a comment or a newline.
-#[tactic(auto, unfolding(starlark_syntax::specs::Joining::begins_plainly))]
+#[tactic(auto, unfolding(starlark_grammar::specs::Joining::begins_plainly))]
 pub fn begins_plainly(text: &[u8]) -> bool
     ensures { result ≡ spec.begins_plainly text.now }
 {

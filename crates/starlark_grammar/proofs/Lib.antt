@@ -9,3 +9,4 @@ pub mod Rows
 pub mod Lines
 pub mod Joining
 pub mod LineEnds
+pub mod Recovery

@@ -10,3 +10,4 @@ mod Mixed
 mod Cuts
 mod LineEnds
 mod EarlierLanguage
+mod Recovery

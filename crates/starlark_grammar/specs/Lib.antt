@@ -20,3 +20,6 @@ pub mod Inner
 pub mod Cuts
 pub mod LineEnds
 pub mod TextLaws
+pub mod Recovery
+pub mod RecoveryLaws
+pub mod Joining

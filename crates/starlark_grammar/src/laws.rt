@@ -2,10 +2,15 @@
 //! nothing to do; programs don't call them.
 
 mod language_laws;
+mod recovery_laws;
 mod text_laws;
 
 pub use language_laws::{
     balanced_layout, integers_keep_their_value, one_body, one_longest_front, one_outcome,
     one_reading, ordered_lexemes, printed_words_read_back, texts_without_rf_stay,
+};
+pub use recovery_laws::{
+    closed_texts_join, decided_faults_stay, faultless_texts_stay, faults_end_lines, found_inside,
+    line_cuts_join, newlines_cut,
 };
 pub use text_laws::{joins_at_clean_cuts, kept_cuts_keep, line_ends_keep_tokens};

@@ -1,9 +1,9 @@
 //! Where faults are shown: on the line that has to be changed.
 
+ghost use Rattle.starlark_grammar.specs.Recovery as recovery;
 ghost use Rattle.std.specs.Prelude.{◌≡◌, ◌==◌, ◌≤◌, ◌<◌, ◌+◌, ◌-◌, codes, drop, length, nat_eq, not, slice_index};
 ghost use Rattle.std.specs.List.{prefix_len, starts_with};
 ghost use Rattle.std.specs.Str.{IsCharBoundary};
-ghost use Rattle.starlark_syntax.specs.Recovery as recovery;
 ghost use Rattle.starlark_run.specs.Inner.ShownKinds.{shown_of_kind};
 ghost use Rattle.starlark_base.specs.Positions.{IsPosition, position_at};
 ghost use Rattle.starlark_run.specs.ShownPlaces as spec;

@@ -5,7 +5,7 @@ use Rattle.std.specs.Prelude.{Option}
 use Rattle.starlark_grammar.specs.Reading.{outcome}
 use Rattle.starlark_grammar.specs.Tokens.{Fault, Lexeme, Outcome, Spanned, moved}
 use Rattle.starlark_grammar.specs.Words.{Text}
-use Rattle.starlark_syntax.proofs.Recovery.{faultless, lexes_on}
+use Rattle.starlark_grammar.proofs.Recovery.Outcomes.{faultless, lexes_on}
 use Rattle.starlark_syntax.specs.Inner.Rests.{moved_item}
 use Rattle.starlark_syntax.specs.Recovery.{moved_outcome, outcomes, restart}
 use Rattle.starlark_syntax.specs.RecoveringLexer.{all_items, items_of, items_of_all}

@@ -34,8 +34,8 @@ pub use Rattle.starlark_text.specs.Strings
 pub use Rattle.starlark_text.specs.Parts
 pub use Rattle.starlark_text.specs.Indices
 pub use Rattle.starlark_text.specs.Cursors
-pub mod Recovery
-pub mod Joining
+pub use Rattle.starlark_grammar.specs.Recovery
+pub use Rattle.starlark_grammar.specs.Joining
 pub mod Restarts
-pub mod RecoveryLaws
+pub use Rattle.starlark_grammar.specs.RecoveryLaws
 pub mod RecoveringLexer

@@ -3,13 +3,12 @@
 //! Each law is the contract of a function with an empty body. Programs don't call them.
 
 ghost use Rattle.starlark_syntax.specs.Held.{FaultHeld, LexemesHeld};
-ghost use Rattle.starlark_syntax.specs.Joining.{ClosedAfterFaults, ClosedOfJoined, ClosedTextsJoin, DecidedFaultsStay, LastNewlineCuts, LineCutsJoin, LineCutsOfJoined, NewlinesCut};
-ghost use Rattle.starlark_syntax.specs.RecoveryLaws.{FaultlessIsOutcome, FaultlessRecovers, FaultsInOrder, LexemesAfterFaults, LexemesBeforeFaults, LexemesInOrder, LexemesInside, LexesOn, RestartsLater};
 
 pub use starlark_grammar::laws::{
-    balanced_layout, integers_keep_their_value, joins_at_clean_cuts, kept_cuts_keep,
-    line_ends_keep_tokens, one_body, one_longest_front, one_outcome, one_reading, ordered_lexemes,
-    printed_words_read_back, texts_without_rf_stay,
+    balanced_layout, closed_texts_join, decided_faults_stay, faultless_texts_stay,
+    faults_end_lines, found_inside, integers_keep_their_value, joins_at_clean_cuts, kept_cuts_keep,
+    line_cuts_join, line_ends_keep_tokens, newlines_cut, one_body, one_longest_front, one_outcome,
+    one_reading, ordered_lexemes, printed_words_read_back, texts_without_rf_stay,
 };
 pub use starlark_words::laws::identifiers_stay;
 
@@ -19,55 +18,4 @@ pub use starlark_words::laws::identifiers_stay;
 pub fn held_lexemes()
     ensures lexemes { LexemesHeld }
     ensures fault { FaultHeld }
-{}
-
-/// A text without fault has its outcome alone: its own lexemes, and no faults.
-pub fn faultless_texts_stay()
-    ensures outcome { FaultlessIsOutcome }
-    ensures recovered { FaultlessRecovers }
-{}
-
-/// The first fault and all before it are those of the text's outcome. What comes after is what the
-/// text from the next line on has by itself, moved there.
-pub fn faults_end_lines()
-    ensures outcomes { LexesOn }
-    ensures restart { RestartsLater }
-{}
-
-/// All lexemes and all faults lie in the text, each in order: no two lexemes overlap, and no two
-/// faults. Lexemes before a fault end where lexing begins again, or earlier. Lexemes after it begin
-/// there, or later.
-pub fn found_inside()
-    ensures lexemes { LexemesInside }
-    ensures order { LexemesInOrder }
-    ensures earlier { LexemesBeforeFaults }
-    ensures later { LexemesAfterFaults }
-    ensures faults { FaultsInOrder }
-{}
-
-/// A fault that ends before the last byte of its text, an LF, stays as it is whatever follows, and so
-/// does the line where lexing begins again.
-pub fn decided_faults_stay()
-    ensures stays { DecidedFaultsStay }
-{}
-
-/// A text can be cut between two lines where the second has content at its start: it closes all
-/// blocks, and each part is lexed by itself.
-pub fn line_cuts_join()
-    ensures outcome { LineCutsJoin }
-    ensures cut { LineCutsOfJoined }
-{}
-
-/// A `Newline` ends such a part, where no brackets are open after it.
-pub fn newlines_cut()
-    ensures inside { NewlinesCut }
-    ensures last { LastNewlineCuts }
-{}
-
-/// What follows a closed text, and begins with content at the start of a line, is lexed by itself. So
-/// a text can be kept in parts, each lexed alone.
-pub fn closed_texts_join()
-    ensures recovered { ClosedTextsJoin }
-    ensures closed { ClosedOfJoined }
-    ensures rest { ClosedAfterFaults }
 {}

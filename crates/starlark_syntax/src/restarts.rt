@@ -1,11 +1,11 @@
 //! Where lexing begins again after a fault.
 
+ghost use Rattle.starlark_grammar.specs.Recovery as spec;
 ghost use Rattle.std.specs.Prelude.{◌≡◌, ◌≤◌, ◌<◌, ◌+◌, ◌-◌, drop, length, not, slice_index};
 ghost use Rattle.std.specs.List.{prefix_len};
 ghost use Rattle.std.specs.Str.{IsCharBoundary};
 ghost use Rattle.starlark_grammar.specs.Margins.{is_lf};
 ghost use Rattle.starlark_grammar.specs.Tokens.{Fault, Spanned};
-ghost use Rattle.starlark_syntax.specs.Recovery as spec;
 ghost use Rattle.starlark_syntax.specs.Restarts.{IsPlaceOf};
 
 use starlark_reader::margin_of;

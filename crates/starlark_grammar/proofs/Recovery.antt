@@ -1,0 +1,16 @@
+-- Texts that are lexed on after their faults, and texts after them.
+pub mod Outcomes
+pub mod FollowedStops
+pub mod FollowedFaults
+pub mod MarginTabs
+pub mod DecidedFaults
+pub mod EarlierLexemes
+pub mod Order
+pub mod ClosedBlocks
+pub mod LineCuts
+pub mod NewlinePieces
+pub mod NewlineCuts
+pub mod MovedRestarts
+pub mod ClosedTexts
+pub mod ShortenedStops
+pub mod ShortenedFaults

@@ -1,0 +1,365 @@
+-- Cuts between lines, and what they and a text after them are together.
+use Rattle.std.proofs.Common.{◌≡◌, ℕ, zero, suc, ◌+◌, ◌<◌, Bool, true, false, List, [], ◌∷◌, ◌++◌, length, drop, map, refl, ap, ◌∙◌, sym, subst, Option, Some, None, arith, append_assoc, append-nil}
+use Rattle.std.specs.Prelude.{◌&&◌, ◌||◌, codes, nat_eq, option_map}
+use Rattle.std.specs.List.{ends_with}
+use Rattle.std.proofs.lemmas.Bool.{and_parts, both_ways}
+use Rattle.std.proofs.lemmas.List.{length-drop}
+use Rattle.std.proofs.lemmas.List.Sums.{sum_by-cons}
+use Rattle.std.proofs.Math.Seq.{drop-append-add}
+use Rattle.starlark_grammar.specs.Words.{Text, language}
+use Rattle.starlark_grammar.specs.Tokens.{Newline, Lexeme, Spanned, moved, Fault, Outcome}
+use Rattle.starlark_grammar.specs.Depths.{mode_by, mode_after, open_fstring, is_balanced}
+use Rattle.starlark_grammar.specs.Margins.{open_widths}
+use Rattle.starlark_grammar.specs.Pieces.{Layout, Piece, Step, Stands, Fails, Ends, Situation, margin_step}
+use Rattle.starlark_grammar.specs.Reading.{History, nothing, after, after_all, situation, next_step, IsReading, IsLongestReading, pieces_len, read, lexemes_along, closing, before_fault, outcome_of, outcome_in, outcome}
+use Rattle.starlark_grammar.specs.Cuts.{is_layout, is_outside, is_newline, is_faultless}
+use Rattle.starlark_grammar.proofs.Reading.Readings.{one_longest, longest_onward, read_is, reading_fits, ends_at_end, outcome_only}
+use Rattle.starlark_grammar.proofs.Reading.Steps.{is_nothing}
+use Rattle.starlark_grammar.proofs.Joining.Followed.{ends_line, ends_line_of}
+use Rattle.starlark_grammar.proofs.Joining.Settled.{Settled, outside_none, behind, widths_settled, situation_behind, after_behind, next_behind, all_behind}
+use Rattle.starlark_grammar.proofs.Joining.Joined.{moved_both, all_moved, map_both}
+use Rattle.starlark_grammar.proofs.Joining.CleanCuts.{pieces_both, along_both, past_both, longest_both, CharacterStarts, begun}
+use Rattle.starlark_grammar.proofs.Joining.Tabs.{first_step}
+use Rattle.starlark_grammar.proofs.Joining.Laws.{ends_behind}
+use Rattle.starlark_grammar.specs.Joining.{is_between_lines, is_line_cut, has_newline, without_last_newline, begins_plainly, LineCutsJoin, LineCutsOfJoined}
+use Rattle.starlark_grammar.proofs.Recovery.ClosedBlocks.{plain_content, plain_margin, closing_step, dedents, dedents_moved, open_count, closed_after, none_open_dedents, balanced_dedents, none_wider, Closed, close_reading}
+
+-- The last `Newline` of some lexemes
+
+no_newline_dedents : (count at : ℕ) → has_newline (dedents count at) ≡ false
+no_newline_dedents zero at = refl
+no_newline_dedents (suc count) at = no_newline_dedents count at
+
+pub has_newline_later : (front more : List Lexeme) → has_newline more ≡ true → has_newline (front ++ more) ≡ true
+has_newline_later [] more h = h
+has_newline_later (lexeme ∷ front) more h = or_right (is_newline lexeme.node) (has_newline_later front more h)
+  where
+    or_right : (first : Bool) {later : Bool} → later ≡ true → (first || later) ≡ true
+    or_right true e = refl
+    or_right false e = e
+
+pub has_newline_moved : (n : ℕ) (lexemes : List Lexeme) → has_newline (map (moved n) lexemes) ≡ has_newline lexemes
+has_newline_moved n [] = refl
+has_newline_moved n (lexeme ∷ lexemes) = ap (λ (later : Bool). is_newline lexeme.node || later) (has_newline_moved n lexemes)
+
+-- where a `Newline` comes later, what is before that stays
+pub left_out_later : (front more : List Lexeme) → has_newline more ≡ true → without_last_newline (front ++ more) ≡ front ++ without_last_newline more
+left_out_later [] more h = refl
+left_out_later (lexeme ∷ front) more h = rw (has_newline_later front more h) (ap (λ ls. lexeme ∷ ls) (left_out_later front more h))
+
+-- the last `Newline` is left out
+pub newline_left_out : (front : List Lexeme) (newline : Lexeme) (more : List Lexeme) → is_newline newline.node ≡ true → has_newline more ≡ false → without_last_newline (front ++ (newline ∷ more)) ≡ front ++ more
+newline_left_out front newline more h none = left_out_later front (newline ∷ more) (ap (λ (b : Bool). b || has_newline more) h) ∙ ap (λ ls. front ++ ls) last
+  where
+    last : without_last_newline (newline ∷ more) ≡ more
+    last = rw (none, h) refl
+
+-- where there is none all stays
+pub none_left_out : (lexemes : List Lexeme) → has_newline lexemes ≡ false → without_last_newline lexemes ≡ lexemes
+none_left_out [] h = refl
+none_left_out (lexeme ∷ lexemes) h = go (is_newline lexeme.node) (has_newline lexemes) refl refl h
+  where
+    go : (first later : Bool) → is_newline lexeme.node ≡ first → has_newline lexemes ≡ later → (first || later) ≡ false → without_last_newline (lexeme ∷ lexemes) ≡ lexeme ∷ lexemes
+    go true later e f none = cc
+    go false true e f none = cc
+    go false false e f none = rw (f, e) refl
+
+-- it is the same one in moved lexemes
+pub left_out_moved : (n : ℕ) (lexemes : List Lexeme) → without_last_newline (map (moved n) lexemes) ≡ map (moved n) (without_last_newline lexemes)
+left_out_moved n [] = refl
+left_out_moved n (lexeme ∷ lexemes) = go (is_newline lexeme.node) (has_newline lexemes) refl refl (left_out_moved n lexemes)
+  where
+    go : (first later : Bool) → is_newline lexeme.node ≡ first → has_newline lexemes ≡ later → without_last_newline (map (moved n) lexemes) ≡ map (moved n) (without_last_newline lexemes)
+        → without_last_newline (map (moved n) (lexeme ∷ lexemes)) ≡ map (moved n) (without_last_newline (lexeme ∷ lexemes))
+    go first true e f more = rw (has_newline_moved n lexemes, f) (ap (λ ls. moved n lexeme ∷ ls) more)
+    go true false e f more = rw (has_newline_moved n lexemes, f, e) refl
+    go false false e f more = rw (has_newline_moved n lexemes, f, e) refl
+
+-- the closing `Newline` of a text without fault
+pub closing_left_out : (front : List Lexeme) (at : ℕ) (history : History) → without_last_newline (front ++ closing at history) ≡ front ++ dedents (open_count history) at
+closing_left_out front at history = newline_left_out front (record { begin = at; node = Newline; end = at }) (dedents (open_count history) at) refl (no_newline_dedents (open_count history) at)
+
+-- A cut between lines, by its reading
+
+pub record LineCut (text : Text) (pieces : List Piece) : Type 0 where
+  pub some : ¬ (pieces ≡ [])
+  pub ends : ends_line text ≡ true
+  pub reads : IsReading language nothing text pieces
+  pub reach : pieces_len pieces ≡ length text
+  pub layout : is_layout (after_all nothing pieces).before ≡ true
+  pub none_open : open_fstring 0 (after_all nothing pieces).tokens ≡ None
+  pub balanced : is_balanced (after_all nothing pieces).tokens ≡ true
+  pub is : outcome text ≡ record { lexemes = lexemes_along 0 pieces ++ closing (length text) (after_all nothing pieces); fault = None }
+
+-- its lexemes without the closing `Newline`
+pub line_cut_lexemes : (text : Text) (pieces : List Piece) → LineCut text pieces → without_last_newline (outcome text).lexemes ≡ lexemes_along 0 pieces ++ dedents (open_count (after_all nothing pieces)) (length text)
+line_cut_lexemes text pieces h = ap (λ (o : Outcome). without_last_newline o.lexemes) h.is ∙ closing_left_out (lexemes_along 0 pieces) (length text) (after_all nothing pieces)
+
+-- it has one, and no fault
+pub line_cut_newline : (text : Text) (pieces : List Piece) → LineCut text pieces → has_newline (outcome text).lexemes ≡ true
+line_cut_newline text pieces h = ap (λ (o : Outcome). has_newline o.lexemes) h.is ∙ has_newline_later (lexemes_along 0 pieces) (closing (length text) (after_all nothing pieces)) refl
+
+pub line_cut_faultless : (text : Text) (pieces : List Piece) → LineCut text pieces → (outcome text).fault ≡ None
+line_cut_faultless text pieces h = ap (λ (o : Outcome). o.fault) h.is
+
+between_parts : (history : History) → is_between_lines history ≡ true → (is_layout history.before ≡ true) × (open_fstring 0 history.tokens ≡ None) × (is_balanced history.tokens ≡ true)
+unfolding is_between_lines mode_after
+between_parts history h =
+    let one = and_parts (is_layout history.before && is_outside (mode_by (open_fstring 0 history.tokens))) _ h in
+    let two = and_parts (is_layout history.before) _ one.0 in
+    (two.0, outside_none _ two.1, one.1)
+
+line_cut_of : (text : Text) (pieces : List Piece) (last : Step) → IsLongestReading language nothing text pieces last → outcome text ≡ outcome_of text pieces last → is_faultless last ≡ true → is_between_lines (after_all nothing pieces) ≡ true → ends_line text ≡ true → LineCut text pieces
+line_cut_of text pieces last longest same faultless between ends = record {
+  some = λ e. both_ways _ (subst (λ (ps : List Piece). is_layout (after_all nothing ps).before ≡ false) (sym e) refl) parts.0;
+  ends = ends;
+  reads = longest.reads;
+  reach = reach;
+  layout = parts.0;
+  none_open = parts.1;
+  balanced = parts.2;
+  is = same ∙ ap (outcome_of text pieces) at_end ∙ ap (λ n. record { lexemes = lexemes_along 0 pieces ++ closing n (after_all nothing pieces); fault = None }) reach;
+}
+  where
+    parts : (is_layout (after_all nothing pieces).before ≡ true) × (open_fstring 0 (after_all nothing pieces).tokens ≡ None) × (is_balanced (after_all nothing pieces).tokens ≡ true)
+    parts = between_parts (after_all nothing pieces) between
+
+    at_end : last ≡ Ends
+    at_end = go last refl faultless
+      where
+        go : (step : Step) → last ≡ step → is_faultless step ≡ true → last ≡ Ends
+        go (Stands piece) e h = absurd (longest.no_piece piece e)
+        go (Fails fault) e h = cc
+        go Ends e h = e
+
+    reach : pieces_len pieces ≡ length text
+    reach =
+        let none = ends_at_end language (after_all nothing pieces) (drop (pieces_len pieces) text) (longest.stands_last ∙ at_end) in
+        omega (arith, reading_fits language nothing text pieces longest.reads, length-drop (pieces_len pieces) text, ap length none)
+
+pub line_cut : (text : Text) → is_line_cut text ≡ true → LineCut text (read language text).pieces
+unfolding is_line_cut outcome outcome_in
+line_cut text h =
+    let one = and_parts (is_faultless (read language text).last && is_between_lines (after_all nothing (read language text).pieces)) _ h in
+    let two = and_parts (is_faultless (read language text).last) _ one.0 in
+    line_cut_of text (read language text).pieces (read language text).last (read_is language text) refl two.0 two.1 (ends_line_of text one.1)
+
+pub line_cut_some : (text : Text) → is_line_cut text ≡ true → 0 < length text
+line_cut_some text h = go text (line_cut text h).ends
+  where
+    go : (text : Text) → ends_line text ≡ true → 0 < length text
+    go [] e = cc
+    go (b ∷ bs) e = omega arith
+
+-- whether a text is a cut between lines, by a longest reading of it
+pub line_cut_by : (text : Text) (pieces : List Piece) (last : Step) → IsLongestReading language nothing text pieces last
+    → is_line_cut text ≡ (is_faultless last && is_between_lines (after_all nothing pieces) && ends_with nat_eq text (codes "\n"))
+unfolding is_line_cut
+line_cut_by text pieces last longest =
+    let same = one_longest language nothing text (read language text).pieces pieces (read language text).last last (read_is language text) longest in
+    ap (λ (ps : List Piece). is_faultless (read language text).last && is_between_lines (after_all nothing ps) && ends_with nat_eq text (codes "\n")) same.0
+    ∙ ap (λ (step : Step). is_faultless step && is_between_lines (after_all nothing pieces) && ends_with nat_eq text (codes "\n")) same.1
+
+-- The first margin of a text that begins plainly
+
+abbrev pub plain_piece : Piece
+plain_piece = record { len = 0; lexemes = []; width = Some 0; sort = Layout }
+
+pub plain_step : (text : Text) → begins_plainly text ≡ true → next_step language nothing text ≡ Stands plain_piece
+plain_step text begins = first_step text ∙ ap (margin_step 0 [] []) (plain_margin text begins) ∙ closing_step 0 [] [] [] 0 text (plain_content text begins) refl
+
+pub plain_some : (text : Text) → begins_plainly text ≡ true → 0 < length text
+unfolding begins_plainly
+plain_some [] h = cc
+plain_some (b ∷ bs) h = omega arith
+
+-- Two places with nothing open
+
+-- after them a text is read alike
+reading_between : (one other history : History) (text : Text) (pieces : List Piece) → Settled one → Settled other → IsReading language (behind one history) text pieces → IsReading language (behind other history) text pieces
+reading_between one other history text [] h k reads = tt
+reading_between one other history text (piece ∷ pieces) h k reads = (
+  next_behind language other history text k ∙ sym (next_behind language one history text h) ∙ reads.0,
+  subst (λ (past : History). IsReading language past (drop piece.len text) pieces) (sym (after_behind other history piece))
+      (reading_between one other (after history piece) (drop piece.len text) pieces h k
+      (subst (λ (past : History). IsReading language past (drop piece.len text) pieces) (after_behind one history piece) reads.1)),
+)
+
+longest_between : (one other history : History) (text : Text) (pieces : List Piece) (last : Step) → Settled one → Settled other → IsLongestReading language (behind one history) text pieces last → IsLongestReading language (behind other history) text pieces last
+longest_between one other history text pieces last h k longest = record {
+  reads = reading_between one other history text pieces h k longest.reads;
+  stands_last =
+      let end = after_all history pieces in
+      let rest = drop (pieces_len pieces) text in
+      ap (λ (past : History). next_step language past rest) (all_behind other history pieces)
+      ∙ next_behind language other end rest k ∙ sym (next_behind language one end rest h)
+      ∙ ap (λ (past : History). next_step language past rest) (sym (all_behind one history pieces)) ∙ longest.stands_last;
+  no_piece = longest.no_piece;
+}
+
+between_behind : (earlier history : History) → Settled earlier → is_between_lines (behind earlier history) ≡ is_between_lines history
+unfolding is_between_lines situation
+between_behind earlier history h = ap (λ (s : Situation). is_layout s.before && is_outside s.place && s.is_balanced) (situation_behind earlier history h)
+
+closing_behind : (at : ℕ) (earlier history : History) → Settled earlier → closing at (behind earlier history) ≡ closing at history
+closing_behind at earlier history h =
+    ap (λ (ws : List ℕ). record { begin = at; node = Newline; end = at } ∷ dedents (length ws) at) (widths_settled earlier.widths history.widths h.no_width)
+
+closing_moved : (n at : ℕ) (history : History) → closing (n + at) history ≡ map (moved n) (closing at history)
+closing_moved n at history = ap (λ (ls : List Lexeme). record { begin = n + at; node = Newline; end = n + at } ∷ ls) (sym (dedents_moved n (open_count history) at))
+
+along_moved : (n at : ℕ) (pieces : List Piece) → lexemes_along (n + at) pieces ≡ map (moved n) (lexemes_along at pieces)
+along_moved n at [] = refl
+along_moved n at (piece ∷ pieces) =
+    let next : n + at + piece.len ≡ n + (at + piece.len) = omega arith in
+    ap (λ k. map (moved (n + at)) piece.lexemes ++ lexemes_along k pieces) next
+    ∙ ap (λ ls. map (moved (n + at)) piece.lexemes ++ ls) (along_moved n (at + piece.len) pieces)
+    ∙ ap (λ ls. ls ++ map (moved n) (lexemes_along (at + piece.len) pieces)) (sym (all_moved n at (n + at) piece.lexemes refl))
+    ∙ sym (map_both (moved n) (map (moved at) piece.lexemes) (lexemes_along (at + piece.len) pieces))
+
+-- a margin, and nothing else
+abbrev margin_alone : History
+margin_alone = record { tokens = []; widths = []; before = Layout }
+
+-- content of width 0
+abbrev line_alone : History
+line_alone = record { tokens = []; widths = 0 ∷ []; before = Layout }
+
+line_settled : Settled line_alone
+unfolding open_fstring is_balanced open_widths
+line_settled = record { layout = refl; none_open = refl; balanced = refl; no_width = refl }
+
+line_after : after nothing plain_piece ≡ behind line_alone margin_alone
+unfolding after
+line_after = refl
+
+closed_settled : (history : History) → open_fstring 0 history.tokens ≡ None → is_balanced history.tokens ≡ true → Settled (closed_after history)
+closed_settled history none_open balanced = record {
+  layout = refl;
+  none_open = none_open_dedents (open_count history) history.tokens none_open;
+  balanced = balanced_dedents (open_count history) history.tokens balanced;
+  no_width = none_wider history.widths;
+}
+
+closed_alone : (history : History) → closed_after history ≡ behind (closed_after history) margin_alone
+closed_alone history = ap (λ ws. record { tokens = (closed_after history).tokens; widths = ws; before = Layout }) (sym (append-nil (closed_after history).widths))
+
+same_outcome : {one other : List Lexeme} {fault end : Option (Spanned Fault)} → one ≡ other → fault ≡ end → ◌≡◌ {A = Outcome} (record { lexemes = one; fault = fault }) (record { lexemes = other; fault = end })
+same_outcome e f = rw (e, f) refl
+
+some_before : (text : Text) (pieces : List Piece) → ¬ (pieces ≡ []) → before_fault text pieces ≡ lexemes_along 0 pieces
+some_before text [] some = absurd (some refl)
+some_before text (piece ∷ pieces) some = refl
+
+some_both : (one other : List Piece) → ¬ (one ≡ []) → ¬ (one ++ other ≡ [])
+some_both [] other some e = some refl
+some_both (piece ∷ one) other some e = cc
+
+no_fresh : is_nothing nothing.before ≡ true → open_widths nothing.widths ≡ []
+unfolding open_widths
+no_fresh h = refl
+
+module _ (text more : Text) (pieces : List Piece) (here : LineCut text pieces) (begins : begins_plainly more ≡ true) (there : CharacterStarts more plain_piece) where
+  pub closed : Closed nothing text more pieces
+  closed = close_reading nothing text more pieces here.ends here.some here.reads here.reach here.layout no_fresh begins
+
+  all_closed : Settled (closed_after (after_all nothing pieces))
+  all_closed = closed_settled (after_all nothing pieces) here.none_open here.balanced
+
+  starts : IsLongestReading language (behind line_alone margin_alone) more there.pieces there.last
+  starts = subst (λ (past : History). IsLongestReading language past more there.pieces there.last) line_after there.longest
+
+  pub longest : IsLongestReading language nothing (text ++ more) (closed.pieces' ++ there.pieces) there.last
+  longest =
+      let left : drop (pieces_len closed.pieces') (text ++ more) ≡ more = ap (λ n. drop n (text ++ more)) (closed.len ∙ sym (add_none (length text))) ∙ drop-append-add text more 0 in
+      longest_both language nothing (text ++ more) closed.pieces' there.pieces there.last closed.reads
+      (subst (λ (t : Text). IsLongestReading language (after_all nothing closed.pieces') t there.pieces there.last) (sym left)
+      (subst (λ (past : History). IsLongestReading language past more there.pieces there.last) (sym (closed.past ∙ closed_alone (after_all nothing pieces)))
+      (longest_between line_alone (closed_after (after_all nothing pieces)) margin_alone more there.pieces there.last line_settled all_closed starts)))
+    where
+      add_none : (n : ℕ) → n + 0 ≡ n
+      add_none n = omega arith
+
+  joined_is : outcome (text ++ more) ≡ outcome_of (text ++ more) (closed.pieces' ++ there.pieces) there.last
+  unfolding outcome
+  joined_is = sym (outcome_only language (text ++ more) _ (record { pieces = closed.pieces' ++ there.pieces; last = there.last; longest = longest; same = refl }))
+
+  total : pieces_len (closed.pieces' ++ there.pieces) ≡ length text + pieces_len there.pieces
+  total = omega (arith, pieces_both closed.pieces' there.pieces, closed.len)
+
+  lexemes : lexemes_along 0 (closed.pieces' ++ there.pieces) ≡ without_last_newline (outcome text).lexemes ++ map (moved (length text)) (lexemes_along 0 there.pieces)
+  lexemes =
+      let start : 0 + pieces_len closed.pieces' ≡ length text + 0 = omega (arith, closed.len) in
+      let at : 0 + length text ≡ length text = omega arith in
+      along_both 0 closed.pieces' there.pieces
+      ∙ ap (λ ls. ls ++ lexemes_along (0 + pieces_len closed.pieces') there.pieces) (closed.lexemes 0 ∙ ap (λ n. lexemes_along 0 pieces ++ dedents (open_count (after_all nothing pieces)) n) at ∙ sym (line_cut_lexemes text pieces here))
+      ∙ ap (λ n. without_last_newline (outcome text).lexemes ++ lexemes_along n there.pieces) start
+      ∙ ap (λ ls. without_last_newline (outcome text).lexemes ++ ls) (along_moved (length text) 0 there.pieces)
+
+  -- what is read of both, and what is read of the second text alone
+  pub past : after_all nothing (closed.pieces' ++ there.pieces) ≡ behind (closed_after (after_all nothing pieces)) (after_all margin_alone there.pieces)
+  past =
+      past_both nothing closed.pieces' there.pieces
+      ∙ ap (λ (h : History). after_all h there.pieces) (closed.past ∙ closed_alone (after_all nothing pieces))
+      ∙ all_behind (closed_after (after_all nothing pieces)) margin_alone there.pieces
+
+  pub past_alone : after_all nothing (plain_piece ∷ there.pieces) ≡ behind line_alone (after_all margin_alone there.pieces)
+  past_alone = ap (λ (h : History). after_all h there.pieces) line_after ∙ all_behind line_alone margin_alone there.pieces
+
+  closings : closing (length text + pieces_len there.pieces) (after_all nothing (closed.pieces' ++ there.pieces)) ≡ map (moved (length text)) (closing (pieces_len there.pieces) (after_all nothing (plain_piece ∷ there.pieces)))
+  closings =
+      let n = pieces_len there.pieces in
+      ap (closing (length text + n)) past
+      ∙ closing_behind (length text + n) (closed_after (after_all nothing pieces)) (after_all margin_alone there.pieces) all_closed
+      ∙ closing_moved (length text) n (after_all margin_alone there.pieces)
+      ∙ ap (map (moved (length text))) (sym (closing_behind n line_alone (after_all margin_alone there.pieces) line_settled) ∙ ap (closing n) (sym past_alone))
+
+  to_end : lexemes_along 0 (closed.pieces' ++ there.pieces) ++ closing (pieces_len (closed.pieces' ++ there.pieces)) (after_all nothing (closed.pieces' ++ there.pieces))
+      ≡ without_last_newline (outcome text).lexemes ++ map (moved (length text)) (lexemes_along 0 there.pieces ++ closing (pieces_len there.pieces) (after_all nothing (plain_piece ∷ there.pieces)))
+  to_end =
+      let kept = without_last_newline (outcome text).lexemes in
+      let along = lexemes_along 0 there.pieces in
+      let closes = closing (pieces_len there.pieces) (after_all nothing (plain_piece ∷ there.pieces)) in
+      ap (λ n. lexemes_along 0 (closed.pieces' ++ there.pieces) ++ closing n (after_all nothing (closed.pieces' ++ there.pieces))) total
+      ∙ ap (λ ls. lexemes_along 0 (closed.pieces' ++ there.pieces) ++ ls) closings
+      ∙ ap (λ ls. ls ++ map (moved (length text)) closes) lexemes
+      ∙ append_assoc kept (map (moved (length text)) along) (map (moved (length text)) closes)
+      ∙ ap (λ ls. kept ++ ls) (sym (map_both (moved (length text)) along closes))
+
+  first_len : pieces_len (plain_piece ∷ there.pieces) ≡ pieces_len there.pieces
+  first_len = omega (arith, sum_by-cons (λ (piece : Piece). piece.len) plain_piece there.pieces)
+
+  alone : without_last_newline (outcome text).lexemes ++ map (moved (length text)) (lexemes_along 0 there.pieces ++ closing (pieces_len there.pieces) (after_all nothing (plain_piece ∷ there.pieces)))
+      ≡ without_last_newline (outcome text).lexemes ++ map (moved (length text)) (lexemes_along 0 (plain_piece ∷ there.pieces) ++ closing (pieces_len (plain_piece ∷ there.pieces)) (after_all nothing (plain_piece ∷ there.pieces)))
+  alone = ap (λ n. without_last_newline (outcome text).lexemes ++ map (moved (length text)) (lexemes_along 0 there.pieces ++ closing n (after_all nothing (plain_piece ∷ there.pieces)))) (sym first_len)
+
+  by_last : (last : Step) → outcome_of (text ++ more) (closed.pieces' ++ there.pieces) last
+      ≡ record { lexemes = without_last_newline (outcome text).lexemes ++ map (moved (length text)) (outcome_of more (plain_piece ∷ there.pieces) last).lexemes; fault = option_map (moved (length text)) (outcome_of more (plain_piece ∷ there.pieces) last).fault }
+  by_last (Fails fault) =
+      same_outcome (some_before (text ++ more) (closed.pieces' ++ there.pieces) (some_both closed.pieces' there.pieces closed.some) ∙ lexemes)
+      (ap Some (sym (moved_both (length text) (pieces_len (plain_piece ∷ there.pieces)) (pieces_len (closed.pieces' ++ there.pieces)) fault (omega (arith, total, first_len)))))
+  by_last (Stands piece) = same_outcome (to_end ∙ alone) refl
+  by_last Ends = same_outcome (to_end ∙ alone) refl
+
+pub line_cuts_join : LineCutsJoin
+line_cuts_join text more h begins =
+    let here = line_cut text h in
+    let there = begun more plain_piece (plain_step more begins) in
+    joined_is text more (read language text).pieces here begins there
+    ∙ by_last text more (read language text).pieces here begins there there.last
+    ∙ ap (λ (o : Outcome). record { lexemes = without_last_newline (outcome text).lexemes ++ map (moved (length text)) o.lexemes; fault = option_map (moved (length text)) o.fault }) (sym there.is)
+
+pub line_cuts_of_joined : LineCutsOfJoined
+line_cuts_of_joined text more h begins =
+    let here = line_cut text h in
+    let there = begun more plain_piece (plain_step more begins) in
+    let pieces = (read language text).pieces in
+    let rest = after_all margin_alone there.pieces in
+    let ends = ends_with nat_eq more (codes "\n") in
+    line_cut_by (text ++ more) _ there.last (longest text more pieces here begins there)
+    ∙ ap (λ (history : History). is_faultless there.last && is_between_lines history && ends_with nat_eq (text ++ more) (codes "\n")) (past text more pieces here begins there)
+    ∙ ap (λ (between : Bool). is_faultless there.last && between && ends_with nat_eq (text ++ more) (codes "\n"))
+    (between_behind (closed_after (after_all nothing pieces)) rest (all_closed text more pieces here begins there) ∙ sym (between_behind line_alone rest line_settled))
+    ∙ ap (λ (ends : Bool). is_faultless there.last && is_between_lines (behind line_alone rest) && ends) (ends_behind text more (plain_some more begins))
+    ∙ ap (λ (history : History). is_faultless there.last && is_between_lines history && ends_with nat_eq more (codes "\n")) (sym (past_alone text more pieces here begins there))
+    ∙ sym (line_cut_by more (plain_piece ∷ there.pieces) there.last (longest_onward language nothing more plain_piece there.pieces there.last (plain_step more begins) there.longest))

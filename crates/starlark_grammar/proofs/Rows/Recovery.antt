@@ -1,0 +1,148 @@
+-- Worked texts that are lexed on after their faults, closed by computing.
+use Rattle.std.proofs.Common.{◌≡◌, List, refl}
+use Rattle.std.specs.Prelude.{⊤, [], ◌∷◌, codes, true, false}
+use Rattle.starlark_grammar.proofs.Rows.Shapes.{all_definitions, at, single, utf8}
+use Rattle.starlark_grammar.specs.Reading.{outcome}
+use Rattle.starlark_grammar.specs.Tokens.{Fault, Lexeme, Spanned, Newline, Identifier, Indent, Dedent, Word, Comment, FStringStart, InvalidInput, InvalidTab, Indentation, UnfinishedStringLiteral, ReservedKeyword}
+use Rattle.starlark_grammar.specs.Words.{Text}
+use Rattle.starlark_grammar.specs.declared.class.Terminal.TheVariants as terminal
+use Rattle.starlark_grammar.specs.Joining.{begins_plainly, is_between_lines, is_closed, is_closed_from, is_decided, is_line_cut, without_last_newline}
+use Rattle.starlark_grammar.specs.Recovery.{next_line, outcomes, outcomes_from, recovered, restart, stopped_at}
+
+-- the text has these lexemes and these faults
+abbrev Recovers : Text → List Lexeme → List (Spanned Fault) → Type 0
+Recovers text lexemes faults = recovered text ≡ record { lexemes = lexemes; faults = faults }
+
+-- to unfold this is to unfold all that a row computes with
+unfoldable all_recovery : Type 0
+unfolding all_definitions next_line stopped_at restart outcomes_from outcomes recovered
+all_recovery = ⊤
+
+-- no fault, and faults of which the line's rest is left
+rows_1 :
+    Recovers [] (at 0 Newline 0 ∷ []) []
+    × Recovers (codes "x\n") (at 0 (Identifier (codes "x")) 1 ∷ at 1 Newline 2 ∷ at 2 Newline 2 ∷ []) []
+    × Recovers (codes "'a\nx") (at 3 (Identifier (codes "x")) 4 ∷ at 4 Newline 4 ∷ []) (at 0 UnfinishedStringLiteral 2 ∷ [])
+    × Recovers (codes "x $ y\nz") (at 0 (Identifier (codes "x")) 1 ∷ at 6 (Identifier (codes "z")) 7 ∷ at 7 Newline 7 ∷ []) (at 2 (InvalidInput (codes "$")) 3 ∷ [])
+    × Recovers (codes "$") (at 1 Newline 1 ∷ []) (at 0 (InvalidInput (codes "$")) 1 ∷ [])
+    × Recovers (codes "$\n") (at 2 Newline 2 ∷ []) (at 0 (InvalidInput (codes "$")) 1 ∷ [])
+    × Recovers (codes "$\nis\nx") (at 5 (Identifier (codes "x")) 6 ∷ at 6 Newline 6 ∷ []) (at 0 (InvalidInput (codes "$")) 1 ∷ at 2 (ReservedKeyword (codes "is")) 4 ∷ [])
+    × Recovers (codes "(\n$\nx\n") (at 0 (Word terminal.OpeningRound) 1 ∷ at 4 (Identifier (codes "x")) 5 ∷ at 5 Newline 6 ∷ at 6 Newline 6 ∷ []) (at 2 (InvalidInput (codes "$")) 3 ∷ [])
+unfolding all_recovery
+rows_1 = (refl, refl, refl, refl, refl, refl, refl, refl)
+
+-- a literal that takes the rest of the text, an f-string that ends with its line, and tabs
+rows_2 :
+    Recovers (codes "'''a\nx\n") (at 7 Newline 7 ∷ []) (at 0 UnfinishedStringLiteral 7 ∷ [])
+    × Recovers (codes "f'\nx") (at 0 (FStringStart (record { is_raw = false; quote = single; is_triple = false })) 2 ∷ at 3 (Identifier (codes "x")) 4 ∷ at 4 Newline 4 ∷ []) (at 2 UnfinishedStringLiteral 3 ∷ [])
+    × Recovers (codes "x \ty\nz") (at 0 (Identifier (codes "x")) 1 ∷ at 5 (Identifier (codes "z")) 6 ∷ at 6 Newline 6 ∷ []) (at 2 InvalidTab 2 ∷ [])
+    × Recovers (codes "\tx\ny") (at 3 (Identifier (codes "y")) 4 ∷ at 4 Newline 4 ∷ []) (at 0 InvalidTab 0 ∷ [])
+    × Recovers (codes "x\n# c\n\ty\nz") (at 0 (Identifier (codes "x")) 1 ∷ at 9 (Identifier (codes "z")) 10 ∷ at 10 Newline 10 ∷ []) (at 1 InvalidTab 1 ∷ [])
+    × Recovers (codes "# c\n\ty\nz") (at 0 (Comment (codes " c")) 3 ∷ at 7 (Identifier (codes "z")) 8 ∷ at 8 Newline 8 ∷ []) (at 0 InvalidTab 0 ∷ [])
+    × Recovers (codes "a\n  b\n c\nd") (at 0 (Identifier (codes "a")) 1 ∷ at 1 Newline 2 ∷ at 2 Indent 4 ∷ at 4 (Identifier (codes "b")) 5 ∷ at 9 (Identifier (codes "d")) 10 ∷ at 10 Newline 10 ∷ []) (at 5 Indentation 7 ∷ [])
+    × Recovers (utf8 "é\nx") (at 3 (Identifier (codes "x")) 4 ∷ at 4 Newline 4 ∷ []) (at 0 (InvalidInput (utf8 "é")) 2 ∷ [])
+unfolding all_recovery
+rows_2 = (refl, refl, refl, refl, refl, refl, refl, refl)
+
+-- which texts are cuts between lines
+line_cuts_1 :
+    (is_line_cut (codes "x\n") ≡ true)
+    × (is_line_cut (codes "x") ≡ false)
+    × (is_line_cut [] ≡ false)
+    × (is_line_cut (codes "if x:\n  y\n") ≡ true)
+    × (is_line_cut (codes "if x:\n  y\n\n") ≡ true)
+    × (is_line_cut (codes "if x:\n  y\n # c\n") ≡ true)
+    × (is_line_cut (codes "if x:\n  y") ≡ false)
+    × (is_line_cut (codes "if x:\n  y\n ") ≡ false)
+unfolding all_definitions is_between_lines is_line_cut
+line_cuts_1 = (refl, refl, refl, refl, refl, refl, refl, refl)
+
+-- which texts are cuts between lines
+line_cuts_2 :
+    (is_line_cut (codes "f(\n") ≡ false)
+    × (is_line_cut (codes "f(\n)\n") ≡ true)
+    × (is_line_cut (codes "'''\n") ≡ false)
+    × (is_line_cut (codes "f\"{x\n") ≡ false)
+    × (is_line_cut (codes "x\\\n") ≡ false)
+    × (is_line_cut (codes "x $\n") ≡ false)
+    × (is_line_cut (codes "# c\n") ≡ true)
+    × (is_line_cut (codes "# c") ≡ false)
+    × (is_line_cut (codes "\n") ≡ true)
+    × (is_line_cut (codes " x\r\n") ≡ true)
+unfolding all_definitions is_between_lines is_line_cut
+line_cuts_2 = (refl, refl, refl, refl, refl, refl, refl, refl, refl, refl)
+
+-- the text without its closing `Newline` has these lexemes
+abbrev Joins : Text → List Lexeme → Type 0
+Joins text lexemes = without_last_newline (outcome text).lexemes ≡ lexemes
+
+closing_newlines :
+    Joins [] []
+    × Joins (codes "# c\n") (at 0 (Comment (codes " c")) 3 ∷ [])
+    × Joins (codes "x") (at 0 (Identifier (codes "x")) 1 ∷ [])
+    × Joins (codes "x\n") (at 0 (Identifier (codes "x")) 1 ∷ at 1 Newline 2 ∷ [])
+    × Joins (codes "x:\n y\n") (at 0 (Identifier (codes "x")) 1 ∷ at 1 (Word terminal.Colon) 2 ∷ at 2 Newline 3 ∷ at 3 Indent 4 ∷ at 4 (Identifier (codes "y")) 5 ∷ at 5 Newline 6 ∷ at 6 Dedent 6 ∷ [])
+    × Joins (codes " x\n  y\n") (at 0 Indent 1 ∷ at 1 (Identifier (codes "x")) 2 ∷ at 2 Newline 3 ∷ at 3 Indent 5 ∷ at 5 (Identifier (codes "y")) 6 ∷ at 6 Newline 7 ∷ at 7 Dedent 7 ∷ at 7 Dedent 7 ∷ [])
+unfolding all_definitions
+closing_newlines = (refl, refl, refl, refl, refl, refl)
+
+-- lexemes with no `Newline`, and with some
+last_newlines :
+    (without_last_newline [] ≡ [])
+    × (without_last_newline (at 0 Dedent 0 ∷ []) ≡ at 0 Dedent 0 ∷ [])
+    × (without_last_newline (at 0 Newline 1 ∷ at 1 Newline 2 ∷ at 2 Dedent 2 ∷ []) ≡ at 0 Newline 1 ∷ at 2 Dedent 2 ∷ [])
+last_newlines = (refl, refl, refl)
+
+-- which texts begin plainly
+plain_texts :
+    (begins_plainly (codes "x") ≡ true)
+    × (begins_plainly (codes "$\n") ≡ true)
+    × (begins_plainly [] ≡ false)
+    × (begins_plainly (codes "\n") ≡ false)
+    × (begins_plainly (codes "# c\nx") ≡ false)
+    × (begins_plainly (codes " x") ≡ false)
+    × (begins_plainly (codes "\tx") ≡ false)
+    × (begins_plainly (codes "\rx") ≡ false)
+unfolding begins_plainly
+plain_texts = (refl, refl, refl, refl, refl, refl, refl, refl)
+
+-- whether a fault is decided: not at the text's end, and not where no LF ends the text
+decided_rows :
+    (is_decided (codes "$\n") (at 0 (InvalidInput (codes "$")) 1) ≡ true)
+    × (is_decided (codes "'a\n") (at 0 UnfinishedStringLiteral 2) ≡ true)
+    × (is_decided (codes "f'a\nb\n") (at 2 UnfinishedStringLiteral 4) ≡ true)
+    × (is_decided (codes "x\n\ty\n") (at 1 InvalidTab 1) ≡ true)
+    × (is_decided (codes "$\nis\n") (at 0 (InvalidInput (codes "$")) 1) ≡ true)
+    × (is_decided (codes "$") (at 0 (InvalidInput (codes "$")) 1) ≡ false)
+    × (is_decided (codes "$\nx") (at 0 (InvalidInput (codes "$")) 1) ≡ false)
+    × (is_decided (codes "f'a\n") (at 2 UnfinishedStringLiteral 4) ≡ false)
+    × (is_decided (codes "f'a\\\n") (at 2 UnfinishedStringLiteral 5) ≡ false)
+    × (is_decided (codes "\"\"\"a\n") (at 0 UnfinishedStringLiteral 5) ≡ false)
+unfolding is_decided
+decided_rows = (refl, refl, refl, refl, refl, refl, refl, refl, refl, refl)
+
+-- closed texts: cuts between lines, and texts with decided faults and such a cut or nothing after them
+closed_rows :
+    (is_closed [] ≡ true)
+    × (is_closed (codes "x\n") ≡ true)
+    × (is_closed (codes "$\n") ≡ true)
+    × (is_closed (codes "'a\n") ≡ true)
+    × (is_closed (codes "f'a\nb\n") ≡ true)
+    × (is_closed (codes "x\n\ty\n") ≡ true)
+    × (is_closed (codes "(\n$\nx\n") ≡ true)
+    × (is_closed (codes "$\n x\n") ≡ true)
+unfolding all_recovery is_between_lines is_line_cut is_decided is_closed_from is_closed
+closed_rows = (refl, refl, refl, refl, refl, refl, refl, refl)
+
+-- texts that aren't closed: by their end, by a fault at their end, and by what is open there
+open_rows :
+    (is_closed (codes "x") ≡ false)
+    × (is_closed (codes "$") ≡ false)
+    × (is_closed (codes "$\nx") ≡ false)
+    × (is_closed (codes "f'a\n") ≡ false)
+    × (is_closed (codes "f'a\\\n") ≡ false)
+    × (is_closed (codes "\"\"\"a\n") ≡ false)
+    × (is_closed (codes "$\n(\n") ≡ false)
+    × (is_closed (codes "$\nif") ≡ false)
+unfolding all_recovery is_between_lines is_line_cut is_decided is_closed_from is_closed
+open_rows = (refl, refl, refl, refl, refl, refl, refl, refl)

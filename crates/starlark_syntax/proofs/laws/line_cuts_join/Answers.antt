@@ -1,8 +1,0 @@
-use Rattle.starlark_syntax.proofs.LineCuts.{line_cuts_join, line_cuts_of_joined}
-use Rattle.starlark_syntax.proofs.laws.line_cuts_join.Goals as goal
-
-pub returns-clause-outcome : goal.returns-clause-outcome
-returns-clause-outcome c = line_cuts_join
-
-pub returns-clause-cut : goal.returns-clause-cut
-returns-clause-cut c = line_cuts_of_joined

@@ -1,8 +1,0 @@
-use Rattle.starlark_syntax.proofs.NewlineCuts.{last_newline_cuts, newlines_cut}
-use Rattle.starlark_syntax.proofs.laws.newlines_cut.Goals as goal
-
-pub returns-clause-inside : goal.returns-clause-inside
-returns-clause-inside c = newlines_cut
-
-pub returns-clause-last : goal.returns-clause-last
-returns-clause-last c = last_newline_cuts
