@@ -9,6 +9,8 @@ pub mod Items
 pub mod EarlierLexemes
 pub mod Order
 pub mod NextLines
+pub mod RestartReads
+pub mod Reaches
 pub mod Lefts
 pub mod Passes
 pub mod ClosedBlocks
