@@ -20,6 +20,7 @@ use Rattle.starlark_document.specs.Documents.{IsChange, IsRange, SameOutside, ed
 use Rattle.starlark_document.specs.declared.document.Change.{Change}
 use Rattle.starlark_grammar.specs.Tokens as grammar
 use Rattle.starlark_document.specs.Inner.Fronts.{IsFirstSegment}
+use Rattle.starlark_document.specs.Inner.Costs.{IsPaid}
 use Rattle.starlark_document.specs.Inner.Parts.{IsLexedPart, IsPart, IsPlaceIn, IsReplaced}
 use Rattle.starlark_document.specs.Inner.Segments.{AreLaid, AreOpen, Follows, text_in, text_of}
 use Rattle.starlark_document.specs.declared.parts.LexedPart.{LexedPart}
@@ -299,8 +300,8 @@ module _ (segments : List Segment) (part : Part) (text : Text) (end len read : �
 
   -- where it ends, all is lexed
   pub lexing_ends : (more : LexedPart) → (is_last ≡ true → end ≡ length segments) → (is_last ≡ false → end < length segments)
-      → more.segments.items ≡ done ++ (x ∷ []) → more.end ≡ end → more.len ≡ len + x.len → len + x.len ≡ length text → more.len ≤ more.lexed → IsLexedPart segments part more
-  lexing_ends more last inner is_more at_end lens all least = record {
+      → more.segments.items ≡ done ++ (x ∷ []) → more.end ≡ end → more.len ≡ len + x.len → len + x.len ≡ length text → more.len ≤ more.cost.lexed → IsPaid more.cost → IsLexedPart segments part more
+  lexing_ends more last inner is_more at_end lens all least paid = record {
     order = omega (arith, is.order, at_end);
     within = omega (arith, is.within, at_end);
     len = lens ∙ len_more ∙ ap (λ (xs : List Segment). length (text_of xs)) (sym is_more);
@@ -308,6 +309,7 @@ module _ (segments : List Segment) (part : Part) (text : Text) (end len read : �
     inner = λ less. subst (AreOpen (nat_eq part.first.index 0)) (sym is_more) (by_inner is_last refl (omega (arith, less, at_end)));
     last = λ e. subst (AreLaid (nat_eq part.first.index 0)) (sym is_more) (by_last is_last refl (sym at_end ∙ e));
     least = least;
+    paid = paid;
   }
     where
       none_left : drop x.len is.rest ≡ []
@@ -431,8 +433,8 @@ module _ (segments : List Segment) (new : Text) (part : Part) (lexed : LexedPart
     old_end_fits = omega (arith, new_len, old_len)
 
     pub replaced_change : (items : List Segment) (change : Change) → items ≡ splice segments part.first.index lexed.end lexed.segments.items → change.begin ≡ part.first.begin → change.new_end ≡ part.first.begin + lexed.len
-        → change.old_end ≡ part.first.begin + lexed.len + length (text_of segments) - length new → change.lexed ≡ lexed.lexed → IsChange (text_of segments) (text_of items) change
-    replaced_change items change is_items begin new_end old_end read = record {
+        → change.old_end ≡ part.first.begin + lexed.len + length (text_of segments) - length new → change.lexed ≡ lexed.cost.lexed → change.starts ≡ lexed.cost.starts → change.reads ≡ lexed.cost.reads → IsChange (text_of segments) (text_of items) change
+    replaced_change items change is_items begin new_end old_end read starts reads = record {
       order = omega (arith, begin, new_end);
       within = omega (arith, same_len, new_end, new_end_fits);
       lengths = omega (arith, same_len, new_end, old_end, old_end_fits);
@@ -441,6 +443,7 @@ module _ (segments : List Segment) (new : Text) (part : Part) (lexed : LexedPart
       faults = outside_at _ _ _ _ _ _ _ _ _ _ begin_is old_is new_is (ap (λ (xs : List Segment). faults_of (text_of xs)) (sym old_parts)) (ap (λ (xs : List Segment). faults_of (text_of xs)) (sym is_items))
           (faults_outside (take part.first.index segments) (slice_range segments part.first.index lexed.end) lexed.segments.items (drop lexed.end segments) old_laid replaced_laid);
       lexed = omega (arith, begin, new_end, read, is.least);
+      reads = omega (arith, read, starts, reads, is.paid);
     }
       where
         same_len : length (text_of items) ≡ length new

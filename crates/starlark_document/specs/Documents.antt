@@ -11,6 +11,7 @@ use Rattle.starlark_document.specs.declared.document.EditError.TheVariants.{BadR
 use Rattle.starlark_grammar.specs.Tokens as grammar
 use Rattle.starlark_grammar.specs.Words.{Text}
 use Rattle.starlark_syntax.specs.Recovery.{recovered}
+use Rattle.starlark_syntax.specs.RecoveringLexer.{most_reads_on}
 use Rattle.starlark_syntax.specs.declared.error.kinds.ErrorKind.{ErrorKind}
 use Rattle.starlark_syntax.specs.declared.error.kinds.ErrorKind.TheVariants.{Parser}
 use Rattle.starlark_syntax.specs.declared.error.kinds.ParserMessage.TheVariants.{Lexeme}
@@ -89,7 +90,8 @@ pub record SameOutside {A : Type 0} (begin first_end second_end : ℕ) (first se
   pub all_second : AllInside begin second_end second_inside
 
 -- Outside of the ranges of a change, the lexemes and faults of the new text are those of the old one, and what is after
--- them has moved with the text. At least the bytes of the new range were lexed.
+-- them has moved with the text. At least the bytes of the new range were lexed, and there were at most so many reads for the
+-- bytes that were lexed and the starts of lexing.
 pub record IsChange (old new : Text) (change : Change) : Type 0 where
   pub order : change.begin ≤ change.new_end
   pub within : change.new_end ≤ length new
@@ -97,6 +99,7 @@ pub record IsChange (old new : Text) (change : Change) : Type 0 where
   pub lexemes : SameOutside change.begin change.old_end change.new_end (lexemes_of old) (lexemes_of new)
   pub faults : SameOutside change.begin change.old_end change.new_end (faults_of old) (faults_of new)
   pub lexed : change.new_end ≤ change.begin + change.lexed
+  pub reads : change.reads ≤ most_reads_on change.lexed change.starts
 
 -- what a call of an iterator over lexemes returns, and what is left after it
 pub record IsNextLexeme (old : List (grammar.Spanned TokenView)) (answer : Option (ℕ × Bor Token × ℕ)) (new : List (grammar.Spanned TokenView)) : Type 0 where

@@ -63,6 +63,10 @@ pub struct Change {
     pub new_end: usize,
     /// Number of bytes that were given to the lexer. A byte that was lexed twice counts twice.
     pub lexed: usize,
+    /// How often lexing started: with each text that was given to the lexer, and after each fault.
+    pub starts: usize,
+    /// Number of reads of bytes: at most `21 * (lexed + starts)`.
+    pub reads: u64,
 }
 
 /// An edit: the bytes of a range are replaced by a text.
@@ -141,7 +145,9 @@ fn replace(
         begin: first.begin,
         old_end: new_end + old_len - len,
         new_end,
-        lexed: lexed.lexed,
+        lexed: lexed.cost.lexed,
+        starts: lexed.cost.starts,
+        reads: lexed.cost.reads,
     };
     segments.splice(first.index..lexed.end, lexed.segments)?;
     Ok(change)

@@ -9,7 +9,7 @@ ghost use Rattle.starlark_document.specs.Inner.Segments.{IsPlaced};
 ghost use Rattle.starlark_grammar.specs.Margins.{is_blank, is_lf};
 ghost use Rattle.starlark_grammar.specs.Tokens.{Fault, Spanned};
 ghost use Rattle.starlark_grammar.specs.Words.{Text};
-ghost use Rattle.starlark_syntax.specs.RecoveringLexer.{left_after};
+ghost use Rattle.starlark_syntax.specs.RecoveringLexer.{is_memory, left_after};
 ghost use Rattle.starlark_syntax.specs.Exceptions.{IsException};
 ghost use Rattle.starlark_syntax.specs.Lexer.{Answers, AnswersBetween, AnswersWithin};
 ghost use Rattle.starlark_token.specs.Lexemes.{lexeme_view};
@@ -68,7 +68,8 @@ fn is_dedent_token(token: &Token) -> bool
 
 /// Whether an item of a lexer is a `Dedent`. Fails where the lexer ran out of memory.
 fn is_dedent(item: &Lexeme) -> Result<bool, AllocError>
-    ensures { IfOk result (λ is. (file : SourceFile) (next : LexerItem) → Answers file next item.now → is ≡ is_dedent_item next) }
+    ensures dedent { IfOk result (λ is. (file : SourceFile) (next : LexerItem) → Answers file next item.now → is ≡ is_dedent_item next) }
+    ensures going { OnOk result (is_memory (Some item.now) ≡ false) }
 {
     match item {
         Ok((_, token, _)) => Ok(is_dedent_token(token)),
@@ -149,6 +150,7 @@ impl Front {
     /// of memory.
     pub fn ends_before(&self, item: &Lexeme) -> Result<bool, AllocError>
         ensures cut { IfOk result (λ ends. ends ≡ true → self.now.is_cut ≡ true) }
+        ensures going { IfOk result (λ ends. ends ≡ true → is_memory (Some item.now) ≡ false) }
         ensures ends { IfOk result (λ ends. ends ≡ true → (file : SourceFile) (next : LexerItem) → Answers file next item.now → is_dedent_item next ≡ false) }
         ensures goes { IfOk result (λ ends. ends ≡ false → self.now.is_cut ≡ true → (file : SourceFile) (next : LexerItem) → Answers file next item.now → is_dedent_item next ≡ true) }
     {
@@ -167,6 +169,7 @@ impl Front {
         requires cut { self.old.is_cut ≡ true → (file : SourceFile) (next : LexerItem) → Answers file next item → is_dedent_item next ≡ true }
         ensures front { OnOk result ((file : SourceFile) (next : LexerItem) (items : List LexerItem) → Answers file next item → IsFront text.now items self.old → IsFront text.now (items ++ (next ∷ [])) self.new) }
         ensures going { OnOk result ((left : List LexerItem) → left_after (Some item) left ≡ drop 1 left) }
+        ensures memory { OnOk result (is_memory (Some item) ≡ false) }
     {
         match item {
             Ok(lexeme) => self.take_lexeme(text, lexeme),

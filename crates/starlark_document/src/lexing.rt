@@ -1,6 +1,7 @@
 //! Makes segments: lexes a text from the start of a segment on.
 
-ghost use Rattle.std.specs.Prelude.{◌≡◌, ◌≤◌, ◌<◌, ◌^◌, IfOk, IfSome, IsSome, count_by, length, map, take, true};
+ghost use Rattle.std.specs.Prelude.{◌≡◌, ◌≤◌, ◌<◌, ◌+◌, ◌^◌, IfOk, IfSome, IsSome, count_by, length, map, take, true};
+ghost use Rattle.starlark_document.specs.Inner.Costs.{IsPaid, cost_sum};
 ghost use Rattle.starlark_document.specs.Inner.Fronts.{IsFirstSegment, IsFront, last_newline_at, without_newline};
 ghost use Rattle.std.specs.Str.{IsCharBoundary};
 ghost use Rattle.starlark_document.specs.Inner.Segments.{text_in};
@@ -15,6 +16,62 @@ use starlark_syntax::dialect::Dialect;
 use starlark_syntax::lexer::RecoveringLexer;
 use std::alloc::{AllocError, Global};
 use std::boxed::Box;
+
+/// What lexing took.
+#[derive(Clone, Copy)]
+pub struct LexingCost {
+    /// Number of bytes that were given to the lexer. A byte that was lexed twice counts twice.
+    pub lexed: usize,
+    /// How often lexing started: with each text that was given, and after each fault.
+    pub starts: usize,
+    /// Number of reads of bytes.
+    pub reads: u64,
+}
+
+impl LexingCost {
+    /// What lexing nothing takes.
+    pub fn none() -> LexingCost
+        ensures { result ≡ record { lexed = 0; starts = 0; reads = 0 } }
+    {
+        LexingCost {
+            lexed: 0,
+            starts: 0,
+            reads: 0,
+        }
+    }
+
+    /// What this lexing and another one took. The numbers saturate.
+    pub fn and(self, other: LexingCost) -> LexingCost
+        ensures { result ≡ cost_sum self other }
+    {
+        LexingCost {
+            lexed: self.lexed.saturating_add(other.lexed),
+            starts: self.starts.saturating_add(other.starts),
+            reads: self.reads.saturating_add(other.reads),
+        }
+    }
+}
+
+/// What a lexer of a text has taken so far.
+fn cost_of(lexer: &RecoveringLexer<'_>, text: &str) -> LexingCost
+    requires { lexer.now.fault_count < 2 ^ 32 }
+    ensures { result ≡ record { lexed = length text.now; starts = lexer.now.fault_count + 1; reads = lexer.now.reads } }
+{
+    LexingCost {
+        lexed: text.len(),
+        starts: lexer.fault_count() + 1,
+        reads: lexer.reads(),
+    }
+}
+
+/// The outcome of lexing a text for its first segment.
+#[derive(Drop)]
+pub struct Attempt {
+    /// The segment; `None` where none can follow the text.
+    pub segment: Option<Segment>,
+    /// What lexing it took.
+    pub cost: LexingCost,
+}
 
 /// Index of the last `Newline` of a list of lexemes, or its length if it has none.
 fn last_newline(lexemes: &[PlacedToken]) -> usize
@@ -111,27 +168,35 @@ fn whole_segment(
 
 /// Lexes the first segment of a text, which ends where the text can be cut, or with the text.
 ///
-/// The text is the document's last, or other segments follow it. `None` where none can follow it:
-/// then it is to be lexed with more text.
+/// The text is the document's last, or other segments follow it. Where none can follow it, there is
+/// no segment: then it is to be lexed with more text.
 pub fn lex_segment(
     alloc: Global,
     file: &CodeMap,
     text: &str,
     is_last: bool,
     least_len: usize,
-) -> Result<Option<Segment>, AllocError>
+) -> Result<Attempt, AllocError>
     requires fits { length text.now < 2 ^ 32 }
-    ensures segment { IfOk result (λ found. IfSome found (IsFirstSegment text.now is_last)) }
-    ensures last { IfOk result (λ found. is_last ≡ true → IsSome found) }
+    ensures segment { IfOk result (λ found. IfSome found.segment (IsFirstSegment text.now is_last)) }
+    ensures last { IfOk result (λ found. is_last ≡ true → IsSome found.segment) }
+    ensures lexed { IfOk result (λ found. found.cost.lexed ≡ length text.now) }
+    ensures reads { IfOk result (λ found. IsPaid found.cost) }
 {
     let lexer = RecoveringLexer::new(alloc, text, &Dialect::Standard, file.dupe()?);
     let mut lexer = lexer.map_err(|_| AllocError)?;
     let mut front = Front::new(alloc, least_len);
     while let Some(item) = lexer.next() {
         if front.ends_before(&item)? {
-            return Ok(Some(cut_segment(alloc, text, front)?));
+            return Ok(Attempt {
+                segment: Some(cut_segment(alloc, text, front)?),
+                cost: cost_of(&lexer, text),
+            });
         }
         front.take(text, item)?;
     }
-    whole_segment(alloc, text, front, is_last)
+    Ok(Attempt {
+        segment: whole_segment(alloc, text, front, is_last)?,
+        cost: cost_of(&lexer, text),
+    })
 }

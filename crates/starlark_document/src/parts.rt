@@ -9,7 +9,7 @@ ghost use Rattle.starlark_document.specs.Inner.Segments.{AreLaid, HaveLens, text
 ghost use Rattle.starlark_grammar.specs.Words.{Text};
 
 use crate::fronts::begins_plainly;
-use crate::lexing::lex_segment;
+use crate::lexing::{LexingCost, lex_segment};
 use crate::segments::{Segment, SegmentPlace, segment_at};
 use starlark_syntax::codemap::CodeMap;
 use std::alloc::{AllocError, Global};
@@ -36,8 +36,8 @@ pub struct LexedPart {
     pub segments: Vec<Segment>,
     /// Number of bytes of the new segments.
     pub len: usize,
-    /// Number of bytes that were given to the lexer. A byte that was lexed twice counts twice.
-    pub lexed: usize,
+    /// What lexing them took.
+    pub cost: LexingCost,
 }
 
 /// The segment that byte `to` ends in, from a segment at or before it on; else the last one.
@@ -166,14 +166,16 @@ pub fn lex_part(
         end: part.end,
         segments: Vec::new(alloc),
         len: 0,
-        lexed: 0,
+        cost: LexingCost::none(),
     };
     let mut more = 1;
     loop {
         let is_last = lexed.end == segments.len();
         let rest = &text.as_str()[lexed.len..];
-        lexed.lexed = lexed.lexed.saturating_add(rest.len());
-        match lex_segment(alloc, file, rest, is_last, least_len)? {
+        let attempt = lex_segment(alloc, file, rest, is_last, least_len)?;
+        lexed.cost = lexed.cost.and(attempt.cost);
+        let found = attempt.segment;
+        match found {
             Some(segment) => {
                 lexed.len += segment.len;
                 lexed.segments.push(segment)?;

@@ -1,5 +1,5 @@
 -- What is left to a recovering lexer before and after each answer of the lexer in it.
-use Rattle.std.proofs.Common.{◌≡◌, ℕ, ◌+◌, ◌-◌, ◌<◌, ◌≤◌, ◌^◌, Bool, true, false, List, [], ◌∷◌, map, length, drop, refl, ap, sym, subst, ◌∙◌, arith, Ok, Err, None, Some, IfSome, slice_get, ◌⊎◌, inl, inr, ◌||◌}
+use Rattle.std.proofs.Common.{◌≡◌, ℕ, ◌+◌, ◌-◌, ◌*◌, ◌<◌, ◌≤◌, ◌^◌, Bool, true, false, List, [], ◌∷◌, map, length, drop, refl, ap, sym, subst, ◌∙◌, arith, Ok, Err, None, Some, IfSome, slice_get, ◌⊎◌, inl, inr, ◌||◌}
 use Rattle.std.proofs.lemmas.Bool.{cases_lt}
 use Rattle.std.proofs.lemmas.List.{length-drop}
 use Rattle.std.proofs.lemmas.Str.{IsCharBoundary-from_rest, IsCharBoundary-start}
@@ -12,12 +12,15 @@ use Rattle.starlark_grammar.specs.Tokens.{Fault, Spanned, moved}
 use Rattle.starlark_grammar.specs.Words.{Text}
 use Rattle.starlark_syntax.proofs.Items.{all_moved_by_none, all_moved_twice, given_counts, next_left, none_left, refused_counts}
 use Rattle.starlark_syntax.specs.Inner.Passed.{HasPassed}
-use Rattle.starlark_syntax.specs.Inner.Rests.{IsRest, left_of, moved_item}
+use Rattle.starlark_syntax.specs.Inner.Rests.{HasReadBefore, IsRest, left_of, moved_item}
+use Rattle.starlark_syntax.proofs.Recovery.{restarts_later}
+use Rattle.starlark_words.specs.Inner.Reads.{AreReads, more_reads}
+use Rattle.starlark_grammar.specs.Reading.{outcome}
 use Rattle.starlark_syntax.specs.Recovery.{restart}
-use Rattle.starlark_syntax.specs.RecoveringLexer.{RecoveringView, all_items}
+use Rattle.starlark_syntax.specs.RecoveringLexer.{AreReadsOn, HasReadOn, RecoveringView, all_items}
 use Rattle.starlark_syntax.specs.declared.passed_faults.Passed.{Passed}
 use Rattle.starlark_syntax.specs.Exceptions.{IsException}
-use Rattle.starlark_syntax.specs.Lexer.{AnswersNext, LexerView, is_ended_by, yielded_by}
+use Rattle.starlark_syntax.specs.Lexer.{AnswersNext, HasReadFor, LexerView, is_ended_by, yielded_by}
 use Rattle.starlark_token.specs.TextItems.{Given, LexerItem, Refused, items}
 use Rattle.starlark_syntax.specs.declared.error.kinds.ErrorKind.{ErrorKind}
 use Rattle.starlark_text.specs.declared.or_memory.OrMemory.{OrMemory}
@@ -128,11 +131,28 @@ rest_at_start text file rest utf8 is short =
     by (inl less) = less
     by (inr more) = absurd (short more)
 
-abbrev view_of : Text → ℕ → LexerView → RecoveringView
-view_of text begin rest = record { text = text; code_map = rest.code_map; left = left_of begin rest }
+-- the lexer as its users see it
+abbrev view_of : Text → ℕ → LexerView → (fault_count earlier : ℕ) → RecoveringView
+view_of text begin rest fault_count earlier = record {
+  text = text;
+  code_map = rest.code_map;
+  left = left_of begin rest;
+  fault_count = fault_count;
+  has_ended = rest.has_ended;
+  reads = more_reads earlier rest.reads;
+}
 
-pub view_at_start : (text : Text) (file : SourceFile) (rest : LexerView) → rest ≡ record { text = text; code_map = file; yielded_count = 0; has_ended = false; reads = 0 } → view_of text 0 rest ≡ record { text = text; code_map = file; left = all_items text }
-view_at_start text file rest is = ap (view_of text 0) is ∙ ap (λ l. record { text = text; code_map = file; left = l }) (left_at_start text file)
+pub view_at_start : (text : Text) (file : SourceFile) (rest : LexerView) → rest ≡ record { text = text; code_map = file; yielded_count = 0; has_ended = false; reads = 0 }
+    → view_of text 0 rest 0 0 ≡ record { text = text; code_map = file; left = all_items text; fault_count = 0; has_ended = false; reads = 0 }
+view_at_start text file rest is =
+    ap (λ (v : LexerView). view_of text 0 v 0 0) is ∙ ap (λ (l : List LexerItem). record { text = text; code_map = file; left = l; fault_count = 0; has_ended = false; reads = 0 }) (left_at_start text file)
+
+pub read_at_start : HasReadBefore 0 0 0
+read_at_start = record { few = omega arith; first = λ none. refl; least = omega arith; most = omega arith }
+
+-- the lexer after an answer, which leaves these items and the earlier reads
+abbrev view_after : Text → LexerView → List LexerItem → (fault_count : ℕ) (has_ended : Bool) (reads : ℕ) → RecoveringView
+view_after text old left fault_count has_ended reads = record { text = text; code_map = old.code_map; left = left; fault_count = fault_count; has_ended = has_ended; reads = reads }
 
 -- Each answer of the lexer of the rest
 
@@ -144,6 +164,7 @@ pub record HasAnswered (old : LexerView) (answer : Answer) (new : LexerView) : T
   pub ended : old.has_ended ≡ true → AnswersNext old.code_map None answer
   pub item : old.has_ended ≡ false → AnswersNext old.code_map (slice_get (items old.text) old.yielded_count) answer
   pub after : new ≡ record old { yielded_count = old.yielded_count + yielded_by answer; has_ended = old.has_ended || is_ended_by answer; reads = new.reads }
+  pub reads : old.has_ended ≡ false → HasReadFor old.text answer new.reads
 
 -- a lexer that answers something had not ended
 goes_on : (old : LexerView) (answer : Result (ℕ × Token × ℕ) (OrMemory (Diagnosed ErrorKind))) → (old.has_ended ≡ true → AnswersNext old.code_map None (Some answer)) → old.has_ended ≡ false
@@ -168,11 +189,16 @@ lexeme_item text begin old new found h =
     let is = lexeme_is old new found h in
     subst (λ (l : List LexerItem). AnswersNext old.code_map (slice_get l 0) (Some (Ok (begin + found.0, found.1, begin + found.2)))) (sym (left_at_lexeme begin old (lexeme_view found) new.reads is.0 is.1)) refl
 
-pub lexeme_after : (text : Text) (begin : ℕ) (old new : LexerView) (found : ℕ × Token × ℕ) → HasAnswered old (Some (Ok found)) new
-    → view_of text begin new ≡ record { text = text; code_map = old.code_map; left = drop 1 (left_of begin old) }
-lexeme_after text begin old new found h =
+pub lexeme_after : (text : Text) (begin n earlier : ℕ) (old new : LexerView) (found : ℕ × Token × ℕ) → HasAnswered old (Some (Ok found)) new
+    → view_of text begin new n earlier ≡ view_after text old (drop 1 (left_of begin old)) (n + 0) (old.has_ended || false) (more_reads earlier new.reads)
+lexeme_after text begin n earlier old new found h =
     let is = lexeme_is old new found h in
-    ap (view_of text begin) is.2 ∙ sym (ap (λ (l : List LexerItem). record { text = text; code_map = old.code_map; left = drop 1 l }) (left_at_lexeme begin old (lexeme_view found) new.reads is.0 is.1))
+    let same : n ≡ n + 0 = omega arith in
+    let on : false ≡ (old.has_ended || false) = sym (ap (λ b. b || false) is.0) in
+    ap (λ (v : LexerView). view_of text begin v n earlier) is.2
+    ∙ sym (ap (λ (l : List LexerItem). view_after text old (drop 1 l) n false (more_reads earlier new.reads)) (left_at_lexeme begin old (lexeme_view found) new.reads is.0 is.1))
+    ∙ ap (λ (m : ℕ). view_after text old (drop 1 (left_of begin old)) m false (more_reads earlier new.reads)) same
+    ∙ ap (λ (b : Bool). view_after text old (drop 1 (left_of begin old)) (n + 0) b (more_reads earlier new.reads)) on
 
 pub lexeme_inside : (text : Text) (begin : ℕ) (old new : LexerView) (found : ℕ × Token × ℕ) → IsRest text begin old → HasAnswered old (Some (Ok found)) new → IsRest text begin new
 lexeme_inside text begin old new found inside h =
@@ -188,23 +214,27 @@ nothing_left text begin old new inside h = by old.has_ended refl
     by true is = left_ended begin old is
     by false is = left_at_end text begin old inside is (no_item old.code_map (slice_get (items old.text) old.yielded_count) (h.item is))
 
+or_false : (b : Bool) → (b || false) ≡ b
+or_false true = refl
+or_false false = refl
+
 same_after_nothing : (old new : LexerView) → new ≡ record old { yielded_count = old.yielded_count + 0; has_ended = old.has_ended || false; reads = new.reads } → new ≡ record old { reads = new.reads }
 same_after_nothing old new is =
     let count : old.yielded_count + 0 ≡ old.yielded_count = omega arith in
     is ∙ ap (λ n. record old { yielded_count = n; has_ended = old.has_ended || false; reads = new.reads }) count ∙ ap (λ b. record old { has_ended = b; reads = new.reads }) (or_false old.has_ended)
-  where
-    or_false : (b : Bool) → (b || false) ≡ b
-    or_false true = refl
-    or_false false = refl
 
 pub nothing_item : (text : Text) (begin : ℕ) (old new : LexerView) → IsRest text begin old → HasAnswered old None new → AnswersNext old.code_map (slice_get (left_of begin old) 0) None
 nothing_item text begin old new inside h = subst (λ (l : List LexerItem). AnswersNext old.code_map (slice_get l 0) None) (sym (nothing_left text begin old new inside h)) tt
 
-pub nothing_after : (text : Text) (begin : ℕ) (old new : LexerView) → IsRest text begin old → HasAnswered old None new → view_of text begin new ≡ record { text = text; code_map = old.code_map; left = drop 1 (left_of begin old) }
-nothing_after text begin old new inside h =
+pub nothing_after : (text : Text) (begin n earlier : ℕ) (old new : LexerView) → IsRest text begin old → HasAnswered old None new
+    → view_of text begin new n earlier ≡ view_after text old (drop 1 (left_of begin old)) (n + 0) (old.has_ended || false) (more_reads earlier new.reads)
+nothing_after text begin n earlier old new inside h =
     let none = nothing_left text begin old new inside h in
-    ap (view_of text begin) (same_after_nothing old new h.after)
-    ∙ ap (λ (l : List LexerItem). record { text = text; code_map = old.code_map; left = l }) (none ∙ sym (ap (λ (l : List LexerItem). drop 1 l) none))
+    let same : n ≡ n + 0 = omega arith in
+    ap (λ (v : LexerView). view_of text begin v n earlier) (same_after_nothing old new h.after)
+    ∙ ap (λ (l : List LexerItem). view_after text old l n old.has_ended (more_reads earlier new.reads)) (none ∙ sym (ap (λ (l : List LexerItem). drop 1 l) none))
+    ∙ ap (λ (m : ℕ). view_after text old (drop 1 (left_of begin old)) m old.has_ended (more_reads earlier new.reads)) same
+    ∙ ap (λ (b : Bool). view_after text old (drop 1 (left_of begin old)) (n + 0) b (more_reads earlier new.reads)) (sym (or_false old.has_ended))
 
 pub nothing_inside : (text : Text) (begin : ℕ) (old new : LexerView) → IsRest text begin old → HasAnswered old None new → IsRest text begin new
 nothing_inside text begin old new inside h =
@@ -223,10 +253,16 @@ memory_item text begin old new refused h =
     let item = some_item old.code_map (slice_get (items old.text) old.yielded_count) (Err refused) (h.item goes) in
     subst (λ (i : Option LexerItem). AnswersNext old.code_map i (Some (Err Memory))) (sym (left_some begin old item.0 goes item.1)) tt
 
-pub memory_after : (text : Text) (begin : ℕ) (old new : LexerView) (refused : OrMemory (Diagnosed ErrorKind)) → HasAnswered old (Some (Err refused)) new → view_of text begin new ≡ record { text = text; code_map = old.code_map; left = [] }
-memory_after text begin old new refused h =
-    ap (λ (l : List LexerItem). record { text = text; code_map = new.code_map; left = l }) (left_ended begin new (error_ends old new refused h))
-    ∙ ap (λ (v : LexerView). record { text = text; code_map = v.code_map; left = [] }) h.after
+pub memory_after : (text : Text) (begin n earlier : ℕ) (old new : LexerView) (refused : OrMemory (Diagnosed ErrorKind)) → HasAnswered old (Some (Err refused)) new
+    → view_of text begin new n earlier ≡ view_after text old [] (n + 0) (old.has_ended || true) (more_reads earlier new.reads)
+memory_after text begin n earlier old new refused h =
+    let goes = goes_on old (Err refused) h.ended in
+    let same : n ≡ n + 0 = omega arith in
+    let ended : new.has_ended ≡ (old.has_ended || true) = error_ends old new refused h ∙ sym (ap (λ b. b || true) goes) in
+    ap (λ (l : List LexerItem). record { text = text; code_map = new.code_map; left = l; fault_count = n; has_ended = new.has_ended; reads = more_reads earlier new.reads }) (left_ended begin new (error_ends old new refused h))
+    ∙ ap (λ (f : SourceFile). record { text = text; code_map = f; left = []; fault_count = n; has_ended = new.has_ended; reads = more_reads earlier new.reads }) (ap (λ (v : LexerView). v.code_map) h.after)
+    ∙ ap (λ (m : ℕ). view_after text old [] m new.has_ended (more_reads earlier new.reads)) same
+    ∙ ap (λ (b : Bool). view_after text old [] (n + 0) b (more_reads earlier new.reads)) ended
 
 pub memory_inside : (text : Text) (begin : ℕ) (old new : LexerView) (refused : OrMemory (Diagnosed ErrorKind)) → IsRest text begin old → HasAnswered old (Some (Err refused)) new → IsRest text begin new
 memory_inside text begin old new refused inside h = record {
@@ -251,6 +287,11 @@ pub record WasPassed (text : Text) (begin : ℕ) (old : LexerView) (passed : Pas
   pub exception : IsException old.code_map (moved begin fault) passed.fault
   pub file : passed.rest.code_map ≡ old.code_map
   pub inside : IsRest text passed.begin passed.rest
+  pub going : old.has_ended ≡ false
+  pub goes_on : passed.rest.has_ended ≡ false
+  pub unread : passed.rest.reads ≡ 0
+  pub from : passed.begin ≡ begin + restart old.text fault
+  pub has : (outcome old.text).fault ≡ Some fault
 
 pub was_passed : (text : Text) (begin : ℕ) (old new : LexerView) (exception : Diagnosed ErrorKind) (passed : Passed) → IsRest text begin old → HasAnswered old (Some (Err (Error exception))) new
     → ((file : SourceFile) (fault : Spanned Fault) → IsException file fault exception → HasPassed file text begin fault passed) → WasPassed text begin old passed
@@ -274,15 +315,70 @@ was_passed text begin old new exception passed inside h pass =
         fits = inside.fits;
         yielded = λ goes. let none : passed.rest.yielded_count ≡ 0 = ap (λ (v : LexerView). v.yielded_count) rest in omega (arith, none);
       };
+      going = is.0;
+      goes_on = ap (λ (v : LexerView). v.has_ended) rest;
+      unread = ap (λ (v : LexerView). v.reads) rest;
+      from = from;
+      has = (refused_counts old.text old.yielded_count fault is.1.1).0;
     }
 
 pub passed_item : (text : Text) (begin : ℕ) (old : LexerView) (passed : Passed) → WasPassed text begin old passed → AnswersNext old.code_map (slice_get (left_of begin old) 0) (Some (Err (Error passed.fault)))
 passed_item text begin old passed was = subst (λ (l : List LexerItem). AnswersNext old.code_map (slice_get l 0) (Some (Err (Error passed.fault)))) (sym was.left) was.exception
 
-pub passed_after : (text : Text) (begin : ℕ) (old : LexerView) (passed : Passed) → WasPassed text begin old passed → view_of text passed.begin passed.rest ≡ record { text = text; code_map = old.code_map; left = drop 1 (left_of begin old) }
-passed_after text begin old passed was =
-    ap (λ (f : SourceFile). record { text = text; code_map = f; left = left_of passed.begin passed.rest }) was.file
-    ∙ sym (ap (λ (l : List LexerItem). record { text = text; code_map = old.code_map; left = drop 1 l }) was.left)
+pub passed_after : (text : Text) (begin n earlier : ℕ) (old : LexerView) (passed : Passed) → WasPassed text begin old passed
+    → view_of text passed.begin passed.rest (n + 1) earlier ≡ view_after text old (drop 1 (left_of begin old)) (n + 1) (old.has_ended || false) (more_reads earlier passed.rest.reads)
+passed_after text begin n earlier old passed was =
+    let on : passed.rest.has_ended ≡ (old.has_ended || false) = was.goes_on ∙ sym (ap (λ b. b || false) was.going) in
+    ap (λ (f : SourceFile). record { text = text; code_map = f; left = left_of passed.begin passed.rest; fault_count = n + 1; has_ended = passed.rest.has_ended; reads = more_reads earlier passed.rest.reads }) was.file
+    ∙ sym (ap (λ (l : List LexerItem). view_after text old (drop 1 l) (n + 1) passed.rest.has_ended (more_reads earlier passed.rest.reads)) was.left)
+    ∙ ap (λ (b : Bool). view_after text old (drop 1 (left_of begin old)) (n + 1) b (more_reads earlier passed.rest.reads)) on
+
+-- Reads
+
+-- the reads so far, by those before byte `begin` and those of the lexer from there on
+on_reads : (text : Text) (begin n earlier reads : ℕ) → begin ≤ length text → length text < 2 ^ 32 → HasReadBefore begin n earlier → reads ≤ 16 * (length text - begin + 1) → AreReadsOn text n (more_reads earlier reads)
+on_reads text begin n earlier reads inside fits before few = record {
+  few = omega (arith, inside, before.few);
+  least = omega (arith, inside, fits, before.few, before.least);
+  most = omega (arith, inside, before.most, few);
+}
+
+pub lexeme_reads : (text : Text) (begin n earlier : ℕ) (old new : LexerView) (found : ℕ × Token × ℕ) → IsRest text begin old → HasReadBefore begin n earlier → HasAnswered old (Some (Ok found)) new
+    → AreReadsOn text n (more_reads earlier new.reads)
+lexeme_reads text begin n earlier old new found inside before h =
+    let goes = goes_on old (Ok found) h.ended in
+    let few = h.reads goes in
+    let len : length old.text ≡ length text - begin = ap length inside.same ∙ length-drop begin text in
+    on_reads text begin n earlier new.reads inside.boundary.0 inside.fits before (omega (arith, few, len))
+
+pub nothing_reads : (text : Text) (begin n earlier : ℕ) (old new : LexerView) → IsRest text begin old → HasReadBefore begin n earlier → HasAnswered old None new → old.has_ended ≡ false
+    → HasReadOn text n None (more_reads earlier new.reads)
+nothing_reads text begin n earlier old new inside before h goes =
+    let few = h.reads goes in
+    let fits = inside.fits in
+    let len : length old.text ≡ length text - begin = ap length inside.same ∙ length-drop begin text in
+    (on_reads text begin n earlier new.reads inside.boundary.0 inside.fits before (omega (arith, few.1, len)), λ none. let first = before.first none in omega (arith, first, few.0, len, fits))
+
+-- the reads before the place where lexing goes on after a fault
+pub passed_reads : (text : Text) (begin n earlier more now : ℕ) (old new : LexerView) (exception : Diagnosed ErrorKind) (passed : Passed) → IsRest text begin old → HasReadBefore begin n earlier → HasAnswered old (Some (Err (Error exception))) new
+    → WasPassed text begin old passed → (begin ≤ passed.begin) × AreReads 1 (5 * (passed.begin - begin + 1)) 0 passed.reads → more ≡ more_reads new.reads passed.reads → now ≡ more_reads earlier more
+    → HasReadBefore passed.begin (n + 1) now
+passed_reads text begin n earlier more now old new exception passed inside before h was reads more_is now_is =
+    let few = (h.reads was.going).1 was.fault was.has in
+    let later = restarts_later old.text was.fault was.has in
+    let fits = inside.fits in
+    let within = was.inside.boundary.0 in
+    record {
+      few = omega (arith, before.few, was.from, later.0);
+      first = λ none. absurd (omega (arith, none));
+      least = omega (arith, before.few, before.least, reads.1.0, more_is, now_is, fits, within, was.from, later.0);
+      most = omega (arith, before.most, few, was.from, reads.1.1, more_is, now_is);
+    }
+
+pub fault_reads : (text : Text) (n earlier now : ℕ) (old : LexerView) (given : Diagnosed ErrorKind) (begin : ℕ) (passed : Passed) → WasPassed text begin old passed → HasReadBefore passed.begin (n + 1) now
+    → HasReadOn text (n + 1) (Some (Err (Error given))) (more_reads now passed.rest.reads)
+fault_reads text n earlier now old given begin passed was before =
+    on_reads text passed.begin (n + 1) now passed.rest.reads was.inside.boundary.0 was.inside.fits before (omega (arith, was.unread))
 
 -- the span of a fault's exception is the fault's
 span_is : (P : ℕ → ℕ → Type 0) (file : SourceFile) (fault : Spanned Fault) (exception : Diagnosed ErrorKind) → IsException file fault exception → IfSome exception.span (λ place. P place.span.begin place.span.end) → P fault.begin fault.end

@@ -5,8 +5,9 @@ use Rattle.starlark_grammar.proofs.Order.Inside.{fault_within}
 use Rattle.starlark_grammar.specs.Reading.{outcome}
 use Rattle.starlark_reader.specs.Inner.Reader.{IsAhead}
 use Rattle.starlark_syntax.specs.Inner.LexerStates.{HasAnswered, IsLexing, left_in, view_of}
-use Rattle.starlark_syntax.specs.Inner.Looked.{GoesOn, IsLooked}
+use Rattle.starlark_syntax.specs.Inner.Looked.{GoesOn, IsInReach, IsLooked}
 use Rattle.starlark_reader.specs.Inner.Reader.{IsLeft}
+use Rattle.starlark_reader.proofs.NextLines.{restart_inside}
 use Rattle.starlark_reader.specs.Inner.Reads.{HasReadAt}
 use Rattle.starlark_reader.specs.declared.reader.Reader.{Reader}
 use Rattle.starlark_reader.specs.declared.reader.Stage.{Stage}
@@ -29,7 +30,7 @@ abbrev pub IsGoingOn : LexerState → LexerState → Type 0
 IsGoingOn first now =
     (now.text ≡ first.text) × (now.code_map ≡ first.code_map) × (now.yielded_count ≡ first.yielded_count) × (now.has_ended ≡ first.has_ended)
     × (now.has_ended ≡ false → IsAhead now.text.now now.reader now.reader.stage (left_in now) (outcome now.text.now).fault)
-    × GoesOn now.looked now.has_ended × (now.has_ended ≡ false → IsLooked now.text.now now.reader now.looked_to now.looked) × (now.looked_to ≤ length now.text.now + 1)
+    × GoesOn now.looked now.has_ended × (now.has_ended ≡ false → IsLooked now.text.now now.reader now.looked_to now.looked) × IsInReach now.text.now now.looked_to
     × (now.has_ended ≡ true → now ≡ first)
 
 pub lexing_on : (first now : LexerState) → IsLexing first → IsGoingOn first now → IsLexing now
@@ -70,14 +71,14 @@ answers_within state (Some (Err Memory)) new short is = tt
 read_at : (text : Text) (reader : Reader) (to beside : ℕ) (left : Outcome) → to ≤ length text + 1 → beside ≤ 6 * to → (stage : Stage) → IsLeft text reader stage left → HasReadAt text beside reader stage → reader.reads ≤ most_reads text
 read_at text reader to beside left near paid stages.Begin is has = omega (arith, near, paid, has.1)
 read_at text reader to beside left near paid stages.Onward is has = omega (arith, near, paid, has.1, is.1.inside)
-read_at text reader to beside left near paid (stages.Fault begin fault end) is has = omega (arith, near, paid, has)
+read_at text reader to beside left near paid (stages.Fault begin fault end) is has = let read = has is.0 is.1 in omega (arith, near, paid, read, restart_inside text (record { begin = begin; node = is.0; end = end }))
 read_at text reader to beside left near paid stages.Closed is has = omega (arith, near, paid, has.1)
 
 pub lexing_read : (state : LexerState) → IsLexing state → state.has_ended ≡ false → state.reader.reads ≤ most_reads state.text.now
 lexing_read state lexing going =
     let ahead = (lexing.1 going).1 in
     let paid = spared state.text.now state.reader state.looked_to state.looked (lexing.3 going) in
-    read_at state.text.now state.reader state.looked_to paid.0 ahead.left lexing.4 (omega (arith, paid.1)) state.reader.stage ahead.is_left paid.2
+    read_at state.text.now state.reader state.looked_to paid.0 ahead.left lexing.4.inside (omega (arith, paid.1)) state.reader.stage ahead.is_left paid.2
 
 -- so it is after each call that doesn't run out of memory
 pub answers_read : (old : LexerState) (answer : Option (Result (ℕ × Token × ℕ) (OrMemory (Diagnosed ErrorKind)))) (new : LexerState) → length old.text.now < 2 ^ 32 → old.has_ended ≡ false → HasAnswered old answer new → IsLexing new
@@ -87,5 +88,5 @@ answers_read old (Some (Ok lexeme)) new short going is lexing after =
     let text : new.text.now ≡ old.text.now = ap (λ (v : LexerView). v.text) after in
     let goes : new.has_ended ≡ false = ap (λ (v : LexerView). v.has_ended) after ∙ ap (λ b. b || false) going in
     subst (λ (t : Text). new.reader.reads ≤ most_reads t) text (lexing_read new lexing goes)
-answers_read old (Some (Err (Error exception))) new short going is lexing after = is.3
+answers_read old (Some (Err (Error exception))) new short going is lexing after = (is.3, is.4)
 answers_read old (Some (Err Memory)) new short going is lexing after = tt

@@ -6,5 +6,7 @@ pub mod LexedTexts
 pub mod Held
 pub mod Items
 pub mod NextLines
+pub mod RestartReads
+pub mod Reaches
 pub mod Lefts
 pub mod Passes

@@ -43,15 +43,15 @@ tab_kind (fault.CannotParse text base) node is = cc
 tab_kind fault.UnfinishedFStringExpression node is = let same : grammar.UnfinishedFStringExpression ≡ node = cc in ap is_tab same
 
 -- what passing a fault leaves, by what was found out for it
-pub passes : (file : SourceFile) (text : Text) (begin at : ℕ) (fault : Spanned Fault) (exception given : Diagnosed ErrorKind) (place : FaultPlace) (code_map copy : SourceFile) (span : ByteSpan) (rest : LexerView) (part later : Text)
+pub passes : (file : SourceFile) (text : Text) (begin at : ℕ) (fault : Spanned Fault) (exception given : Diagnosed ErrorKind) (place : FaultPlace) (reads : ℕ) (code_map copy : SourceFile) (span : ByteSpan) (rest : LexerView) (part later : Text)
     → IsException file fault exception
     → IfSome exception.span (λ it. (place.begin ≡ it.span.begin) × (place.end ≡ it.span.end)) → place.is_tab ≡ is_tab_kind exception.value
     → IfSome exception.span (λ it. code_map ≡ it.file) → copy ≡ code_map
     → part ≡ drop begin text → ((fault : Spanned Fault) → IsPlaceOf fault place → at ≡ restart part fault) → IsCharBoundary part at → IsCharBoundary text begin
     → later ≡ drop (begin + at) text → rest ≡ record { text = later; code_map = copy; yielded_count = 0; has_ended = false; reads = 0 }
     → span ≡ record { begin = begin + place.begin; end = begin + place.end } → given ≡ record { value = exception.value; span = Some (place_in code_map span); call_stack = [] }
-    → HasPassed file text begin fault (record { fault = given; begin = begin + at; rest = rest })
-passes file text begin at fault exception given place code_map copy span rest part later is places tab of_file copied part_is restarts boundary start later_is rest_is span_is given_is =
+    → HasPassed file text begin fault (record { fault = given; begin = begin + at; rest = rest; reads = reads })
+passes file text begin at fault exception given place reads code_map copy span rest part later is places tab of_file copied part_is restarts boundary start later_is rest_is span_is given_is =
     let bounds : (place.begin ≡ fault.begin) × (place.end ≡ fault.end) = subst (λ (d : Diagnosed ErrorKind). IfSome d.span (λ it. (place.begin ≡ it.span.begin) × (place.end ≡ it.span.end))) is.2 places in
     let its_file : code_map ≡ file = subst (λ (d : Diagnosed ErrorKind). IfSome d.span (λ it. code_map ≡ it.file)) is.2 of_file in
     let its_tab : place.is_tab ≡ is_tab fault.node = tab ∙ ap (λ (d : Diagnosed ErrorKind). is_tab_kind d.value) is.2 ∙ tab_kind is.0 fault.node is.1 in

@@ -9,6 +9,9 @@ use Rattle.starlark_text.specs.declared.or_memory.OrMemory.{OrMemory}
 use Rattle.starlark_text.specs.declared.or_memory.OrMemory.TheVariants as refusal
 use Rattle.starlark_syntax.specs.declared.error.kinds.ErrorKind.{ErrorKind}
 pub use Rattle.starlark_syntax.specs.Exceptions.{IsException}
+use Rattle.starlark_grammar.specs.AfterFaults.{restart}
+use Rattle.starlark_grammar.specs.Reading.{outcome}
+use Rattle.starlark_grammar.specs.Tokens.{Fault, Spanned}
 use Rattle.starlark_grammar.specs.Words.{Text}
 pub use Rattle.starlark_token.specs.Lexemes.{IsWithin}
 use Rattle.starlark_token.specs.Lexemes.{lexeme_view}
@@ -27,6 +30,10 @@ pub record LexerView : Type 0 where
 -- how often the bytes of a text are read at most
 abbrev pub most_reads : Text → ℕ
 most_reads text = 16 * (length text + 1)
+
+-- at a text's fault there were at most so many reads
+abbrev pub HasReadToFault : Text → ℕ → Type 0
+HasReadToFault text reads = (fault : Spanned Fault) → (outcome text).fault ≡ Some fault → reads ≤ 16 * (restart text fault + 1)
 
 -- what a call returns for an item: a lexeme, the fault's exception, or out of memory in their place
 abbrev pub Answers : SourceFile → LexerItem → Result (ℕ × Token × ℕ) (OrMemory (Diagnosed ErrorKind)) → Type 0
@@ -65,12 +72,13 @@ abbrev pub is_ended_by : Option (Result (ℕ × Token × ℕ) (OrMemory (Diagnos
 is_ended_by (Some (Err refused)) = true
 is_ended_by answer = false
 
--- after a call that doesn't run out of memory there were at most so many reads; and if it returns
--- `None`, each byte was read
+-- after a call that doesn't run out of memory there were at most so many reads; at the fault only for the bytes up to where
+-- lexing begins again; and if it returns `None`, each byte was read
 abbrev pub HasReadFor : Text → Option (Result (ℕ × Token × ℕ) (OrMemory (Diagnosed ErrorKind))) → ℕ → Type 0
 HasReadFor text None reads = (length text ≤ reads) × (reads ≤ most_reads text)
 HasReadFor text (Some (Err refusal.Memory)) reads = ⊤
-HasReadFor text (Some answer) reads = reads ≤ most_reads text
+HasReadFor text (Some (Err (refusal.Error exception))) reads = (reads ≤ most_reads text) × HasReadToFault text reads
+HasReadFor text (Some (Ok found)) reads = reads ≤ most_reads text
 
 -- what one call of a lexer returns, and the lexer after it; after an error a call returns `None`
 pub record IsNextOf (old : LexerView) (answer : Option (Result (ℕ × Token × ℕ) (OrMemory (Diagnosed ErrorKind)))) (new : LexerView) : Type 0 where

@@ -1,6 +1,6 @@
 //! Faults of a part of a text: moved to their places in the whole text, and passed.
 
-ghost use Rattle.std.specs.Prelude.{◌≡◌, ◌≤◌, ◌<◌, ◌^◌, ◌+◌, [], Some, IfOk, IfSome, IsSome, drop, length};
+ghost use Rattle.std.specs.Prelude.{◌≡◌, ◌≤◌, ◌<◌, ◌^◌, ◌+◌, ◌-◌, ◌*◌, [], Some, IfOk, IfSome, IsSome, drop, length};
 ghost use Rattle.std.specs.Str.{IsCharBoundary};
 ghost use Rattle.starlark_base.specs.Diagnostics.{place_in};
 ghost use Rattle.starlark_base.specs.Sources.{SourceFile};
@@ -9,15 +9,17 @@ ghost use Rattle.starlark_syntax.specs.Inner.Passed.{HasPassed, is_tab_kind};
 ghost use Rattle.starlark_syntax.specs.Restarts.{IsPlaceOf};
 ghost use Rattle.starlark_syntax.specs.Exceptions.{IsException};
 ghost use Rattle.starlark_token.specs.Lexemes.{IsWithin};
+ghost use Rattle.starlark_words.specs.Inner.Reads.{AreReads};
 
 use crate::error::{ErrorKind, ParserMessage};
 use crate::eval_exception::EvalException;
 use crate::lexemes::Lexer;
-use crate::restarts::{FaultPlace, restart};
+use crate::restarts::{FaultPlace, counted_restart};
 use starlark_base::codemap::{CodeMap, FileSpan, Pos, Span};
 use starlark_base::diagnostic::WithDiagnostic;
 use starlark_base::dialect::Dialect;
 use starlark_token::lexeme_error::LexemeError;
+use starlark_words::reads::Reads;
 use std::alloc::{AllocError, Global};
 
 /// A fault that was passed: its exception, and the lexer that goes on after it.
@@ -29,6 +31,8 @@ pub struct Passed<'a> {
     pub begin: usize,
     /// A lexer of the text from there on.
     pub rest: Lexer<'a>,
+    /// Number of reads of bytes that finding `begin` took.
+    pub reads: u64,
 }
 
 /// Whether an error is that of a tab.
@@ -97,11 +101,13 @@ pub fn pass<'a>(
     requires placed { IsSome exception.span }
     requires within { IfSome exception.span (λ place. IsWithin (drop begin text.now) place.span.begin place.span.end) }
     requires between { IfSome exception.span (λ place. IsCharBoundary (drop begin text.now) place.span.begin) }
-    ensures { IfOk result (λ passed. (file : SourceFile) (fault : Spanned Fault) → IsException file fault exception → HasPassed file text.now begin fault passed) }
+    ensures passed { IfOk result (λ passed. (file : SourceFile) (fault : Spanned Fault) → IsException file fault exception → HasPassed file text.now begin fault passed) }
+    ensures reads { IfOk result (λ passed. (begin ≤ passed.begin) × AreReads 1 (5 * (passed.begin - begin + 1)) 0 passed.reads) }
 {
     let place = place_of(&exception);
     let code_map = file_of(&exception)?;
-    let from = begin + restart(&text[begin..], place);
+    let mut reads = Reads::new();
+    let from = begin + counted_restart(&mut reads, &text[begin..], place);
     let Ok(rest) = Lexer::new(alloc, &text[from..], &Dialect::Standard, code_map.dupe()?) else {
         unreachable!()
     };
@@ -114,5 +120,6 @@ pub fn pass<'a>(
         fault,
         begin: from,
         rest,
+        reads: reads.count(),
     })
 }

@@ -1,8 +1,8 @@
 //! The lexer that goes on after faults.
 
-ghost use Rattle.std.specs.Prelude.{◌≡◌, ◌≤◌, ◌^◌, ◌↔◌, IfOk, IsErr, length};
+ghost use Rattle.std.specs.Prelude.{◌≡◌, ◌≤◌, ◌+◌, ◌^◌, ◌↔◌, ◌||◌, IfOk, IsErr, false, length};
 ghost use Rattle.std.specs.List.{slice_get};
-ghost use Rattle.starlark_syntax.specs.RecoveringLexer.{all_items, left_after};
+ghost use Rattle.starlark_syntax.specs.RecoveringLexer.{HasReadOn, all_items, faults_by, is_memory, left_after};
 ghost use Rattle.starlark_syntax.specs.Lexer.{AnswersBetween, AnswersNext, AnswersWithin};
 
 use crate::lexemes::{Lexeme, Lexer};
@@ -17,14 +17,18 @@ use std::marker::Model;
 ///
 /// It yields what `Lexer` yields up to the first fault. Then it begins again at the next line, as if
 /// that began a text of its own: with no open bracket, f-string or block. Only out of memory ends it
-/// before the end of the text. In a contract it is its text, its code map, and the items that are
-/// left.
+/// before the end of the text. In a contract it is its text, its code map, the items that are left,
+/// how many faults it has yielded, whether out of memory has ended it, and how often it has read
+/// bytes.
 #[derive(Drop)]
 pub struct RecoveringLexer<'a> {
     alloc: Global,
     text: &'a str,
     begin: usize,
     rest: Lexer<'a>,
+    fault_count: usize,
+    /// Number of reads before byte `begin`.
+    earlier_reads: u64,
 }
 
 impl<'a> Model for RecoveringLexer<'a> {
@@ -32,11 +36,19 @@ impl<'a> Model for RecoveringLexer<'a> {
 
     ghost Value = { RecoveringView };
 
-    ghost use Rattle.starlark_syntax.specs.Inner.Rests.{IsRest, left_of};
+    ghost use Rattle.starlark_syntax.specs.Inner.Rests.{HasReadBefore, IsRest, left_of};
+    ghost use Rattle.starlark_words.specs.Inner.Reads.{more_reads};
 
-    ghost view = { λ lexer. record { text = lexer.text.now; code_map = lexer.rest.code_map; left = left_of lexer.begin lexer.rest } };
+    ghost view = { λ lexer. record {
+      text = lexer.text.now;
+      code_map = lexer.rest.code_map;
+      left = left_of lexer.begin lexer.rest;
+      fault_count = lexer.fault_count;
+      has_ended = lexer.rest.has_ended;
+      reads = more_reads lexer.earlier_reads lexer.rest.reads;
+    } };
 
-    ghost invariant = { λ lexer. IsRest lexer.text.now lexer.begin lexer.rest };
+    ghost invariant = { λ lexer. IsRest lexer.text.now lexer.begin lexer.rest × HasReadBefore lexer.begin lexer.fault_count lexer.earlier_reads };
 }
 
 impl<'a> RecoveringLexer<'a> {
@@ -50,7 +62,7 @@ impl<'a> RecoveringLexer<'a> {
         dialect: &Dialect,
         code_map: CodeMap,
     ) -> Result<RecoveringLexer<'a>, SourceTooLong>
-        ensures ok { IfOk result (λ lexer. lexer ≡ record { text = input.now; code_map = code_map; left = all_items input.now }) }
+        ensures ok { IfOk result (λ lexer. lexer ≡ record { text = input.now; code_map = code_map; left = all_items input.now; fault_count = 0; has_ended = false; reads = 0 }) }
         ensures too_long { IsErr result ↔ (2 ^ 32 ≤ length input.now) }
     {
         let rest = Lexer::new(alloc, input, dialect, code_map)?;
@@ -59,6 +71,8 @@ impl<'a> RecoveringLexer<'a> {
             text: input,
             begin: 0,
             rest,
+            fault_count: 0,
+            earlier_reads: 0,
         })
     }
 
@@ -70,7 +84,8 @@ impl<'a> RecoveringLexer<'a> {
         ensures item { AnswersNext self.old.code_map (slice_get self.old.left 0) result }
         ensures within { AnswersWithin self.old.text result }
         ensures between { AnswersBetween self.old.text result }
-        ensures after { self.new ≡ record self.old { left = left_after result self.old.left } }
+        ensures after { self.new ≡ record self.old { left = left_after result self.old.left; fault_count = self.old.fault_count + faults_by result; has_ended = self.old.has_ended || is_memory result; reads = self.new.reads } }
+        ensures reads { self.old.has_ended ≡ false → HasReadOn self.old.text self.new.fault_count result self.new.reads }
     {
         let begin = self.begin;
         let answer = self.rest.next()?;
@@ -82,12 +97,33 @@ impl<'a> RecoveringLexer<'a> {
                     let Ok(passed) = pass(self.alloc, self.text, begin, exception) else {
                         return Some(Err(OrMemory::Memory));
                     };
+                    let reads = self.rest.reads().saturating_add(passed.reads);
+                    self.earlier_reads = self.earlier_reads.saturating_add(reads);
+                    self.fault_count += 1;
                     self.begin = passed.begin;
                     self.rest = passed.rest;
                     Some(Err(OrMemory::Error(passed.fault)))
                 }
             },
         }
+    }
+
+    /// Number of faults that were yielded so far.
+    pub fn fault_count(&self) -> usize
+        ensures { result ≡ self.now.fault_count }
+    {
+        self.fault_count
+    }
+
+    /// Number of reads of bytes so far.
+    ///
+    /// It counts as that of `Lexer` does, and has the reads that find where lexing begins again. After
+    /// `faults` faults of a text of `n` bytes it is at most `21 * (n + faults + 1)`, and at least
+    /// `faults`. After out of memory nothing is promised.
+    pub fn reads(&self) -> u64
+        ensures { result ≡ self.now.reads }
+    {
+        self.earlier_reads.saturating_add(self.rest.reads())
     }
 }
 

@@ -1,12 +1,13 @@
 //! Where lexing begins again after a fault.
 
 ghost use Rattle.starlark_grammar.specs.Recovery as spec;
-ghost use Rattle.std.specs.Prelude.{◌≡◌, ◌≤◌, ◌<◌, ◌+◌, ◌-◌, drop, length, not, slice_index};
+ghost use Rattle.std.specs.Prelude.{◌≡◌, ◌≤◌, ◌<◌, ◌+◌, ◌-◌, ◌*◌, drop, length, not, slice_index};
 ghost use Rattle.std.specs.List.{prefix_len};
 ghost use Rattle.std.specs.Str.{IsCharBoundary};
 ghost use Rattle.starlark_grammar.specs.Margins.{is_lf};
 ghost use Rattle.starlark_grammar.specs.Tokens.{Fault, Spanned};
 ghost use Rattle.starlark_syntax.specs.Restarts.{IsPlaceOf};
+ghost use Rattle.starlark_words.specs.Inner.Reads.{AreReads, more_reads};
 
 use starlark_reader::margin_of;
 use starlark_words::reads::Reads;
@@ -22,30 +23,37 @@ pub struct FaultPlace {
     pub is_tab: bool,
 }
 
-/// Number of bytes before the first LF of a text, or all if it has none.
-fn before_lf_len(text: &[u8]) -> usize
+/// Number of bytes before the first LF of a text, or all if it has none. The byte after them is
+/// read, too.
+fn before_lf_len(reads: &mut Reads, text: &[u8]) -> usize
     ensures value { result ≡ prefix_len (λ b. not (is_lf b)) text.now }
     ensures within { result ≤ length text.now }
+    ensures reads { reads.new ≡ more_reads reads.old (result + 1) }
 {
-    text.iter().take_while(|byte| **byte != b'\n').count()
+    let len = text.iter().take_while(|byte| **byte != b'\n').count();
+    reads.count_run(len);
+    len
 }
 
 /// The start of the line after the one that holds byte `at`, or the end of the text.
-fn next_line(text: &str, at: usize) -> usize
+fn next_line(reads: &mut Reads, text: &str, at: usize) -> usize
     requires { at ≤ length text.now }
     ensures value { result ≡ spec.next_line text.now at }
     ensures boundary { IsCharBoundary text.now result }
+    ensures reads { AreReads 1 (result - at + 1) reads.old reads.new }
 {
-    let len = before_lf_len(&text.as_bytes()[at..]);
+    let len = before_lf_len(reads, &text.as_bytes()[at..]);
     text.len().min(at + len + 1)
 }
 
 /// Number of bytes of the line end at the front of a text; 0 if there is none.
-fn line_end_len(text: &[u8]) -> usize
+fn line_end_len(reads: &mut Reads, text: &[u8]) -> usize
     ensures value { result ≡ spec.line_end_len text.now }
     ensures within { result ≤ length text.now }
     ensures feed { 0 < result → slice_index text.now (result - 1) ≡ 10 }
+    ensures reads { reads.new ≡ more_reads reads.old 2 }
 {
+    reads.count_run(1);
     match text {
         [b'\n', ..] => 1,
         [b'\r', b'\n', ..] => 2,
@@ -55,38 +63,54 @@ fn line_end_len(text: &[u8]) -> usize
 
 /// The start of the last line of the margin after the line end at byte `at`, or after byte `at` if
 /// no line end is there.
-fn margin_line(text: &str, at: usize) -> usize
+fn margin_line(reads: &mut Reads, text: &str, at: usize) -> usize
     requires { IsCharBoundary text.now at }
     ensures value { result ≡ spec.margin_line text.now (at + spec.line_end_len (drop at text.now)) }
     ensures within { result ≤ length text.now }
+    ensures reads { AreReads 0 (4 * result + spec.next_line text.now result + 4 - 5 * at) reads.old reads.new }
 {
-    let margin = at + line_end_len(&text.as_bytes()[at..]);
-    margin + margin_of(&mut Reads::new(), &text[margin..]).at
+    let margin = at + line_end_len(reads, &text.as_bytes()[at..]);
+    margin + margin_of(reads, &text[margin..]).at
 }
 
 /// Whether a fault is that of a tab in a margin.
-fn is_margin_tab(text: &str, place: FaultPlace) -> bool
+fn is_margin_tab(reads: &mut Reads, text: &str, place: FaultPlace) -> bool
     requires { place.begin ≤ length text.now }
-    ensures { (fault : Spanned Fault) → IsPlaceOf fault place → result ≡ spec.is_margin_tab text.now fault }
+    ensures value { (fault : Spanned Fault) → IsPlaceOf fault place → result ≡ spec.is_margin_tab text.now fault }
+    ensures reads { AreReads 0 (2 * place.begin) reads.old reads.new }
 {
-    let line_end = line_end_len(&text.as_bytes()[place.begin..]);
-    place.is_tab && (place.begin == 0 || line_end > 0)
+    place.is_tab && (place.begin == 0 || line_end_len(reads, &text.as_bytes()[place.begin..]) > 0)
 }
 
 /// An offset in the line where a fault stopped the reading of a text.
-fn stopped_at(text: &str, place: FaultPlace) -> usize
+fn stopped_at(reads: &mut Reads, text: &str, place: FaultPlace) -> usize
     requires boundary { IsCharBoundary text.now place.begin }
     requires order { place.begin ≤ place.end }
     requires within { place.end ≤ length text.now }
     ensures value { (fault : Spanned Fault) → IsPlaceOf fault place → result ≡ spec.stopped_at text.now fault }
     ensures within { result ≤ length text.now }
+    ensures reads { AreReads 0 (4 * result + spec.next_line text.now result + 4) reads.old reads.new }
 {
-    let line = if is_margin_tab(text, place) {
-        margin_line(text, place.begin)
+    let line = if is_margin_tab(reads, text, place) {
+        margin_line(reads, text, place.begin)
     } else {
         place.begin
     };
     line.max(place.end.saturating_sub(1))
+}
+
+/// Offset where lexing begins again after a fault of a text, as `restart` returns it. The reads of
+/// bytes that this takes are counted.
+pub(crate) fn counted_restart(reads: &mut Reads, text: &str, place: FaultPlace) -> usize
+    requires boundary { IsCharBoundary text.now place.begin }
+    requires order { place.begin ≤ place.end }
+    requires within { place.end ≤ length text.now }
+    ensures value { (fault : Spanned Fault) → IsPlaceOf fault place → result ≡ spec.restart text.now fault }
+    ensures boundary { IsCharBoundary text.now result }
+    ensures reads { AreReads 1 (5 * (result + 1)) reads.old reads.new }
+{
+    let at = stopped_at(reads, text, place);
+    next_line(reads, text, at)
 }
 
 /// Offset where lexing begins again after a fault of a text: at the start of a line, or at the end
@@ -100,5 +124,5 @@ pub fn restart(text: &str, place: FaultPlace) -> usize
     ensures value { (fault : Spanned Fault) → IsPlaceOf fault place → result ≡ spec.restart text.now fault }
     ensures boundary { IsCharBoundary text.now result }
 {
-    next_line(text, stopped_at(text, place))
+    counted_restart(&mut Reads::new(), text, place)
 }

@@ -1,5 +1,6 @@
 -- Parts of a document that an edit changes.
 use Rattle.std.specs.Prelude.{◌≡◌, ◌≤◌, ◌<◌, ◌==◌, true, List, ◌++◌, length, take, drop, string_bytes, ◌⊎◌}
+use Rattle.starlark_document.specs.Inner.Costs.{IsPaid}
 use Rattle.starlark_document.specs.Inner.Segments.{AreLaid, AreOpen, text_of}
 use Rattle.starlark_document.specs.declared.parts.LexedPart.{LexedPart}
 use Rattle.starlark_document.specs.declared.parts.Part.{Part}
@@ -33,4 +34,5 @@ pub record IsLexedPart (segments : List Segment) (part : Part) (lexed : LexedPar
   pub text : string_bytes part.text ++ text_of (drop part.end segments) ≡ text_of lexed.segments.items ++ text_of (drop lexed.end segments)
   pub inner : lexed.end < length segments → AreOpen (part.first.index == 0) lexed.segments.items
   pub last : lexed.end ≡ length segments → AreLaid (part.first.index == 0) lexed.segments.items
-  pub least : lexed.len ≤ lexed.lexed
+  pub least : lexed.len ≤ lexed.cost.lexed
+  pub paid : IsPaid lexed.cost

@@ -1,5 +1,5 @@
 -- What is ahead of a text that is lexed so far, and what a call answers of it.
-use Rattle.std.specs.Prelude.{◌≡◌, ◌≤◌, ◌<◌, ◌+◌, ◌^◌, ℕ, false, List, [], drop, length, map, Option, None, Some, Result, Ok, Err}
+use Rattle.std.specs.Prelude.{◌≡◌, ◌≤◌, ◌<◌, ◌^◌, ℕ, false, List, [], drop, length, map, Option, None, Some, Result, Ok, Err}
 use Rattle.starlark_base.specs.Diagnostics.{Diagnosed}
 use Rattle.starlark_base.specs.Sources.{SourceFile}
 use Rattle.starlark_words.specs.Inner.Reads.{more_reads}
@@ -9,8 +9,8 @@ use Rattle.starlark_grammar.specs.Words.{Text}
 use Rattle.starlark_reader.specs.Inner.Reader.{IsAhead, IsAheadAfter, IsSomething, IsStateAfter, begins_with_tab, has_read_none, history_of}
 use Rattle.starlark_reader.specs.Inner.Reads.{HasRead}
 use Rattle.starlark_syntax.specs.Exceptions.{IsException}
-use Rattle.starlark_syntax.specs.Inner.Looked.{GoesOn, IsLooked}
-use Rattle.starlark_syntax.specs.Lexer.{LexerView, most_reads}
+use Rattle.starlark_syntax.specs.Inner.Looked.{GoesOn, IsInReach, IsLooked}
+use Rattle.starlark_syntax.specs.Lexer.{HasReadToFault, LexerView, most_reads}
 use Rattle.starlark_syntax.specs.declared.error.kinds.ErrorKind.{ErrorKind}
 use Rattle.starlark_syntax.specs.declared.lexer_state.LexerState.{LexerState}
 use Rattle.starlark_syntax.specs.declared.lexer_state.Looked.TheVariants as looked
@@ -37,7 +37,7 @@ IsLexing state =
     × IsAhead state.text.now state.reader state.reader.stage (left_in state) (outcome state.text.now).fault)
     × GoesOn state.looked state.has_ended
     × (state.has_ended ≡ false → IsLooked state.text.now state.reader state.looked_to state.looked)
-    × (state.looked_to ≤ length state.text.now + 1)
+    × IsInReach state.text.now state.looked_to
 
 -- Lexing a text has begun, and nothing was looked at yet: the reader has all of any text ahead.
 pub record IsBegun (text : Text) (file : SourceFile) (state : LexerState) : Type 0 where
@@ -53,7 +53,7 @@ abbrev pub HasAnswered : LexerState → Option (Result (ℕ × Token × ℕ) (Or
 HasAnswered old (Some (Ok lexeme)) new = IsAheadAfter old.text.now (Some lexeme) new.reader (left_in old) (outcome old.text.now).fault
 HasAnswered old (Some (Err (Error exception))) new =
     (left_in old ≡ []) × ((fault : Spanned Fault) × ((outcome old.text.now).fault ≡ Some fault) × IsException old.code_map fault exception)
-    × (has_read_none new.reader ≡ begins_with_tab old.text.now) × (new.reader.reads ≤ most_reads old.text.now)
+    × (has_read_none new.reader ≡ begins_with_tab old.text.now) × (new.reader.reads ≤ most_reads old.text.now) × HasReadToFault old.text.now new.reader.reads
 HasAnswered old (Some (Err Memory)) new = IsSomething (left_in old) (outcome old.text.now).fault
 HasAnswered old None new =
     (left_in old ≡ []) × ((outcome old.text.now).fault ≡ None) × IsStateAfter old.text.now (history_of old.text.now) new.reader

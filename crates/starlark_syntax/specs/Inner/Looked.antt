@@ -1,6 +1,9 @@
 -- How much lookahead a lexer has spent, and how many reads that took.
 use Rattle.std.specs.Prelude.{◌≡◌, ◌≤◌, ◌+◌, ◌*◌, ◌||◌, ◌==◌, if◌then◌else◌, Bool, true, false, ℕ, Some, drop, length, ⊤}
+use Rattle.starlark_grammar.specs.AfterFaults.{restart}
 use Rattle.starlark_grammar.specs.Front.{language_front}
+use Rattle.starlark_grammar.specs.Reading.{outcome}
+use Rattle.starlark_grammar.specs.Tokens.{Fault, Spanned}
 use Rattle.starlark_grammar.specs.Words.{Text}
 use Rattle.starlark_grammar.specs.declared.class.Class.{Class}
 use Rattle.starlark_grammar.specs.declared.class.Class.TheVariants as class
@@ -15,6 +18,11 @@ use Rattle.starlark_syntax.specs.declared.lexer_state.Looked.TheVariants as look
 -- Lookahead that found nothing took at most six reads for each byte up to `to`, and `spare` reads fewer.
 abbrev pub HasSpared : (text : Text) (spare : ℕ) → Reader → (to : ℕ) → Type 0
 HasSpared text spare reader to = (beside : ℕ) × (beside + spare ≤ 6 * to) × HasRead text beside reader
+
+-- Failed lookahead reaches no further than the text's end, and where lexing begins again after its fault.
+pub record IsInReach (text : Text) (to : ℕ) : Type 0 where
+  pub inside : to ≤ length text + 1
+  pub fault : (fault : Spanned Fault) → (outcome text).fault ≡ Some fault → to ≤ restart text fault + 1
 
 -- whether a word of a class opens a text literal
 abbrev pub is_text_opener : Class → Bool

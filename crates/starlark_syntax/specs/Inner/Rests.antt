@@ -4,7 +4,7 @@ use Rattle.std.specs.Str.{IsCharBoundary}
 use Rattle.starlark_grammar.specs.Reading.{outcome}
 use Rattle.starlark_grammar.specs.Tokens.{moved}
 use Rattle.starlark_grammar.specs.Words.{Text}
-use Rattle.starlark_syntax.specs.RecoveringLexer.{all_items}
+use Rattle.starlark_syntax.specs.RecoveringLexer.{all_items, most_reads_on}
 use Rattle.starlark_syntax.specs.Lexer.{Given, LexerItem, LexerView, Refused}
 
 -- an item, so many bytes later
@@ -22,3 +22,11 @@ pub record IsRest (text : Text) (begin : ℕ) (rest : LexerView) : Type 0 where
   pub same : rest.text ≡ drop begin text
   pub fits : length text < 2 ^ 32
   pub yielded : rest.has_ended ≡ false → rest.yielded_count ≤ length (outcome rest.text).lexemes
+
+-- Before byte `begin` some faults were yielded, each on a line of its own, and these reads of bytes found them and where
+-- lexing begins after each.
+pub record HasReadBefore (begin fault_count reads : ℕ) : Type 0 where
+  pub few : fault_count ≤ begin
+  pub first : fault_count ≡ 0 → begin ≡ 0
+  pub least : fault_count ≤ reads
+  pub most : reads ≤ most_reads_on begin fault_count

@@ -49,4 +49,4 @@ returns-clause-change c =
     let new_end : c.args.first.begin + c.args.lexed.len ≡ part.first.begin + c.args.lexed.len = omega (arith, begin) in
     let old_end : c.args.first.begin + c.args.lexed.len + c.args.old_len - c.args.len ≡ part.first.begin + c.args.lexed.len + length (text_of c.args.segments.now.items) - length new = omega (arith, begin, c.requires.part.5, c.requires.old_len) in
     replaced_change c.args.segments.now.items new part c.args.lexed c.requires.part.2 c.requires.part.4 c.requires.laid order c.splice.new.self.items _
-    (is ∙ ap (λ (n : ℕ). splice c.args.segments.now.items n c.args.lexed.end c.args.lexed.segments.items) (sym index)) (sym begin) new_end old_end refl
+    (is ∙ ap (λ (n : ℕ). splice c.args.segments.now.items n c.args.lexed.end c.args.lexed.segments.items) (sym index)) (sym begin) new_end old_end refl refl refl

@@ -1,5 +1,7 @@
-use Rattle.std.proofs.Common.{◌≡◌, ◌∷◌, ◌++◌, [], ap, append_assoc, drop, sym, ◌∙◌}
-use Rattle.starlark_syntax.specs.RecoveringLexer.{RecoveringView, all_items}
+use Rattle.std.proofs.Common.{◌≡◌, ◌∷◌, ◌++◌, ℕ, List, Some, [], ap, append_assoc, arith, drop, subst, sym, ◌∙◌}
+use Rattle.starlark_syntax.specs.RecoveringLexer.{AreReadsOn, HasReadOn, RecoveringView, all_items, is_memory}
+use Rattle.starlark_document.proofs.Costs.{goes_on, reads_on}
+use Rattle.starlark_document.specs.Inner.Costs.{IsPaid}
 use Rattle.starlark_document.proofs.FirstSegments.{cut_first, next_item}
 use Rattle.starlark_document.proofs.lexing.lex_segment.Goals as goal
 
@@ -21,8 +23,13 @@ loop-item-preserved c =
     let source : c.next.new.self.text ≡ c.args.text.now = ap (λ (r : RecoveringView). r.text) c.in-Some.ensures.after ∙ inv.source in
     let whole : all_items c.args.text.now ≡ found.0 ++ (next.next ∷ []) ++ c.next.new.self.left =
     found.1 ∙ ap (λ xs. found.0 ++ xs) (next.is ∙ ap (λ xs. next.next ∷ xs) (sym after)) ∙ sym (append_assoc found.0 (next.next ∷ []) c.next.new.self.left) in
+    let read = c.in-Some.ensures.reads inv.going in
+    let paid = reads_on c.args.text.now c.next.new.self.fault_count c.next.new.self.reads c.in-Some.item c.in_ok-take.ensures.memory (subst (λ (t : List ℕ). HasReadOn t c.next.new.self.fault_count (Some c.in-Some.item) c.next.new.self.reads) inv.source read) in
     record {
       source = source;
+      going = ap (λ (r : RecoveringView). r.has_ended) c.in-Some.ensures.after ∙ goes_on old.has_ended (is_memory (Some c.in-Some.item)) inv.going c.in_ok-take.ensures.memory;
+      few = paid.few;
+      most = paid.most;
       found = (found.0 ++ (next.next ∷ []), whole, c.in_ok-take.ensures.front old.code_map next.next found.0 next.answers found.2);
     }
 
@@ -37,3 +44,29 @@ returns-then-branch-clause-segment c =
     (c.in_ok-ends_before.ensures.cut c.if-branch.true)
     (c.in_ok-ends_before.ensures.ends c.if-branch.true old.code_map next.next next.answers)
     cut.text cut.len cut.lines cut.lexemes cut.faults
+
+pub cost_of-requires : goal.cost_of-requires
+cost_of-requires c =
+    let inv = c.loop-item.invariant in
+    let read = subst (λ (t : List ℕ). HasReadOn t c.next.new.self.fault_count (Some c.in-Some.item) c.next.new.self.reads) inv.source (c.in-Some.ensures.reads inv.going) in
+    let paid = reads_on c.args.text.now c.next.new.self.fault_count c.next.new.self.reads c.in-Some.item (c.in_ok-ends_before.ensures.going c.if-branch.true) read in
+    omega (arith, paid.few, c.requires.fits)
+
+pub returns-then-branch-clause-reads : goal.returns-then-branch-clause-reads
+returns-then-branch-clause-reads c =
+    let inv = c.loop-item.invariant in
+    let read = subst (λ (t : List ℕ). HasReadOn t c.next.new.self.fault_count (Some c.in-Some.item) c.next.new.self.reads) inv.source (c.in-Some.ensures.reads inv.going) in
+    let paid = reads_on c.args.text.now c.next.new.self.fault_count c.next.new.self.reads c.in-Some.item (c.in_ok-ends_before.ensures.going c.if-branch.true) read in
+    subst IsPaid (sym c.cost_of.ensures) paid.most
+
+pub cost_of-requires-2 : goal.cost_of-requires-2
+cost_of-requires-2 c =
+    let inv = c.loop-item.invariant in
+    let paid = subst (λ (t : List ℕ). AreReadsOn t c.next.new.self.fault_count c.next.new.self.reads) inv.source (c.in_default.ensures.reads inv.going).0 in
+    omega (arith, paid.few, c.requires.fits)
+
+pub returns-clause-reads : goal.returns-clause-reads
+returns-clause-reads c =
+    let inv = c.loop-item.invariant in
+    let paid = subst (λ (t : List ℕ). AreReadsOn t c.next.new.self.fault_count c.next.new.self.reads) inv.source (c.in_default.ensures.reads inv.going).0 in
+    subst IsPaid (sym c.cost_of-2.ensures) paid.most

@@ -1,6 +1,6 @@
-use Rattle.std.proofs.Common.{◌≡◌, ◌++◌, List, length}
+use Rattle.std.proofs.Common.{◌≡◌, ◌≤◌, ◌+◌, ◌++◌, List, false, length}
 use Rattle.starlark_document.specs.Inner.Fronts.{IsFront}
-use Rattle.starlark_syntax.specs.RecoveringLexer.{all_items}
+use Rattle.starlark_syntax.specs.RecoveringLexer.{all_items, most_reads_on}
 use Rattle.starlark_token.specs.TextItems.{LexerItem}
 use Rattle.starlark_document.proofs.lexing.lex_segment.Given as goal
 
@@ -8,6 +8,9 @@ use Rattle.starlark_document.proofs.lexing.lex_segment.Given as goal
 abbrev pub invariant-loop-item : goal.invariant-loop-item
 invariant-loop-item l = record {
   source : l.lexer.text ≡ l.text;
+  going : l.lexer.has_ended ≡ false;
+  few : l.lexer.fault_count ≤ length l.text;
+  most : l.lexer.reads ≤ most_reads_on (length l.text) (l.lexer.fault_count + 1);
   found : (items : List LexerItem) × (all_items l.text ≡ items ++ l.lexer.left) × IsFront l.text items l.front;
 }
 

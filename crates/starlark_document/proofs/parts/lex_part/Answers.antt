@@ -5,7 +5,10 @@ use Rattle.std.proofs.lemmas.Bool.{eqb-false, eqb-true}
 use Rattle.std.proofs.lemmas.Grind.{common_steps}
 use Rattle.std.specs.List.{slice_range}
 use Rattle.starlark_document.proofs.Splices.{lexing_boundary, lexing_ends, lexing_fits, lexing_more, lexing_next, lexing_within, next_within, not_last, taking_less}
+use Rattle.starlark_document.proofs.Costs.{paid_sum}
+use Rattle.starlark_document.specs.Inner.Costs.{IsPaid}
 use Rattle.starlark_document.specs.Inner.Fronts.{IsFirstSegment}
+use Rattle.starlark_document.specs.declared.lexing.LexingCost.{LexingCost}
 use Rattle.starlark_document.specs.Inner.Segments.{text_of}
 use Rattle.starlark_document.specs.declared.segments.Segment.{Segment}
 use Rattle.starlark_document.proofs.parts.lex_part.Goals as goal
@@ -13,7 +16,7 @@ use Rattle.starlark_document.proofs.parts.lex_part.Goals as goal
 pub range_from-rest-requires : goal.range_from-rest-requires
 range_from-rest-requires c = λ some.
     let at = c.loop-lexed in
-    let boundary = lexing_boundary c.args.segments.now c.args.part (string_bytes at.text) at.lexed.end at.lexed.len at.lexed.lexed at.lexed.segments.items at.invariant.lexing (subst IsUtf8 c.as_str.ensures.value c.as_str.utf8) in
+    let boundary = lexing_boundary c.args.segments.now c.args.part (string_bytes at.text) at.lexed.end at.lexed.len at.lexed.cost.lexed at.lexed.segments.items at.invariant.lexing (subst IsUtf8 c.as_str.ensures.value c.as_str.utf8) in
     subst (λ (t : List ℕ). IsCharBoundary t at.lexed.len) (sym c.as_str.ensures.value) boundary
 
 pub returns-then-lexed-len : goal.returns-then-lexed-len
@@ -25,15 +28,17 @@ returns-then-lexed-len c =
     let x = c.in-Some.segment in
     let rest : c.range_from-rest.result.now ≡ drop at.lexed.len text = c.range_from-rest.ensures.value ∙ ap (λ (t : List ℕ). drop at.lexed.len t) c.as_str.ensures.value in
     let is_last : Bool = nat_eq at.lexed.end (length segments) in
-    let found : IfSome (Some x) (IsFirstSegment c.range_from-rest.result.now is_last) = subst (λ (o : Option Segment). IfSome o (IsFirstSegment c.range_from-rest.result.now is_last)) c.in-Some.is c.in_ok-segment.ensures.segment in
+    let found : IfSome (Some x) (IsFirstSegment c.range_from-rest.result.now is_last) = subst (λ (o : Option Segment). IfSome o (IsFirstSegment c.range_from-rest.result.now is_last)) c.in-Some.is c.in_ok-attempt.ensures.segment in
     let cut : IsFirstSegment (drop at.lexed.len text) is_last x = subst (λ (t : List ℕ). IsFirstSegment t is_last x) rest found in
-    let fits : length text < 2 ^ 32 = omega (arith, lexing_fits segments c.args.part text at.lexed.end at.lexed.len at.lexed.lexed at.lexed.segments.items is c.requires.part.0 c.requires.part.1, c.requires.part.2) in
+    let fits : length text < 2 ^ 32 = omega (arith, lexing_fits segments c.args.part text at.lexed.end at.lexed.len at.lexed.cost.lexed at.lexed.segments.items is c.requires.part.0 c.requires.part.1, c.requires.part.2) in
     let whole : at.lexed.len + x.len ≡ length text = c.if-lexed-len.true ∙ c.len.ensures ∙ at.text.bytes.ok.0 in
     let rest_len : length c.range_from-rest.result.now ≡ length text - at.lexed.len = ap length rest ∙ length-drop at.lexed.len text in
-    let inside = lexing_within segments c.args.part text at.lexed.end at.lexed.len at.lexed.lexed at.lexed.segments.items is in
-    let least : at.lexed.len + x.len ≤ c.saturating_add.result = omega (arith, c.saturating_add.ensures, is.least) in
-    lexing_ends segments c.args.part text at.lexed.end at.lexed.len at.lexed.lexed at.lexed.segments.items is is_last x cut _ (λ e. eqb-true at.lexed.end (length segments) e) (λ e. let apart = eqb-false at.lexed.end (length segments) e in omega (arith, is.within))
-    c.in_ok-push-in-Some.ensures.items refl refl whole least
+    let inside = lexing_within segments c.args.part text at.lexed.end at.lexed.len at.lexed.cost.lexed at.lexed.segments.items is in
+    let lexed = ap (λ (cost : LexingCost). cost.lexed) c.and-lexed.ensures in
+    let least : at.lexed.len + x.len ≤ c.and-lexed.result.lexed = omega (arith, lexed, c.in_ok-attempt.ensures.lexed, is.least) in
+    let paid = subst IsPaid (sym c.and-lexed.ensures) (paid_sum at.lexed.cost c.in_ok-attempt.attempt.cost at.invariant.paid c.in_ok-attempt.ensures.reads) in
+    lexing_ends segments c.args.part text at.lexed.end at.lexed.len at.lexed.cost.lexed at.lexed.segments.items is is_last x cut _ (λ e. eqb-true at.lexed.end (length segments) e) (λ e. let apart = eqb-false at.lexed.end (length segments) e in omega (arith, is.within))
+    c.in_ok-push-in-Some.ensures.items refl refl whole least paid
 
 pub loop-lexed-preserved-else-lexed-len : goal.loop-lexed-preserved-else-lexed-len
 loop-lexed-preserved-else-lexed-len c =
@@ -44,16 +49,19 @@ loop-lexed-preserved-else-lexed-len c =
     let x = c.in-Some.segment in
     let rest : c.range_from-rest.result.now ≡ drop at.lexed.len text = c.range_from-rest.ensures.value ∙ ap (λ (t : List ℕ). drop at.lexed.len t) c.as_str.ensures.value in
     let is_last : Bool = nat_eq at.lexed.end (length segments) in
-    let found : IfSome (Some x) (IsFirstSegment c.range_from-rest.result.now is_last) = subst (λ (o : Option Segment). IfSome o (IsFirstSegment c.range_from-rest.result.now is_last)) c.in-Some.is c.in_ok-segment.ensures.segment in
+    let found : IfSome (Some x) (IsFirstSegment c.range_from-rest.result.now is_last) = subst (λ (o : Option Segment). IfSome o (IsFirstSegment c.range_from-rest.result.now is_last)) c.in-Some.is c.in_ok-attempt.ensures.segment in
     let cut : IsFirstSegment (drop at.lexed.len text) is_last x = subst (λ (t : List ℕ). IsFirstSegment t is_last x) rest found in
-    let fits : length text < 2 ^ 32 = omega (arith, lexing_fits segments c.args.part text at.lexed.end at.lexed.len at.lexed.lexed at.lexed.segments.items is c.requires.part.0 c.requires.part.1, c.requires.part.2) in
-    let within = next_within segments c.args.part text at.lexed.end at.lexed.len at.lexed.lexed at.lexed.segments.items is is_last x cut in
+    let fits : length text < 2 ^ 32 = omega (arith, lexing_fits segments c.args.part text at.lexed.end at.lexed.len at.lexed.cost.lexed at.lexed.segments.items is c.requires.part.0 c.requires.part.1, c.requires.part.2) in
+    let within = next_within segments c.args.part text at.lexed.end at.lexed.len at.lexed.cost.lexed at.lexed.segments.items is is_last x cut in
     let rest_len : length c.range_from-rest.result.now ≡ length text - at.lexed.len = ap length rest ∙ length-drop at.lexed.len text in
-    let inside = lexing_within segments c.args.part text at.lexed.end at.lexed.len at.lexed.lexed at.lexed.segments.items is in
-    let least : at.lexed.len + x.len ≤ c.saturating_add.result = omega (arith, c.saturating_add.ensures, is.least) in
+    let inside = lexing_within segments c.args.part text at.lexed.end at.lexed.len at.lexed.cost.lexed at.lexed.segments.items is in
+    let lexed = ap (λ (cost : LexingCost). cost.lexed) c.and-lexed.ensures in
+    let least : at.lexed.len + x.len ≤ c.and-lexed.result.lexed = omega (arith, lexed, c.in_ok-attempt.ensures.lexed, is.least) in
+    let paid = subst IsPaid (sym c.and-lexed.ensures) (paid_sum at.lexed.cost c.in_ok-attempt.attempt.cost at.invariant.paid c.in_ok-attempt.ensures.reads) in
     let less : at.lexed.len + x.len < length text = omega (arith, c.if-lexed-len.false, c.len.ensures, at.text.bytes.ok.0) in
     record {
-      lexing = lexing_next segments c.args.part text at.lexed.end at.lexed.len at.lexed.lexed at.lexed.segments.items is is_last x cut c.push.new.self.items c.saturating_add.result c.in_ok-push-in-Some.ensures.items less least;
+      lexing = lexing_next segments c.args.part text at.lexed.end at.lexed.len at.lexed.cost.lexed at.lexed.segments.items is is_last x cut c.push.new.self.items c.and-lexed.result.lexed c.in_ok-push-in-Some.ensures.items less least;
+      paid = paid;
       some = at.invariant.some;
     }
 
@@ -64,8 +72,8 @@ loop-lexed-smaller c =
     let text = string_bytes at.text in
     let is = at.invariant.lexing in
     let more : string_bytes c.append_texts.new.text ≡ text ++ text_of (slice_range segments at.lexed.end c.min-end.result) = c.in_ok-append_texts-in-None.ensures in
-    let inside = lexing_within segments c.args.part text at.lexed.end at.lexed.len at.lexed.lexed at.lexed.segments.items is in
-    let apart = eqb-false at.lexed.end (length segments) (not_last (nat_eq at.lexed.end (length segments)) c.in_ok-segment.field-0 c.in_ok-segment.ensures.last c.in-None.is) in
+    let inside = lexing_within segments c.args.part text at.lexed.end at.lexed.len at.lexed.cost.lexed at.lexed.segments.items is in
+    let apart = eqb-false at.lexed.end (length segments) (not_last (nat_eq at.lexed.end (length segments)) c.in_ok-attempt.attempt.segment c.in_ok-attempt.ensures.last c.in-None.is) in
     taking_less segments text (string_bytes c.append_texts.new.text) at.lexed.end c.min-end.result at.lexed.len inside (grind (arith, common_steps)) (grind (arith, common_steps)) more
 
 pub loop-lexed-preserved : goal.loop-lexed-preserved
@@ -75,11 +83,14 @@ loop-lexed-preserved c =
     let text = string_bytes at.text in
     let is = at.invariant.lexing in
     let more : string_bytes c.append_texts.new.text ≡ text ++ text_of (slice_range segments at.lexed.end c.min-end.result) = c.in_ok-append_texts-in-None.ensures in
-    let fits : length text < 2 ^ 32 = omega (arith, lexing_fits segments c.args.part text at.lexed.end at.lexed.len at.lexed.lexed at.lexed.segments.items is c.requires.part.0 c.requires.part.1, c.requires.part.2) in
-    let inside = lexing_within segments c.args.part text at.lexed.end at.lexed.len at.lexed.lexed at.lexed.segments.items is in
-    let least : at.lexed.len ≤ c.saturating_add.result = omega (arith, c.saturating_add.ensures, is.least) in
+    let fits : length text < 2 ^ 32 = omega (arith, lexing_fits segments c.args.part text at.lexed.end at.lexed.len at.lexed.cost.lexed at.lexed.segments.items is c.requires.part.0 c.requires.part.1, c.requires.part.2) in
+    let inside = lexing_within segments c.args.part text at.lexed.end at.lexed.len at.lexed.cost.lexed at.lexed.segments.items is in
+    let lexed = ap (λ (cost : LexingCost). cost.lexed) c.and-lexed.ensures in
+    let least : at.lexed.len ≤ c.and-lexed.result.lexed = omega (arith, lexed, fits, lexing_within segments c.args.part text at.lexed.end at.lexed.len at.lexed.cost.lexed at.lexed.segments.items is, is.least) in
+    let paid = subst IsPaid (sym c.and-lexed.ensures) (paid_sum at.lexed.cost c.in_ok-attempt.attempt.cost at.invariant.paid c.in_ok-attempt.ensures.reads) in
     record {
-      lexing = lexing_more segments c.args.part text (string_bytes c.append_texts.new.text) at.lexed.end c.min-end.result at.lexed.len at.lexed.lexed at.lexed.segments.items is c.saturating_add.result
+      lexing = lexing_more segments c.args.part text (string_bytes c.append_texts.new.text) at.lexed.end c.min-end.result at.lexed.len at.lexed.cost.lexed at.lexed.segments.items is c.and-lexed.result.lexed
           least (grind (arith, common_steps)) (grind (arith, common_steps)) more;
+      paid = paid;
       some = grind (arith, common_steps);
     }

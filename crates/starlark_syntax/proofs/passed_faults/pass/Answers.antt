@@ -2,9 +2,9 @@ use Rattle.std.proofs.Common.{◌≡◌, ◌+◌}
 use Rattle.starlark_syntax.proofs.Passes.{passes}
 use Rattle.starlark_syntax.proofs.passed_faults.pass.Goals as goal
 
-pub returns : goal.returns
-returns c file fault is =
+pub returns-clause-passed : goal.returns-clause-passed
+returns-clause-passed c file fault is =
     let span : c.new-span.result ≡ record { begin = c.args.begin + c.place_of-place.result.begin; end = c.args.begin + c.place_of-place.result.end } = cc in
-    passes file c.args.text.now c.args.begin c.restart.result fault c.args.exception c.in_ok-fault.fault c.place_of-place.result c.in_ok-code_map.code_map c.in_ok-dupe.field-0 c.new-span.result c.in-Ok.rest c.range_from.result.now c.range_from-2.result.now
+    passes file c.args.text.now c.args.begin c.counted_restart.result fault c.args.exception c.in_ok-fault.fault c.place_of-place.result c.count.result c.in_ok-code_map.code_map c.in_ok-dupe.field-0 c.new-span.result c.in-Ok.rest c.range_from.result.now c.range_from-2.result.now
     is c.place_of-place.ensures.place c.place_of-place.ensures.tab c.in_ok-code_map.ensures c.in_ok-dupe.ensures
-    c.range_from.ensures.value c.restart.ensures.value c.restart.ensures.boundary c.requires.boundary c.range_from-2.ensures.value c.in-Ok.ensures.ok span c.in_ok-fault.ensures
+    c.range_from.ensures.value c.counted_restart.ensures.value c.counted_restart.ensures.boundary c.requires.boundary c.range_from-2.ensures.value c.in-Ok.ensures.ok span c.in_ok-fault.ensures

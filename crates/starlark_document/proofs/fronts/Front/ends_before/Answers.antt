@@ -11,7 +11,7 @@ not_false false e = cc
 not_false true e = refl
 
 pub returns-clause-ends : goal.returns-clause-ends
-returns-clause-ends c ends file next answers = sym (c.in_ok-is_dedent.ensures file next answers) ∙ not_true c.in_ok-is_dedent.field-0 ends
+returns-clause-ends c ends file next answers = sym (c.in_ok-is_dedent.ensures.dedent file next answers) ∙ not_true c.in_ok-is_dedent.field-0 ends
 
 pub returns-clause-goes : goal.returns-clause-goes
-returns-clause-goes c goes cut file next answers = sym (c.in_ok-is_dedent.ensures file next answers) ∙ not_false c.in_ok-is_dedent.field-0 goes
+returns-clause-goes c goes cut file next answers = sym (c.in_ok-is_dedent.ensures.dedent file next answers) ∙ not_false c.in_ok-is_dedent.field-0 goes

@@ -8,6 +8,8 @@ use Rattle.starlark_grammar.proofs.Order.Inside.{lexemes_few}
 use Rattle.starlark_reader.proofs.Pieces.ReaderReads.{looked_reads, margin_reads, taken_reads}
 use Rattle.starlark_reader.proofs.Pieces.PieceTaken.{left_onward}
 use Rattle.starlark_syntax.proofs.LexerReads.{fault_counts, found_behind_margin, found_in_code, goes_on, newline_counts, look_paid, nothing_kept, nothing_looked, same_word, word_inside, word_opened}
+use Rattle.starlark_syntax.proofs.Reaches.{reached, word_line}
+use Rattle.starlark_syntax.proofs.RestartReads.{next_line_after}
 use Rattle.starlark_syntax.specs.Inner.LexerStates.{IsLexing}
 use Rattle.starlark_syntax.specs.Inner.Looked.{HasOpened, is_text_opener}
 use Rattle.starlark_syntax.specs.declared.lexer_state.LexerState.{LexerState}
@@ -151,7 +153,7 @@ next_slowly-requires-clause-lexing c =
           let inside = (left_onward c.loop-self.self.text.now w.common_word.new.self _ _ w.common_word.ensures.code.stage ahead).is_left.1.inside in
           let looked : HasLooked 0 3 c.loop-self.self.reader w.common_word.new.self = rw w.in_default.is at w.common_word.ensures.looked in
           let read = looked_reads c.loop-self.self.text.now paid.0 0 3 c.loop-self.self.reader w.common_word.new.self quick.1.stage paid.2 looked in
-          (rw c.loop-self.invariant.0 c.requires.0, (λ on. (rw (c.loop-self.invariant.0, c.loop-self.invariant.2) inv.0, ahead)), quick.0, (λ on. (w.common_word.ensures.code, omega (arith, inside, w.at.ensures), (λ class len front two text. omega (arith, two, w.at.ensures)), (paid.0 + 3, omega (arith, paid.1, quick.2, looked.0, w.at.ensures), read))), omega (arith, inside, w.at.ensures)))
+          (rw c.loop-self.invariant.0 c.requires.0, (λ on. (rw (c.loop-self.invariant.0, c.loop-self.invariant.2) inv.0, ahead)), quick.0, (λ on. (w.common_word.ensures.code, omega (arith, inside, w.at.ensures), (λ class len front two text. omega (arith, two, w.at.ensures)), (paid.0 + 3, omega (arith, paid.1, quick.2, looked.0, w.at.ensures), read))), reached c.loop-self.self.text.now w.common_word.new.self _ w.common_word.new.self.at _ w.common_word.ensures.code.stage ahead refl (omega (arith, next_line_after c.loop-self.self.text.now w.common_word.new.self.at inside, w.at.ensures))))
       | else-not-is_nothing+in-Some+in-LineEnd+in-Ok-Fault w ↦ subst IsLexing (sym w.self-is) (
           let quick = (nothing_looked c.loop-self.self.text.now c.loop-self.self.reader c.loop-self.self.looked_to c.loop-self.self.has_ended c.loop-self.self.looked (sym c.is_nothing.ensures ∙ w.if-not-is_nothing.false) c.loop-self.invariant.5 c.loop-self.invariant.6) in
           let paid = quick.3 in
@@ -184,7 +186,8 @@ next_slowly-requires-clause-lexing c =
                   omega (arith, place, look.other plain (omega (arith, two, same.1)), same.1)),
               (paid.0 + ((5 * w.in-Some.field-0.len - 4) + 3), omega (arith, paid.1, quick.2, word.0, inside.0, place, look.paid), read),
             )),
-            omega (arith, inside.1, place, look.most),
+            reached c.loop-self.self.text.now w.common_word.new.self _ w.common_word.new.self.at _ w.common_word.ensures.code.stage ahead refl
+                (omega (arith, word_line c.loop-self.self.text.now w.common_word.new.self.at w.in-Some.field-0.len w.in-Some.field-0.class (omega (arith, inside.1)) (sym front), place, look.most)),
           ))
     ]
 

@@ -8,6 +8,8 @@ use Rattle.starlark_grammar.specs.declared.class.LiteralKind.TheVariants as kind
 use Rattle.starlark_syntax.proofs.LexerItems.{one_more}
 use Rattle.starlark_grammar.proofs.Order.Inside.{lexemes_few}
 use Rattle.starlark_reader.proofs.Pieces.ReaderReads.{begun_reads, here_reads, here_taken_reads}
+use Rattle.starlark_reader.proofs.NextLines.{next_line_inside}
+use Rattle.starlark_syntax.proofs.Reaches.{reached}
 use Rattle.starlark_syntax.proofs.LexerReads.{found_further, found_further_in_code, front_looked, goes_on, plain_reads}
 use Rattle.starlark_syntax.proofs.lexer_state.LexerState.next_of_all.Goals as goal
 
@@ -100,7 +102,7 @@ next_of_reader-requires-clause-lexing c =
       (λ on. (inv.0, c.plain_body_len.ensures.ahead _ _ (c.front-front.ensures.ahead _ _ inv.1))),
       tt,
       (λ on. (paid.0 + 3 + (2 * c.in-Err-plain_body_len.run' + 3), omega (arith, paid.1, reach, at), read)),
-      omega (arith, other.0, other.1.0, same, at),
+      reached c.args.self.now.text.now c.args.self.now.reader _ c.plain_body_len.new.self.at _ looked.0.stage inv.1 (other.1.0 ∙ same) (omega (arith, other.0, other.1.0, same, at)),
     )
 
 pub returns-in-Ok-take_plain_bytes-clause-lexing : goal.returns-in-Ok-take_plain_bytes-clause-lexing
@@ -174,3 +176,15 @@ next_of_reader-requires-in_default-comment_len-clause-lexing c =
     let short = here_reads c.args.self.now.text.now paid.0 3 3 c.args.self.now.reader c.front-front.new.self paid.2 c.front-front.ensures.looked in
     let read = here_reads c.args.self.now.text.now (paid.0 + 3) 0 0 c.front-front.new.self c.comment_len.new.self short (c.comment_len.ensures.none c.in_default-comment_len.is) in
     (c.requires.lexing.0, (λ on. (inv.0, c.comment_len.ensures.ahead _ _ (c.front-front.ensures.ahead _ _ inv.1))), tt, (λ on. (paid.0 + 3 + 0, omega (arith, paid.1), read)), c.requires.lexing.4)
+
+pub overflow_add-self-in-Err-plain_body_len-2 : goal.overflow_add-self-in-Err-plain_body_len-2
+overflow_add-self-in-Err-plain_body_len-2 c =
+    let line = next_line_inside c.args.self.now.text.now c.plain_body_len.new.self.at in
+    let small : c.at.result + 2 + c.in-Err-plain_body_len.run' ≤ 2 ^ 34 = omega (arith, c.in-Err-plain_body_len.ensures.other.0, line, c.at.ensures, c.requires.lexing.0) in
+    search (rules, small)
+
+pub overflow_add-self-in-Err-plain_body_len-3 : goal.overflow_add-self-in-Err-plain_body_len-3
+overflow_add-self-in-Err-plain_body_len-3 c =
+    let line = next_line_inside c.args.self.now.text.now c.plain_body_len.new.self.at in
+    let small : c.at.result + 2 + c.in-Err-plain_body_len.run' + 1 ≤ 2 ^ 34 = omega (arith, c.in-Err-plain_body_len.ensures.other.0, line, c.at.ensures, c.requires.lexing.0) in
+    search (rules, small)

@@ -1,7 +1,10 @@
-use Rattle.std.proofs.Common.{◌+◌, ◌≤◌, ◌^◌, arith, drop, map, rules, subst}
+use Rattle.std.proofs.Common.{◌≡◌, ◌∙◌, Some, ◌+◌, ◌≤◌, ◌^◌, ap, arith, drop, map, rules, subst, sym}
 use Rattle.std.proofs.lemmas.List.{length-map}
 use Rattle.starlark_token.specs.Lexemes.{shown_lexeme}
 use Rattle.starlark_grammar.specs.Reading.{outcome}
+use Rattle.starlark_grammar.specs.AfterFaults.{restart}
+use Rattle.starlark_grammar.specs.Tokens.{Fault, Spanned}
+use Rattle.starlark_reader.proofs.NextLines.{restart_inside}
 use Rattle.starlark_reader.specs.Inner.Reader.{IsNext}
 use Rattle.starlark_reader.specs.Inner.Reads.{HasReadNext}
 use Rattle.starlark_reader.specs.declared.reader.Next.{Next}
@@ -67,7 +70,18 @@ returns-in-Ok-clause-answer c =
     let is : IsNext c.args.self.now.text.now (left_in c.args.self.now) (outcome c.args.self.now.text.now).fault (next.Fault c.in-Ok-Fault.begin c.in-Ok-Fault.fault c.in-Ok-Fault.end) c.next.new.self = subst (λ (n : Next). IsNext c.args.self.now.text.now (left_in c.args.self.now) (outcome c.args.self.now.text.now).fault n c.next.new.self) c.in-Ok-Fault.field-0-is (c.in-Ok-Fault.ensures.next _ _ inv.1) in
     let paid = spared c.args.self.now.text.now c.args.self.now.reader c.args.self.now.looked_to c.args.self.now.looked (c.requires.lexing.3 c.requires.going) in
     let read = subst (λ (n : Next). HasReadNext c.args.self.now.text.now paid.0 n c.next.new.self) c.in-Ok-Fault.field-0-is (c.in-Ok-Fault.ensures.reads paid.0 paid.2) in
-    (is.2, (_, is.3, (c.in-Ok-Fault.fault, is.1, c.in-Ok.ensures)), is.4, omega (arith, paid.1, read, c.requires.lexing.4))
+    let place : Spanned Fault = record { begin = c.in-Ok-Fault.begin; node = is.0; end = c.in-Ok-Fault.end } in
+    let few = read is.0 is.1 in
+    let reach = c.requires.lexing.4 in (
+      is.2,
+      (_, is.3, (c.in-Ok-Fault.fault, is.1, c.in-Ok.ensures)),
+      is.4,
+      omega (arith, paid.1, few, reach.inside, restart_inside c.args.self.now.text.now place),
+      (λ fault has.
+          let both : Some place ≡ Some fault = sym is.3 ∙ has in
+          let same : place ≡ fault = cc in
+          omega (arith, paid.1, few, reach.fault fault has, ap (restart c.args.self.now.text.now) same)),
+    )
 
 pub returns-in-Ok-Nothing-clause-answer : goal.returns-in-Ok-Nothing-clause-answer
 returns-in-Ok-Nothing-clause-answer c =
@@ -75,4 +89,4 @@ returns-in-Ok-Nothing-clause-answer c =
     let is : IsNext c.args.self.now.text.now (left_in c.args.self.now) (outcome c.args.self.now.text.now).fault next.Nothing c.next.new.self = subst (λ (n : Next). IsNext c.args.self.now.text.now (left_in c.args.self.now) (outcome c.args.self.now.text.now).fault n c.next.new.self) c.in-Ok-Nothing.field-0-is (c.in-Ok-Nothing.ensures.next _ _ inv.1) in
     let paid = spared c.args.self.now.text.now c.args.self.now.reader c.args.self.now.looked_to c.args.self.now.looked (c.requires.lexing.3 c.requires.going) in
     let read = subst (λ (n : Next). HasReadNext c.args.self.now.text.now paid.0 n c.next.new.self) c.in-Ok-Nothing.field-0-is (c.in-Ok-Nothing.ensures.reads paid.0 paid.2) in
-    (is.0, is.1, is.3, read.1, omega (arith, paid.1, read.2, c.requires.lexing.4))
+    (is.0, is.1, is.3, read.1, omega (arith, paid.1, read.2, c.requires.lexing.4.inside))

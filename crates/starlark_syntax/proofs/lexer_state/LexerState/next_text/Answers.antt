@@ -5,6 +5,8 @@ use Rattle.starlark_grammar.specs.Reading.{outcome}
 use Rattle.starlark_syntax.proofs.LexerItems.{one_more}
 use Rattle.starlark_grammar.proofs.Order.Inside.{lexemes_few}
 use Rattle.starlark_reader.proofs.Pieces.ReaderReads.{here_reads}
+use Rattle.starlark_reader.proofs.NextLines.{next_line_inside}
+use Rattle.starlark_syntax.proofs.Reaches.{reached}
 use Rattle.starlark_syntax.proofs.LexerReads.{found_further, front_is, goes_on, plain_reads, text_opener_len}
 use Rattle.starlark_syntax.proofs.lexer_state.LexerState.next_text.Goals as goal
 
@@ -53,6 +55,7 @@ next_of_all-requires-clause-lexing c =
 pub next_of_all-requires-in-Err-clause-lexing : goal.next_of_all-requires-in-Err-clause-lexing
 next_of_all-requires-in-Err-clause-lexing c =
     let inv = c.requires.lexing.1 c.requires.going in
+    let front = front_is c.args.self.now.text.now c.args.self.now.reader c.args.self.now.looked_to c.args.self.now.looked c.requires.front (c.requires.lexing.3 c.requires.going) in
     let paid = c.requires.opened.1 in
     let opened = here_reads c.args.self.now.text.now paid.0 2 2 c.args.self.now.reader c.text_opener.new.self paid.2 c.text_opener.ensures.looked in
     let other = c.in-Err.ensures.other in
@@ -65,5 +68,23 @@ next_of_all-requires-in-Err-clause-lexing c =
       (λ on. (inv.0, c.plain_body_len.ensures.ahead _ _ (c.text_opener.ensures.ahead _ _ inv.1))),
       tt,
       (λ on. (paid.0 + 2 + (2 * c.in-Err.run' + 3), omega (arith, paid.1, reach, at, c.in-Some.len-is), read)),
-      omega (arith, other.0, other.1.0, same, at, c.in-Some.len-is),
+      reached c.args.self.now.text.now c.args.self.now.reader _ c.plain_body_len.new.self.at _ front.0.stage inv.1 (other.1.0 ∙ same) (omega (arith, other.0, other.1.0, same, at, c.in-Some.len-is)),
     )
+
+pub overflow_add-self : goal.overflow_add-self
+overflow_add-self c =
+    let line = next_line_inside c.args.self.now.text.now c.plain_body_len.new.self.at in
+    let small : c.at.result + c.in-Some.field-0.len ≤ 2 ^ 34 = omega (arith, c.in-Err.ensures.other.0, line, c.at.ensures, c.in-Some.len-is, c.requires.lexing.0) in
+    search (rules, small)
+
+pub overflow_add-self-in-Err : goal.overflow_add-self-in-Err
+overflow_add-self-in-Err c =
+    let line = next_line_inside c.args.self.now.text.now c.plain_body_len.new.self.at in
+    let small : c.at.result + c.in-Some.field-0.len + 1 ≤ 2 ^ 34 = omega (arith, c.in-Err.ensures.other.0, line, c.at.ensures, c.in-Some.len-is, c.requires.lexing.0) in
+    search (rules, small)
+
+pub overflow_add-self-in-Err-2 : goal.overflow_add-self-in-Err-2
+overflow_add-self-in-Err-2 c =
+    let line = next_line_inside c.args.self.now.text.now c.plain_body_len.new.self.at in
+    let small : c.at.result + c.in-Some.field-0.len + 1 + c.in-Err.run' ≤ 2 ^ 34 = omega (arith, c.in-Err.ensures.other.0, line, c.at.ensures, c.in-Some.len-is, c.requires.lexing.0) in
+    search (rules, small)

@@ -6,6 +6,8 @@ use Rattle.starlark_syntax.proofs.LexerItems.{one_more}
 use Rattle.starlark_grammar.proofs.Order.Inside.{lexemes_few}
 use Rattle.starlark_reader.proofs.Pieces.PieceTaken.{left_onward}
 use Rattle.starlark_reader.proofs.Pieces.ReaderReads.{here_reads, here_taken_reads}
+use Rattle.starlark_reader.proofs.NextLines.{next_line_inside}
+use Rattle.starlark_syntax.proofs.Reaches.{reached}
 use Rattle.starlark_syntax.proofs.LexerReads.{found_out, goes_on, spared}
 use Rattle.starlark_syntax.proofs.lexer_state.LexerState.next_waiting.Goals as goal
 
@@ -86,4 +88,16 @@ next_of_reader-requires-in-Err-plain_text-clause-lexing c =
     let behind : c.args.self.now.looked_to ≤ c.next_mark.new.self.at = omega (arith, c.if-at-self.false, c.at.ensures) in
     let at : c.at-in-Err-plain_text.result ≡ c.next_mark.new.self.at = c.at-in-Err-plain_text.ensures ∙ here.0 in
     let read = here_reads c.args.self.now.text.now paid.0 0 (2 * c.in-Err-plain_text.run' + 4) c.next_mark.new.self c.plain_text.new.self marked here in
-    (c.requires.lexing.0, (λ on. (inv.0, c.plain_text.ensures.ahead _ _ ahead)), tt, (λ on. (paid.0 + (2 * c.in-Err-plain_text.run' + 4), omega (arith, paid.1, behind, at), read)), omega (arith, inside, at, other.0))
+    (c.requires.lexing.0, (λ on. (inv.0, c.plain_text.ensures.ahead _ _ ahead)), tt, (λ on. (paid.0 + (2 * c.in-Err-plain_text.run' + 4), omega (arith, paid.1, behind, at), read)), reached c.args.self.now.text.now c.next_mark.new.self _ c.plain_text.new.self.at _ (c.reads_on.ensures.stage c.if-not-reads_on.false) ahead here.0 (omega (arith, at, other.0, here.0)))
+
+pub overflow_add-self-in-Err-plain_text : goal.overflow_add-self-in-Err-plain_text
+overflow_add-self-in-Err-plain_text c =
+    let line = next_line_inside c.args.self.now.text.now c.plain_text.new.self.at in
+    let small : c.at-in-Err-plain_text.result + c.in-Err-plain_text.run' ≤ 2 ^ 34 = omega (arith, c.in-Err-plain_text.ensures.other.0, line, c.at-in-Err-plain_text.ensures, c.requires.lexing.0) in
+    search (rules, small)
+
+pub overflow_add-self-in-Err-plain_text-2 : goal.overflow_add-self-in-Err-plain_text-2
+overflow_add-self-in-Err-plain_text-2 c =
+    let line = next_line_inside c.args.self.now.text.now c.plain_text.new.self.at in
+    let small : c.at-in-Err-plain_text.result + c.in-Err-plain_text.run' + 1 ≤ 2 ^ 34 = omega (arith, c.in-Err-plain_text.ensures.other.0, line, c.at-in-Err-plain_text.ensures, c.requires.lexing.0) in
+    search (rules, small)

@@ -10,5 +10,5 @@ returns-clause-lexing c =
       (λ on. (omega (arith, none), rw none (begun.ahead c.args.text.now))),
       rw begun.looked tt,
       (λ on. rw begun.looked (0, omega arith, begun.reads c.args.text.now)),
-      omega (arith, begun.place),
+      record { inside = omega (arith, begun.place); fault = λ fault has. omega (arith, begun.place) },
     )

@@ -1,0 +1,20 @@
+-- What lexing takes.
+use Rattle.std.specs.Prelude.{◌≤◌, ◌+◌, min, ℕ}
+use Rattle.starlark_document.specs.declared.lexing.LexingCost.{LexingCost}
+use Rattle.starlark_syntax.specs.RecoveringLexer.{most_reads_on}
+
+-- the reads are within the bound for the bytes that were lexed and the starts of lexing
+abbrev pub IsPaid : LexingCost → Type 0
+IsPaid cost = cost.reads ≤ most_reads_on cost.lexed cost.starts
+
+-- a sum that saturates at 2^64 - 1
+abbrev pub saturated_sum : ℕ → ℕ → ℕ
+saturated_sum first second = min (first + second) 18446744073709551615
+
+-- what two lexings took
+abbrev pub cost_sum : LexingCost → LexingCost → LexingCost
+cost_sum first second = record {
+  lexed = saturated_sum first.lexed second.lexed;
+  starts = saturated_sum first.starts second.starts;
+  reads = saturated_sum first.reads second.reads;
+}
