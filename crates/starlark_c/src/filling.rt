@@ -25,6 +25,7 @@ use std::alloc::Global;
 
 /// Writes bytes at an offset, and returns the offset after them. `None`, and nothing changes, where
 /// they don't fit.
+#[inline(always)]
 pub fn put_bytes(values: &mut [u8], at: usize, bytes: &[u8]) -> Option<usize>
     requires { at ≤ length values.old }
     ensures some { IfSome result (λ end. (end ≡ at + length bytes.now) × (end ≤ length values.old) × (values.new ≡ put at bytes.now values.old)) }
@@ -41,6 +42,7 @@ pub fn put_bytes(values: &mut [u8], at: usize, bytes: &[u8]) -> Option<usize>
 /// Puts a lexeme after what fills the buffers, and returns what fills them then.
 ///
 /// `None`, and nothing changes, where there is no room.
+#[inline(always)]
 pub fn put_lexeme(
     lexemes: &mut [LexemeRecord],
     values: &mut [u8],
@@ -118,6 +120,7 @@ fn put_fault(_text: &str, values: &mut [u8], filled: Filled, exception: &EvalExc
 /// Puts a lexeme after what fills the buffers.
 ///
 /// Where there is no room, nothing changes, and the error is what is wanted with the lexeme.
+#[inline(always)]
 fn put_next(
     lexemes: &mut [LexemeRecord],
     values: &mut [u8],
@@ -136,6 +139,7 @@ fn put_next(
 }
 
 /// Puts a lexeme after what fills the buffers, as `put_next` does, and drops it.
+#[inline(always)]
 fn take_next(
     lexemes: &mut [LexemeRecord],
     values: &mut [u8],

@@ -10,6 +10,7 @@ use starlark_syntax::lexer::Token;
 ///
 /// Numbers never change: a new kind gets the next one.
 #[tactic(auto, unfolding(starlark_token::specs::TokenViews::token_view, crate::specs::Kinds::kind_number, crate::specs::Kinds::token_number, crate::specs::Kinds::terminal_number))]
+#[inline(always)]
 pub fn number_of_kind(token: &Token) -> u16
     ensures { result ≡ kind_number (token_view token.now) }
 {

@@ -44,6 +44,7 @@ pub struct Passed {
 
 /// Whether a token is `Newline`.
 #[tactic(auto, unfolding(starlark_token::specs::TokenViews::token_view))]
+#[inline(always)]
 fn is_newline(token: &Token) -> bool
     ensures { result ≡ is_newline_view (token_view token.now) }
 {
@@ -51,6 +52,7 @@ fn is_newline(token: &Token) -> bool
 }
 
 /// Whether the text may be cut after a token, with so many blocks open before it.
+#[inline(always)]
 fn ends_piece(depth: usize, token: &Token) -> bool
     ensures { result ≡ (is_newline_view (token_view token.now) && depth == 0) }
 {
@@ -58,6 +60,7 @@ fn ends_piece(depth: usize, token: &Token) -> bool
 }
 
 /// Number of blocks that are open after a token, with so many open before it.
+#[inline(always)]
 fn depth_after(depth: usize, token: &Token) -> usize {
     match token {
         Token::Indent => depth.saturating_add(1),
@@ -96,6 +99,7 @@ impl Progress {
     };
 
     /// After one more lexeme, with which `filled` fills the buffers.
+    #[inline(always)]
     pub fn after(self, filled: Filled, lexeme: &(usize, Token, usize)) -> Progress
         ensures filled { result.filled ≡ filled }
         ensures stop { IsNextStop self.stop lexeme.now filled result.stop }

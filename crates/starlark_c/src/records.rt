@@ -46,6 +46,7 @@ pub struct FaultRecord {
 
 /// The bytes of a token's value. An integer has some only if it doesn't fit in 32 bits: its digits.
 #[tactic(auto, unfolding(starlark_token::specs::TokenViews::token_view, crate::specs::Records::value_bytes))]
+#[inline(always)]
 pub fn bytes_of(token: &Token) -> &[u8]
     ensures { result.now ≡ value_bytes (token_view token.now) }
 {
@@ -63,6 +64,7 @@ pub fn bytes_of(token: &Token) -> &[u8]
 
 /// The value of an integer that fits in 32 bits, and 0 for all other tokens.
 #[tactic(auto, unfolding(starlark_token::specs::TokenViews::token_view, crate::specs::Records::integer))]
+#[inline(always)]
 fn integer_of(token: &Token) -> i32
     ensures { result ≡ integer (token_view token.now) }
 {
@@ -86,6 +88,7 @@ fn number_of_quotes(quote: FStringQuote) -> u16
 
 /// The base of an integer that doesn't fit in 32 bits, or the number of an f-string's quotes, else 0.
 #[tactic(auto, unfolding(starlark_token::specs::TokenViews::token_view, crate::specs::Records::detail))]
+#[inline(always)]
 fn detail_of(token: &Token) -> u16
     ensures { result ≡ detail (token_view token.now) }
 {
@@ -97,6 +100,7 @@ fn detail_of(token: &Token) -> u16
 }
 
 /// The record of a lexeme whose value begins at byte `at` of the values.
+#[inline(always)]
 pub fn record_at(at: usize, lexeme: &(usize, Token, usize)) -> LexemeRecord
     requires begin { lexeme.now.0 < 2 ^ 32 }
     requires end { lexeme.now.2 < 2 ^ 32 }
