@@ -1,7 +1,8 @@
 -- The outcomes of a text that is lexed on after its faults.
 use Rattle.std.specs.Prelude.{ℕ, zero, suc, ◌-◌, List, [], ◌∷◌, ◌++◌, map, Option, Some, None, option_map, option_to_list}
 use Rattle.starlark_grammar.specs.Words.{Text}
-unfoldable pub use Rattle.starlark_grammar.specs.AfterFaults.{is_margin_tab, is_tab, line_end_len, margin_line, next_line, restart, stopped_at}
+pub use Rattle.starlark_grammar.specs.AfterFaults.{is_margin_tab, is_tab, line_end_len, margin_line}
+unfoldable pub use Rattle.starlark_grammar.specs.AfterFaults.{next_line, restart, stopped_at}
 use Rattle.starlark_grammar.specs.Tokens.{Lexeme, Spanned, moved, Fault, Outcome}
 use Rattle.starlark_grammar.specs.Reading.{outcome}
 
