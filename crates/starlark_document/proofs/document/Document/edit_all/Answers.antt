@@ -21,3 +21,6 @@ returns-clause-text c = c.loop-index.invariant.2 ∙ ap (λ es. text_after es c.
 
 pub returns-clause-fit : goal.returns-clause-fit
 returns-clause-fit c = subst (AreEdits c.args.self.now) (all_taken c.args.edits.now c.loop-index.index c.loop-index-test.false) c.loop-index.invariant.1
+
+pub returns-clause-count : goal.returns-clause-count
+returns-clause-count c = refl
