@@ -227,7 +227,7 @@ fn simple<'a>(reads: &mut Reads, first: u8, text: &'a str) -> Found<'a>
 ///
 /// `front` is the first three bytes of the rest, read already.
 #[inline(always)]
-pub fn simple_escape(literal: Literal, front: &[u8]) -> Option<char>
+pub(crate) fn simple_escape(literal: Literal, front: &[u8]) -> Option<char>
     ensures { IfSome result (λ value. (text : Text) → front.now ≡ take 3 text → grammar.found_at (literal_view literal) text ≡ grammar.goes 2 (encode_utf8 value)) }
 {
     let [first, second, ..] = front else {
@@ -247,7 +247,7 @@ fn is_of_bytes(kind: LiteralKind) -> bool
 }
 
 /// The escape at the start of a text, which begins with its backslash: an item, or a bad escape.
-pub fn escape<'a>(reads: &mut Reads, kind: LiteralKind, text: &'a str) -> Found<'a>
+pub(crate) fn escape<'a>(reads: &mut Reads, kind: LiteralKind, text: &'a str) -> Found<'a>
     requires { text.now ≡ 92 ∷ drop 1 text.now }
     ensures value { found_view result ≡ grammar.escape kind (drop 1 text.now) }
     ensures text { grammar.is_of_bytes kind ≡ false → IsText result }

@@ -24,7 +24,7 @@ pub struct Literal {
 
 /// The decoded value of an item.
 #[derive(Clone, Copy)]
-pub enum Value<'a> {
+pub(crate) enum Value<'a> {
     /// A part of the text, unchanged. It is empty where the item has no value, such as a CR.
     Part(&'a str),
     /// The character of an escape.
@@ -35,7 +35,7 @@ pub enum Value<'a> {
 
 /// An item of a body, such as a character or an escape.
 #[derive(Clone, Copy)]
-pub struct Item<'a> {
+pub(crate) struct Item<'a> {
     /// Length of the item in the text, in bytes.
     pub len: usize,
     /// The decoded value.
@@ -61,7 +61,7 @@ pub enum Stop {
 
 /// What is next in a body: an item, or its stop.
 #[derive(Clone, Copy)]
-pub enum Found<'a> {
+pub(crate) enum Found<'a> {
     /// The body goes on with an item.
     Goes(Item<'a>),
     /// The body stops.
@@ -69,7 +69,7 @@ pub enum Found<'a> {
 }
 
 /// An item of `len` bytes whose value is a part of the text.
-pub fn part(len: usize, value: &str) -> Found<'_>
+pub(crate) fn part(len: usize, value: &str) -> Found<'_>
     ensures value { found_view result ≡ grammar.goes len value.now }
     ensures text { IsText result }
     ensures len { found_len result ≡ len }
@@ -89,7 +89,7 @@ pub fn closing_len(opening: Opening) -> usize
 }
 
 /// Whether a byte is the given quote.
-pub fn is_quote(quote: Quote, byte: u8) -> bool
+pub(crate) fn is_quote(quote: Quote, byte: u8) -> bool
     ensures { result ≡ (byte == grammar.quote_byte quote) }
 {
     match quote {
@@ -100,7 +100,7 @@ pub fn is_quote(quote: Quote, byte: u8) -> bool
 
 /// Whether a text begins with the quotes that close a literal.
 #[inline(always)]
-pub fn closes(opening: Opening, text: &[u8]) -> bool
+pub(crate) fn closes(opening: Opening, text: &[u8]) -> bool
     ensures { result ≡ starts_with nat_eq text.now (grammar.closing_quotes (opening_view opening)) }
 {
     let quote = opening.quote;
@@ -124,7 +124,7 @@ fn drops_backslash(kind: LiteralKind, quote: Quote, byte: u8) -> bool
 }
 
 /// The text after its first byte, which must be ASCII.
-pub fn after_first(text: &str) -> &str
+pub(crate) fn after_first(text: &str) -> &str
     requires some { 0 < length text.now }
     requires ascii { get_or text.now 0 0 < 128 }
     ensures { result.now ≡ drop 1 text.now }
@@ -133,7 +133,7 @@ pub fn after_first(text: &str) -> &str
 }
 
 /// The first character of a text, as text; empty if the text is.
-pub fn first_character<'a>(reads: &mut Reads, text: &'a str) -> &'a str
+pub(crate) fn first_character<'a>(reads: &mut Reads, text: &'a str) -> &'a str
     ensures value { result.now ≡ characters.first_character text.now }
     ensures reads { reads.new ≡ more_reads reads.old (length result.now) }
 {
@@ -180,7 +180,7 @@ fn brace<'a>(reads: &mut Reads, first: u8, text: &'a str) -> Found<'a>
 }
 
 /// Whether a byte is a brace in an f-string.
-pub fn is_brace(kind: LiteralKind, byte: u8) -> bool
+pub(crate) fn is_brace(kind: LiteralKind, byte: u8) -> bool
     ensures { result ≡ grammar.is_brace kind byte }
 {
     match kind {
@@ -190,7 +190,7 @@ pub fn is_brace(kind: LiteralKind, byte: u8) -> bool
 }
 
 /// Whether a byte is an LF in a literal that can't have one.
-pub fn ends_line(opening: Opening, byte: u8) -> bool
+pub(crate) fn ends_line(opening: Opening, byte: u8) -> bool
     ensures { result ≡ (byte == 10 && not opening.is_triple) }
 {
     byte == b'\n' && !opening.is_triple
@@ -198,7 +198,12 @@ pub fn ends_line(opening: Opening, byte: u8) -> bool
 
 /// The item or stop at the start of the rest of a body. `front` is its first three bytes, read
 /// already.
-pub fn found_at<'a>(reads: &mut Reads, literal: Literal, front: &[u8], text: &'a str) -> Found<'a>
+pub(crate) fn found_at<'a>(
+    reads: &mut Reads,
+    literal: Literal,
+    front: &[u8],
+    text: &'a str,
+) -> Found<'a>
     requires { front.now ≡ take 3 text.now }
     ensures value { found_view result ≡ grammar.found_at (literal_view literal) text.now }
     ensures text { grammar.is_of_bytes literal.kind ≡ false → IsText result }

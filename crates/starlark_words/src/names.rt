@@ -95,7 +95,7 @@ fn name_len(reads: &mut Reads, text: &[u8]) -> usize
 
 /// Number of letters, digits and `_` at the start of a text, and the byte after them.
 #[inline(always)]
-pub fn name_run(reads: &mut Reads, text: &[u8]) -> (usize, Option<u8>)
+pub(crate) fn name_run(reads: &mut Reads, text: &[u8]) -> (usize, Option<u8>)
     ensures value { result.0 ≡ prefix_len grammar.is_in_name text.now }
     ensures within { result.0 ≤ length text.now }
     ensures behind { result.1 ≡ slice_get text.now result.0 }

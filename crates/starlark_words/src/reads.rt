@@ -82,7 +82,7 @@ impl Reads {
 
     /// Counts the 16 bytes of a SIMD step.
     #[inline(always)]
-    pub fn count_lanes(&mut self)
+    pub(crate) fn count_lanes(&mut self)
         ensures { self.new ≡ more_reads self.old 16 }
     {
         self.add(LANES);
@@ -90,7 +90,7 @@ impl Reads {
 
     /// Counts a run of `len` bytes that was read one by one, and the SIMD step after it.
     #[inline(always)]
-    pub fn count_run_and_lanes(&mut self, len: usize)
+    pub(crate) fn count_run_and_lanes(&mut self, len: usize)
         requires { len < 2 ^ 64 - 16 }
         ensures { self.new ≡ more_reads self.old (len + 16) }
     {
@@ -142,7 +142,7 @@ impl Reads {
     ///
     /// The reads of the run are counted here: its `run` bytes, and the byte that ended it.
     #[inline(always)]
-    pub fn front_after<'a>(&mut self, run: usize, text: &'a [u8], most: usize) -> &'a [u8]
+    pub(crate) fn front_after<'a>(&mut self, run: usize, text: &'a [u8], most: usize) -> &'a [u8]
         requires { run + most + 1 < 2 ^ 64 }
         ensures bytes { result.now ≡ take most text.now }
         ensures reads { self.new ≡ more_reads self.old (run + 1 + most) }
@@ -154,7 +154,7 @@ impl Reads {
     /// The first `most` bytes of a text, or all if it has fewer. The first `known` aren't counted
     /// again.
     #[inline(always)]
-    pub fn more_front<'a>(&mut self, text: &'a [u8], known: usize, most: usize) -> &'a [u8]
+    pub(crate) fn more_front<'a>(&mut self, text: &'a [u8], known: usize, most: usize) -> &'a [u8]
         requires { known ≤ most }
         ensures bytes { result.now ≡ take most text.now }
         ensures reads { self.new ≡ more_reads self.old (most - known) }
@@ -165,7 +165,7 @@ impl Reads {
 
     /// Number of decimal digits at the start of a text.
     #[inline(always)]
-    pub fn digits_len(&mut self, text: &[u8]) -> usize
+    pub(crate) fn digits_len(&mut self, text: &[u8]) -> usize
         ensures value { result ≡ prefix_len is_ascii_digit text.now }
         ensures within { result ≤ length text.now }
         ensures reads { self.new ≡ more_reads self.old (result + 1) }
@@ -177,7 +177,7 @@ impl Reads {
 
     /// Number of hexadecimal digits at the start of a text.
     #[inline(always)]
-    pub fn hexadecimal_len(&mut self, text: &[u8]) -> usize
+    pub(crate) fn hexadecimal_len(&mut self, text: &[u8]) -> usize
         ensures value { result ≡ prefix_len is_ascii_hexdigit text.now }
         ensures within { result ≤ length text.now }
         ensures reads { self.new ≡ more_reads self.old (result + 1) }
@@ -192,7 +192,7 @@ impl Reads {
 
     /// Number of octal digits at the start of a text.
     #[inline(always)]
-    pub fn octal_len(&mut self, text: &[u8]) -> usize
+    pub(crate) fn octal_len(&mut self, text: &[u8]) -> usize
         ensures value { result ≡ prefix_len grammar.is_octal_digit text.now }
         ensures within { result ≤ length text.now }
         ensures reads { self.new ≡ more_reads self.old (result + 1) }
@@ -207,7 +207,7 @@ impl Reads {
 
     /// Number of binary digits at the start of a text.
     #[inline(always)]
-    pub fn binary_len(&mut self, text: &[u8]) -> usize
+    pub(crate) fn binary_len(&mut self, text: &[u8]) -> usize
         ensures value { result ≡ prefix_len grammar.is_binary_digit text.now }
         ensures within { result ≤ length text.now }
         ensures reads { self.new ≡ more_reads self.old (result + 1) }
@@ -237,7 +237,7 @@ impl Reads {
 
     /// Number of spaces at the start of a text.
     #[inline(always)]
-    pub fn spaces_len(&mut self, text: &[u8]) -> usize
+    pub(crate) fn spaces_len(&mut self, text: &[u8]) -> usize
         ensures value { result ≡ prefix_len (nat_eq 32) text.now }
         ensures within { result ≤ length text.now }
         ensures reads { self.new ≡ more_reads self.old (result + 1) }
@@ -249,7 +249,7 @@ impl Reads {
 
     /// Number of tabs at the start of a text.
     #[inline(always)]
-    pub fn tabs_len(&mut self, text: &[u8]) -> usize
+    pub(crate) fn tabs_len(&mut self, text: &[u8]) -> usize
         ensures value { result ≡ prefix_len (nat_eq 9) text.now }
         ensures within { result ≤ length text.now }
         ensures reads { self.new ≡ more_reads self.old (result + 1) }

@@ -18,7 +18,7 @@ use std::simd::prelude::*;
 /// Where an LF or a brace doesn't end a run, the field has the quote in its place: six comparisons
 /// serve all literals.
 #[derive(Clone, Copy)]
-pub struct Ends {
+pub(crate) struct Ends {
     quote: u8,
     feed: u8,
     opening_brace: u8,
@@ -37,7 +37,7 @@ fn quote_byte(quote: Quote) -> u8
 
 impl Ends {
     /// The bytes that end a run of a literal.
-    pub fn of(literal: Literal) -> Self
+    pub(crate) fn of(literal: Literal) -> Self
         ensures { (b : ℕ) → is_end result b ≡ is_special (literal_view literal) b }
     {
         let quote = quote_byte(literal.opening.quote);
@@ -60,7 +60,7 @@ impl Ends {
 
 /// Length of the run at the start of the 16 bytes from `at` on; 16 if it fills them.
 #[inline(always)]
-pub fn lanes_run_len(reads: &mut Reads, ends: Ends, bytes: &[u8], at: usize) -> usize
+pub(crate) fn lanes_run_len(reads: &mut Reads, ends: Ends, bytes: &[u8], at: usize) -> usize
     requires { at + 16 ≤ length bytes.now }
     ensures value { result ≡ prefix_len (λ b. not (is_end ends b)) (take 16 (drop at bytes.now)) }
     ensures reads { reads.new ≡ more_reads reads.old 16 }

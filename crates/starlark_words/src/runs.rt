@@ -113,7 +113,7 @@ fn run_len(reads: &mut Reads, literal: Literal, bytes: &[u8]) -> usize
 
 /// The run at the start of the rest of a body. It may be empty.
 #[inline(always)]
-pub fn first_run<'a>(reads: &mut Reads, literal: Literal, text: &'a str) -> &'a str
+pub(crate) fn first_run<'a>(reads: &mut Reads, literal: Literal, text: &'a str) -> &'a str
     ensures value { result.now ≡ take (prefix_len (is_in_run (literal_view literal)) text.now) text.now }
     ensures boundary { IsCharBoundary text.now (length result.now) }
     ensures reads { AreReads (length result.now) (2 * length result.now + 1) reads.old reads.new }

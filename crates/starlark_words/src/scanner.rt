@@ -117,7 +117,7 @@ fn word_by_front(reads: &mut Reads, front: &[u8], text: &str) -> Option<Word>
 /// The longest word at the front of a text if its first two bytes determine it: a name, a symbol of
 /// one byte, an LF, or the quote of a text literal. `None` for any other front.
 #[inline(always)]
-pub fn common_word(reads: &mut Reads, text: &str) -> Option<Word>
+pub(crate) fn common_word(reads: &mut Reads, text: &str) -> Option<Word>
     ensures word { IfSome result (λ word. Some (word_view word) ≡ language_front text.now) }
     ensures bang { IfSome result (λ word. is_bang text.now ≡ false) }
     ensures none { result ≡ None → grammar.begins grammar.is_name_start text.now ≡ false }
@@ -212,7 +212,7 @@ pub fn comment_len(reads: &mut Reads, front: &[u8], text: &str) -> Option<usize>
 /// The longest word at the front of a text that doesn't begin with a letter or `_`; `None` if there
 /// is
 /// none. The caller has counted the reads of the first two bytes.
-pub fn unnamed_word(reads: &mut Reads, text: &str) -> Option<Word>
+pub(crate) fn unnamed_word(reads: &mut Reads, text: &str) -> Option<Word>
     requires { grammar.begins grammar.is_name_start text.now ≡ false }
     ensures word { option_map word_view result ≡ language_front text.now }
     ensures bang { IfSome result (λ word. is_bang text.now ≡ false) }

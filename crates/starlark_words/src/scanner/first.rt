@@ -31,7 +31,7 @@ static GOES_ON: [u8; 256] = *b"\
 
 /// Whether a name may begin with the byte.
 #[inline(always)]
-pub fn is_name_start(byte: u8) -> bool
+pub(crate) fn is_name_start(byte: u8) -> bool
     ensures { result ≡ grammar.is_name_start byte }
 {
     FIRST[byte as usize] == b'n'
@@ -39,7 +39,7 @@ pub fn is_name_start(byte: u8) -> bool
 
 /// Whether a byte is a mark that begins no longer one.
 #[inline(always)]
-pub fn is_lone_mark(byte: u8) -> bool
+pub(crate) fn is_lone_mark(byte: u8) -> bool
     ensures { result ≡ is_lone_mark byte }
 {
     FIRST[byte as usize] == b'l'
@@ -47,7 +47,7 @@ pub fn is_lone_mark(byte: u8) -> bool
 
 /// Whether a byte is a symbol that begins longer ones.
 #[inline(always)]
-pub fn is_symbol(byte: u8) -> bool
+pub(crate) fn is_symbol(byte: u8) -> bool
     ensures { result ≡ is_symbol byte }
 {
     FIRST[byte as usize] == b's'
@@ -56,7 +56,7 @@ pub fn is_symbol(byte: u8) -> bool
 /// Whether a symbol may go on with the byte after it. Only a point goes on with a point or a digit:
 /// `...`, `.5`.
 #[inline(always)]
-pub fn goes_on(first: u8, next: u8) -> bool
+pub(crate) fn goes_on(first: u8, next: u8) -> bool
     ensures { result ≡ goes_on first next }
 {
     match GOES_ON[next as usize] {

@@ -11,7 +11,7 @@ use super::{Class, Terminal, Word};
 
 /// Whether the first byte of a text is a mark that the next byte doesn't extend.
 #[inline(always)]
-pub fn is_mark_alone(text: &[u8]) -> bool
+pub(crate) fn is_mark_alone(text: &[u8]) -> bool
     ensures { result ≡ is_mark_alone text.now }
 {
     let Some(first) = text.first() else {
@@ -108,7 +108,7 @@ fn triple(first: u8, second: u8, third: u8) -> Option<Class>
 /// Class of the mark of two bytes at the front of a text. `None` before an `=`, which may extend
 /// it.
 #[inline(always)]
-pub fn mark_of_two(text: &[u8]) -> Option<Class>
+pub(crate) fn mark_of_two(text: &[u8]) -> Option<Class>
     ensures { result ≡ mark_of_two text.now }
 {
     match text {
@@ -120,7 +120,7 @@ pub fn mark_of_two(text: &[u8]) -> Option<Class>
 
 /// The mark of one byte, as a word.
 #[inline(always)]
-pub fn longest_of_one(first: u8) -> Option<Word>
+pub(crate) fn longest_of_one(first: u8) -> Option<Word>
     ensures word { option_map word_view result ≡ longest_front (class_in marks) (first ∷ []) }
     ensures len { word_len result ≤ 1 }
 {
@@ -154,7 +154,7 @@ fn longest_of_three(first: u8, second: u8, third: u8) -> Option<Word>
 
 /// The longest mark at the front of a text; `None` if there is none.
 #[inline(never)]
-pub fn mark_from(text: &[u8]) -> Option<Word>
+pub(crate) fn mark_from(text: &[u8]) -> Option<Word>
     ensures word { option_map word_view result ≡ longest_front (class_in marks) text.now }
     ensures len { word_len result ≤ 3 }
 {

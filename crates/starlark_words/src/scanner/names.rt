@@ -214,7 +214,7 @@ fn prefixed_opener(text: &str, len: usize, behind: Option<u8>) -> Option<Class>
 /// the
 /// read of that byte.
 #[inline(always)]
-pub fn name_from(reads: &mut Reads, text: &str) -> Word
+pub(crate) fn name_from(reads: &mut Reads, text: &str) -> Word
     requires { grammar.begins grammar.is_name_start text.now ≡ true }
     ensures word { Some (word_view result) ≡ language_front text.now }
     ensures reads { AreReads (result.len - 1) (5 * result.len - 4) reads.old reads.new }

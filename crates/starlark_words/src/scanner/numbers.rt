@@ -171,7 +171,7 @@ fn may_be_in_number(byte: u8) -> bool
 
 /// Whether a text begins with a digit, and the next byte can't be part of a number.
 #[inline(always)]
-pub fn is_digit_alone(text: &[u8]) -> bool
+pub(crate) fn is_digit_alone(text: &[u8]) -> bool
     ensures { result ≡ is_digit_alone text.now }
 {
     match text {
@@ -184,7 +184,7 @@ pub fn is_digit_alone(text: &[u8]) -> bool
 /// The longest number at the front of a text that begins with one. The caller has counted the reads
 /// of
 /// the first three bytes.
-pub fn number_from(reads: &mut Reads, front: &[u8], text: &[u8]) -> Word
+pub(crate) fn number_from(reads: &mut Reads, front: &[u8], text: &[u8]) -> Word
     requires number { begins_number text.now ≡ true }
     requires front { front.now ≡ take 3 text.now }
     ensures word { Some (word_view result) ≡ language_front text.now }

@@ -54,7 +54,7 @@ fn raw_opener(quote: u8) -> Option<TextOpener>
 
 /// The opener of a text literal at the front of a text, by its first two bytes.
 #[inline(always)]
-pub fn text_opener(text: &[u8]) -> Option<TextOpener>
+pub(crate) fn text_opener(text: &[u8]) -> Option<TextOpener>
     ensures { result ≡ text_opener text.now }
 {
     let first = *text.first()?;
@@ -69,7 +69,7 @@ pub fn text_opener(text: &[u8]) -> Option<TextOpener>
 
 /// The quote of a text that begins with `letter` and a quote.
 #[inline(always)]
-pub fn quote_after(letter: u8, text: &[u8]) -> Option<Quote>
+pub(crate) fn quote_after(letter: u8, text: &[u8]) -> Option<Quote>
     ensures { result ≡ quote_after letter text.now }
 {
     match text {
@@ -137,7 +137,7 @@ fn with_letters(first: u8, second: u8, quote: u8) -> Option<Class>
 
 /// The opener of a prefix of up to two letters and a quote; `None` for any other word.
 #[inline(never)]
-pub fn opener_class(word: &str) -> Option<Class>
+pub(crate) fn opener_class(word: &str) -> Option<Class>
     ensures { result ≡ lookup (bytes_eq word.now) grammar.openers }
 {
     match word.as_bytes() {
