@@ -6,19 +6,13 @@
 //! wrong or the run gave up: then standard error says why.
 #![tactic(auto)]
 
-ghost use Rattle.std.specs.Prelude.{◌≡◌};
-ghost use Rattle.starlark_lex.specs.ExitStatus.{exit_status as exit_status_of};
-
 #[cfg(test)]
 mod tests;
 
-use starlark_run::{RunFault, RunStatus, Watched, run};
+use starlark_run::{TROUBLE, Watched, exit_status, run};
 use std::env;
 use std::process::ExitCode;
 use std::rt::Env;
-
-/// The exit status for wrong arguments, and where a run gave up.
-const TROUBLE: u8 = 2;
 
 /// The argument NAME; `None` where there are more, or where they can't be read as text.
 fn name_argument<R: Env + AllocGlobal>(rt: &R) -> Option<Option<String>> {
@@ -29,17 +23,6 @@ fn name_argument<R: Env + AllocGlobal>(rt: &R) -> Option<Option<String>> {
         return None;
     }
     Some(name)
-}
-
-/// The exit status that tells how a run ended.
-fn exit_status(outcome: &Result<RunStatus, RunFault>) -> u8
-    ensures { result ≡ exit_status_of outcome.now }
-{
-    match outcome {
-        Ok(RunStatus::Clean) => 0,
-        Ok(RunStatus::Fault) => 1,
-        Err(_) => TROUBLE,
-    }
 }
 
 fn main(rt: HostRuntime) -> ExitCode {

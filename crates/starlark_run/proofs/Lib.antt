@@ -11,3 +11,5 @@ pub mod JsonPieces
 pub mod ExactValues
 pub mod Reported
 pub mod Starts
+pub mod FileCounts
+pub mod FileReports

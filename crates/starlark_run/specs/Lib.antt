@@ -12,3 +12,8 @@ pub mod Values
 pub mod Lines
 pub mod ShownPlaces
 pub mod Reports
+pub mod Totals
+pub mod ExitStatus
+pub mod Requests
+pub mod FileReports
+pub mod Progress

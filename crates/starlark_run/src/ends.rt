@@ -1,10 +1,16 @@
-//! How a run ends, and the greatest length of a text.
+//! How a run ends, its exit status, and the greatest length of a text.
+
+ghost use Rattle.std.specs.Prelude.{◌≡◌};
+ghost use Rattle.starlark_run.specs.ExitStatus.{exit_status as exit_status_of};
 
 use std::alloc::AllocError;
 use thiserror::Error;
 
 /// The greatest length of a text, in bytes.
 pub const GREATEST_LEN: usize = 4_294_967_295;
+
+/// The exit status for wrong arguments, and where a run gave up or a file couldn't be read.
+pub const TROUBLE: u8 = 2;
 
 /// What a run printed of a text: all lexemes, or those before its first fault and then that fault.
 #[derive(Clone, Copy, Debug, PartialEq, Eq)]
@@ -48,5 +54,17 @@ impl From<AllocError> for RunFault {
 
     fn from(_error: AllocError) -> RunFault {
         RunFault::Memory
+    }
+}
+
+/// The exit status that tells how a run ended: 0 for a text without fault, 1 for one with a fault,
+/// and 2 where the run gave up.
+pub fn exit_status(outcome: &Result<RunStatus, RunFault>) -> u8
+    ensures { result ≡ exit_status_of outcome.now }
+{
+    match outcome {
+        Ok(RunStatus::Clean) => 0,
+        Ok(RunStatus::Fault) => 1,
+        Err(_) => TROUBLE,
     }
 }

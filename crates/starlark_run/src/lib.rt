@@ -3,7 +3,7 @@
 //! change the text before.
 //!
 //! And reports of a text: its tokens and faults as lines for people, as lines of JSON, or as messages
-//! with the line of the source.
+//! with the line of the source. `file_runs` reports files.
 #![tactic(auto)]
 
 mod buffer;
@@ -12,6 +12,7 @@ mod edited_runs;
 mod edits;
 pub mod ends;
 mod fault_lines;
+pub mod file_runs;
 mod form;
 mod input;
 mod item_lines;
@@ -26,15 +27,19 @@ mod printing;
 pub mod python_literals;
 mod report;
 mod reporter;
+pub mod requests;
+mod screen;
 mod shown_places;
+mod sources;
 mod token_lines;
 mod token_values;
+mod totals;
 mod versions;
 pub mod watched;
 
 pub use edited_runs::run_edits;
 pub use edits::Edit;
-pub use ends::{GREATEST_LEN, RunFault, RunStatus};
+pub use ends::{GREATEST_LEN, RunFault, RunStatus, TROUBLE, exit_status};
 pub use form::Form;
 pub use plain_runs::run;
 pub use report::report_text;

@@ -4,15 +4,9 @@
 //! be read or an option is wrong, and 141 where nobody reads the output any more.
 #![tactic(auto)]
 
-mod requests;
-mod runs;
-mod screen;
-mod sources;
-mod totals;
-
-use crate::requests::{Request, asked};
-use crate::runs::run;
-use crate::totals::TROUBLE;
+use starlark_run::TROUBLE;
+use starlark_run::file_runs::{report_files, say, unwritable};
+use starlark_run::requests::{Request, asked};
 use std::process::ExitCode;
 use std::{env, io};
 
@@ -54,7 +48,7 @@ fn arguments(rt: &HostRuntime) -> io::Result<Vec<String>> {
 fn print_text(rt: &HostRuntime, text: &str) -> u8 {
     match rt.print(text) {
         Ok(()) => 0,
-        Err(error) => runs::unwritable(rt, &error),
+        Err(error) => unwritable(rt, &error),
     }
 }
 
@@ -63,12 +57,12 @@ fn answer(rt: &HostRuntime) -> io::Result<u8> {
     let words = arguments(rt)?;
     match asked(rt.alloc(), words.as_slice())? {
         Request::Unknown(option) => {
-            runs::say(rt, option, &"unknown option; --help lists them");
+            say(rt, option, &"unknown option; --help lists them");
             Ok(TROUBLE)
         }
         Request::Help => Ok(print_text(rt, HELP)),
         Request::Version => Ok(print_text(rt, VERSION)),
-        Request::Reports(wanted) => Ok(run(rt, &wanted)),
+        Request::Reports(wanted) => Ok(report_files(rt, &wanted)),
     }
 }
 
