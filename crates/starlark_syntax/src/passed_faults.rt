@@ -101,6 +101,7 @@ pub fn pass<'a>(
     requires within { IfSome exception.span (λ place. IsWithin (drop begin text.now) place.span.begin place.span.end) }
     requires between { IfSome exception.span (λ place. IsCharBoundary (drop begin text.now) place.span.begin) }
     ensures passed { IfOk result (λ passed. (file : SourceFile) (fault : Spanned Fault) → IsException file fault exception → HasPassed file text.now begin fault passed) }
+    ensures order { IfOk result (λ passed. begin ≤ passed.begin) }
 {
     let place = place_of(&exception);
     let code_map = file_of(&exception)?;

@@ -6,8 +6,8 @@ use Rattle.starlark_words.specs.Inner.Reads.{AreReads}
 use Rattle.starlark_syntax.proofs.Passes.{passes}
 use Rattle.starlark_syntax.proofs.passed_faults.pass.Goals as goal
 
-pub returns : goal.returns
-returns c file fault is =
+pub returns-clause-passed : goal.returns-clause-passed
+returns-clause-passed c file fault is =
     let span : c.new-span.result ≡ record { begin = c.args.begin + c.place_of-place.result.begin; end = c.args.begin + c.place_of-place.result.end } = cc in
     let searches : (fault : Spanned Fault) → IsPlaceOf fault c.place_of-place.result → AreReads 1 (search_reads c.range_from.result.now fault) 0 c.count.result =
     λ fault place. let read = c.counted_restart.ensures.reads fault place in (omega (arith, read.0, c.new.ensures, c.count.ensures), omega (arith, read.1, c.new.ensures, c.count.ensures)) in

@@ -51,7 +51,7 @@ pub invariant_of-self-in-Error : goal.invariant_of-self-in-Error
 invariant_of-self-in-Error c =
     let e = rw (c.in-Err.is, c.in-Error.is) at c.in_ok-answer.ensures in
     let h : HasAnswered c.self.inside.rest (Some (Err (Error c.in-Error.exception))) c.next.new.self = record { ended = e.ended; item = e.item; after = e.after; reads = e.reads } in
-    let was = was_passed c.self.inside.text.now c.self.inside.begin c.self.inside.rest c.next.new.self c.in-Error.exception c.in-Ok-pass.passed c.self.invariant.0 h c.in-Ok-pass.ensures in
+    let was = was_passed c.self.inside.text.now c.self.inside.begin c.self.inside.rest c.next.new.self c.in-Error.exception c.in-Ok-pass.passed c.self.invariant.0 h c.in-Ok-pass.ensures.passed in
     let more : c.saturating_add-reads.result ≡ more_reads c.next.new.self.reads c.in-Ok-pass.passed.reads = omega (arith, c.saturating_add-reads.ensures, c.reads.ensures) in
     let now : c.saturating_add-self-inside.result ≡ more_reads c.self.inside.earlier_reads c.saturating_add-reads.result = omega (arith, c.saturating_add-self-inside.ensures) in
     (was.inside, passed_reads c.self.inside.text.now c.self.inside.begin c.self.inside.fault_count c.self.inside.earlier_reads c.saturating_add-reads.result c.saturating_add-self-inside.result c.self.inside.rest c.next.new.self c.in-Error.exception c.in-Ok-pass.passed c.self.invariant.0 c.self.invariant.1 h was more now)
@@ -60,14 +60,14 @@ pub returns-in-Ok-pass-clause-item : goal.returns-in-Ok-pass-clause-item
 returns-in-Ok-pass-clause-item c =
     let e = rw (c.in-Err.is, c.in-Error.is) at c.in_ok-answer.ensures in
     let h : HasAnswered c.self.inside.rest (Some (Err (Error c.in-Error.exception))) c.next.new.self = record { ended = e.ended; item = e.item; after = e.after; reads = e.reads } in
-    let was = was_passed c.self.inside.text.now c.self.inside.begin c.self.inside.rest c.next.new.self c.in-Error.exception c.in-Ok-pass.passed c.self.invariant.0 h c.in-Ok-pass.ensures in
+    let was = was_passed c.self.inside.text.now c.self.inside.begin c.self.inside.rest c.next.new.self c.in-Error.exception c.in-Ok-pass.passed c.self.invariant.0 h c.in-Ok-pass.ensures.passed in
     rw (← c.self.view_is) (passed_item c.self.inside.text.now c.self.inside.begin c.self.inside.rest c.in-Ok-pass.passed was)
 
 pub returns-in-Ok-pass-clause-after : goal.returns-in-Ok-pass-clause-after
 returns-in-Ok-pass-clause-after c =
     let e = rw (c.in-Err.is, c.in-Error.is) at c.in_ok-answer.ensures in
     let h : HasAnswered c.self.inside.rest (Some (Err (Error c.in-Error.exception))) c.next.new.self = record { ended = e.ended; item = e.item; after = e.after; reads = e.reads } in
-    let was = was_passed c.self.inside.text.now c.self.inside.begin c.self.inside.rest c.next.new.self c.in-Error.exception c.in-Ok-pass.passed c.self.invariant.0 h c.in-Ok-pass.ensures in
+    let was = was_passed c.self.inside.text.now c.self.inside.begin c.self.inside.rest c.next.new.self c.in-Error.exception c.in-Ok-pass.passed c.self.invariant.0 h c.in-Ok-pass.ensures.passed in
     rw (← c.self.view_is) (passed_after c.self.inside.text.now c.self.inside.begin c.self.inside.fault_count c.saturating_add-self-inside.result c.self.inside.rest c.in-Ok-pass.passed was)
 
 pub returns-in-Ok-pass-clause-within : goal.returns-in-Ok-pass-clause-within
@@ -76,7 +76,7 @@ returns-in-Ok-pass-clause-within c =
     let h : HasAnswered c.self.inside.rest (Some (Err (Error c.in-Error.exception))) c.next.new.self = record { ended = e.ended; item = e.item; after = e.after; reads = e.reads } in
     let begin : ℕ = c.self.inside.begin in
     rw (← c.self.view_is)
-    (passed_span (IsWithin c.self.inside.rest.text) (IsWithin c.self.inside.text.now) c.self.inside.text.now begin c.self.inside.rest c.next.new.self c.in-Error.exception c.in-Ok-pass.passed h c.in-Ok-pass.ensures
+    (passed_span (IsWithin c.self.inside.rest.text) (IsWithin c.self.inside.text.now) c.self.inside.text.now begin c.self.inside.rest c.next.new.self c.in-Error.exception c.in-Ok-pass.passed h c.in-Ok-pass.ensures.passed
     (λ from to within. within_text c.self.inside.text.now c.self.inside.rest.text begin from to c.self.invariant.0.same c.self.invariant.0.boundary.0 c.self.invariant.0.fits within) e.within)
 
 pub returns-in-Ok-pass-clause-between : goal.returns-in-Ok-pass-clause-between
@@ -86,14 +86,14 @@ returns-in-Ok-pass-clause-between c =
     let begin : ℕ = c.self.inside.begin in
     rw (← c.self.view_is)
     (passed_span (λ from to. IsCharBoundary c.self.inside.rest.text from × IsCharBoundary c.self.inside.rest.text to) (λ from to. IsCharBoundary c.self.inside.text.now from × IsCharBoundary c.self.inside.text.now to)
-    c.self.inside.text.now begin c.self.inside.rest c.next.new.self c.in-Error.exception c.in-Ok-pass.passed h c.in-Ok-pass.ensures
+    c.self.inside.text.now begin c.self.inside.rest c.next.new.self c.in-Error.exception c.in-Ok-pass.passed h c.in-Ok-pass.ensures.passed
     (λ from to both. (boundary_of_text c.self.inside.text.now c.self.inside.rest.text begin from c.self.invariant.0.same c.self.invariant.0.boundary.0 both.0, boundary_of_text c.self.inside.text.now c.self.inside.rest.text begin to c.self.invariant.0.same c.self.invariant.0.boundary.0 both.1)) e.between)
 
 pub returns-in-Ok-pass-clause-reads : goal.returns-in-Ok-pass-clause-reads
 returns-in-Ok-pass-clause-reads c =
     let e = rw (c.in-Err.is, c.in-Error.is) at c.in_ok-answer.ensures in
     let h : HasAnswered c.self.inside.rest (Some (Err (Error c.in-Error.exception))) c.next.new.self = record { ended = e.ended; item = e.item; after = e.after; reads = e.reads } in
-    let was = was_passed c.self.inside.text.now c.self.inside.begin c.self.inside.rest c.next.new.self c.in-Error.exception c.in-Ok-pass.passed c.self.invariant.0 h c.in-Ok-pass.ensures in
+    let was = was_passed c.self.inside.text.now c.self.inside.begin c.self.inside.rest c.next.new.self c.in-Error.exception c.in-Ok-pass.passed c.self.invariant.0 h c.in-Ok-pass.ensures.passed in
     let more : c.saturating_add-reads.result ≡ more_reads c.next.new.self.reads c.in-Ok-pass.passed.reads = omega (arith, c.saturating_add-reads.ensures, c.reads.ensures) in
     let now : c.saturating_add-self-inside.result ≡ more_reads c.self.inside.earlier_reads c.saturating_add-reads.result = omega (arith, c.saturating_add-self-inside.ensures) in
     let before = passed_reads c.self.inside.text.now c.self.inside.begin c.self.inside.fault_count c.self.inside.earlier_reads c.saturating_add-reads.result c.saturating_add-self-inside.result c.self.inside.rest c.next.new.self c.in-Error.exception c.in-Ok-pass.passed c.self.invariant.0 c.self.invariant.1 h was more now in
