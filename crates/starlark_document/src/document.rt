@@ -65,7 +65,7 @@ pub struct Change {
     pub lexed: usize,
     /// How often lexing started: with each text that was given to the lexer, and after each fault.
     pub starts: usize,
-    /// Number of reads of bytes: at most `21 * (lexed + starts)`.
+    /// Number of reads of bytes: at most `16 * (lexed + starts)`.
     pub reads: u64,
 }
 

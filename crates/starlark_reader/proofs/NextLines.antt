@@ -126,7 +126,7 @@ pub restart_inside : (text : Text) (fault : Spanned Fault) → restart text faul
 unfolding restart
 restart_inside text fault = next_line_inside text (stopped_at text fault)
 
-stopped_end : (text : Text) (fault : Spanned Fault) → fault.end - 1 ≤ stopped_at text fault
+pub stopped_end : (text : Text) (fault : Spanned Fault) → fault.end - 1 ≤ stopped_at text fault
 unfolding stopped_at
 stopped_end text fault = omega arith
 
@@ -139,7 +139,7 @@ restart_end text fault inside = by fault.end refl
         let least = next_line_least text (fault.end - 1) (omega (arith, e, inside)) in
         omega (arith, e, least, restart_at text fault (fault.end - 1) (stopped_end text fault))
 
-stopped_begin : (text : Text) (fault : Spanned Fault) → fault.begin ≤ stopped_at text fault
+pub stopped_begin : (text : Text) (fault : Spanned Fault) → fault.begin ≤ stopped_at text fault
 unfolding stopped_at
 stopped_begin text fault = by (is_margin_tab text fault)
   where

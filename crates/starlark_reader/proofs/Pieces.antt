@@ -1,6 +1,7 @@
 -- What a reader stores, takes and yields.
 pub mod LineEnds
 pub mod PieceReads
+pub mod SearchReads
 pub mod MarginReads
 pub mod ReaderReads
 pub mod CodePlaces

@@ -5,7 +5,7 @@ ghost use Rattle.std.specs.Str.{IsCharBoundary};
 ghost use Rattle.starlark_grammar.specs.AfterFaults.{next_line};
 ghost use Rattle.starlark_grammar.specs.Front.{language_front};
 ghost use Rattle.starlark_words.specs.Inner.Reads.{AreReads, more_reads};
-ghost use Rattle.starlark_reader.specs.Inner.Reads.{ArePieceReads, AreReadsAfter, AreStepReads, AreWordlessReads};
+ghost use Rattle.starlark_reader.specs.Inner.Reads.{ArePieceReads, AreReadsAfter, AreStepReads, AreWordlessReads, IsFaultTo};
 ghost use Rattle.starlark_reader.specs.Inner.Steps.{IsStep};
 ghost use Rattle.starlark_grammar.specs.Cuts.{is_outside};
 ghost use Rattle.starlark_reader.specs.Inner.Nesting.{mode_view};
@@ -71,7 +71,7 @@ fn takes_bang(place: LexerMode, follows_gap: bool) -> bool
 
 /// The piece of a newline of `len` bytes.
 fn line_end(place: LexerMode, is_balanced: bool, len: usize) -> Piece
-    ensures reads { (line reads : ℕ) → AreReadsAfter len 9 line 9 result reads reads }
+    ensures reads { (line reads : ℕ) → AreReadsAfter len 9 line 8 result reads reads }
     ensures piece { (s : grammar.Situation) (front behind text : word.Text) → s.place ≡ mode_view place → s.is_balanced ≡ is_balanced → length front ≡ len → drop len text ≡ behind → IsCharBoundary text len →
         IsPiece s.levels text (grammar.word_step s class.LineEnd front behind) result }
 {
@@ -85,7 +85,7 @@ fn line_end(place: LexerMode, is_balanced: bool, len: usize) -> Piece
 /// The start of an f-string. Its opener has `len` bytes, and `behind` is the text after it.
 fn fstring(reads: &mut Reads, is_raw: bool, quote: Quote, len: usize, behind: &str) -> Piece
     requires { len + length behind.now < 2 ^ 64 }
-    ensures reads { AreReadsAfter len 9 0 9 result reads.old reads.new }
+    ensures reads { AreReadsAfter len 9 0 8 result reads.old reads.new }
     ensures line_end { (text : word.Text) → IsLineEndOf text result }
     ensures piece { (s : grammar.Situation) (front text : word.Text) → length front ≡ len →
         IsPiece s.levels text (grammar.word_step s (class.Opener kind.FString is_raw quote) front behind.now) result }
@@ -107,7 +107,7 @@ fn opener(
     behind: &str,
 ) -> Result<Piece, AllocError>
     requires { len + length behind.now < 2 ^ 64 }
-    ensures reads { IfOk result (λ piece. AreReadsAfter len 9 0 9 piece reads.old reads.new) }
+    ensures reads { IfOk result (λ piece. AreReadsAfter len 9 0 8 piece reads.old reads.new) }
     ensures line_end { IfOk result (λ piece. (text : word.Text) → IsLineEndOf text piece) }
     ensures piece { IfOk result (λ piece. (s : grammar.Situation) (front text : word.Text) → s.place ≡ mode_view place → length front ≡ len →
         IsPiece s.levels text (grammar.word_step s (class.Opener kind is_raw quote) front behind.now) piece) }
@@ -133,8 +133,9 @@ fn word_piece(
     behind: &str,
 ) -> Result<Piece, AllocError>
     requires known { class_in language front.now ≡ Some class }
+    requires some { 0 < length front.now }
     requires fits { length front.now + length behind.now < 2 ^ 64 }
-    ensures reads { IfOk result (λ piece. AreReadsAfter (length front.now) 9 (next_line front.now 0) 9 piece reads.old reads.new) }
+    ensures reads { IfOk result (λ piece. AreReadsAfter (length front.now) 9 (next_line front.now 0) 8 piece reads.old reads.new) }
     ensures line_end { IfOk result (IsLineEndOf front.now) }
     ensures piece { IfOk result (λ piece. (s : grammar.Situation) (text : word.Text) → s.place ≡ mode_view place → s.is_balanced ≡ is_balanced → drop (length front.now) text ≡ behind.now → IsCharBoundary text (length front.now) →
         IsPiece s.levels text (grammar.word_step s class front.now behind.now) piece) }
@@ -167,6 +168,7 @@ fn word_piece(
 /// The fault of a text that begins with no word: its first character.
 fn invalid_input(reads: &mut Reads, alloc: Global, text: &str) -> Result<Step, AllocError>
     ensures reads { IfOk result (λ step. AreStepReads 0 1 0 0 step reads.old reads.new) }
+    ensures fault { IfOk result (IsFaultTo (length (first_character text.now))) }
     ensures step { IfOk result (IsStep (grammar.fault 0 (InvalidInput (first_character text.now)) (length (first_character text.now)))) }
 {
     let end = reads.character_len(text);
@@ -231,7 +233,7 @@ fn code_piece(
     text: &str,
 ) -> Result<Piece, AllocError>
     requires some { 0 < length text.now }
-    ensures reads { IfOk result (λ piece. ArePieceReads 10 7 text.now piece reads.old reads.new) }
+    ensures reads { IfOk result (λ piece. ArePieceReads 10 6 text.now piece reads.old reads.new) }
     ensures line_end { IfOk result (IsLineEndOf text.now) }
     ensures piece { IfOk result (λ piece. (s : grammar.Situation) → s.place ≡ mode_view place → s.is_balanced ≡ is_balanced → IsAfter follows_gap s.before →
         IsPiece s.levels text.now (grammar.in_code language s text.now) piece) }
@@ -255,7 +257,7 @@ pub fn piece_at(
     follows_gap: bool,
     text: &str,
 ) -> Result<Piece, AllocError>
-    ensures reads { IfOk result (λ piece. ArePieceReads 10 7 text.now piece reads.old reads.new) }
+    ensures reads { IfOk result (λ piece. ArePieceReads 10 6 text.now piece reads.old reads.new) }
     ensures line_end { IfOk result (IsLineEndOf text.now) }
     ensures piece { IfOk result (λ piece. (s : grammar.Situation) → s.place ≡ mode_view place → s.is_balanced ≡ is_balanced → IsAfter follows_gap s.before →
         IsPiece s.levels text.now (grammar.step_at language s text.now) piece) }

@@ -20,7 +20,7 @@ use Rattle.starlark_syntax.specs.Recovery.{restart}
 use Rattle.starlark_syntax.specs.RecoveringLexer.{AreReadsOn, HasReadOn, RecoveringView, all_items}
 use Rattle.starlark_syntax.specs.declared.passed_faults.Passed.{Passed}
 use Rattle.starlark_syntax.specs.Exceptions.{IsException}
-use Rattle.starlark_syntax.specs.Lexer.{AnswersNext, HasReadFor, LexerView, is_ended_by, yielded_by}
+use Rattle.starlark_syntax.specs.Lexer.{AnswersNext, HasReadFor, LexerView, is_ended_by, search_reads, yielded_by}
 use Rattle.starlark_token.specs.TextItems.{Given, LexerItem, Refused, items}
 use Rattle.starlark_syntax.specs.declared.error.kinds.ErrorKind.{ErrorKind}
 use Rattle.starlark_text.specs.declared.or_memory.OrMemory.{OrMemory}
@@ -292,6 +292,7 @@ pub record WasPassed (text : Text) (begin : ℕ) (old : LexerView) (passed : Pas
   pub unread : passed.rest.reads ≡ 0
   pub from : passed.begin ≡ begin + restart old.text fault
   pub has : (outcome old.text).fault ≡ Some fault
+  pub reads : AreReads 1 (search_reads old.text fault) 0 passed.reads
 
 pub was_passed : (text : Text) (begin : ℕ) (old new : LexerView) (exception : Diagnosed ErrorKind) (passed : Passed) → IsRest text begin old → HasAnswered old (Some (Err (Error exception))) new
     → ((file : SourceFile) (fault : Spanned Fault) → IsException file fault exception → HasPassed file text begin fault passed) → WasPassed text begin old passed
@@ -320,6 +321,7 @@ was_passed text begin old new exception passed inside h pass =
       unread = ap (λ (v : LexerView). v.reads) rest;
       from = from;
       has = (refused_counts old.text old.yielded_count fault is.1.1).0;
+      reads = subst (λ (t : Text). AreReads 1 (search_reads t fault) 0 passed.reads) (sym inside.same) has.reads;
     }
 
 pub passed_item : (text : Text) (begin : ℕ) (old : LexerView) (passed : Passed) → WasPassed text begin old passed → AnswersNext old.code_map (slice_get (left_of begin old) 0) (Some (Err (Error passed.fault)))
@@ -361,9 +363,9 @@ nothing_reads text begin n earlier old new inside before h goes =
 
 -- the reads before the place where lexing goes on after a fault
 pub passed_reads : (text : Text) (begin n earlier more now : ℕ) (old new : LexerView) (exception : Diagnosed ErrorKind) (passed : Passed) → IsRest text begin old → HasReadBefore begin n earlier → HasAnswered old (Some (Err (Error exception))) new
-    → WasPassed text begin old passed → (begin ≤ passed.begin) × AreReads 1 (5 * (passed.begin - begin + 1)) 0 passed.reads → more ≡ more_reads new.reads passed.reads → now ≡ more_reads earlier more
+    → WasPassed text begin old passed → more ≡ more_reads new.reads passed.reads → now ≡ more_reads earlier more
     → HasReadBefore passed.begin (n + 1) now
-passed_reads text begin n earlier more now old new exception passed inside before h was reads more_is now_is =
+passed_reads text begin n earlier more now old new exception passed inside before h was more_is now_is =
     let few = (h.reads was.going).1 was.fault was.has in
     let later = restarts_later old.text was.fault was.has in
     let fits = inside.fits in
@@ -371,8 +373,8 @@ passed_reads text begin n earlier more now old new exception passed inside befor
     record {
       few = omega (arith, before.few, was.from, later.0);
       first = λ none. absurd (omega (arith, none));
-      least = omega (arith, before.few, before.least, reads.1.0, more_is, now_is, fits, within, was.from, later.0);
-      most = omega (arith, before.most, few, was.from, reads.1.1, more_is, now_is);
+      least = omega (arith, before.few, before.least, was.reads.0, more_is, now_is, fits, within, was.from, later.0);
+      most = omega (arith, before.most, few, was.from, was.reads.1, more_is, now_is);
     }
 
 pub fault_reads : (text : Text) (n earlier now : ℕ) (old : LexerView) (given : Diagnosed ErrorKind) (begin : ℕ) (passed : Passed) → WasPassed text begin old passed → HasReadBefore passed.begin (n + 1) now

@@ -1,5 +1,5 @@
 -- The place where lexing begins again, as the code finds it.
-use Rattle.std.proofs.Common.{◌≡◌, ℕ, ◌+◌, ◌-◌, ◌<◌, ◌≤◌, Bool, true, false, not, ◌==◌, ◌||◌, nat_eq, nat_lt, length, drop, get_or, refl, ap, sym, ◌∙◌, arith, ◌⊎◌, inl, inr}
+use Rattle.std.proofs.Common.{◌≡◌, ℕ, ◌+◌, ◌-◌, ◌<◌, ◌≤◌, Bool, true, false, not, ◌==◌, ◌&&◌, ◌||◌, nat_eq, nat_lt, length, drop, get_or, refl, ap, sym, ◌∙◌, arith, ◌⊎◌, inl, inr}
 use Rattle.std.proofs.lemmas.Bool.{cases_lt, eqb-true}
 use Rattle.std.proofs.lemmas.List.{get_or-drop, length-drop}
 use Rattle.std.proofs.lemmas.List.Sums.{prefix_len_stops}
@@ -11,7 +11,7 @@ use Rattle.starlark_grammar.specs.Gaps.{begins_with_line_end}
 use Rattle.starlark_grammar.specs.Margins.{is_lf}
 use Rattle.starlark_grammar.specs.Words.{Text}
 use Rattle.starlark_grammar.specs.Tokens.{Fault, Spanned}
-use Rattle.starlark_syntax.specs.Recovery.{is_margin_tab, line_end_len, margin_line, next_line, stopped_at}
+use Rattle.starlark_syntax.specs.Recovery.{is_margin_tab, is_tab, line_end_len, margin_line, next_line, stopped_at}
 use Rattle.starlark_syntax.specs.Restarts.{IsPlaceOf}
 use Rattle.starlark_syntax.specs.declared.restarts.FaultPlace.{FaultPlace}
 
@@ -70,6 +70,10 @@ line_end_begins text = by (starts_with nat_eq text (codes "\n")) (starts_with na
     by true two = refl
     by false true = refl
     by false false = refl
+
+-- only a tab's fault is that of a tab in a margin
+pub no_margin_tab : (text : Text) (fault : Spanned Fault) → is_tab fault.node ≡ false → is_margin_tab text fault ≡ false
+no_margin_tab text fault other = ap (λ b. b && (fault.begin == 0 || begins_with_line_end (drop fault.begin text))) other
 
 -- where a reading stopped, by whether the fault is that of a tab in a margin
 pub stopped_is : (text : Text) (fault : Spanned Fault) (place : FaultPlace) (tab : Bool) (line at : ℕ) → IsPlaceOf fault place → is_margin_tab text fault ≡ tab

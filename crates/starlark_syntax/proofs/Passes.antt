@@ -14,10 +14,11 @@ use Rattle.starlark_syntax.specs.Recovery.{is_tab, restart}
 use Rattle.starlark_syntax.specs.Restarts.{IsPlaceOf}
 use Rattle.starlark_syntax.specs.declared.restarts.FaultPlace.{FaultPlace}
 use Rattle.starlark_syntax.specs.Exceptions.{IsException}
-use Rattle.starlark_syntax.specs.Lexer.{LexerView}
+use Rattle.starlark_syntax.specs.Lexer.{LexerView, search_reads}
 use Rattle.starlark_syntax.specs.declared.error.kinds.ErrorKind.{ErrorKind}
 use Rattle.starlark_syntax.specs.declared.error.kinds.ErrorKind.TheVariants.{Parser}
 use Rattle.starlark_syntax.specs.declared.error.kinds.ParserMessage.TheVariants.{Lexeme}
+use Rattle.starlark_words.specs.Inner.Reads.{AreReads}
 use Rattle.starlark_token.specs.Lexemes.{fault_view}
 use Rattle.starlark_token.specs.declared.lexeme_error.LexemeError.{LexemeError}
 use Rattle.starlark_token.specs.declared.lexeme_error.LexemeError.TheVariants as fault
@@ -47,11 +48,11 @@ pub passes : (file : SourceFile) (text : Text) (begin at : ℕ) (fault : Spanned
     → IsException file fault exception
     → IfSome exception.span (λ it. (place.begin ≡ it.span.begin) × (place.end ≡ it.span.end)) → place.is_tab ≡ is_tab_kind exception.value
     → IfSome exception.span (λ it. code_map ≡ it.file) → copy ≡ code_map
-    → part ≡ drop begin text → ((fault : Spanned Fault) → IsPlaceOf fault place → at ≡ restart part fault) → IsCharBoundary part at → IsCharBoundary text begin
+    → part ≡ drop begin text → ((fault : Spanned Fault) → IsPlaceOf fault place → at ≡ restart part fault) → ((fault : Spanned Fault) → IsPlaceOf fault place → AreReads 1 (search_reads part fault) 0 reads) → IsCharBoundary part at → IsCharBoundary text begin
     → later ≡ drop (begin + at) text → rest ≡ record { text = later; code_map = copy; yielded_count = 0; has_ended = false; reads = 0 }
     → span ≡ record { begin = begin + place.begin; end = begin + place.end } → given ≡ record { value = exception.value; span = Some (place_in code_map span); call_stack = [] }
     → HasPassed file text begin fault (record { fault = given; begin = begin + at; rest = rest; reads = reads })
-passes file text begin at fault exception given place reads code_map copy span rest part later is places tab of_file copied part_is restarts boundary start later_is rest_is span_is given_is =
+passes file text begin at fault exception given place reads code_map copy span rest part later is places tab of_file copied part_is restarts searches boundary start later_is rest_is span_is given_is =
     let bounds : (place.begin ≡ fault.begin) × (place.end ≡ fault.end) = subst (λ (d : Diagnosed ErrorKind). IfSome d.span (λ it. (place.begin ≡ it.span.begin) × (place.end ≡ it.span.end))) is.2 places in
     let its_file : code_map ≡ file = subst (λ (d : Diagnosed ErrorKind). IfSome d.span (λ it. code_map ≡ it.file)) is.2 of_file in
     let its_tab : place.is_tab ≡ is_tab fault.node = tab ∙ ap (λ (d : Diagnosed ErrorKind). is_tab_kind d.value) is.2 ∙ tab_kind is.0 fault.node is.1 in
@@ -69,5 +70,6 @@ passes file text begin at fault exception given place reads code_map copy span r
       );
       from = ap (λ n. begin + n) restarted;
       boundary = IsCharBoundary-from_rest text begin at start.0 (subst (λ (t : Text). IsCharBoundary t at) part_is boundary);
+      reads = subst (λ (t : Text). AreReads 1 (search_reads t fault) 0 reads) part_is (searches fault its_place);
       rest = rest_is ∙ ap (λ (t : Text). record { text = t; code_map = copy; yielded_count = 0; has_ended = false; reads = 0 }) later_is ∙ ap (λ (f : SourceFile). record { text = drop (begin + at) text; code_map = f; yielded_count = 0; has_ended = false; reads = 0 }) (copied ∙ its_file);
     }

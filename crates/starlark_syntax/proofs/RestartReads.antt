@@ -1,14 +1,19 @@
 -- How many bytes are read to find where lexing begins again.
-use Rattle.std.proofs.Common.{◌≡◌, ℕ, ◌+◌, ◌≤◌, Bool, true, false, not, ◌==◌, [], ◌∷◌, cond, length, drop, refl, ap, sym, ◌∙◌, arith}
+use Rattle.std.proofs.Common.{◌≡◌, ℕ, ◌+◌, ◌-◌, ◌*◌, ◌≤◌, Bool, true, false, not, ◌==◌, [], ◌∷◌, cond, length, drop, refl, ap, sym, ◌∙◌, arith}
 use Rattle.std.proofs.lemmas.Bool.{eqb-true}
 use Rattle.std.proofs.lemmas.List.{length-take}
 use Rattle.std.specs.List.{prefix_len}
+use Rattle.std.specs.Prelude.{if◌then◌else◌}
 use Rattle.starlark_grammar.proofs.Lists.{drop-sum}
 use Rattle.starlark_grammar.specs.Margins.{is_blank, is_lf, margin_of}
 use Rattle.starlark_grammar.specs.Words.{Text}
 use Rattle.starlark_reader.specs.Inner.Layout.{IsMargin}
 use Rattle.starlark_reader.specs.declared.margins.Margin.{Margin}
-use Rattle.starlark_syntax.specs.Recovery.{next_line}
+use Rattle.starlark_grammar.specs.Tokens.{Fault, Spanned}
+use Rattle.starlark_reader.proofs.NextLines.{stopped_begin}
+use Rattle.starlark_reader.proofs.Pieces.SearchReads.{other_search, tab_search}
+use Rattle.starlark_syntax.specs.Lexer.{search_reads}
+use Rattle.starlark_syntax.specs.Recovery.{is_tab, next_line, restart, stopped_at}
 
 abbrev is_other : ℕ → Bool
 is_other b = not (is_lf b)
@@ -48,3 +53,15 @@ margin_blanks text rest begin found is inside margin =
 pub next_line_after : (text : Text) (at : ℕ) → at ≤ length text → at ≤ next_line text at
 unfolding next_line
 next_line_after text at inside = omega (arith, inside)
+
+-- the reads of the search are within the bound: those that find where the reading stopped, and those of the line's rest
+pub within_search : (text : Text) (fault : Spanned Fault) (begin at before between after : ℕ) (tab : Bool) → tab ≡ is_tab fault.node → begin ≡ fault.begin → at ≡ stopped_at text fault → at ≤ next_line text at
+    → between ≤ before + (if tab then 4 * (at - begin) + (next_line text at - begin) + 4 else 0) → after ≤ between + (next_line text at - at + 1) → after ≤ before + search_reads text fault
+unfolding restart
+within_search text fault begin at before between after true tab is_begin is_at order few more =
+    let search = tab_search text fault (sym tab) in
+    let least = stopped_begin text fault in
+    omega (arith, search, least, is_begin, is_at, ap (next_line text) is_at, order, few, more)
+within_search text fault begin at before between after false other is_begin is_at order few more =
+    let search = other_search text fault (sym other) in
+    omega (arith, search, is_at, ap (next_line text) is_at, order, few, more)

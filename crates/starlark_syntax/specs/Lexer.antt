@@ -13,6 +13,7 @@ use Rattle.starlark_grammar.specs.AfterFaults.{restart}
 use Rattle.starlark_grammar.specs.Reading.{outcome}
 use Rattle.starlark_grammar.specs.Tokens.{Fault, Spanned}
 use Rattle.starlark_grammar.specs.Words.{Text}
+unfoldable pub use Rattle.starlark_reader.specs.Inner.Reads.{search_reads}
 pub use Rattle.starlark_token.specs.Lexemes.{IsWithin}
 use Rattle.starlark_token.specs.Lexemes.{lexeme_view}
 pub use Rattle.starlark_token.specs.TextItems.{LexerItem, Given, Refused, items}
@@ -31,9 +32,9 @@ pub record LexerView : Type 0 where
 abbrev pub most_reads : Text → ℕ
 most_reads text = 16 * (length text + 1)
 
--- at a text's fault there were at most so many reads
+-- at a text's fault there were at most so many reads, with those that find where lexing begins again
 abbrev pub HasReadToFault : Text → ℕ → Type 0
-HasReadToFault text reads = (fault : Spanned Fault) → (outcome text).fault ≡ Some fault → reads ≤ 16 * (restart text fault + 1)
+HasReadToFault text reads = (fault : Spanned Fault) → (outcome text).fault ≡ Some fault → reads + search_reads text fault ≤ 16 * (restart text fault + 1)
 
 -- what a call returns for an item: a lexeme, the fault's exception, or out of memory in their place
 abbrev pub Answers : SourceFile → LexerItem → Result (ℕ × Token × ℕ) (OrMemory (Diagnosed ErrorKind)) → Type 0

@@ -39,7 +39,7 @@ pub record RecoveringView : Type 0 where
 
 -- how often bytes are read at most, by how many there are and how often lexing starts: at their start, and after each fault
 abbrev pub most_reads_on : (bytes starts : ℕ) → ℕ
-most_reads_on bytes starts = 21 * (bytes + starts)
+most_reads_on bytes starts = 16 * (bytes + starts)
 
 -- There are no more faults than bytes, at least one read for each fault, and at most so many reads.
 pub record AreReadsOn (text : Text) (fault_count reads : ℕ) : Type 0 where

@@ -1,6 +1,6 @@
 //! Faults of a part of a text: moved to their places in the whole text, and passed.
 
-ghost use Rattle.std.specs.Prelude.{◌≡◌, ◌≤◌, ◌<◌, ◌^◌, ◌+◌, ◌-◌, ◌*◌, [], Some, IfOk, IfSome, IsSome, drop, length};
+ghost use Rattle.std.specs.Prelude.{◌≡◌, ◌≤◌, ◌<◌, ◌^◌, ◌+◌, [], Some, IfOk, IfSome, IsSome, drop, length};
 ghost use Rattle.std.specs.Str.{IsCharBoundary};
 ghost use Rattle.starlark_base.specs.Diagnostics.{place_in};
 ghost use Rattle.starlark_base.specs.Sources.{SourceFile};
@@ -9,7 +9,6 @@ ghost use Rattle.starlark_syntax.specs.Inner.Passed.{HasPassed, is_tab_kind};
 ghost use Rattle.starlark_syntax.specs.Restarts.{IsPlaceOf};
 ghost use Rattle.starlark_syntax.specs.Exceptions.{IsException};
 ghost use Rattle.starlark_token.specs.Lexemes.{IsWithin};
-ghost use Rattle.starlark_words.specs.Inner.Reads.{AreReads};
 
 use crate::error::{ErrorKind, ParserMessage};
 use crate::eval_exception::EvalException;
@@ -102,7 +101,7 @@ pub fn pass<'a>(
     requires within { IfSome exception.span (λ place. IsWithin (drop begin text.now) place.span.begin place.span.end) }
     requires between { IfSome exception.span (λ place. IsCharBoundary (drop begin text.now) place.span.begin) }
     ensures passed { IfOk result (λ passed. (file : SourceFile) (fault : Spanned Fault) → IsException file fault exception → HasPassed file text.now begin fault passed) }
-    ensures reads { IfOk result (λ passed. (begin ≤ passed.begin) × AreReads 1 (5 * (passed.begin - begin + 1)) 0 passed.reads) }
+    ensures order { IfOk result (λ passed. begin ≤ passed.begin) }
 {
     let place = place_of(&exception);
     let code_map = file_of(&exception)?;

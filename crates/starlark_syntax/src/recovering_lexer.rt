@@ -118,7 +118,7 @@ impl<'a> RecoveringLexer<'a> {
     /// Number of reads of bytes so far.
     ///
     /// It counts as that of `Lexer` does, and has the reads that find where lexing begins again. After
-    /// `faults` faults of a text of `n` bytes it is at most `21 * (n + faults + 1)`, and at least
+    /// `faults` faults of a text of `n` bytes it is at most `16 * (n + faults + 1)`, and at least
     /// `faults`. After out of memory nothing is promised.
     pub fn reads(&self) -> u64
         ensures { result ≡ self.now.reads }

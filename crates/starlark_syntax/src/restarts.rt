@@ -1,11 +1,13 @@
 //! Where lexing begins again after a fault.
 
 ghost use Rattle.starlark_grammar.specs.Recovery as spec;
-ghost use Rattle.std.specs.Prelude.{◌≡◌, ◌≤◌, ◌<◌, ◌+◌, ◌-◌, ◌*◌, drop, length, not, slice_index};
+ghost use Rattle.std.specs.Prelude.{◌≡◌, ◌≤◌, ◌<◌, ◌+◌, ◌-◌, ◌*◌, drop, if◌then◌else◌, length, not, slice_index, true};
 ghost use Rattle.std.specs.List.{prefix_len};
 ghost use Rattle.std.specs.Str.{IsCharBoundary};
 ghost use Rattle.starlark_grammar.specs.Margins.{is_lf};
 ghost use Rattle.starlark_grammar.specs.Tokens.{Fault, Spanned};
+ghost use Rattle.starlark_syntax.specs.Lexer.{search_reads};
+ghost use Rattle.starlark_syntax.specs.Recovery.{is_tab};
 ghost use Rattle.starlark_syntax.specs.Restarts.{IsPlaceOf};
 ghost use Rattle.starlark_words.specs.Inner.Reads.{AreReads, more_reads};
 
@@ -61,25 +63,33 @@ fn line_end_len(reads: &mut Reads, text: &[u8]) -> usize
     }
 }
 
-/// The start of the last line of the margin after the line end at byte `at`, or after byte `at` if
-/// no line end is there.
+/// The start of the last line of the margin that begins at byte `at`.
 fn margin_line(reads: &mut Reads, text: &str, at: usize) -> usize
     requires { IsCharBoundary text.now at }
-    ensures value { result ≡ spec.margin_line text.now (at + spec.line_end_len (drop at text.now)) }
+    ensures value { result ≡ spec.margin_line text.now at }
     ensures within { result ≤ length text.now }
-    ensures reads { AreReads 0 (4 * result + spec.next_line text.now result + 4 - 5 * at) reads.old reads.new }
+    ensures reads { AreReads 0 (4 * (result - at) + (spec.next_line text.now result - at) + 2) reads.old reads.new }
+    ensures order { at ≤ result }
 {
-    let margin = at + line_end_len(reads, &text.as_bytes()[at..]);
-    margin + margin_of(reads, &text[margin..]).at
+    at + margin_of(reads, &text[at..]).at
 }
 
-/// Whether a fault is that of a tab in a margin.
-fn is_margin_tab(reads: &mut Reads, text: &str, place: FaultPlace) -> bool
-    requires { place.begin ≤ length text.now }
-    ensures value { (fault : Spanned Fault) → IsPlaceOf fault place → result ≡ spec.is_margin_tab text.now fault }
-    ensures reads { AreReads 0 (2 * place.begin) reads.old reads.new }
+/// The start of the line of a tab whose fault begins at byte `at`, or `at` if the tab is in code.
+///
+/// The fault of a tab in a margin is at the line end before the margin, or at the text's start.
+fn tab_line(reads: &mut Reads, text: &str, at: usize) -> usize
+    requires { IsCharBoundary text.now at }
+    ensures value { (fault : Spanned Fault) → fault.begin ≡ at → is_tab fault.node ≡ true →
+        result ≡ (if spec.is_margin_tab text.now fault then spec.margin_line text.now (at + spec.line_end_len (drop at text.now)) else at) }
+    ensures within { result ≤ length text.now }
+    ensures reads { AreReads 0 (4 * (result - at) + (spec.next_line text.now result - at) + 4) reads.old reads.new }
+    ensures order { at ≤ result }
 {
-    place.is_tab && (place.begin == 0 || line_end_len(reads, &text.as_bytes()[place.begin..]) > 0)
+    let len = line_end_len(reads, &text.as_bytes()[at..]);
+    if at > 0 && len == 0 {
+        return at;
+    }
+    margin_line(reads, text, at + len)
 }
 
 /// An offset in the line where a fault stopped the reading of a text.
@@ -89,10 +99,10 @@ fn stopped_at(reads: &mut Reads, text: &str, place: FaultPlace) -> usize
     requires within { place.end ≤ length text.now }
     ensures value { (fault : Spanned Fault) → IsPlaceOf fault place → result ≡ spec.stopped_at text.now fault }
     ensures within { result ≤ length text.now }
-    ensures reads { AreReads 0 (4 * result + spec.next_line text.now result + 4) reads.old reads.new }
+    ensures reads { AreReads 0 (if place.is_tab then 4 * (result - place.begin) + (spec.next_line text.now result - place.begin) + 4 else 0) reads.old reads.new }
 {
-    let line = if is_margin_tab(reads, text, place) {
-        margin_line(reads, text, place.begin)
+    let line = if place.is_tab {
+        tab_line(reads, text, place.begin)
     } else {
         place.begin
     };
@@ -107,7 +117,7 @@ pub(crate) fn counted_restart(reads: &mut Reads, text: &str, place: FaultPlace) 
     requires within { place.end ≤ length text.now }
     ensures value { (fault : Spanned Fault) → IsPlaceOf fault place → result ≡ spec.restart text.now fault }
     ensures boundary { IsCharBoundary text.now result }
-    ensures reads { AreReads 1 (5 * (result + 1)) reads.old reads.new }
+    ensures reads { (fault : Spanned Fault) → IsPlaceOf fault place → AreReads 1 (search_reads text.now fault) reads.old reads.new }
 {
     let at = stopped_at(reads, text, place);
     next_line(reads, text, at)

@@ -80,7 +80,7 @@ line_end_here text len front =
     (sound.0, line_end_front len text sound.0 whole)
 
 -- the piece of a newline after its word
-pub line_end_piece : (front : Text) (line before after : ℕ) (piece : Piece) → class_in language front ≡ Some word.LineEnd → AreReadsAfter (length front) 9 line 9 piece before after → IsLineEndOf front piece
+pub line_end_piece : (front : Text) (line before after : ℕ) (piece : Piece) → class_in language front ≡ Some word.LineEnd → AreReadsAfter (length front) 9 line 8 piece before after → IsLineEndOf front piece
 line_end_piece front line before after (piece.LineEnd len) known reads = let is = line_end_word front known in (omega (arith, is.0, reads.0), omega (arith, is.1, reads.0))
 line_end_piece front line before after (piece.Nothing len is_gap) known reads = tt
 line_end_piece front line before after (piece.FString opening len) known reads = tt

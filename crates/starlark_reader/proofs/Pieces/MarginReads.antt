@@ -1,16 +1,16 @@
--- Lexing begins again after a margin that is a fault.
-use Rattle.std.proofs.Common.{◌≡◌, ℕ, zero, suc, ◌+◌, ◌*◌, ◌<◌, ◌≤◌, ◌∙◌, ◌==◌, ◌&&◌, ◌||◌, ◌⊎◌, inl, inr, Bool, true, false, [], ◌∷◌, length, drop, nat_eq, refl, ap, sym, subst, arith}
+-- Lexing begins again after a margin that is a fault, and its reads.
+use Rattle.std.proofs.Common.{◌≡◌, ℕ, zero, suc, ◌+◌, ◌-◌, ◌*◌, ◌<◌, ◌≤◌, ◌∙◌, ◌==◌, ◌&&◌, ◌||◌, ◌⊎◌, inl, inr, Bool, true, false, [], ◌∷◌, length, drop, nat_eq, refl, ap, sym, subst, arith}
 use Rattle.std.proofs.lemmas.Bool.{eqb-true}
 use Rattle.std.proofs.lemmas.Bool.Decides.{nat_tests}
 use Rattle.std.proofs.lemmas.List.Folds.{length-prefix_len}
-use Rattle.std.specs.List.{starts_with}
+use Rattle.std.specs.List.{list_any, starts_with}
 use Rattle.std.specs.Prelude.{codes, if◌then◌else◌, not}
-use Rattle.starlark_grammar.specs.AfterFaults.{is_margin_tab, line_end_len, margin_line, next_line, restart}
+use Rattle.starlark_grammar.specs.AfterFaults.{is_margin_tab, is_tab, line_end_len, margin_line, next_line, restart, stopped_at}
 use Rattle.starlark_grammar.specs.Gaps.{begins_with_line_end}
 use Rattle.starlark_grammar.specs.Margins as grammar
 use Rattle.starlark_grammar.specs.Margins.{blanks_len, has_tab, is_blank, is_lf, lines, margin_len, margin_of}
 use Rattle.starlark_grammar.specs.Pieces as pieces
-use Rattle.starlark_grammar.specs.Tokens.{Fault, Indentation, InvalidTab}
+use Rattle.starlark_grammar.specs.Tokens.{Fault, Indentation, InvalidTab, Spanned}
 use Rattle.starlark_grammar.specs.Words.{Text}
 use Rattle.starlark_grammar.proofs.Lists.{drop-sum}
 use Rattle.starlark_token.specs.declared.lexeme_error.LexemeError.{LexemeError}
@@ -18,11 +18,12 @@ use Rattle.starlark_words.proofs.Literals.RunBytes.{longer_run}
 use Rattle.starlark_reader.specs.Inner.Layout.{IsFaultFound, IsMargin, margin_fault}
 use Rattle.starlark_reader.specs.Inner.Pieces.{IsLineEnd}
 use Rattle.starlark_reader.specs.Inner.Pending.{owed}
-use Rattle.starlark_reader.specs.Inner.Reads.{AtRestart, HasRead, HasReadAt, IsMarginRead}
+use Rattle.starlark_reader.specs.Inner.Reads.{AtFault, HasRead, HasReadAt, IsMarginRead, search_reads}
 use Rattle.starlark_reader.specs.declared.margins.Margin.{Margin}
 use Rattle.starlark_reader.specs.declared.reader.Reader.{Reader}
 use Rattle.starlark_reader.specs.declared.reader.Stage.TheVariants as stages
-use Rattle.starlark_reader.proofs.NextLines.{first_line, next_line_later, rest_line, restart_end, restart_margin}
+use Rattle.starlark_reader.proofs.NextLines.{first_line, next_line_later, rest_line, restart_end, restart_margin, stopped_end}
+use Rattle.starlark_reader.proofs.Pieces.SearchReads.{other_search, tab_search}
 
 blank_in_line : (b : ℕ) → is_blank b ≡ true → not (is_lf b) ≡ true
 blank_in_line b blank = grind (arith, nat_tests)
@@ -121,11 +122,20 @@ abbrev fails_to : pieces.Step → ℕ
 fails_to (pieces.Fails fault) = fault.end
 fails_to step = 0
 
--- lexing begins again after a margin that is a fault
-pub margin_restart : (text : Text) (begin len end : ℕ) (margin : Margin) (fault : LexemeError) → IsMarginAt text begin len → begin + len + (margin.at + margin.blanks.len) ≤ length text
+-- a tab is a blank
+some_blank : (blanks : Text) → list_any (nat_eq 9) blanks ≡ true → 1 ≤ length blanks
+some_blank [] tab = cc
+some_blank (b ∷ bs) tab = omega arith
+
+-- lexing begins again after a margin that is a fault; the search for that is within the bound
+record MarginSearch (text : Text) (begin len : ℕ) (margin : Margin) (fault : Spanned Fault) : Type 0 where
+  pub after : begin + len + (margin.at + margin.blanks.len) ≤ restart text fault
+  pub reads : 5 * margin.at + margin.blanks.len + 2 + search_reads text fault + 5 * len ≤ 10 * (restart text fault - begin) + 5
+
+margin_search : (text : Text) (begin len end : ℕ) (margin : Margin) (fault : LexemeError) → IsMarginAt text begin len → begin + len + (margin.at + margin.blanks.len) ≤ length text
     → IsMargin (margin_of (drop (begin + len) text)) margin → IsFaultFound (margin_fault len (margin_of (drop (begin + len) text))) (fault, end)
-    → AtRestart text begin fault (begin + end) (λ at. begin + len + (margin.at + margin.blanks.len) ≤ at)
-margin_restart text begin len end margin fault there inside is found = λ node view.
+    → AtFault begin fault (begin + end) (MarginSearch text begin len margin)
+margin_search text begin len end margin fault there inside is found = λ node view.
     let same : node ≡ found.0 = cc (view, found.1) in
     by node same (has_tab (margin_of (drop (begin + len) text))) refl found.2
   where
@@ -136,17 +146,26 @@ margin_restart text begin len end margin fault there inside is found = λ node v
     whole = omega (arith, is.at, is.blanks.len)
 
     by : (node : Fault) → node ≡ found.0 → (tab : Bool) → has_tab seen ≡ tab → (if tab then pieces.fault 0 InvalidTab 0 else pieces.fault 0 Indentation (len + margin_len seen)) ≡ pieces.fault 0 found.0 end
-        → begin + len + (margin.at + margin.blanks.len) ≤ restart text (record { begin = begin; node = node; end = begin + end })
+        → MarginSearch text begin len margin (record { begin = begin; node = node; end = begin + end })
     by node same true e fails =
+        let spanned : Spanned Fault = record { begin = begin; node = node; end = begin + end } in
         let tab : node ≡ InvalidTab = same ∙ sym (ap fails_with fails) in
         let blanks = last_line text (begin + len) (omega (arith, whole, inside)) in
         let line = next_line_later text (begin + len + seen.at) (margin_line text (begin + line_end_len (drop begin text))) (last_there text begin len there) in
-        let after = restart_margin text (record { begin = begin; node = node; end = begin + end }) (tab_there text begin len (begin + end) node there tab) in
-        omega (arith, whole, blanks, line, after)
+        let after = restart_margin text spanned (tab_there text begin len (begin + end) node there tab) in
+        let least : begin + len + (margin.at + margin.blanks.len) ≤ restart text spanned = omega (arith, whole, blanks, line, after) in
+        let some : 1 ≤ margin.blanks.len = omega (arith, some_blank seen.blanks e, is.blanks.len) in
+        let search = tab_search text spanned (ap is_tab tab) in
+        record { after = least; reads = omega (arith, least, some, search) }
     by node same false e fails =
+        let spanned : Spanned Fault = record { begin = begin; node = node; end = begin + end } in
+        let other : node ≡ Indentation = same ∙ sym (ap fails_with fails) in
         let last : end ≡ len + margin_len seen = sym (ap fails_to fails) in
-        let after = restart_end text (record { begin = begin; node = node; end = begin + end }) (omega (arith, last, whole, inside)) in
-        omega (arith, last, whole, after)
+        let after = restart_end text spanned (omega (arith, last, whole, inside)) in
+        let least : begin + len + (margin.at + margin.blanks.len) ≤ restart text spanned = omega (arith, last, whole, after) in
+        let stopped : begin + end - 1 ≤ stopped_at text spanned = stopped_end text spanned in
+        let search = other_search text spanned (ap is_tab other) in
+        record { after = least; reads = omega (arith, least, last, whole, stopped, search) }
 
 -- the reads at the fault of a margin after a newline
 pub refused_reads : (text : Text) (len end : ℕ) (margin : Margin) (fault : LexemeError) (old new : Reader) → IsLineEnd len (drop old.at text) → old.at + len + (margin.at + margin.blanks.len) ≤ length text
@@ -156,8 +175,8 @@ refused_reads text len end margin fault old new there inside is found stops read
     let here : old.at + 0 ≡ old.at = omega arith in
     let stage : new.stage ≡ stages.Fault old.at fault (old.at + end) = stops ∙ ap (λ at. stages.Fault at fault (old.at + end)) here in
     subst (IsMarginRead text len old new) (sym stage) (λ node view.
-    let after = margin_restart text old.at len end margin fault (inr there) inside is found node view in
-    (omega (arith, after, read), omega (arith, after, none)))
+    let search = margin_search text old.at len end margin fault (inr there) inside is found node view in
+    (omega (arith, search.reads, read), none, omega (arith, search.after)))
 
 -- the reads at the fault of a text's first margin
 pub first_refused_reads : (text : Text) (beside end : ℕ) (margin : Margin) (fault : LexemeError) (old new : Reader) → margin.at + margin.blanks.len ≤ length text
@@ -168,5 +187,5 @@ first_refused_reads text beside end margin fault old new inside is found stops r
     let last : old.at + end ≡ 0 + end = omega (arith, has.0) in
     let stage : new.stage ≡ stages.Fault 0 fault (0 + end) = stops ∙ ap (λ at. stages.Fault at fault (old.at + end)) begin ∙ ap (stages.Fault 0 fault) last in
     subst (HasReadAt text beside new) (sym stage) (λ node view.
-    let after = margin_restart text 0 0 end margin fault (inl (refl, refl)) (omega (arith, inside)) is found node view in
-    omega (arith, after, read, owes, has.1))
+    let search = margin_search text 0 0 end margin fault (inl (refl, refl)) (omega (arith, inside)) is found node view in
+    omega (arith, search.after, search.reads, read, owes, has.1))

@@ -1,7 +1,7 @@
 -- The reads of a reader after each of its steps.
 use Rattle.std.proofs.Common.{◌≡◌, ◌≤◌, ◌<◌, ◌+◌, ◌-◌, ◌*◌, ◌∙◌, ℕ, List, Option, drop, length, refl, subst, sym, arith}
 use Rattle.std.specs.Prelude.{IfErr, Result, Ok, Err, max}
-use Rattle.starlark_grammar.specs.AfterFaults.{next_line, restart}
+use Rattle.starlark_grammar.specs.AfterFaults.{next_line}
 use Rattle.starlark_grammar.specs.Reading.{History}
 use Rattle.starlark_grammar.specs.Words.{Text}
 use Rattle.starlark_grammar.specs.Tokens.{Fault, Spanned}
@@ -11,8 +11,8 @@ use Rattle.starlark_words.specs.Inner.Reads.{AreReads, more_reads}
 use Rattle.starlark_reader.specs.Inner.Pending.{owed}
 use Rattle.starlark_reader.specs.Inner.Steps.{IsStep}
 use Rattle.starlark_reader.specs.Inner.Reads.{AreStepReads, HasStarted, HasLooked, HasLookedHere, HasRead, HasReadAt, IsMarginRead, IsPassed, IsPassedBy}
-use Rattle.starlark_reader.proofs.NextLines.{next_line_drop, next_line_later, restart_end, restart_line}
 use Rattle.starlark_reader.proofs.Pieces.Here.{fault_here}
+use Rattle.starlark_reader.proofs.Pieces.SearchReads.{fault_restart, step_search}
 use Rattle.starlark_reader.specs.declared.literal.pieces.Step.{Step}
 use Rattle.starlark_reader.specs.declared.literal.pieces.Step.TheVariants as steps
 use Rattle.starlark_reader.specs.declared.reader.Reader.{Reader}
@@ -29,31 +29,27 @@ pub onward_reads : (text : Text) (beside len before : ℕ) (old new : Reader) �
 onward_reads text beside len before old new has read passed =
     subst (HasReadAt text beside new) (sym passed.1) (omega (arith, has.0, read.0, passed.0.0, passed.0.1), omega (arith, has.1, read.1, passed.0.0, passed.0.1, passed.0.2))
 
--- lexing begins again after a fault's end, and after the line of the offset where it was read
-fault_restart : (text : Text) (at begin end : ℕ) (node : Fault) → at ≤ length text → at + end ≤ length text → at + max (next_line (drop at text) 0) end ≤ restart text (record { begin = at + begin; node = node; end = at + end })
-fault_restart text at begin end node here inside =
-    let fault : Spanned Fault = record { begin = at + begin; node = node; end = at + end } in
-    let later = next_line_later text (at + 0) (at + begin) (omega arith) in
-    omega (arith, restart_end text fault inside, restart_line text fault, later, next_line_drop text at 0 here)
-
 -- the reads after a token or an f-string text, or at a fault
 pub step_reads : (text : Text) (beside before : ℕ) (history : History) (step : Step) (old new : Reader) → IsStateAfter text history old → IsStep (step_here text history old) step
-    → IsReadBefore beside before old.at (owed old.pending) → AreStepReads 0 10 (next_line (drop old.at text) 0) 7 step before old.reads → IsPassed old step new → HasRead text beside new
+    → IsReadBefore beside before old.at (owed old.pending) → AreStepReads 0 10 (next_line (drop old.at text) 0) 6 step before old.reads → IsPassed old step new → HasRead text beside new
 step_reads text beside before history (steps.Token token len) old new kept stands has read passed = onward_reads text beside len before old new has (omega (arith, read.0.0), omega (arith, read.0.1)) passed
 step_reads text beside before history (steps.Text chunk chunk_len stop len) old new kept stands has read passed = onward_reads text beside (chunk_len + len) before old new has (omega (arith, read.0.0), omega (arith, read.0.1)) passed
 step_reads text beside before history (steps.Fault begin fault end) old new kept stands has read passed =
     let here = fault_here text history old (record { begin = begin; node = stands.0; end = end }) kept stands.2 in
-    subst (HasReadAt text beside new) (sym passed.1) (λ node is. omega (arith, fault_restart text old.at begin end node kept.inside here.1, has.1, read, passed.0.1, passed.0.2))
+    subst (HasReadAt text beside new) (sym passed.1) (λ node is.
+    let after = fault_restart text old.at begin end node kept.inside here.1 in
+    let search = step_search text old.at begin end fault node is kept.inside here.1 in
+    omega (arith, after, search, has.1, read, passed.0.1, passed.0.2))
 
 -- the reads after a newline and its margin
-pub line_reads : (text : Text) (beside len before : ℕ) (old new : Reader) → old.at + len ≤ length text → IsReadBefore beside before old.at (owed old.pending) → AreReads len (10 * len - 2) before old.reads → 0 < len
+pub line_reads : (text : Text) (beside len before : ℕ) (old new : Reader) → old.at + len ≤ length text → IsReadBefore beside before old.at (owed old.pending) → AreReads len (5 * len + 3) before old.reads → 0 < len
     → IsMarginRead text len old new new.stage → HasRead text beside new
 line_reads text beside len before old new inside has read some margin = go new.stage margin
   where
     go : (stage : Stage) → IsMarginRead text len old new stage → HasReadAt text beside new stage
     go stages.Begin margin = absurd margin
     go stages.Onward margin = (omega (arith, has.0, read.0, margin.0.0, margin.1), omega (arith, has.1, read.1, some, margin.0.1, margin.1))
-    go (stages.Fault begin fault end) margin = λ node is. let there = margin node is in omega (arith, has.1, read.1, some, there.0, there.1)
+    go (stages.Fault begin fault end) margin = λ node is. let there = margin node is in omega (arith, has.1, read.1, there.0, there.1, there.2)
     go stages.Closed margin = absurd margin
 
 -- the reads at the end of the text
@@ -72,7 +68,7 @@ pending_reads text beside old new same least most stages.Closed has = (omega (ar
 
 -- the bound holds with more reads beside those of the pieces
 pub read_more : (text : Text) (beside more : ℕ) (reader : Reader) → beside ≤ more → (stage : Stage) → HasReadAt text beside reader stage → HasReadAt text more reader stage
-read_more text beside more reader less stages.Begin has = (has.0, omega (arith, less, has.1))
+read_more text beside more reader less stages.Begin has = has
 read_more text beside more reader less stages.Onward has = (has.0, omega (arith, less, has.1))
 read_more text beside more reader less (stages.Fault begin fault end) has = λ node is. omega (arith, less, has node is)
 read_more text beside more reader less stages.Closed has = (has.0, omega (arith, less, has.1))
@@ -83,14 +79,10 @@ looked_reads text beside least most old new onward has looked =
     let on : HasReadAt text beside old stages.Onward = subst (HasReadAt text beside old) onward has in
     subst (HasReadAt text (beside + most) new) (sym (looked.1 ∙ onward)) (omega (arith, looked.0, looked.3.0, on.0), omega (arith, looked.0, looked.2, looked.3.1, on.1))
 
-pub here_reads : (text : Text) (beside least most : ℕ) (old new : Reader) → HasRead text beside old → HasLookedHere least most old new → HasRead text (beside + most) new
-here_reads text beside least most old new has looked = subst (HasReadAt text (beside + most) new) (sym looked.1) (by_stage old.stage has)
-  where
-    by_stage : (stage : Stage) → HasReadAt text beside old stage → HasReadAt text (beside + most) new stage
-    by_stage stages.Begin has = (omega (arith, looked.0, has.0), omega (arith, looked.2, looked.3.1, has.1))
-    by_stage stages.Onward has = (omega (arith, looked.0, looked.3.0, has.0), omega (arith, looked.0, looked.2, looked.3.1, has.1))
-    by_stage (stages.Fault begin fault end) has = λ node is. omega (arith, looked.2, looked.3.1, has node is)
-    by_stage stages.Closed has = (omega (arith, looked.3.0, has.0), omega (arith, looked.2, looked.3.1, has.1))
+pub here_reads : (text : Text) (beside least most : ℕ) (old new : Reader) → old.stage ≡ stages.Onward → HasRead text beside old → HasLookedHere least most old new → HasRead text (beside + most) new
+here_reads text beside least most old new onward has looked =
+    let on : HasReadAt text beside old stages.Onward = subst (HasReadAt text beside old) onward has in
+    subst (HasReadAt text (beside + most) new) (sym (looked.1 ∙ onward)) (omega (arith, looked.0, looked.3.0, on.0), omega (arith, looked.0, looked.2, looked.3.1, on.1))
 
 -- the run that was peeked is in the reader's line, where something else follows
 pub other_reads : {A : Type 0} (text rest : Text) (from extra reads : ℕ) (reader : Reader) (found : Result A ℕ) → from + next_line rest 0 ≤ next_line text reader.at
@@ -127,7 +119,7 @@ pub margin_reads : (text : Text) (beside len : ℕ) (old mid new : Reader) → m
 margin_reads text beside len old mid new inside some onward has looked margin =
     let on : HasReadAt text beside old stages.Onward = subst (HasReadAt text beside old) onward has in
     let before : IsReadBefore beside (old.reads + (mid.at - old.at)) mid.at (owed mid.pending) = (omega (arith, looked.0, on.0), omega (arith, looked.0, looked.2, on.1)) in
-    let read : AreReads len (10 * len - 2) (old.reads + (mid.at - old.at)) mid.reads = (omega (arith, looked.0, looked.3.0), omega (arith, some, looked.0, looked.3.1)) in
+    let read : AreReads len (5 * len + 3) (old.reads + (mid.at - old.at)) mid.reads = (omega (arith, looked.0, looked.3.0), omega (arith, some, looked.0, looked.3.1)) in
     line_reads text beside len (old.reads + (mid.at - old.at)) mid new inside before read some margin
 
 -- a state doesn't depend on the number of reads

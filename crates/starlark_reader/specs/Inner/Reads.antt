@@ -1,7 +1,7 @@
 -- Numbers of reads of bytes, by what was read.
-use Rattle.std.specs.Prelude.{◌≡◌, ◌≤◌, ◌<◌, ◌+◌, ◌-◌, ◌*◌, ℕ, Some, length, max}
-use Rattle.starlark_grammar.specs.AfterFaults.{next_line, restart}
-use Rattle.starlark_grammar.specs.Tokens.{Fault}
+use Rattle.std.specs.Prelude.{◌≡◌, ◌≤◌, ◌<◌, ◌+◌, ◌-◌, ◌*◌, if◌then◌else◌, Bool, true, false, ℕ, Option, None, Some, length, max}
+use Rattle.starlark_grammar.specs.AfterFaults.{is_tab, next_line, restart, stopped_at}
+use Rattle.starlark_grammar.specs.Tokens.{Fault, Spanned}
 use Rattle.starlark_grammar.specs.Words.{Text}
 use Rattle.starlark_token.specs.Lexemes.{fault_view}
 use Rattle.starlark_token.specs.declared.lexeme_error.LexemeError.{LexemeError}
@@ -17,36 +17,61 @@ use Rattle.starlark_reader.specs.declared.reader.Stage.{Stage}
 use Rattle.starlark_reader.specs.declared.reader.Stage.TheVariants as stage
 use Rattle.starlark_reader.specs.Inner.Pending.{owed}
 
+-- reads that find where lexing begins again after a fault, at most: five for each byte from the
+-- begin of a tab's fault on, or one for each byte after the end of another; and one for the byte
+-- after them
+unfoldable pub search_reads : Text → Spanned Fault → ℕ
+search_reads text fault =
+    if is_tab fault.node then 5 * (restart text fault - fault.begin + 1) else restart text fault - stopped_at text fault + 1
+
+-- whether an error is the fault of a tab
+abbrev pub is_tab_view : Option Fault → Bool
+is_tab_view (Some node) = is_tab node
+is_tab_view None = false
+
+abbrev pub is_tab_error : LexemeError → Bool
+is_tab_error error = is_tab_view (fault_view error)
+
 -- reads of a step after its first `passed` bytes: at most `factor` a byte; those of a fault are of
--- bytes up to its end, or of the first `line` bytes
+-- bytes up to its end, and those of a tab's fault of the first `line` bytes
 abbrev pub AreStepReads : (passed factor line extra : ℕ) → Step → (before after : ℕ) → Type 0
 AreStepReads passed factor line extra (step.Token token len) before after = AreReads (len - passed) (factor * (len - passed)) before after × (passed < len)
 AreStepReads passed factor line extra (step.Text text text_len stop len) before after = AreReads (text_len + len - passed) (factor * (text_len + len - passed)) before after × (passed < text_len + len)
-AreStepReads passed factor line extra (step.Fault begin fault end) before after = after ≤ before + factor * max line end + extra
+AreStepReads passed factor line extra (step.Fault begin fault end) before after = after ≤ before + (if is_tab_error fault then 5 * line + 3 else factor * end + extra)
 
--- the step takes a whole word of `len` bytes, or is a fault that ends after them
+-- the step takes a whole word of `len` bytes, or is a fault that ends after them, and no tab's
 abbrev pub IsOfWord : ℕ → Step → Type 0
 IsOfWord len (step.Token token taken) = taken ≡ len
 IsOfWord len (step.Text text text_len stop taken) = ⊥
-IsOfWord len (step.Fault begin fault end) = len ≤ end
+IsOfWord len (step.Fault begin fault end) = (len ≤ end) × (is_tab_error fault ≡ false)
 
--- the step is a fault that ends at an offset
+-- the step is a fault that ends at an offset, and no tab's
 abbrev pub IsFaultTo : ℕ → Step → Type 0
-IsFaultTo at (step.Fault begin fault end) = end ≡ at
+IsFaultTo at (step.Fault begin fault end) = (end ≡ at) × (is_tab_error fault ≡ false)
 IsFaultTo at step = ⊥
 
--- reads of a token or a fault after its word of `passed` bytes, which may be all of it; a fault ends
--- after the word, or the word is in the first `line` bytes
+-- the step is the fault of a tab
+abbrev pub IsTabFault : Step → Type 0
+IsTabFault (step.Fault begin fault end) = is_tab_error fault ≡ true
+IsTabFault step = ⊥
+
+-- reads at a fault after a word of `passed` bytes: the word is tabs in the first `line` bytes, or the
+-- fault ends after it
+abbrev pub AreFaultReads : (is_tab : Bool) (passed line end most before after : ℕ) → Type 0
+AreFaultReads true passed line end most before after = (after ≤ before) × (0 < line) × (passed ≤ line)
+AreFaultReads false passed line end most before after = (after ≤ before + most) × (passed ≤ end)
+
+-- reads of a token or a fault after its word of `passed` bytes, which may be all of it
 abbrev pub AreWordReads : (passed factor more line extra : ℕ) → Step → (before after : ℕ) → Type 0
 AreWordReads passed factor more line extra (step.Token token len) before after = AreReads (len - passed) (factor * (len - passed) + more) before after × (passed ≤ len)
 AreWordReads passed factor more line extra (step.Text text text_len stop len) before after = ⊥
-AreWordReads passed factor more line extra (step.Fault begin fault end) before after = (after ≤ before + factor * (end - passed) + extra) × (passed ≤ max line end)
+AreWordReads passed factor more line extra (step.Fault begin fault end) before after = AreFaultReads (is_tab_error fault) passed line end (factor * (end - passed) + extra) before after
 
--- reads of a piece at the start of a text: at most `factor` a byte; those of a fault are of bytes up
--- to its end, or of the text's first line
+-- reads of a piece at the start of a text: at most `factor` a byte, and fewer of a newline; those of
+-- a fault are of bytes up to its end, and those of a tab's fault of the text's first line
 abbrev pub ArePieceReads : (factor extra : ℕ) → Text → Piece → (before after : ℕ) → Type 0
 ArePieceReads factor extra text (piece.Nothing len is_gap) before after = AreReads len (factor * len) before after × (0 < len)
-ArePieceReads factor extra text (piece.LineEnd len) before after = AreReads len (factor * len - 2) before after × (0 < len)
+ArePieceReads factor extra text (piece.LineEnd len) before after = AreReads len (5 * len + 3) before after × (0 < len)
 ArePieceReads factor extra text (piece.FString opening len) before after = AreReads len (factor * len) before after × (0 < len)
 ArePieceReads factor extra text (piece.Lexed step) before after = AreStepReads 0 factor (next_line text 0) extra step before after
 ArePieceReads factor extra text piece.End before after = (after ≡ before) × (length text ≡ 0)
@@ -92,25 +117,29 @@ IsPassed old (step.Token token len) new = IsPassedBy (old.at + len) old new × (
 IsPassed old (step.Text text text_len stop len) new = IsPassedBy (old.at + (text_len + len)) old new × (new.stage ≡ stage.Onward)
 IsPassed old (step.Fault begin fault end) new = IsPassedBy old.at old new × (new.stage ≡ stage.Fault (old.at + begin) fault (old.at + end))
 
--- each offset where lexing begins again after the fault is as `P` says
-abbrev pub AtRestart : Text → ℕ → LexemeError → ℕ → (ℕ → Type 0) → Type 0
-AtRestart text begin fault end P = (node : Fault) → fault_view fault ≡ Some node → P (restart text (record { begin = begin; node = node; end = end }))
+-- the fault is as `P` says, as the grammar sees it
+abbrev pub AtFault : ℕ → LexemeError → ℕ → (Spanned Fault → Type 0) → Type 0
+AtFault begin fault end P = (node : Fault) → fault_view fault ≡ Some node → P (record { begin = begin; node = node; end = end })
 
--- the margin after a newline of `len` bytes was read; at its fault, lexing begins again after it
+-- reads at a fault and in the search after it, at most: ten for each byte up to where lexing begins
+-- again and ten more, beside `beside` others; or sixteen without others, as in a text's first margin
+abbrev pub most_reads_to : Text → (beside : ℕ) → Spanned Fault → ℕ
+most_reads_to text beside fault = max (beside + 10 * (restart text fault + 1)) (16 * (restart text fault + 1))
+
+-- the margin after a newline of `len` bytes was read; at its fault, the bound includes the search
 abbrev pub IsMarginRead : Text → ℕ → Reader → Reader → Stage → Type 0
 IsMarginRead text len old new stage.Onward =
     AreReads (new.at - (old.at + len)) (5 * (new.at - (old.at + len)) + 2) old.reads new.reads × (old.at + len + owed new.pending ≤ new.at)
 IsMarginRead text len old new (stage.Fault begin fault end) =
-    AtRestart text begin fault end (λ at. (new.reads ≤ old.reads + 5 * (at - (old.at + len)) + 2) × (old.at + len + owed new.pending ≤ at))
+    AtFault begin fault end (λ spanned. (new.reads + search_reads text spanned + 5 * len ≤ old.reads + 10 * (restart text spanned - old.at) + 5) × (owed new.pending ≡ 0) × (old.at ≤ restart text spanned))
 IsMarginRead text len old new stage = ⊥
 
 -- the reads at a stage: one to ten for each byte passed, and `beside` others; the upper bound
--- includes five for each byte of pending comments; at a fault all bytes up to where lexing begins
--- again count
+-- includes five for each byte of pending comments, and at a fault the search after it
 abbrev pub HasReadAt : (text : Text) (beside : ℕ) → Reader → Stage → Type 0
-HasReadAt text beside reader stage.Begin = (reader.at ≡ 0) × (reader.reads + 5 * owed reader.pending ≤ beside)
+HasReadAt text beside reader stage.Begin = (reader.at ≡ 0) × (reader.reads + 5 * owed reader.pending ≡ 0)
 HasReadAt text beside reader stage.Onward = (more_reads 0 reader.at ≤ reader.reads) × (reader.reads + 5 * owed reader.pending ≤ beside + 10 * reader.at + 2)
-HasReadAt text beside reader (stage.Fault begin fault end) = AtRestart text begin fault end (λ at. reader.reads + 5 * owed reader.pending ≤ beside + 10 * at + 10)
+HasReadAt text beside reader (stage.Fault begin fault end) = AtFault begin fault end (λ spanned. reader.reads + search_reads text spanned + 5 * owed reader.pending ≤ most_reads_to text beside spanned)
 HasReadAt text beside reader stage.Closed = (more_reads 0 (length text) ≤ reader.reads) × (reader.reads + 5 * owed reader.pending ≤ beside + 10 * length text + 9)
 
 abbrev pub HasRead : (text : Text) (beside : ℕ) → Reader → Type 0
@@ -119,5 +148,5 @@ HasRead text beside reader = HasReadAt text beside reader reader.stage
 -- the reads after `next` was returned: a lexeme, the fault, or the end
 abbrev pub HasReadNext : (text : Text) (beside : ℕ) → Next → Reader → Type 0
 HasReadNext text beside (next.Lexeme lexeme) reader = HasRead text beside reader
-HasReadNext text beside (next.Fault begin fault end) reader = AtRestart text begin fault end (λ at. reader.reads ≤ beside + 10 * (at + 1))
+HasReadNext text beside (next.Fault begin fault end) reader = AtFault begin fault end (λ spanned. reader.reads + search_reads text spanned ≤ most_reads_to text beside spanned)
 HasReadNext text beside next.Nothing reader = HasRead text beside reader × (more_reads 0 (length text) ≤ reader.reads) × (reader.reads < beside + 10 * (length text + 1))

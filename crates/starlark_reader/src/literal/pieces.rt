@@ -5,7 +5,7 @@ ghost use Rattle.starlark_grammar.specs.Depths.{Mode};
 ghost use Rattle.starlark_grammar.specs.Items as items;
 ghost use Rattle.starlark_reader.specs.Inner.Steps.{IsStep};
 ghost use Rattle.starlark_reader.specs.Inner.Nesting.{is_fstring_start};
-ghost use Rattle.starlark_reader.specs.Inner.Reads.{AreWordReads, IsFaultTo};
+ghost use Rattle.starlark_reader.specs.Inner.Reads.{AreWordReads, IsFaultTo, is_tab_error};
 ghost use Rattle.starlark_words.specs.Inner.Reads.{AreReads, more_reads};
 ghost use Rattle.starlark_token.specs.Lexemes.{fault_view};
 ghost use Rattle.starlark_grammar.specs.Cuts.{is_outside};
@@ -62,6 +62,7 @@ fn is_plain(opening: Opening, text: &[u8]) -> bool
 fn unfinished(reads: &mut Reads, outside: bool, literal: Literal, behind: &str) -> LexemeError
     ensures fault { (place : Mode) → is_outside place ≡ outside → fault_view result ≡ Some (grammar.unfinished place literal.kind (opening_view literal.opening) behind.now) }
     ensures reads { AreReads 0 (length behind.now) reads.old reads.new }
+    ensures untabbed { is_tab_error result ≡ false }
 {
     if !outside
         && literal.kind == LiteralKind::Text
@@ -197,7 +198,7 @@ pub fn literal_piece(
 ) -> Result<Step, AllocError>
     requires kind { kind ≢ OfFString }
     requires fits { len + length behind.now < 2 ^ 64 }
-    ensures reads { IfOk result (λ step. AreWordReads len 9 2 0 9 step reads.old reads.new) }
+    ensures reads { IfOk result (λ step. AreWordReads len 9 2 0 8 step reads.old reads.new) }
     ensures step { IfOk result (λ step. (place : Mode) → is_outside place ≡ outside →
         IsStep (grammar.opener place kind (grammar.opening_of is_raw quote behind.now) len behind.now) step) }
 {

@@ -3,7 +3,7 @@
 ghost use Rattle.std.specs.Prelude.{◌≡◌, ◌≤◌, ◌<◌, ◌+◌, ◌∷◌, [], Some, drop, length, true, IfOk};
 ghost use Rattle.std.specs.Char.{is_digit};
 ghost use Rattle.starlark_words.specs.Inner.Reads.{more_reads};
-ghost use Rattle.starlark_reader.specs.Inner.Reads.{IsFaultTo, IsOfWord};
+ghost use Rattle.starlark_reader.specs.Inner.Reads.{IsOfWord, IsTabFault};
 ghost use Rattle.starlark_reader.specs.Inner.Steps.{IsStep};
 ghost use Rattle.starlark_grammar.specs.Numbers.{integer_of};
 ghost use Rattle.starlark_grammar.specs.Pieces as grammar;
@@ -35,7 +35,7 @@ pub fn comment(alloc: Global, word: &str) -> Result<Step, AllocError>
 /// The fault of tabs outside of a margin, at their start.
 pub fn tabs() -> Step
     ensures step { IsStep (grammar.fault 0 tokens.InvalidTab 0) result }
-    ensures fault { IsFaultTo 0 result }
+    ensures fault { IsTabFault result }
 {
     Step::Fault {
         begin: 0,

@@ -22,11 +22,20 @@ known : (text : Text) (class : Class) (len : ℕ) → Some (class, len) ≡ lang
 unfolding language_front
 known text class len found = (front_sound (class_in language) text class len (sym found)).2
 
+fits : (text : Text) (class : Class) (len : ℕ) → Some (class, len) ≡ language_front text → (1 ≤ len) × (len ≤ length text)
+unfolding language_front
+fits text class len found = let sound = front_sound (class_in language) text class len (sym found) in (sound.0, sound.1)
+
 pub split_at-requires : goal.split_at-requires
 split_at-requires c = edge c.args.text.now c.in-Some.word.class c.in-Some.word.len c.utf8.text c.in-Some.ensures.word
 
 pub word_piece-requires-clause-known : goal.word_piece-requires-clause-known
 word_piece-requires-clause-known c = rw c.split_at.ensures.front (known c.args.text.now c.in-Some.word.class c.in-Some.word.len c.in-Some.ensures.word)
+
+pub word_piece-requires-clause-some : goal.word_piece-requires-clause-some
+word_piece-requires-clause-some c =
+    let word = fits c.args.text.now c.in-Some.word.class c.in-Some.word.len c.in-Some.ensures.word in
+    omega (arith, word.0, c.split_at.ensures.front_len)
 
 pub returns-in-Some-clause-piece : goal.returns-in-Some-clause-piece
 returns-in-Some-clause-piece c =
@@ -35,10 +44,6 @@ returns-in-Some-clause-piece c =
     let code : (s : Situation) → in_code language s c.args.text.now ≡ word_step s c.in-Some.word.class c.split_at.result.0.now c.split_at.result.1.now =
     λ s. rw (c.split_at.ensures.front, c.split_at.ensures.back) (in_code_front s c.args.text.now c.in-Some.word.class c.in-Some.word.len (sym c.in-Some.ensures.word) c.in-Some.ensures.bang) in
     if_ok _ _ c.word_piece.result (λ piece is s place balanced behind. rw (code s) (is s c.args.text.now place balanced cut at)) c.word_piece.ensures.piece
-
-fits : (text : Text) (class : Class) (len : ℕ) → Some (class, len) ≡ language_front text → (1 ≤ len) × (len ≤ length text)
-unfolding language_front
-fits text class len found = let sound = front_sound (class_in language) text class len (sym found) in (sound.0, sound.1)
 
 pub returns-in-Some-clause-reads : goal.returns-in-Some-clause-reads
 returns-in-Some-clause-reads c =

@@ -3,7 +3,7 @@ use Rattle.starlark_grammar.specs.AfterFaults.{next_line}
 use Rattle.starlark_reader.proofs.Literals.Pieces.{if_ok}
 use Rattle.starlark_reader.proofs.NextLines.{tabs_line}
 use Rattle.starlark_reader.proofs.Pieces.LineEnds.{line_end_piece}
-use Rattle.starlark_reader.proofs.Pieces.PieceReads.{tabs_reads}
+use Rattle.starlark_reader.proofs.Pieces.PieceReads.{opener_reads, tabs_reads}
 use Rattle.starlark_reader.proofs.reading.word_piece.Goals as goal
 
 pub returns-in-LineEnd-clause-piece : goal.returns-in-LineEnd-clause-piece
@@ -23,4 +23,9 @@ returns-in-LineEnd-clause-line_end c =
 pub returns-in-Tabs-clause-reads : goal.returns-in-Tabs-clause-reads
 returns-in-Tabs-clause-reads c =
     let front = c.args.front.now in
-    tabs_reads (length front) (next_line front 0) c.tabs.result c.args.reads.now c.tabs.ensures.fault (tabs_line front (c.requires.known ∙ ap Some c.in-Tabs.is))
+    tabs_reads (length front) (next_line front 0) c.tabs.result c.args.reads.now c.tabs.ensures.fault c.requires.some (tabs_line front (c.requires.known ∙ ap Some c.in-Tabs.is))
+
+pub returns-in-Opener-clause-reads : goal.returns-in-Opener-clause-reads
+returns-in-Opener-clause-reads c =
+    let front = c.args.front.now in
+    if_ok _ _ c.opener.result (λ piece is. opener_reads (length front) (next_line front 0) piece _ _ is) c.opener.ensures.reads

@@ -1,6 +1,6 @@
-use Rattle.std.proofs.Common.{◌∙◌, ap, arith}
+use Rattle.std.proofs.Common.{◌≤◌, ◌+◌, ◌-◌, ◌∙◌, ap, arith}
 use Rattle.starlark_syntax.proofs.restarts.counted_restart.Goals as goal
-use Rattle.starlark_syntax.proofs.RestartReads.{next_line_after}
+use Rattle.starlark_syntax.proofs.RestartReads.{next_line_after, within_search}
 use Rattle.starlark_syntax.specs.Recovery.{next_line, restart}
 
 pub returns-clause-value : goal.returns-clause-value
@@ -8,8 +8,10 @@ unfolding restart
 returns-clause-value c fault is = c.next_line.ensures.value ∙ ap (next_line c.args.text.now) (c.stopped_at-at.ensures.value fault is)
 
 pub returns-clause-reads : goal.returns-clause-reads
-returns-clause-reads c =
+returns-clause-reads c fault is =
+    let text = c.args.text.now in
+    let after = next_line_after text c.stopped_at-at.result c.stopped_at-at.ensures.within in
     let stopped = c.stopped_at-at.ensures.reads in
     let later = c.next_line.ensures.reads in
-    let after = next_line_after c.args.text.now c.stopped_at-at.result c.stopped_at-at.ensures.within in
-    (omega (arith, stopped.0, later.0), omega (arith, stopped.1, later.1, after, c.next_line.ensures.value))
+    let found : c.next_line.new.reads ≤ c.stopped_at-at.new.reads + (next_line text c.stopped_at-at.result - c.stopped_at-at.result + 1) = omega (arith, later.1, c.next_line.ensures.value) in
+    (omega (arith, stopped.0, later.0), within_search text fault c.args.place.begin c.stopped_at-at.result _ _ _ c.args.place.is_tab is.is_tab is.begin (c.stopped_at-at.ensures.value fault is) after stopped.1 found)

@@ -52,7 +52,7 @@ returns-in-BadEscape-clause-reads c =
     let fits = bad_fits (literal_view c.args.literal) c.args.behind.now c.in_ok-body.body.len c.in-BadEscape.read c.in-BadEscape.last c.in_ok-body.ensures.body.len stop in
     let read : length c.range.result.now ≡ c.in-BadEscape.read - 1 = omega (arith, fits.0, fits.1, c.range.ensures.len) in
     let end = c.args.len + c.in_ok-body.body.len + 1 + length c.range.result.now in
-    let few : c.read_body.new.reads ≤ c.args.reads.now + 9 * (end - c.args.len) + 6 = omega (arith, fits.0, read, ap stopped_len c.in-BadEscape.is, c.in_ok-body.ensures.reads.1) in
+    let few : c.read_body.new.reads ≤ c.args.reads.now + (9 * (end - c.args.len) + 6) = omega (arith, fits.0, read, ap stopped_len c.in-BadEscape.is, c.in_ok-body.ensures.reads.1) in
     if_ok _ _ c.escape_fault.result (λ step is. fault_reads c.args.len 9 0 0 6 end step _ _ is (omega arith) few) c.escape_fault.ensures.fault
 
 pub returns-in-Closing-clause-reads : goal.returns-in-Closing-clause-reads

@@ -88,7 +88,7 @@ returns-in-End-clause-ahead c = λ lexemes fault ahead.
 
 pub returns-in-Nothing-clause-reads : goal.returns-in-Nothing-clause-reads
 returns-in-Nothing-clause-reads c = λ beside has.
-    let read = subst (λ (p : Piece). ArePieceReads 10 7 c.range_from-rest.result.now p c.args.self.now.reads c.piece_at.new.reads) c.in-Nothing.is c.in_ok-piece.ensures.reads in
+    let read = subst (λ (p : Piece). ArePieceReads 10 6 c.range_from-rest.result.now p c.args.self.now.reads c.piece_at.new.reads) c.in-Nothing.is c.in_ok-piece.ensures.reads in
     let new = c.step_over.ensures in
     onward_reads c.args.text.now beside c.in-Nothing.len c.args.self.now.reads (record c.args.self.now { reads = c.piece_at.new.reads }) c.step_over.new.self has read.0
     (((ap (λ (reader : Reader). reader.at) new), (ap (λ (reader : Reader). reader.reads) new), omega (arith, ap (λ (reader : Reader). owed reader.pending) new)), (ap (λ (reader : Reader). reader.stage) new))
@@ -99,24 +99,24 @@ returns-in-LineEnd-clause-reads c = on_ok_weaker c.read_line_end.result (λ marg
     let stands : IsPiece (open_widths left.0.widths) (drop c.args.self.now.at c.args.text.now) (step_here c.args.text.now left.0 c.args.self.now) (piece.LineEnd c.in-LineEnd.len) = subst (IsPiece (open_widths left.0.widths) (drop c.args.self.now.at c.args.text.now) (step_here c.args.text.now left.0 c.args.self.now)) c.in-LineEnd.is (piece_read c.args.text.now left.0 c.args.self.now c.place-place.result c.is_balanced-is_balanced.result c.follows_gap-follows_gap.result c.range_from-rest.result.now c.in_ok-piece.piece c.range_from-rest.ensures.value left.1 c.place-place.ensures c.is_balanced-is_balanced.ensures c.follows_gap-follows_gap.ensures c.in_ok-piece.ensures.piece) in
     let inside = (boundary_shift c.args.text.now c.args.self.now.at c.in-LineEnd.len left.1.boundary stands.1).0 in
     let line_end : IsLineEnd c.in-LineEnd.len (drop c.args.self.now.at c.args.text.now) = rw (← c.range_from-rest.ensures.value) (subst (IsLineEndOf c.range_from-rest.result.now) c.in-LineEnd.is c.in_ok-piece.ensures.line_end) in
-    let read = subst (λ (p : Piece). ArePieceReads 10 7 c.range_from-rest.result.now p c.args.self.now.reads c.piece_at.new.reads) c.in-LineEnd.is c.in_ok-piece.ensures.reads in
+    let read = subst (λ (p : Piece). ArePieceReads 10 6 c.range_from-rest.result.now p c.args.self.now.reads c.piece_at.new.reads) c.in-LineEnd.is c.in_ok-piece.ensures.reads in
     line_reads c.args.text.now beside c.in-LineEnd.len c.args.self.now.reads (record c.args.self.now { reads = c.piece_at.new.reads }) c.read_line_end.new.self inside has read.0 read.1 (margin line_end)) c.read_line_end.ensures.reads
 
 pub returns-in_ok-begin_fstring-in-FString-clause-reads : goal.returns-in_ok-begin_fstring-in-FString-clause-reads
 returns-in_ok-begin_fstring-in-FString-clause-reads c = λ beside has.
-    let read = subst (λ (p : Piece). ArePieceReads 10 7 c.range_from-rest.result.now p c.args.self.now.reads c.piece_at.new.reads) c.in-FString.is c.in_ok-piece.ensures.reads in
+    let read = subst (λ (p : Piece). ArePieceReads 10 6 c.range_from-rest.result.now p c.args.self.now.reads c.piece_at.new.reads) c.in-FString.is c.in_ok-piece.ensures.reads in
     onward_reads c.args.text.now beside c.in-FString.len c.args.self.now.reads (record c.args.self.now { reads = c.piece_at.new.reads }) c.begin_fstring.new.self has read.0 c.in_ok-begin_fstring-in-FString.ensures.passed
 
 pub returns-in-Lexed-clause-reads : goal.returns-in-Lexed-clause-reads
 returns-in-Lexed-clause-reads c = λ beside has.
     let left = c.requires.ready.2.is_left in
     let stands : IsPiece (open_widths left.0.widths) (drop c.args.self.now.at c.args.text.now) (step_here c.args.text.now left.0 c.args.self.now) (piece.Lexed c.in-Lexed.step) = subst (IsPiece (open_widths left.0.widths) (drop c.args.self.now.at c.args.text.now) (step_here c.args.text.now left.0 c.args.self.now)) c.in-Lexed.is (piece_read c.args.text.now left.0 c.args.self.now c.place-place.result c.is_balanced-is_balanced.result c.follows_gap-follows_gap.result c.range_from-rest.result.now c.in_ok-piece.piece c.range_from-rest.ensures.value left.1 c.place-place.ensures c.is_balanced-is_balanced.ensures c.follows_gap-follows_gap.ensures c.in_ok-piece.ensures.piece) in
-    let read = subst (λ (p : Piece). ArePieceReads 10 7 c.range_from-rest.result.now p c.args.self.now.reads c.piece_at.new.reads) c.in-Lexed.is c.in_ok-piece.ensures.reads in
-    let step : AreStepReads 0 10 (next_line (drop c.args.self.now.at c.args.text.now) 0) 7 c.in-Lexed.step c.args.self.now.reads c.piece_at.new.reads = rw (← c.range_from-rest.ensures.value) read in
+    let read = subst (λ (p : Piece). ArePieceReads 10 6 c.range_from-rest.result.now p c.args.self.now.reads c.piece_at.new.reads) c.in-Lexed.is c.in_ok-piece.ensures.reads in
+    let step : AreStepReads 0 10 (next_line (drop c.args.self.now.at c.args.text.now) 0) 6 c.in-Lexed.step c.args.self.now.reads c.piece_at.new.reads = rw (← c.range_from-rest.ensures.value) read in
     step_reads c.args.text.now beside c.args.self.now.reads left.0 c.in-Lexed.step (record c.args.self.now { reads = c.piece_at.new.reads }) c.take.new.self (state_reads c.args.text.now left.0 c.args.self.now c.piece_at.new.reads left.1) stands has step c.take.ensures.passed
 
 pub returns-in-End-clause-reads : goal.returns-in-End-clause-reads
 returns-in-End-clause-reads c = λ beside has.
     let whole : length c.args.text.now ≡ c.args.self.now.at + length c.range_from-rest.result.now = omega (arith, ap (λ (t : Text). length t) c.range_from-rest.ensures.value, length-drop c.args.self.now.at c.args.text.now, c.requires.ready.2.is_left.1.inside) in
-    let read = subst (λ (p : Piece). ArePieceReads 10 7 c.range_from-rest.result.now p c.args.self.now.reads c.piece_at.new.reads) c.in-End.is c.in_ok-piece.ensures.reads in
+    let read = subst (λ (p : Piece). ArePieceReads 10 6 c.range_from-rest.result.now p c.args.self.now.reads c.piece_at.new.reads) c.in-End.is c.in_ok-piece.ensures.reads in
     end_reads c.args.text.now beside (length c.range_from-rest.result.now) c.args.self.now.reads (record c.args.self.now { reads = c.piece_at.new.reads }) c.close.new.self whole has read c.close.ensures.passed

@@ -1,4 +1,6 @@
-use Rattle.std.proofs.Common.{refl}
+use Rattle.std.proofs.Common.{refl, subst}
+use Rattle.starlark_reader.specs.Inner.Reads.{IsMarginRead}
+use Rattle.starlark_reader.specs.declared.reader.Reader.{Reader}
 use Rattle.starlark_reader.proofs.Pieces.NextLexeme.{onward_something}
 use Rattle.starlark_reader.proofs.Indentation.Waiting.{after_error}
 use Rattle.starlark_reader.proofs.reader.Reader.take_line_end.Goals as goal
@@ -10,3 +12,8 @@ pub returns-then-branch-clause-ahead : goal.returns-then-branch-clause-ahead
 returns-then-branch-clause-ahead c = λ lexemes fault ahead.
     let same = c.if-pass_line_end.ensures.stays refl in
     rw (same, c.if-branch.true) at (c.in_ok-take_counting_line_end.ensures.ahead lexemes fault (rw same ahead))
+
+pub returns-else-branch-clause-reads : goal.returns-else-branch-clause-reads
+returns-else-branch-clause-reads c = λ counts.
+    let new = c.take_counting_line_end.new.self in
+    subst (λ (old : Reader). IsMarginRead c.args.text.now c.args.len old new new.stage) (c.if-pass_line_end.ensures.stays refl) c.in_ok-take_counting_line_end.ensures.reads

@@ -91,9 +91,9 @@ next_of_reader-requires-clause-lexing c =
     let inv = c.requires.lexing.1 c.requires.going in
     let looked = front_looked c.args.self.now.text.now c.args.self.now.reader c.args.self.now.looked_to c.args.self.now.looked (sym c.is_front.ensures ∙ c.if-not-is_front.false) (c.requires.lexing.3 c.requires.going) in
     let paid = looked.3 in
-    let short = here_reads c.args.self.now.text.now paid.0 3 3 c.args.self.now.reader c.front-front.new.self paid.2 c.front-front.ensures.looked in
+    let short = here_reads c.args.self.now.text.now paid.0 3 3 c.args.self.now.reader c.front-front.new.self looked.0.stage paid.2 c.front-front.ensures.looked in
     let other = c.in-Err-plain_body_len.ensures.other in
-    let read = here_reads c.args.self.now.text.now (paid.0 + 3) 0 (2 * c.in-Err-plain_body_len.run' + 3) c.front-front.new.self c.plain_body_len.new.self short other.1 in
+    let read = here_reads c.args.self.now.text.now (paid.0 + 3) 0 (2 * c.in-Err-plain_body_len.run' + 3) c.front-front.new.self c.plain_body_len.new.self (c.front-front.ensures.looked.1 ∙ looked.0.stage) short other.1 in
     let same = c.front-front.ensures.looked.0 in
     let stands : language_front (drop c.args.self.now.reader.at c.args.self.now.text.now) ≡ Some (class.Opener kind.Bytes false c.in-Some-bytes_opener.quote, 2) = rw same at (sym c.in-Some-bytes_opener.ensures.stands.front) in
     let reach = looked.2 _ 2 stands (omega arith) refl in
@@ -157,7 +157,7 @@ returns-in-Ok-take_comment-clause-lexing c =
     let further = one_more (map shown_lexeme (outcome c.args.self.now.text.now).lexemes) c.args.self.now.yielded_count _ is.0 is.1 in
     let looked = front_looked c.args.self.now.text.now c.args.self.now.reader c.args.self.now.looked_to c.args.self.now.looked (sym c.is_front.ensures ∙ c.if-not-is_front.false) (c.requires.lexing.3 c.requires.going) in
     let paid = looked.3 in
-    let short = here_reads c.args.self.now.text.now paid.0 3 3 c.args.self.now.reader c.front-front.new.self paid.2 c.front-front.ensures.looked in
+    let short = here_reads c.args.self.now.text.now paid.0 3 3 c.args.self.now.reader c.front-front.new.self looked.0.stage paid.2 c.front-front.ensures.looked in
     let some = c.in-Ok-take_comment.ensures.taken.0 in
     let read = here_taken_reads c.args.self.now.text.now (paid.0 + 3) c.in-Some-comment_len.len (5 * c.in-Some-comment_len.len + 2) c.in-Some-comment_len.len c.front-front.new.self c.comment_len.new.self c.take_comment.new.self (c.front-front.ensures.looked.1 ∙ looked.0.stage) short c.in-Some-comment_len.ensures.looked
     (omega (arith)) (omega (arith, some)) (c.in-Ok-take_comment.ensures.taken.1, c.in-Ok-take_comment.ensures.taken.2) in (
@@ -173,8 +173,8 @@ next_of_reader-requires-in_default-comment_len-clause-lexing c =
     let inv = c.requires.lexing.1 c.requires.going in
     let looked = front_looked c.args.self.now.text.now c.args.self.now.reader c.args.self.now.looked_to c.args.self.now.looked (sym c.is_front.ensures ∙ c.if-not-is_front.false) (c.requires.lexing.3 c.requires.going) in
     let paid = looked.3 in
-    let short = here_reads c.args.self.now.text.now paid.0 3 3 c.args.self.now.reader c.front-front.new.self paid.2 c.front-front.ensures.looked in
-    let read = here_reads c.args.self.now.text.now (paid.0 + 3) 0 0 c.front-front.new.self c.comment_len.new.self short (c.comment_len.ensures.none c.in_default-comment_len.is) in
+    let short = here_reads c.args.self.now.text.now paid.0 3 3 c.args.self.now.reader c.front-front.new.self looked.0.stage paid.2 c.front-front.ensures.looked in
+    let read = here_reads c.args.self.now.text.now (paid.0 + 3) 0 0 c.front-front.new.self c.comment_len.new.self (c.front-front.ensures.looked.1 ∙ looked.0.stage) short (c.comment_len.ensures.none c.in_default-comment_len.is) in
     (c.requires.lexing.0, (λ on. (inv.0, c.comment_len.ensures.ahead _ _ (c.front-front.ensures.ahead _ _ inv.1))), tt, (λ on. (paid.0 + 3 + 0, omega (arith, paid.1), read)), c.requires.lexing.4)
 
 pub overflow_add-self-in-Err-plain_body_len-2 : goal.overflow_add-self-in-Err-plain_body_len-2

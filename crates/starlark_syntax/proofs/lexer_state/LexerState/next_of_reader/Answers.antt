@@ -6,7 +6,7 @@ use Rattle.starlark_grammar.specs.AfterFaults.{restart}
 use Rattle.starlark_grammar.specs.Tokens.{Fault, Spanned}
 use Rattle.starlark_reader.proofs.NextLines.{restart_inside}
 use Rattle.starlark_reader.specs.Inner.Reader.{IsNext}
-use Rattle.starlark_reader.specs.Inner.Reads.{HasReadNext}
+use Rattle.starlark_reader.specs.Inner.Reads.{HasReadNext, search_reads}
 use Rattle.starlark_reader.specs.declared.reader.Next.{Next}
 use Rattle.starlark_reader.specs.declared.reader.Next.TheVariants as next
 use Rattle.starlark_syntax.proofs.LexerItems.{one_more}
@@ -80,7 +80,7 @@ returns-in-Ok-clause-answer c =
       (λ fault has.
           let both : Some place ≡ Some fault = sym is.3 ∙ has in
           let same : place ≡ fault = cc in
-          omega (arith, paid.1, few, reach.fault fault has, ap (restart c.args.self.now.text.now) same)),
+          omega (arith, paid.1, few, reach.fault fault has, ap (restart c.args.self.now.text.now) same, ap (search_reads c.args.self.now.text.now) same)),
     )
 
 pub returns-in-Ok-Nothing-clause-answer : goal.returns-in-Ok-Nothing-clause-answer

@@ -49,7 +49,7 @@ next_of_all-requires-clause-lexing c =
     let inv = c.requires.lexing.1 c.requires.going in
     let front = front_is c.args.self.now.text.now c.args.self.now.reader c.args.self.now.looked_to c.args.self.now.looked c.requires.front (c.requires.lexing.3 c.requires.going) in
     let paid = c.requires.opened.1 in
-    let opened = here_reads c.args.self.now.text.now paid.0 2 2 c.args.self.now.reader c.text_opener.new.self paid.2 c.text_opener.ensures.looked in
+    let opened = here_reads c.args.self.now.text.now paid.0 2 2 c.args.self.now.reader c.text_opener.new.self front.0.stage paid.2 c.text_opener.ensures.looked in
     (c.requires.lexing.0, (λ on. (inv.0, c.text_opener.ensures.ahead _ _ inv.1)), tt, (λ on. (paid.0 + 2, omega (arith, paid.1), opened)), c.requires.lexing.4)
 
 pub next_of_all-requires-in-Err-clause-lexing : goal.next_of_all-requires-in-Err-clause-lexing
@@ -57,9 +57,9 @@ next_of_all-requires-in-Err-clause-lexing c =
     let inv = c.requires.lexing.1 c.requires.going in
     let front = front_is c.args.self.now.text.now c.args.self.now.reader c.args.self.now.looked_to c.args.self.now.looked c.requires.front (c.requires.lexing.3 c.requires.going) in
     let paid = c.requires.opened.1 in
-    let opened = here_reads c.args.self.now.text.now paid.0 2 2 c.args.self.now.reader c.text_opener.new.self paid.2 c.text_opener.ensures.looked in
+    let opened = here_reads c.args.self.now.text.now paid.0 2 2 c.args.self.now.reader c.text_opener.new.self front.0.stage paid.2 c.text_opener.ensures.looked in
     let other = c.in-Err.ensures.other in
-    let read = here_reads c.args.self.now.text.now (paid.0 + 2) 0 (2 * c.in-Err.run' + 3) c.text_opener.new.self c.plain_body_len.new.self opened other.1 in
+    let read = here_reads c.args.self.now.text.now (paid.0 + 2) 0 (2 * c.in-Err.run' + 3) c.text_opener.new.self c.plain_body_len.new.self (c.text_opener.ensures.looked.1 ∙ front.0.stage) opened other.1 in
     let same = c.text_opener.ensures.looked.0 in
     let stands = rw same at (sym c.in-Some.ensures.stands.front) in
     let reach = c.requires.opened.0 _ c.in-Some.field-0.len stands in

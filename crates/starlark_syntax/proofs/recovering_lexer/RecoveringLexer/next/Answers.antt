@@ -54,7 +54,7 @@ invariant_of-self-in-Error c =
     let was = was_passed c.self.inside.text.now c.self.inside.begin c.self.inside.rest c.next.new.self c.in-Error.exception c.in-Ok-pass.passed c.self.invariant.0 h c.in-Ok-pass.ensures.passed in
     let more : c.saturating_add-reads.result ≡ more_reads c.next.new.self.reads c.in-Ok-pass.passed.reads = omega (arith, c.saturating_add-reads.ensures, c.reads.ensures) in
     let now : c.saturating_add-self-inside.result ≡ more_reads c.self.inside.earlier_reads c.saturating_add-reads.result = omega (arith, c.saturating_add-self-inside.ensures) in
-    (was.inside, passed_reads c.self.inside.text.now c.self.inside.begin c.self.inside.fault_count c.self.inside.earlier_reads c.saturating_add-reads.result c.saturating_add-self-inside.result c.self.inside.rest c.next.new.self c.in-Error.exception c.in-Ok-pass.passed c.self.invariant.0 c.self.invariant.1 h was c.in-Ok-pass.ensures.reads more now)
+    (was.inside, passed_reads c.self.inside.text.now c.self.inside.begin c.self.inside.fault_count c.self.inside.earlier_reads c.saturating_add-reads.result c.saturating_add-self-inside.result c.self.inside.rest c.next.new.self c.in-Error.exception c.in-Ok-pass.passed c.self.invariant.0 c.self.invariant.1 h was more now)
 
 pub returns-in-Ok-pass-clause-item : goal.returns-in-Ok-pass-clause-item
 returns-in-Ok-pass-clause-item c =
@@ -96,7 +96,7 @@ returns-in-Ok-pass-clause-reads c =
     let was = was_passed c.self.inside.text.now c.self.inside.begin c.self.inside.rest c.next.new.self c.in-Error.exception c.in-Ok-pass.passed c.self.invariant.0 h c.in-Ok-pass.ensures.passed in
     let more : c.saturating_add-reads.result ≡ more_reads c.next.new.self.reads c.in-Ok-pass.passed.reads = omega (arith, c.saturating_add-reads.ensures, c.reads.ensures) in
     let now : c.saturating_add-self-inside.result ≡ more_reads c.self.inside.earlier_reads c.saturating_add-reads.result = omega (arith, c.saturating_add-self-inside.ensures) in
-    let before = passed_reads c.self.inside.text.now c.self.inside.begin c.self.inside.fault_count c.self.inside.earlier_reads c.saturating_add-reads.result c.saturating_add-self-inside.result c.self.inside.rest c.next.new.self c.in-Error.exception c.in-Ok-pass.passed c.self.invariant.0 c.self.invariant.1 h was c.in-Ok-pass.ensures.reads more now in
+    let before = passed_reads c.self.inside.text.now c.self.inside.begin c.self.inside.fault_count c.self.inside.earlier_reads c.saturating_add-reads.result c.saturating_add-self-inside.result c.self.inside.rest c.next.new.self c.in-Error.exception c.in-Ok-pass.passed c.self.invariant.0 c.self.invariant.1 h was more now in
     λ goes. rw (← c.self.view_is) (fault_reads c.self.inside.text.now c.self.inside.fault_count c.self.inside.earlier_reads c.saturating_add-self-inside.result c.self.inside.rest c.in-Ok-pass.passed.fault c.self.inside.begin c.in-Ok-pass.passed was before)
 
 pub returns-in-Ok-clause-reads : goal.returns-in-Ok-clause-reads
