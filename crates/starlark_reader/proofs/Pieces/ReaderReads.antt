@@ -1,6 +1,6 @@
 -- The reads of a reader after each of its steps.
 use Rattle.std.proofs.Common.{◌≡◌, ◌≤◌, ◌<◌, ◌+◌, ◌-◌, ◌*◌, ◌∙◌, ℕ, List, Option, drop, length, refl, subst, sym, arith}
-use Rattle.std.specs.Prelude.{IfErr, Result, Ok, Err, max}
+use Rattle.std.specs.Prelude.{IfErr, Result, Ok, Err}
 use Rattle.starlark_grammar.specs.AfterFaults.{next_line}
 use Rattle.starlark_grammar.specs.Reading.{History}
 use Rattle.starlark_grammar.specs.Words.{Text}

@@ -1,4 +1,4 @@
-use Rattle.std.proofs.Common.{◌≡◌, ◌≤◌, ◌+◌, ◌-◌, ◌*◌, ◌∙◌, ap, arith, length, refl, sym}
+use Rattle.std.proofs.Common.{◌≡◌, ◌+◌, ◌-◌, ◌*◌, ◌∙◌, ap, arith, length, refl, sym}
 use Rattle.starlark_reader.proofs.Literals.StepReads.{closing_some, fault_reads}
 use Rattle.starlark_grammar.specs.Items as grammar
 use Rattle.starlark_grammar.specs.Tokens.{UnfinishedStringLiteral}
