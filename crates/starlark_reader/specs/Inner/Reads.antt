@@ -18,8 +18,8 @@ use Rattle.starlark_reader.specs.declared.reader.Stage.TheVariants as stage
 use Rattle.starlark_reader.specs.Inner.Pending.{owed}
 
 -- reads that find where lexing begins again after a fault, at most: five for each byte from the
--- begin of a tab's fault on, or one for each byte after the end of another; and one for the byte
--- after them
+-- begin of a tab's fault on, and five more; or one for each byte from where another fault stopped the
+-- reading, and one more
 unfoldable pub search_reads : Text → Spanned Fault → ℕ
 search_reads text fault =
     if is_tab fault.node then 5 * (restart text fault - fault.begin + 1) else restart text fault - stopped_at text fault + 1
@@ -123,7 +123,8 @@ abbrev pub AtFault : ℕ → LexemeError → ℕ → (Spanned Fault → Type 0) 
 AtFault begin fault end P = (node : Fault) → fault_view fault ≡ Some node → P (record { begin = begin; node = node; end = end })
 
 -- reads at a fault and in the search after it, at most: ten for each byte up to where lexing begins
--- again and ten more, beside `beside` others; or sixteen without others, as in a text's first margin
+-- again and ten more, beside `beside` others; or sixteen and sixteen more with no others, as in a
+-- text's first margin
 abbrev pub most_reads_to : Text → (beside : ℕ) → Spanned Fault → ℕ
 most_reads_to text beside fault = max (beside + 10 * (restart text fault + 1)) (16 * (restart text fault + 1))
 
@@ -132,7 +133,8 @@ abbrev pub IsMarginRead : Text → ℕ → Reader → Reader → Stage → Type 
 IsMarginRead text len old new stage.Onward =
     AreReads (new.at - (old.at + len)) (5 * (new.at - (old.at + len)) + 2) old.reads new.reads × (old.at + len + owed new.pending ≤ new.at)
 IsMarginRead text len old new (stage.Fault begin fault end) =
-    (begin ≡ old.at) × (more_reads old.reads 0 ≤ new.reads) × AtFault begin fault end (λ spanned. (new.reads + search_reads text spanned + 5 * len ≤ old.reads + 10 * (restart text spanned - old.at) + 5) × (owed new.pending ≡ 0) × (old.at ≤ restart text spanned))
+    (begin ≡ old.at) × (more_reads old.reads 0 ≤ new.reads)
+    × AtFault begin fault end (λ spanned. (new.reads + search_reads text spanned + 5 * len ≤ old.reads + 10 * (restart text spanned - old.at) + 5) × (owed new.pending ≡ 0) × (old.at ≤ restart text spanned))
 IsMarginRead text len old new stage = ⊥
 
 -- the reads at a stage: one to ten for each byte passed, and `beside` others; at a fault one or more
