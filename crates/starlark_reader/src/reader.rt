@@ -970,8 +970,9 @@ impl Reader {
     }
 
     /// The next result of the text: a lexeme, the fault after the last one, or nothing more. Don't
-    /// use the reader after an `AllocError`. Reads up to a fault are at most ten for each byte
-    /// before the offset where lexing begins again, and ten more, beside failed lookahead.
+    /// use the reader after an `AllocError`. Reads up to a fault, with those of the search for the
+    /// offset where lexing begins again, are at most ten for each byte before that offset, and ten
+    /// more, beside failed lookahead. At the fault of a first margin they are at most sixteen each.
     pub fn next(&mut self, text: &str) -> Result<Next, AllocError>
         requires fits { length text.now < 2 ^ 32 }
         requires ready { IsReady text.now self.old self.old.stage }

@@ -5,7 +5,7 @@ ghost use Rattle.std.specs.Str.{IsCharBoundary};
 ghost use Rattle.starlark_grammar.specs.AfterFaults.{next_line};
 ghost use Rattle.starlark_grammar.specs.Front.{language_front};
 ghost use Rattle.starlark_words.specs.Inner.Reads.{AreReads, more_reads};
-ghost use Rattle.starlark_reader.specs.Inner.Reads.{ArePieceReads, AreReadsAfter, AreStepReads, AreWordlessReads, IsFaultTo};
+ghost use Rattle.starlark_reader.specs.Inner.Reads.{ArePieceReads, AreReadsAfter, AreStepReads, AreWordlessReads, IsFaultAt};
 ghost use Rattle.starlark_reader.specs.Inner.Steps.{IsStep};
 ghost use Rattle.starlark_grammar.specs.Cuts.{is_outside};
 ghost use Rattle.starlark_reader.specs.Inner.Nesting.{mode_view};
@@ -168,7 +168,7 @@ fn word_piece(
 /// The fault of a text that begins with no word: its first character.
 fn invalid_input(reads: &mut Reads, alloc: Global, text: &str) -> Result<Step, AllocError>
     ensures reads { IfOk result (λ step. AreStepReads 0 1 0 0 step reads.old reads.new) }
-    ensures fault { IfOk result (IsFaultTo (length (first_character text.now))) }
+    ensures fault { IfOk result (IsFaultAt 0 (length (first_character text.now))) }
     ensures step { IfOk result (IsStep (grammar.fault 0 (InvalidInput (first_character text.now)) (length (first_character text.now)))) }
 {
     let end = reads.character_len(text);

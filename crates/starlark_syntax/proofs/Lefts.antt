@@ -366,7 +366,7 @@ pub passed_reads : (text : Text) (begin n earlier more now : ℕ) (old new : Lex
     → WasPassed text begin old passed → more ≡ more_reads new.reads passed.reads → now ≡ more_reads earlier more
     → HasReadBefore passed.begin (n + 1) now
 passed_reads text begin n earlier more now old new exception passed inside before h was more_is now_is =
-    let few = (h.reads was.going).1 was.fault was.has in
+    let few = ((h.reads was.going).1 was.fault was.has).1 in
     let later = restarts_later old.text was.fault was.has in
     let fits = inside.fits in
     let within = was.inside.boundary.0 in

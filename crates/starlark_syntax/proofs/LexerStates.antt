@@ -71,7 +71,7 @@ answers_within state (Some (Err Memory)) new short is = tt
 read_at : (text : Text) (reader : Reader) (to beside : ℕ) (left : Outcome) → to ≤ length text + 1 → beside ≤ 6 * to → (stage : Stage) → IsLeft text reader stage left → HasReadAt text beside reader stage → reader.reads ≤ most_reads text
 read_at text reader to beside left near paid stages.Begin is has = omega (arith, near, paid, has.1)
 read_at text reader to beside left near paid stages.Onward is has = omega (arith, near, paid, has.1, is.1.inside)
-read_at text reader to beside left near paid (stages.Fault begin fault end) is has = let read = has is.0 is.1 in omega (arith, near, paid, read, restart_inside text (record { begin = begin; node = is.0; end = end }))
+read_at text reader to beside left near paid (stages.Fault begin fault end) is has = let read = has.1 is.0 is.1 in omega (arith, near, paid, read, restart_inside text (record { begin = begin; node = is.0; end = end }))
 read_at text reader to beside left near paid stages.Closed is has = omega (arith, near, paid, has.1)
 
 pub lexing_read : (state : LexerState) → IsLexing state → state.has_ended ≡ false → state.reader.reads ≤ most_reads state.text.now

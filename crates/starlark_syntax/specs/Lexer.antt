@@ -32,9 +32,11 @@ pub record LexerView : Type 0 where
 abbrev pub most_reads : Text → ℕ
 most_reads text = 16 * (length text + 1)
 
--- at a text's fault there were at most so many reads, with those that find where lexing begins again
+-- at a text's fault there was at least one read for each byte before it, and there were at most so many, with those that
+-- find where lexing begins again
 abbrev pub HasReadToFault : Text → ℕ → Type 0
-HasReadToFault text reads = (fault : Spanned Fault) → (outcome text).fault ≡ Some fault → reads + search_reads text fault ≤ 16 * (restart text fault + 1)
+HasReadToFault text reads =
+    (fault : Spanned Fault) → (outcome text).fault ≡ Some fault → (fault.begin ≤ reads) × (reads + search_reads text fault ≤ 16 * (restart text fault + 1))
 
 -- what a call returns for an item: a lexeme, the fault's exception, or out of memory in their place
 abbrev pub Answers : SourceFile → LexerItem → Result (ℕ × Token × ℕ) (OrMemory (Diagnosed ErrorKind)) → Type 0
@@ -74,7 +76,7 @@ is_ended_by (Some (Err refused)) = true
 is_ended_by answer = false
 
 -- after a call that doesn't run out of memory there were at most so many reads; at the fault only for the bytes up to where
--- lexing begins again; and if it returns `None`, each byte was read
+-- lexing begins again, and each byte before it was read; and if it returns `None`, each byte was read
 abbrev pub HasReadFor : Text → Option (Result (ℕ × Token × ℕ) (OrMemory (Diagnosed ErrorKind))) → ℕ → Type 0
 HasReadFor text None reads = (length text ≤ reads) × (reads ≤ most_reads text)
 HasReadFor text (Some (Err refusal.Memory)) reads = ⊤

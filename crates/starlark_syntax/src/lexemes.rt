@@ -78,8 +78,9 @@ impl<'a> Lexer<'a> {
     ///
     /// A byte that is read twice counts twice, lookahead counts, and so does each byte of a SIMD step.
     /// For a text of `n` bytes it is at most `16 * (n + 1)`, and at least `n` after the last lexeme of a
-    /// text without fault. At a fault `n` is the offset where lexing begins again. After out of memory
-    /// nothing is promised.
+    /// text without fault. At a fault the upper bound is that for the bytes up to where lexing begins
+    /// again, and the lower one that for the bytes before the fault. After out of memory nothing is
+    /// promised.
     pub fn reads(&self) -> u64
         ensures { result ≡ self.now.reads }
     {

@@ -3,7 +3,7 @@
 ghost use Rattle.std.specs.Prelude.{◌≡◌, ◌+◌, ◌*◌, ◌++◌, [], encode_utf8, not, string_bytes, IfOk, OnOk};
 ghost use Rattle.std.specs.Str.{IsCharBoundary};
 ghost use Rattle.starlark_grammar.specs.Items as grammar;
-ghost use Rattle.starlark_words.specs.Inner.Literals.{IsBody, IsCharacters, Takes, bytes_of, holds_text, literal_view, stopped_len, value_view};
+ghost use Rattle.starlark_words.specs.Inner.Literals.{IsBody, IsCharacters, Takes, bytes_of, holds_text, least_stop_reads, literal_view, stopped_len, value_view};
 ghost use Rattle.starlark_words.specs.Inner.Reads.{AreReads};
 
 use super::escapes::simple_escape;
@@ -175,7 +175,7 @@ pub fn read_body(
     ensures body { IfOk result (IsBody (grammar.body_at (literal_view literal) text.now)) }
     ensures kind { IfOk result (λ body. holds_text body.value ≡ not (grammar.is_of_bytes literal.kind)) }
     ensures boundary { IfOk result (λ body. IsCharBoundary text.now body.len) }
-    ensures reads { IfOk result (λ body. AreReads (body.len + 3) (8 * body.len + stopped_len body.stop + 6) reads.old reads.new) }
+    ensures reads { IfOk result (λ body. AreReads (body.len + least_stop_reads body.stop) (8 * body.len + stopped_len body.stop + 6) reads.old reads.new) }
 {
     let mut value = LiteralValue::new(alloc, literal.kind);
     let mut len = 0;

@@ -14,6 +14,7 @@ use Rattle.starlark_grammar.specs.Tokens.{Fault, Indentation, InvalidTab, Spanne
 use Rattle.starlark_grammar.specs.Words.{Text}
 use Rattle.starlark_grammar.proofs.Lists.{drop-sum}
 use Rattle.starlark_token.specs.declared.lexeme_error.LexemeError.{LexemeError}
+use Rattle.starlark_words.specs.Inner.Reads.{AreReads}
 use Rattle.starlark_words.proofs.Literals.RunBytes.{longer_run}
 use Rattle.starlark_reader.specs.Inner.Layout.{IsFaultFound, IsMargin, margin_fault}
 use Rattle.starlark_reader.specs.Inner.Pieces.{IsLineEnd}
@@ -170,13 +171,13 @@ margin_search text begin len end margin fault there inside is found = λ node vi
 -- the reads at the fault of a margin after a newline
 pub refused_reads : (text : Text) (len end : ℕ) (margin : Margin) (fault : LexemeError) (old new : Reader) → IsLineEnd len (drop old.at text) → old.at + len + (margin.at + margin.blanks.len) ≤ length text
     → IsMargin (margin_of (drop (old.at + len) text)) margin → IsFaultFound (margin_fault len (margin_of (drop (old.at + len) text))) (fault, end) → new.stage ≡ stages.Fault (old.at + 0) fault (old.at + end)
-    → new.reads ≤ old.reads + (5 * margin.at + margin.blanks.len + 2) → owed new.pending ≡ 0 → IsMarginRead text len old new new.stage
+    → AreReads 0 (5 * margin.at + margin.blanks.len + 2) old.reads new.reads → owed new.pending ≡ 0 → IsMarginRead text len old new new.stage
 refused_reads text len end margin fault old new there inside is found stops read none =
     let here : old.at + 0 ≡ old.at = omega arith in
     let stage : new.stage ≡ stages.Fault old.at fault (old.at + end) = stops ∙ ap (λ at. stages.Fault at fault (old.at + end)) here in
-    subst (IsMarginRead text len old new) (sym stage) (λ node view.
+    subst (IsMarginRead text len old new) (sym stage) (refl, read.0, λ node view.
     let search = margin_search text old.at len end margin fault (inr there) inside is found node view in
-    (omega (arith, search.reads, read), none, omega (arith, search.after)))
+    (omega (arith, search.reads, read.1), none, omega (arith, search.after)))
 
 -- the reads at the fault of a text's first margin
 pub first_refused_reads : (text : Text) (beside end : ℕ) (margin : Margin) (fault : LexemeError) (old new : Reader) → margin.at + margin.blanks.len ≤ length text
@@ -186,6 +187,6 @@ first_refused_reads text beside end margin fault old new inside is found stops r
     let begin : old.at + 0 ≡ 0 = omega (arith, has.0) in
     let last : old.at + end ≡ 0 + end = omega (arith, has.0) in
     let stage : new.stage ≡ stages.Fault 0 fault (0 + end) = stops ∙ ap (λ at. stages.Fault at fault (old.at + end)) begin ∙ ap (stages.Fault 0 fault) last in
-    subst (HasReadAt text beside new) (sym stage) (λ node view.
+    subst (HasReadAt text beside new) (sym stage) (omega arith, λ node view.
     let search = margin_search text 0 0 end margin fault (inl (refl, refl)) (omega (arith, inside)) is found node view in
     omega (arith, search.after, search.reads, read, owes, has.1))

@@ -4,7 +4,7 @@ use Rattle.std.specs.Prelude.{if◌then◌else◌}
 use Rattle.starlark_grammar.specs.AfterFaults.{next_line}
 use Rattle.starlark_grammar.specs.Words.{Text}
 use Rattle.starlark_words.specs.Inner.Reads.{AreReads, more_reads}
-use Rattle.starlark_reader.specs.Inner.Reads.{AreFaultReads, ArePieceReads, AreReadsAfter, AreStepReads, AreWordlessReads, AreWordReads, IsFaultTo, IsOfWord, IsTabFault, is_tab_error}
+use Rattle.starlark_reader.specs.Inner.Reads.{AreFaultReads, ArePieceReads, AreReadsAfter, AreStepReads, AreWordlessReads, AreWordReads, IsFaultAt, IsOfWord, IsTabFault, is_tab_error}
 use Rattle.starlark_reader.specs.declared.literal.pieces.Step.{Step}
 use Rattle.starlark_reader.specs.declared.literal.pieces.Step.TheVariants as steps
 use Rattle.starlark_reader.specs.declared.reading.Piece.{Piece}
@@ -15,13 +15,13 @@ use Rattle.starlark_reader.proofs.NextLines.{next_line_least}
 pub word_reads : (len line : ℕ) (step : Step) (before after : ℕ) → more_reads before 0 ≤ after → after ≤ before + 2 → IsOfWord len step → AreWordReads len 9 2 line 8 step before after
 word_reads len line (steps.Token token taken) before after least most is = ((omega (arith, is, least), omega (arith, is, most)), omega (arith, is))
 word_reads len line (steps.Text text text_len stop taken) before after least most is = absurd is
-word_reads len line (steps.Fault begin fault end) before after least most is = rw is.1 (omega (arith, most), is.0)
+word_reads len line (steps.Fault begin fault end) before after least most is = rw is.2 ((omega (arith, least, is.0), omega (arith, most)), is.1)
 
 -- tabs, which are a fault at their start
 pub tabs_reads : (len line : ℕ) (step : Step) (reads : ℕ) → IsTabFault step → 0 < len → len ≤ line → AreWordReads len 9 2 line 8 step reads reads
 tabs_reads len line (steps.Token token taken) reads is some inside = absurd is
 tabs_reads len line (steps.Text text text_len stop taken) reads is some inside = absurd is
-tabs_reads len line (steps.Fault begin fault end) reads is some inside = rw is (omega arith, omega (arith, some, inside), inside)
+tabs_reads len line (steps.Fault begin fault end) reads is some inside = rw is.1 ((omega arith, omega arith), is.0, omega (arith, some, inside), inside)
 
 -- no opener is tabs, whose first line has `line` bytes
 pub opener_reads : (len line : ℕ) (piece : Piece) (before after : ℕ) → AreReadsAfter len 9 0 8 piece before after → AreReadsAfter len 9 line 8 piece before after
@@ -35,8 +35,8 @@ opener_reads len line (piece.Lexed step) before after reads = by_step step reads
     by_step (steps.Text text text_len stop taken) reads = reads
     by_step (steps.Fault begin fault end) reads = by_fault (is_tab_error fault) reads
       where
-        by_fault : (tab : Bool) → AreFaultReads tab len 0 end (9 * (end - len) + 8) before after → AreFaultReads tab len line end (9 * (end - len) + 8) before after
-        by_fault true reads = absurd (omega (arith, reads.1))
+        by_fault : (tab : Bool) → AreFaultReads tab len 0 begin end (9 * (end - len) + 8) before after → AreFaultReads tab len line begin end (9 * (end - len) + 8) before after
+        by_fault true reads = absurd (omega (arith, reads.2))
         by_fault false reads = reads
 opener_reads len line piece.End before after reads = reads
 
@@ -56,9 +56,9 @@ piece_reads passed line text (piece.Lexed step) before between after some whole 
     by_step (steps.Text text text_len stop len) reads = absurd reads
     by_step (steps.Fault begin fault end) reads = by_fault (is_tab_error fault) reads
       where
-        by_fault : (tab : Bool) → AreFaultReads tab passed line end (9 * (end - passed) + 8) between after → after ≤ before + (if tab then 5 * next_line text 0 + 3 else 10 * end + 6)
-        by_fault true reads = omega (arith, whole, word.1, reads.0, reads.2)
-        by_fault false reads = omega (arith, some, word.1, reads.0, reads.1)
+        by_fault : (tab : Bool) → AreFaultReads tab passed line begin end (9 * (end - passed) + 8) between after → AreReads begin (if tab then 5 * next_line text 0 + 3 else 10 * end + 6) before after
+        by_fault true reads = (omega (arith, word.0, reads.0.0, reads.1), omega (arith, whole, word.1, reads.0.1, reads.3))
+        by_fault false reads = (omega (arith, word.0, reads.0.0), omega (arith, some, word.1, reads.0.1, reads.1))
 piece_reads passed line text piece.End before between after some whole word reads = absurd reads
 
 -- a bang or a fault, where no word is
@@ -76,20 +76,20 @@ none_reads text (piece.Lexed step) before between after some none reads = by_ste
         line : 1 ≤ next_line text 0
         line = let least = next_line_least text 0 some in omega (arith, least)
 
-        by_fault : (tab : Bool) → after ≤ between + (if tab then 5 * 0 + 3 else 3 * end + 2) → after ≤ before + (if tab then 5 * next_line text 0 + 3 else 10 * end + 6)
-        by_fault true reads = omega (arith, line, none.1, reads)
-        by_fault false reads = omega (arith, none.1, reads)
+        by_fault : (tab : Bool) → AreReads begin (if tab then 5 * 0 + 3 else 3 * end + 2) between after → AreReads begin (if tab then 5 * next_line text 0 + 3 else 10 * end + 6) before after
+        by_fault true reads = (omega (arith, none.0, reads.0), omega (arith, line, none.1, reads.1))
+        by_fault false reads = (omega (arith, none.0, reads.0), omega (arith, none.1, reads.1))
 none_reads text piece.End before between after some none reads = absurd reads
 
 -- a fault, after the lookahead for a bang
-pub wordless_reads : (len : ℕ) (step : Step) (before between after : ℕ) → between ≡ more_reads before 2 → IsFaultTo len step → AreStepReads 0 1 0 0 step between after → AreStepReads 0 3 0 2 step before after
-wordless_reads len (steps.Token token taken) before between after bang is reads = absurd is
-wordless_reads len (steps.Text text text_len stop taken) before between after bang is reads = absurd is
-wordless_reads len (steps.Fault begin fault end) before between after bang is reads = by_fault (is_tab_error fault) is.1 reads
+pub wordless_reads : (from to : ℕ) (step : Step) (before between after : ℕ) → between ≡ more_reads before 2 → IsFaultAt from to step → AreStepReads 0 1 0 0 step between after → AreStepReads 0 3 0 2 step before after
+wordless_reads from to (steps.Token token taken) before between after bang is reads = absurd is
+wordless_reads from to (steps.Text text text_len stop taken) before between after bang is reads = absurd is
+wordless_reads from to (steps.Fault begin fault end) before between after bang is reads = by_fault (is_tab_error fault) is.2 reads
   where
-    by_fault : (tab : Bool) → tab ≡ false → after ≤ between + (if tab then 5 * 0 + 3 else 1 * end + 0) → after ≤ before + (if tab then 5 * 0 + 3 else 3 * end + 2)
+    by_fault : (tab : Bool) → tab ≡ false → AreReads begin (if tab then 5 * 0 + 3 else 1 * end + 0) between after → AreReads begin (if tab then 5 * 0 + 3 else 3 * end + 2) before after
     by_fault true other reads = cc
-    by_fault false other reads = omega (arith, bang, reads)
+    by_fault false other reads = (omega (arith, bang, reads.0), omega (arith, bang, reads.1))
 
 -- an f-string text
 pub chunk_reads : (line : ℕ) (step : Step) (before after : ℕ) → AreStepReads 0 8 0 6 step before after → AreStepReads 0 10 line 6 step before after
@@ -97,6 +97,6 @@ chunk_reads line (steps.Token token len) before after reads = ((reads.0.0, omega
 chunk_reads line (steps.Text text text_len stop len) before after reads = ((reads.0.0, omega (arith, reads.0.1)), reads.1)
 chunk_reads line (steps.Fault begin fault end) before after reads = by_fault (is_tab_error fault) reads
   where
-    by_fault : (tab : Bool) → after ≤ before + (if tab then 5 * 0 + 3 else 8 * end + 6) → after ≤ before + (if tab then 5 * line + 3 else 10 * end + 6)
-    by_fault true reads = omega (arith, reads)
-    by_fault false reads = omega (arith, reads)
+    by_fault : (tab : Bool) → AreReads begin (if tab then 5 * 0 + 3 else 8 * end + 6) before after → AreReads begin (if tab then 5 * line + 3 else 10 * end + 6) before after
+    by_fault true reads = (reads.0, omega (arith, reads.1))
+    by_fault false reads = (reads.0, omega (arith, reads.1))

@@ -1,6 +1,6 @@
 -- The reads of a reader after each of its steps.
 use Rattle.std.proofs.Common.{◌≡◌, ◌≤◌, ◌<◌, ◌+◌, ◌-◌, ◌*◌, ◌∙◌, ℕ, List, Option, drop, length, refl, subst, sym, arith}
-use Rattle.std.specs.Prelude.{IfErr, Result, Ok, Err, max}
+use Rattle.std.specs.Prelude.{IfErr, Result, Ok, Err}
 use Rattle.starlark_grammar.specs.AfterFaults.{next_line}
 use Rattle.starlark_grammar.specs.Reading.{History}
 use Rattle.starlark_grammar.specs.Words.{Text}
@@ -36,10 +36,10 @@ step_reads text beside before history (steps.Token token len) old new kept stand
 step_reads text beside before history (steps.Text chunk chunk_len stop len) old new kept stands has read passed = onward_reads text beside (chunk_len + len) before old new has (omega (arith, read.0.0), omega (arith, read.0.1)) passed
 step_reads text beside before history (steps.Fault begin fault end) old new kept stands has read passed =
     let here = fault_here text history old (record { begin = begin; node = stands.0; end = end }) kept stands.2 in
-    subst (HasReadAt text beside new) (sym passed.1) (λ node is.
+    subst (HasReadAt text beside new) (sym passed.1) (omega (arith, has.0, read.0, passed.0.1), λ node is.
     let after = fault_restart text old.at begin end node kept.inside here.1 in
     let search = step_search text old.at begin end fault node is kept.inside here.1 in
-    omega (arith, after, search, has.1, read, passed.0.1, passed.0.2))
+    omega (arith, after, search, has.1, read.1, passed.0.1, passed.0.2))
 
 -- the reads after a newline and its margin
 pub line_reads : (text : Text) (beside len before : ℕ) (old new : Reader) → old.at + len ≤ length text → IsReadBefore beside before old.at (owed old.pending) → AreReads len (5 * len + 3) before old.reads → 0 < len
@@ -49,7 +49,7 @@ line_reads text beside len before old new inside has read some margin = go new.s
     go : (stage : Stage) → IsMarginRead text len old new stage → HasReadAt text beside new stage
     go stages.Begin margin = absurd margin
     go stages.Onward margin = (omega (arith, has.0, read.0, margin.0.0, margin.1), omega (arith, has.1, read.1, some, margin.0.1, margin.1))
-    go (stages.Fault begin fault end) margin = λ node is. let there = margin node is in omega (arith, has.1, read.1, there.0, there.1, there.2)
+    go (stages.Fault begin fault end) margin = (omega (arith, has.0, read.0, margin.0, margin.1), λ node is. let there = margin.2 node is in omega (arith, has.1, read.1, there.0, there.1, there.2))
     go stages.Closed margin = absurd margin
 
 -- the reads at the end of the text
@@ -63,14 +63,14 @@ pub pending_reads : (text : Text) (beside : ℕ) (old new : Reader) → new.at �
     → (stage : Stage) → HasReadAt text beside old stage → HasReadAt text beside new stage
 pending_reads text beside old new same least most stages.Begin has = (omega (arith, same, has.0), omega (arith, has.1, most))
 pending_reads text beside old new same least most stages.Onward has = (omega (arith, same, has.0, least), omega (arith, same, has.1, most))
-pending_reads text beside old new same least most (stages.Fault begin fault end) has = λ node is. omega (arith, has node is, most)
+pending_reads text beside old new same least most (stages.Fault begin fault end) has = (omega (arith, has.0, least), λ node is. omega (arith, has.1 node is, most))
 pending_reads text beside old new same least most stages.Closed has = (omega (arith, has.0, least), omega (arith, has.1, most))
 
 -- the bound holds with more reads beside those of the pieces
 pub read_more : (text : Text) (beside more : ℕ) (reader : Reader) → beside ≤ more → (stage : Stage) → HasReadAt text beside reader stage → HasReadAt text more reader stage
 read_more text beside more reader less stages.Begin has = has
 read_more text beside more reader less stages.Onward has = (has.0, omega (arith, less, has.1))
-read_more text beside more reader less (stages.Fault begin fault end) has = λ node is. omega (arith, less, has node is)
+read_more text beside more reader less (stages.Fault begin fault end) has = (has.0, λ node is. omega (arith, less, has.1 node is))
 read_more text beside more reader less stages.Closed has = (has.0, omega (arith, less, has.1))
 
 -- lookahead that takes nothing counts beside the reads of the pieces

@@ -1,5 +1,5 @@
 -- Reads of the search for where lexing begins again.
-use Rattle.std.proofs.Common.{◌≡◌, ◌≤◌, ◌+◌, ◌-◌, ◌*◌, ◌∙◌, Bool, true, false, ℕ, Some, ap, drop, length, refl, sym, arith}
+use Rattle.std.proofs.Common.{◌≡◌, ◌≤◌, ◌+◌, ◌-◌, ◌*◌, Bool, true, false, ℕ, Some, ap, drop, length, refl, sym, arith}
 use Rattle.std.specs.Prelude.{if◌then◌else◌, max}
 use Rattle.starlark_grammar.specs.AfterFaults.{is_tab, next_line, restart, stopped_at}
 use Rattle.starlark_grammar.specs.Tokens.{Fault, Spanned}

@@ -18,8 +18,8 @@ use Rattle.starlark_reader.specs.declared.reader.Stage.TheVariants as stage
 use Rattle.starlark_reader.specs.Inner.Pending.{owed}
 
 -- reads that find where lexing begins again after a fault, at most: five for each byte from the
--- begin of a tab's fault on, or one for each byte after the end of another; and one for the byte
--- after them
+-- begin of a tab's fault on, and five more; or one for each byte from where another fault stopped the
+-- reading, and one more
 unfoldable pub search_reads : Text → Spanned Fault → ℕ
 search_reads text fault =
     if is_tab fault.node then 5 * (restart text fault - fault.begin + 1) else restart text fault - stopped_at text fault + 1
@@ -33,39 +33,40 @@ abbrev pub is_tab_error : LexemeError → Bool
 is_tab_error error = is_tab_view (fault_view error)
 
 -- reads of a step after its first `passed` bytes: at most `factor` a byte; those of a fault are of
--- bytes up to its end, and those of a tab's fault of the first `line` bytes
+-- each byte before it and of bytes up to its end, and those of a tab's fault of the first `line` bytes
 abbrev pub AreStepReads : (passed factor line extra : ℕ) → Step → (before after : ℕ) → Type 0
 AreStepReads passed factor line extra (step.Token token len) before after = AreReads (len - passed) (factor * (len - passed)) before after × (passed < len)
 AreStepReads passed factor line extra (step.Text text text_len stop len) before after = AreReads (text_len + len - passed) (factor * (text_len + len - passed)) before after × (passed < text_len + len)
-AreStepReads passed factor line extra (step.Fault begin fault end) before after = after ≤ before + (if is_tab_error fault then 5 * line + 3 else factor * end + extra)
+AreStepReads passed factor line extra (step.Fault begin fault end) before after = AreReads begin (if is_tab_error fault then 5 * line + 3 else factor * end + extra) before after
 
--- the step takes a whole word of `len` bytes, or is a fault that ends after them, and no tab's
+-- the step takes a whole word of `len` bytes, or is a fault from there on that ends after them, and
+-- no tab's
 abbrev pub IsOfWord : ℕ → Step → Type 0
 IsOfWord len (step.Token token taken) = taken ≡ len
 IsOfWord len (step.Text text text_len stop taken) = ⊥
-IsOfWord len (step.Fault begin fault end) = (len ≤ end) × (is_tab_error fault ≡ false)
+IsOfWord len (step.Fault begin fault end) = (begin ≡ 0) × (len ≤ end) × (is_tab_error fault ≡ false)
 
--- the step is a fault that ends at an offset, and no tab's
-abbrev pub IsFaultTo : ℕ → Step → Type 0
-IsFaultTo at (step.Fault begin fault end) = (end ≡ at) × (is_tab_error fault ≡ false)
-IsFaultTo at step = ⊥
+-- the step is a fault from one offset to another, and no tab's
+abbrev pub IsFaultAt : ℕ → ℕ → Step → Type 0
+IsFaultAt from to (step.Fault begin fault end) = (begin ≡ from) × (end ≡ to) × (is_tab_error fault ≡ false)
+IsFaultAt from to step = ⊥
 
--- the step is the fault of a tab
+-- the step is the fault of a tab here
 abbrev pub IsTabFault : Step → Type 0
-IsTabFault (step.Fault begin fault end) = is_tab_error fault ≡ true
+IsTabFault (step.Fault begin fault end) = (begin ≡ 0) × (is_tab_error fault ≡ true)
 IsTabFault step = ⊥
 
 -- reads at a fault after a word of `passed` bytes: the word is tabs in the first `line` bytes, or the
 -- fault ends after it
-abbrev pub AreFaultReads : (is_tab : Bool) (passed line end most before after : ℕ) → Type 0
-AreFaultReads true passed line end most before after = (after ≤ before) × (0 < line) × (passed ≤ line)
-AreFaultReads false passed line end most before after = (after ≤ before + most) × (passed ≤ end)
+abbrev pub AreFaultReads : (is_tab : Bool) (passed line begin end most before after : ℕ) → Type 0
+AreFaultReads true passed line begin end most before after = AreReads 0 0 before after × (begin ≡ 0) × (0 < line) × (passed ≤ line)
+AreFaultReads false passed line begin end most before after = AreReads (begin - passed) most before after × (passed ≤ end)
 
 -- reads of a token or a fault after its word of `passed` bytes, which may be all of it
 abbrev pub AreWordReads : (passed factor more line extra : ℕ) → Step → (before after : ℕ) → Type 0
 AreWordReads passed factor more line extra (step.Token token len) before after = AreReads (len - passed) (factor * (len - passed) + more) before after × (passed ≤ len)
 AreWordReads passed factor more line extra (step.Text text text_len stop len) before after = ⊥
-AreWordReads passed factor more line extra (step.Fault begin fault end) before after = AreFaultReads (is_tab_error fault) passed line end (factor * (end - passed) + extra) before after
+AreWordReads passed factor more line extra (step.Fault begin fault end) before after = AreFaultReads (is_tab_error fault) passed line begin end (factor * (end - passed) + extra) before after
 
 -- reads of a piece at the start of a text: at most `factor` a byte, and fewer of a newline; those of
 -- a fault are of bytes up to its end, and those of a tab's fault of the text's first line
@@ -122,7 +123,8 @@ abbrev pub AtFault : ℕ → LexemeError → ℕ → (Spanned Fault → Type 0) 
 AtFault begin fault end P = (node : Fault) → fault_view fault ≡ Some node → P (record { begin = begin; node = node; end = end })
 
 -- reads at a fault and in the search after it, at most: ten for each byte up to where lexing begins
--- again and ten more, beside `beside` others; or sixteen without others, as in a text's first margin
+-- again and ten more, beside `beside` others; or sixteen and sixteen more with no others, as in a
+-- text's first margin
 abbrev pub most_reads_to : Text → (beside : ℕ) → Spanned Fault → ℕ
 most_reads_to text beside fault = max (beside + 10 * (restart text fault + 1)) (16 * (restart text fault + 1))
 
@@ -131,15 +133,17 @@ abbrev pub IsMarginRead : Text → ℕ → Reader → Reader → Stage → Type 
 IsMarginRead text len old new stage.Onward =
     AreReads (new.at - (old.at + len)) (5 * (new.at - (old.at + len)) + 2) old.reads new.reads × (old.at + len + owed new.pending ≤ new.at)
 IsMarginRead text len old new (stage.Fault begin fault end) =
-    AtFault begin fault end (λ spanned. (new.reads + search_reads text spanned + 5 * len ≤ old.reads + 10 * (restart text spanned - old.at) + 5) × (owed new.pending ≡ 0) × (old.at ≤ restart text spanned))
+    (begin ≡ old.at) × (more_reads old.reads 0 ≤ new.reads)
+    × AtFault begin fault end (λ spanned. (new.reads + search_reads text spanned + 5 * len ≤ old.reads + 10 * (restart text spanned - old.at) + 5) × (owed new.pending ≡ 0) × (old.at ≤ restart text spanned))
 IsMarginRead text len old new stage = ⊥
 
--- the reads at a stage: one to ten for each byte passed, and `beside` others; the upper bound
--- includes five for each byte of pending comments, and at a fault the search after it
+-- the reads at a stage: one to ten for each byte passed, and `beside` others; at a fault one or more
+-- for each byte before it; the upper bound includes five for each byte of pending comments, and at a
+-- fault the search after it
 abbrev pub HasReadAt : (text : Text) (beside : ℕ) → Reader → Stage → Type 0
 HasReadAt text beside reader stage.Begin = (reader.at ≡ 0) × (reader.reads + 5 * owed reader.pending ≡ 0)
 HasReadAt text beside reader stage.Onward = (more_reads 0 reader.at ≤ reader.reads) × (reader.reads + 5 * owed reader.pending ≤ beside + 10 * reader.at + 2)
-HasReadAt text beside reader (stage.Fault begin fault end) = AtFault begin fault end (λ spanned. reader.reads + search_reads text spanned + 5 * owed reader.pending ≤ most_reads_to text beside spanned)
+HasReadAt text beside reader (stage.Fault begin fault end) = (more_reads 0 begin ≤ reader.reads) × AtFault begin fault end (λ spanned. reader.reads + search_reads text spanned + 5 * owed reader.pending ≤ most_reads_to text beside spanned)
 HasReadAt text beside reader stage.Closed = (more_reads 0 (length text) ≤ reader.reads) × (reader.reads + 5 * owed reader.pending ≤ beside + 10 * length text + 9)
 
 abbrev pub HasRead : (text : Text) (beside : ℕ) → Reader → Type 0
@@ -148,5 +152,5 @@ HasRead text beside reader = HasReadAt text beside reader reader.stage
 -- the reads after `next` was returned: a lexeme, the fault, or the end
 abbrev pub HasReadNext : (text : Text) (beside : ℕ) → Next → Reader → Type 0
 HasReadNext text beside (next.Lexeme lexeme) reader = HasRead text beside reader
-HasReadNext text beside (next.Fault begin fault end) reader = AtFault begin fault end (λ spanned. reader.reads + search_reads text spanned ≤ most_reads_to text beside spanned)
+HasReadNext text beside (next.Fault begin fault end) reader = (more_reads 0 begin ≤ reader.reads) × AtFault begin fault end (λ spanned. reader.reads + search_reads text spanned ≤ most_reads_to text beside spanned)
 HasReadNext text beside next.Nothing reader = HasRead text beside reader × (more_reads 0 (length text) ≤ reader.reads) × (reader.reads < beside + 10 * (length text + 1))

@@ -5,7 +5,7 @@ ghost use Rattle.starlark_grammar.specs.Depths.{Mode};
 ghost use Rattle.starlark_grammar.specs.Items as items;
 ghost use Rattle.starlark_reader.specs.Inner.Steps.{IsStep};
 ghost use Rattle.starlark_reader.specs.Inner.Nesting.{is_fstring_start};
-ghost use Rattle.starlark_reader.specs.Inner.Reads.{AreWordReads, IsFaultTo, is_tab_error};
+ghost use Rattle.starlark_reader.specs.Inner.Reads.{AreWordReads, IsFaultAt, is_tab_error};
 ghost use Rattle.starlark_words.specs.Inner.Reads.{AreReads, more_reads};
 ghost use Rattle.starlark_token.specs.Lexemes.{fault_view};
 ghost use Rattle.starlark_grammar.specs.Cuts.{is_outside};
@@ -91,7 +91,7 @@ fn literal_token(value: LiteralValue) -> Token
 fn escape_fault(alloc: Global, begin: usize, read: &str) -> Result<Step, AllocError>
     requires { begin + 1 + length read.now < 2 ^ 64 }
     ensures step { IfOk result (IsStep (grammar.escape_fault begin read.now)) }
-    ensures fault { IfOk result (IsFaultTo (begin + 1 + length read.now)) }
+    ensures fault { IfOk result (IsFaultAt begin (begin + 1 + length read.now)) }
 {
     if read.is_empty() {
         return Ok(Step::Fault {

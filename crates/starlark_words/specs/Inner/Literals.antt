@@ -1,5 +1,5 @@
 -- Literals, items and stops of the code, as the grammar sees them.
-use Rattle.std.specs.Prelude.{◌≡◌, ℕ, Bool, true, false, [], ◌∷◌, ⊤, take, encode_utf8, string_bytes}
+use Rattle.std.specs.Prelude.{◌≡◌, ℕ, Bool, true, false, [], ◌∷◌, ⊤, max, take, encode_utf8, string_bytes}
 use Rattle.std.specs.Str.{IsCharBoundary}
 use Rattle.starlark_grammar.specs.Words.{Text}
 use Rattle.starlark_grammar.specs.declared.class.Quote.{Quote}
@@ -54,10 +54,14 @@ abbrev pub found_len : Found → ℕ
 found_len (found.Goes item) = item.len
 found_len (found.Stops stop) = stopped_len stop
 
--- the least number of bytes read: those of an item, or the three that can close a literal
+-- the least number of bytes read at a stop: the three that can close a literal, or all of a bad escape
+abbrev pub least_stop_reads : Stop → ℕ
+least_stop_reads stop = max 3 (stopped_len stop)
+
+-- the least number of bytes read: those of an item, or those at the stop
 abbrev pub least_reads : Found → ℕ
 least_reads (found.Goes item) = item.len
-least_reads (found.Stops stop) = 3
+least_reads (found.Stops stop) = least_stop_reads stop
 
 -- the value is no lone byte
 abbrev pub IsCharacters : Value → Type 0

@@ -25,4 +25,4 @@ returns-clause-piece c = λ s here behind.
     rw (in_code_none s c.args.text.now c.requires.some c.requires.none (stands_by (goal.at.returns-clause-piece c).After-bang_stands false c.if-bang_stands.false s here behind)) c.in_ok-invalid_input.ensures.step
 
 pub returns-clause-reads : goal.returns-clause-reads
-returns-clause-reads c = wordless_reads _ c.in_ok-invalid_input.field-0 _ _ _ c.front.ensures.reads c.in_ok-invalid_input.ensures.fault c.in_ok-invalid_input.ensures.reads
+returns-clause-reads c = wordless_reads _ _ c.in_ok-invalid_input.field-0 _ _ _ c.front.ensures.reads c.in_ok-invalid_input.ensures.fault c.in_ok-invalid_input.ensures.reads

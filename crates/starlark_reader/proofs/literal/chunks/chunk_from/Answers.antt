@@ -74,19 +74,19 @@ pub returns-in-Line-clause-reads : goal.returns-in-Line-clause-reads
 returns-in-Line-clause-reads c =
     let stopped = ap stopped_len c.in-Line.is in
     let reads = c.in_ok-text_len.ensures.reads in
-    omega (arith, c.in_ok-text_len.ensures.boundary.0, stopped, reads.1)
+    (omega (arith, reads.0), omega (arith, c.in_ok-text_len.ensures.boundary.0, stopped, reads.1))
 
 pub returns-in-Ended-clause-reads : goal.returns-in-Ended-clause-reads
 returns-in-Ended-clause-reads c =
     let stopped = ap stopped_len c.in-Ended.is in
     let reads = c.in_ok-text_len.ensures.reads in
-    omega (arith, c.in_ok-text_len.ensures.boundary.0, stopped, reads.1)
+    (omega (arith, reads.0), omega (arith, c.in_ok-text_len.ensures.boundary.0, stopped, reads.1))
 
 pub returns-in_ok-from_str-in-ClosingBrace-clause-reads : goal.returns-in_ok-from_str-in-ClosingBrace-clause-reads
 returns-in_ok-from_str-in-ClosingBrace-clause-reads c =
     let stopped = ap stopped_len c.in-ClosingBrace.is in
     let reads = c.in_ok-text_len.ensures.reads in
-    omega (arith, c.in_ok-text_len.ensures.boundary.0, stopped, reads.1)
+    (omega (arith, reads.0), omega (arith, c.in_ok-text_len.ensures.boundary.0, stopped, reads.1))
 
 pub returns-in-Closing-clause-reads : goal.returns-in-Closing-clause-reads
 returns-in-Closing-clause-reads c =
@@ -102,4 +102,4 @@ returns-in_ok-from_str-in-BadEscape-clause-reads c =
     let reads = c.in_ok-text_len.ensures.reads in
     let why : (items.BadEscape c.in-BadEscape.len c.in-BadEscape.last) ≡ (items.body_at (fstring_literal (opening_view c.args.opening)) c.args.text.now).stop = sym (ap stop_view c.in-BadEscape.is) ∙ c.in_ok-text_len.ensures.body.stop in
     let fits = bad_chunk_fits (opening_view c.args.opening) c.args.text.now c.in_ok-text_len.field-0.len c.in-BadEscape.len c.in-BadEscape.last c.in_ok-text_len.ensures.body.len why in
-    omega (arith, fits.1, stopped, reads.1)
+    (omega (arith, fits.0, stopped, reads.0), omega (arith, fits.1, stopped, reads.1))

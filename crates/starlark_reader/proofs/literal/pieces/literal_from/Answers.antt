@@ -1,7 +1,8 @@
-use Rattle.std.proofs.Common.{◌≡◌, ◌≤◌, ◌+◌, ◌-◌, ◌*◌, ◌∙◌, ap, arith, length, refl, sym}
+use Rattle.std.proofs.Common.{◌≡◌, ◌+◌, ◌-◌, ◌*◌, ◌∙◌, ap, arith, length, refl, sym}
 use Rattle.starlark_reader.proofs.Literals.StepReads.{closing_some, fault_reads}
 use Rattle.starlark_grammar.specs.Items as grammar
 use Rattle.starlark_grammar.specs.Tokens.{UnfinishedStringLiteral}
+use Rattle.starlark_words.specs.Inner.Reads.{AreReads}
 use Rattle.starlark_words.specs.Inner.Literals.{literal_view, stop_view, stopped_len}
 use Rattle.starlark_grammar.specs.Inner.Openings.{opening_view}
 use Rattle.starlark_reader.proofs.Literals.Pieces.{bad_edges, bad_fits, bad_literal, closing_fits, if_ok, line_literal, read_after}
@@ -52,8 +53,9 @@ returns-in-BadEscape-clause-reads c =
     let fits = bad_fits (literal_view c.args.literal) c.args.behind.now c.in_ok-body.body.len c.in-BadEscape.read c.in-BadEscape.last c.in_ok-body.ensures.body.len stop in
     let read : length c.range.result.now ≡ c.in-BadEscape.read - 1 = omega (arith, fits.0, fits.1, c.range.ensures.len) in
     let end = c.args.len + c.in_ok-body.body.len + 1 + length c.range.result.now in
-    let few : c.read_body.new.reads ≤ c.args.reads.now + (9 * (end - c.args.len) + 6) = omega (arith, fits.0, read, ap stopped_len c.in-BadEscape.is, c.in_ok-body.ensures.reads.1) in
-    if_ok _ _ c.escape_fault.result (λ step is. fault_reads c.args.len 9 0 0 6 end step _ _ is (omega arith) few) c.escape_fault.ensures.fault
+    let begin = c.args.len + c.in_ok-body.body.len in
+    let reads : AreReads (begin - c.args.len) (9 * (end - c.args.len) + 6) c.args.reads.now c.read_body.new.reads = (omega (arith, c.in_ok-body.ensures.reads.0), omega (arith, fits.0, read, ap stopped_len c.in-BadEscape.is, c.in_ok-body.ensures.reads.1)) in
+    if_ok _ _ c.escape_fault.result (λ step is. fault_reads c.args.len 9 0 0 6 begin end step _ _ is (omega arith) reads) c.escape_fault.ensures.fault
 
 pub returns-in-Closing-clause-reads : goal.returns-in-Closing-clause-reads
 returns-in-Closing-clause-reads c =
@@ -66,7 +68,7 @@ returns-in-Closing-clause-reads c =
 pub returns-in-Line-clause-reads : goal.returns-in-Line-clause-reads
 returns-in-Line-clause-reads c =
     let stopped = ap stopped_len c.in-Line.is in
-    (omega (arith, stopped, c.in_ok-body.ensures.reads.1), omega arith)
+    ((omega (arith, c.in_ok-body.ensures.reads.0), omega (arith, stopped, c.in_ok-body.ensures.reads.1)), omega arith)
 
 pub returns-in-Line-clause-step : goal.returns-in-Line-clause-step
 returns-in-Line-clause-step c = λ place outside.

@@ -62,4 +62,4 @@ returns-then-not-branch-clause-reads c = λ there.
     let rest : length c.range_from.result.now ≡ length text - begin = ap (λ (t : Text). length t) c.range_from.ensures.value ∙ length-drop begin text in
     let none = (c.nothing-self.ensures []).1.inside in
     refused_reads text c.args.len c.margin_fault-fault.result.1 c.margin_of-margin.result c.margin_fault-fault.result.0 c.args.self.now c.refuse.new.self there (omega (arith, rest, c.requires.cut.0, c.margin_of-margin.ensures.within)) margin
-    (c.margin_fault-fault.ensures seen margin) (ap (λ (reader : Reader). reader.stage) new) (omega (arith, ap (λ (reader : Reader). reader.reads) new, c.margin_of-margin.ensures.reads.1)) (omega (arith, ap (λ (reader : Reader). owed reader.pending) new, none))
+    (c.margin_fault-fault.ensures seen margin) (ap (λ (reader : Reader). reader.stage) new) (omega (arith, ap (λ (reader : Reader). reader.reads) new, c.margin_of-margin.ensures.reads.0), omega (arith, ap (λ (reader : Reader). reader.reads) new, c.margin_of-margin.ensures.reads.1)) (omega (arith, ap (λ (reader : Reader). owed reader.pending) new, none))

@@ -71,7 +71,8 @@ returns-in-Ok-clause-answer c =
     let paid = spared c.args.self.now.text.now c.args.self.now.reader c.args.self.now.looked_to c.args.self.now.looked (c.requires.lexing.3 c.requires.going) in
     let read = subst (λ (n : Next). HasReadNext c.args.self.now.text.now paid.0 n c.next.new.self) c.in-Ok-Fault.field-0-is (c.in-Ok-Fault.ensures.reads paid.0 paid.2) in
     let place : Spanned Fault = record { begin = c.in-Ok-Fault.begin; node = is.0; end = c.in-Ok-Fault.end } in
-    let few = read is.0 is.1 in
+    let few = read.1 is.0 is.1 in
+    let within = fault_within c.args.self.now.text.now _ is.3 in
     let reach = c.requires.lexing.4 in (
       is.2,
       (_, is.3, (c.in-Ok-Fault.fault, is.1, c.in-Ok.ensures)),
@@ -80,7 +81,7 @@ returns-in-Ok-clause-answer c =
       (λ fault has.
           let both : Some place ≡ Some fault = sym is.3 ∙ has in
           let same : place ≡ fault = cc in
-          omega (arith, paid.1, few, reach.fault fault has, ap (restart c.args.self.now.text.now) same, ap (search_reads c.args.self.now.text.now) same)),
+          (omega (arith, read.0, within.0, within.1, c.requires.lexing.0, ap (λ (f : Spanned Fault). f.begin) same), omega (arith, paid.1, few, reach.fault fault has, ap (restart c.args.self.now.text.now) same, ap (search_reads c.args.self.now.text.now) same))),
     )
 
 pub returns-in-Ok-Nothing-clause-answer : goal.returns-in-Ok-Nothing-clause-answer
