@@ -6,8 +6,9 @@ ghost use Rattle.starlark_syntax.specs.Lexer.{AnswersBetween, AnswersNext, Answe
 ghost use Rattle.starlark_token.specs.TextItems.{items};
 
 pub use crate::lexer_state::Lexeme;
-use crate::lexer_state::LexerState;
-use starlark_base::codemap::{CodeMap, SourceTooLong};
+use crate::lexer_state::{FastPath, LexerState};
+use crate::plain_lexeme::PlainLexeme;
+use starlark_base::codemap::{CodeMap, OrMemory, SourceTooLong};
 use starlark_base::dialect::Dialect;
 use std::alloc::Global;
 use std::marker::Model;
@@ -19,6 +20,8 @@ use std::marker::Model;
 #[derive(Drop)]
 pub struct Lexer<'a> {
     state: LexerState<'a>,
+    /// Whether `next_plain` ran out of memory, which `next` has still to say.
+    has_run_out: bool,
 }
 
 impl<'a> Model for Lexer<'a> {
@@ -52,6 +55,7 @@ impl<'a> Lexer<'a> {
         }
         Ok(Lexer {
             state: LexerState::new(alloc, input, code_map),
+            has_run_out: false,
         })
     }
 
@@ -71,7 +75,26 @@ impl<'a> Lexer<'a> {
     {
         // The proof of `between` needs that the text is UTF-8, which the read of a `&str` says.
         let _text = self.text();
+        if self.has_run_out {
+            self.has_run_out = false;
+            return Some(Err(OrMemory::Memory));
+        }
         self.state.next()
+    }
+
+    /// Passes the next lexeme if it is plain, and returns it. `None` where it isn't, and where there
+    /// is none: `next` tells which.
+    #[inline(always)]
+    pub fn next_plain(&mut self) -> Option<PlainLexeme>
+    {
+        match self.state.next_plain() {
+            FastPath::Passed(plain) => Some(plain),
+            FastPath::Undecided => None,
+            FastPath::OutOfMemory => {
+                self.has_run_out = true;
+                None
+            }
+        }
     }
 
     /// Number of reads of bytes so far.

@@ -13,6 +13,7 @@ ghost use Rattle.starlark_syntax.specs.Inner.Looked.{HasOpened, IsFoundBehindMar
 
 use crate::eval_exception::EvalException;
 use crate::fault_exception::exception;
+use crate::plain_lexeme::{PlainKind, PlainLexeme, token_of};
 use starlark_base::codemap::{CodeMap, OrMemory};
 use starlark_reader::reader::{LineEnd, Next, Reader};
 use starlark_token::tokens::Token;
@@ -96,6 +97,17 @@ fn looked_behind_margin(reader: &Reader, looked_to: usize) -> Looked
     } else {
         Looked::All
     }
+}
+
+/// The outcome of the fast path.
+#[derive(Clone, Copy)]
+pub enum FastPath {
+    /// A lexeme, which it passed.
+    Passed(PlainLexeme),
+    /// The slow path decides, unless the lexer has ended.
+    Undecided,
+    /// Out of memory, which ends the lexer.
+    OutOfMemory,
 }
 
 impl Looked {
@@ -365,65 +377,140 @@ impl<'a> LexerState<'a> {
         }
     }
 
-    /// Next lexeme where a text literal opens: fast if it has no escapes.
+    /// Passes the text literal here if it is plain.
     #[inline(never)]
-    fn next_text(&mut self) -> Option<Lexeme>
+    fn pass_string(&mut self) -> FastPath
         requires lexing { IsLexing self.old }
         requires going { self.old.has_ended ≡ false }
         requires front { self.old.looked ≡ Looked.Front }
         requires opened { HasOpened self.old.text.now self.old.reader self.old.looked_to }
-        ensures answer { HasAnswered self.old result self.new }
+        ensures passed { HasPassed self.old result self.new }
         ensures lexing { IsLexing self.new }
-        ensures after { view_of self.new ≡ record (view_of self.old) { yielded_count = self.old.yielded_count + yielded_by result; has_ended = is_ended_by result; reads = self.new.reader.reads } }
+        ensures after { view_of self.new ≡ record (view_of self.old) { yielded_count = self.old.yielded_count + passed_count result; has_ended = is_out_of_memory result; reads = self.new.reader.reads } }
     {
         let Some(TextOpener { is_raw, quote, len }) = self.reader.text_opener(self.text) else {
             self.looked = Looked::All;
-            return self.next_of_all();
+            return FastPath::Undecided;
         };
         let kind = LiteralKind::Text;
+        let begin = self.reader.at();
         let body = match self
             .reader
             .plain_body_len(kind, is_raw, quote, len, self.text)
         {
             Ok(body) => body,
             Err(run) => {
-                self.looked_to = self.reader.at() + len + 1 + run;
+                self.looked_to = begin + len + 1 + run;
                 self.looked = Looked::All;
-                return self.next_of_all();
+                return FastPath::Undecided;
             }
         };
-        match self
-            .reader
-            .take_plain_text(is_raw, quote, len, body, self.text)
-        {
-            Ok(lexeme) => {
-                self.yielded_count += 1;
-                self.looked = looked_further(&self.reader, self.looked_to);
-                Some(Ok(lexeme))
+        self.reader
+            .pass_plain_text(is_raw, quote, len, body, self.text);
+        let end = self.reader.at();
+        self.yielded_count += 1;
+        self.looked = looked_further(&self.reader, self.looked_to);
+        FastPath::Passed(PlainLexeme {
+            kind: PlainKind::String,
+            begin,
+            end,
+            value_begin: begin + len,
+            value_end: end - 1,
+        })
+    }
+
+    /// Passes the next lexeme if it is plain.
+    #[inline(always)]
+    pub fn next_plain(&mut self) -> FastPath
+        requires { IsLexing self.old }
+        ensures ended { self.old.has_ended ≡ true → (result ≡ FastPath.Undecided) × (self.new ≡ self.old) }
+        ensures passed { self.old.has_ended ≡ false → HasPassed self.old result self.new }
+        ensures lexing { IsLexing self.new }
+        ensures after { view_of self.new ≡ record (view_of self.old) { yielded_count = self.old.yielded_count + passed_count result; has_ended = self.old.has_ended || is_out_of_memory result; reads = self.new.reader.reads } }
+    {
+        while self.looked.is_nothing() {
+            let Some(Word { class, len }) = self.reader.common_word(self.text) else {
+                self.looked_to = self.reader.at() + 1;
+                self.looked = Looked::Front;
+                return FastPath::Undecided;
+            };
+            match class {
+                Class::Identifier => {
+                    self.yielded_count += 1;
+                    let begin = self.reader.at();
+                    self.reader.pass_name(len, self.text);
+                    let end = self.reader.at();
+                    return FastPath::Passed(PlainLexeme {
+                        kind: PlainKind::Identifier,
+                        begin,
+                        end,
+                        value_begin: begin,
+                        value_end: end,
+                    });
+                }
+                Class::Fixed(terminal) => {
+                    self.yielded_count += 1;
+                    let begin = self.reader.at();
+                    let kind = if self.reader.pass_terminal(terminal, len, self.text) {
+                        PlainKind::FStringExprEnd
+                    } else {
+                        PlainKind::Word(terminal)
+                    };
+                    self.looked = looked_in_code(&self.reader);
+                    let end = self.reader.at();
+                    return FastPath::Passed(PlainLexeme::without_value(kind, begin, end));
+                }
+                Class::LineEnd => {
+                    let begin = self.reader.at();
+                    match self.reader.take_line_end(len, self.text) {
+                        Ok(LineEnd::Passed) => {}
+                        Ok(LineEnd::Newline) => {
+                            self.yielded_count += 1;
+                            self.looked = looked_behind_margin(&self.reader, self.looked_to);
+                            let kind = PlainKind::Newline;
+                            let end = begin + len;
+                            return FastPath::Passed(PlainLexeme::without_value(kind, begin, end));
+                        }
+                        Ok(LineEnd::Fault) => {
+                            self.looked = Looked::All;
+                            return FastPath::Undecided;
+                        }
+                        Err(_) => {
+                            self.has_ended = true;
+                            self.looked = Looked::All;
+                            return FastPath::OutOfMemory;
+                        }
+                    }
+                }
+                _ => {
+                    let is_text = is_text_opener(class);
+                    self.looked_to = self.reader.at() + looked_len(is_text, len);
+                    self.looked = Looked::Front;
+                    if is_text {
+                        return self.pass_string();
+                    }
+                    return FastPath::Undecided;
+                }
             }
+        }
+        FastPath::Undecided
+    }
+
+    /// The item of a plain lexeme, which was passed. Out of memory ends the lexer.
+    #[inline(always)]
+    fn take(&mut self, plain: PlainLexeme) -> Option<Lexeme>
+        requires within { IsPlainIn self.old.text.now plain }
+        requires counted { 0 < self.old.yielded_count }
+        ensures { IsTaken self.old plain result self.new }
+    {
+        match token_of(plain, self.alloc, self.text) {
+            Ok(token) => Some(Ok((plain.begin, token, plain.end))),
             Err(_) => {
+                self.yielded_count -= 1;
                 self.has_ended = true;
                 self.looked = Looked::All;
                 Some(Err(OrMemory::Memory))
             }
-        }
-    }
-
-    /// Next lexeme where the loop of `next` doesn't determine it. `is_text` says that a text literal
-    /// opens.
-    #[inline(always)]
-    fn next_slowly(&mut self, is_text: bool) -> Option<Lexeme>
-        requires lexing { IsLexing self.old }
-        requires going { self.old.has_ended ≡ false }
-        requires front { is_text ≡ true → (self.old.looked ≡ Looked.Front) × HasOpened self.old.text.now self.old.reader self.old.looked_to }
-        ensures answer { HasAnswered self.old result self.new }
-        ensures lexing { IsLexing self.new }
-        ensures after { view_of self.new ≡ record (view_of self.old) { yielded_count = self.old.yielded_count + yielded_by result; has_ended = is_ended_by result; reads = self.new.reader.reads } }
-    {
-        if is_text {
-            self.next_text()
-        } else {
-            self.next_of_all()
         }
     }
 
@@ -437,67 +524,16 @@ impl<'a> LexerState<'a> {
         ensures lexing { IsLexing self.new }
         ensures after { view_of self.new ≡ record (view_of self.old) { yielded_count = self.old.yielded_count + yielded_by result; has_ended = self.old.has_ended || is_ended_by result; reads = self.new.reader.reads } }
     {
-        let is_text = loop {
-            if !self.looked.is_nothing() {
+        match self.next_plain() {
+            FastPath::Passed(plain) => self.take(plain),
+            FastPath::OutOfMemory => Some(Err(OrMemory::Memory)),
+            FastPath::Undecided => {
                 if self.has_ended {
                     return None;
                 }
-                break false;
+                self.next_of_all()
             }
-            let Some(Word { class, len }) = self.reader.common_word(self.text) else {
-                self.looked_to = self.reader.at() + 1;
-                self.looked = Looked::Front;
-                break false;
-            };
-            match class {
-                Class::Identifier => {
-                    return match self.reader.take_name(len, self.text) {
-                        Ok(lexeme) => {
-                            self.yielded_count += 1;
-                            Some(Ok(lexeme))
-                        }
-                        Err(_) => {
-                            self.has_ended = true;
-                            self.looked = Looked::All;
-                            Some(Err(OrMemory::Memory))
-                        }
-                    };
-                }
-                Class::Fixed(terminal) => {
-                    self.yielded_count += 1;
-                    let lexeme = self.reader.take_terminal(terminal, len, self.text);
-                    self.looked = looked_in_code(&self.reader);
-                    return Some(Ok(lexeme));
-                }
-                Class::LineEnd => {
-                    let begin = self.reader.at();
-                    match self.reader.take_line_end(len, self.text) {
-                        Ok(LineEnd::Passed) => {}
-                        Ok(LineEnd::Newline) => {
-                            self.yielded_count += 1;
-                            self.looked = looked_behind_margin(&self.reader, self.looked_to);
-                            return Some(Ok((begin, Token::Newline, begin + len)));
-                        }
-                        Ok(LineEnd::Fault) => {
-                            self.looked = Looked::All;
-                            break false;
-                        }
-                        Err(_) => {
-                            self.has_ended = true;
-                            self.looked = Looked::All;
-                            return Some(Err(OrMemory::Memory));
-                        }
-                    }
-                }
-                _ => {
-                    let is_text = is_text_opener(class);
-                    self.looked_to = self.reader.at() + looked_len(is_text, len);
-                    self.looked = Looked::Front;
-                    break is_text;
-                }
-            }
-        };
-        self.next_slowly(is_text)
+        }
     }
 
     /// The offset before the text's end where it can be cut, if the lexemes yielded so far are those
