@@ -786,6 +786,7 @@ impl Reader {
         requires stands { IsWordHere text.now self.old (record { class = class.Opener kind.Text is_raw quote; len = len }) }
         requires plain { IsPlainBody kind.Text is_raw quote (drop len (drop self.old.at text.now)) body }
         ensures ahead { (lexemes : List (Spanned TokenView)) (fault : Option (Spanned Fault)) → IsAhead text.now self.old self.old.stage lexemes fault → IsAheadPast text.now (text_lexeme text.now self.old.at len body) self.new lexemes fault }
+        ensures value { IsCharBoundary text.now (self.old.at + len) × IsCharBoundary text.now (self.old.at + len + body) }
         ensures code { IsAtCode text.now self.new }
         ensures taken { IsTaken (len + body + 1) self.old self.new }
     {
