@@ -1,0 +1,91 @@
+-- Plain lexemes, as the fast path passes them.
+use Rattle.std.proofs.Common.{◌≡◌, ◌≤◌, ◌<◌, ◌+◌, ◌-◌, ◌^◌, ◌∷◌, ◌||◌, Bool, true, false, ℕ, List, [], Option, Some, None, Ok, Err, ap, arith, drop, length, refl, subst, sym, take, ◌∙◌}
+use Rattle.std.specs.Prelude.{Result}
+use Rattle.std.specs.Str.{IsCharBoundary}
+use Rattle.starlark_base.specs.Diagnostics.{Diagnosed}
+use Rattle.starlark_grammar.specs.Reading.{outcome}
+use Rattle.starlark_grammar.specs.Tokens as grammar
+use Rattle.starlark_grammar.specs.Tokens.{Fault, Spanned}
+use Rattle.starlark_grammar.specs.Words.{Text}
+use Rattle.starlark_grammar.proofs.Lists.{drop-sum}
+use Rattle.starlark_reader.specs.Inner.Reader.{IsAhead, IsAheadPast, IsSomething, name_lexeme, text_lexeme}
+use Rattle.starlark_reader.specs.declared.reader.Reader.{Reader}
+use Rattle.starlark_reader.specs.declared.reader.Stage.TheVariants as stages
+use Rattle.starlark_reader.proofs.Pieces.PieceTaken.{left_onward}
+use Rattle.starlark_syntax.specs.Inner.LexerStates.{HasAnswered, HasPassed, HasTaken, IsLexing, left_in, plain_string, view_of}
+use Rattle.starlark_syntax.specs.Lexer.{LexerView, is_ended_by, yielded_by}
+use Rattle.starlark_syntax.specs.PlainLexemes.{IsPlainIn, plain_view}
+use Rattle.starlark_syntax.specs.declared.error.kinds.ErrorKind.{ErrorKind}
+use Rattle.starlark_syntax.specs.declared.lexer_state.FastPath.TheVariants as fast
+use Rattle.starlark_syntax.specs.declared.lexer_state.LexerState.{LexerState}
+use Rattle.starlark_syntax.specs.declared.lexer_state.Looked.TheVariants as looked
+use Rattle.starlark_syntax.specs.declared.plain_lexeme.PlainKind.{PlainKind}
+use Rattle.starlark_syntax.specs.declared.plain_lexeme.PlainKind.TheVariants as kind
+use Rattle.starlark_syntax.specs.declared.plain_lexeme.PlainLexeme.{PlainLexeme}
+use Rattle.starlark_text.specs.declared.or_memory.OrMemory.{OrMemory}
+use Rattle.starlark_text.specs.declared.or_memory.OrMemory.TheVariants.{Error, Memory}
+use Rattle.starlark_token.specs.TokenViews.{TokenView, Whole}
+use Rattle.starlark_token.specs.declared.tokens.Token.{Token}
+
+-- a plain lexeme whose four offsets are in order, at character boundaries
+pub plain_inside : (text : Text) (kind : PlainKind) (begin end value_begin value_end : ℕ) → length text < 2 ^ 32 → begin ≤ end → value_begin ≤ value_end → IsCharBoundary text begin → IsCharBoundary text end → IsCharBoundary text value_begin → IsCharBoundary text value_end
+    → IsPlainIn text (record { kind = kind; begin = begin; end = end; value_begin = value_begin; value_end = value_end })
+plain_inside text kind begin end value_begin value_end short order value first last from to = record {
+  lexeme = (order, last.0, short);
+  value = (value, to.0, short);
+  begin = first;
+  end = last;
+  value_begin = from;
+  value_end = to;
+}
+
+-- the offset of a reader in code is a character boundary
+pub reader_boundary : (text : Text) (reader : Reader) (lexemes : List (Spanned TokenView)) (fault : Option (Spanned Fault)) → reader.stage ≡ stages.Onward → IsAhead text reader reader.stage lexemes fault → IsCharBoundary text reader.at
+reader_boundary text reader lexemes fault on ahead = (left_onward text reader lexemes fault on ahead).is_left.1.boundary
+
+pub name_shown : (text : Text) (at len end : ℕ) → end ≡ at + len → name_lexeme text at len ≡ plain_view text (record { kind = kind.Identifier; begin = at; end = end; value_begin = at; value_end = end })
+name_shown text at len end is =
+    let count : len ≡ end - at = omega (arith, is) in
+    ap (λ n. record { begin = at; node = Whole (grammar.Identifier (take n (drop at text))); end = at + len }) count ∙ ap (λ n. record { begin = at; node = Whole (grammar.Identifier (take (end - at) (drop at text))); end = n }) (sym is)
+
+pub string_shown : (text : Text) (at mid len body end : ℕ) → mid ≡ at → end ≡ mid + (len + body + 1) → text_lexeme text mid len body ≡ plain_view text (plain_string at len end)
+string_shown text at mid len body end same is =
+    let count : body ≡ end - 1 - (at + len) = omega (arith, is, same) in
+    let last : at + (len + body + 1) ≡ end = omega (arith, is, same) in
+    ap (λ n. text_lexeme text n len body) same
+    ∙ ap (λ (t : Text). record { begin = at; node = Whole (grammar.String (take body t)); end = at + (len + body + 1) }) (sym (drop-sum at len text))
+    ∙ ap (λ n. record { begin = at; node = Whole (grammar.String (take n (drop (at + len) text))); end = at + (len + body + 1) }) count
+    ∙ ap (λ n. record { begin = at; node = Whole (grammar.String (take (end - 1 - (at + len)) (drop (at + len) text))); end = n }) last
+
+-- where a lexeme was passed, something was left
+pub past_something : (text : Text) (lexeme : Spanned TokenView) (reader : Reader) (lexemes : List (Spanned TokenView)) (fault : Option (Spanned Fault)) → IsAheadPast text lexeme reader lexemes fault → IsSomething lexemes fault
+past_something text lexeme reader lexemes fault past none no = let both : lexeme ∷ past.0 ≡ [] = sym past.1 ∙ none in cc
+
+-- what is made of a plain lexeme is an answer
+pub taken_answer : (old mid : LexerState) (plain : PlainLexeme) (answer : Option (Result (ℕ × Token × ℕ) (OrMemory (Diagnosed ErrorKind)))) (new : LexerState) → HasPassed old (fast.Passed plain) mid → mid.text.now ≡ old.text.now → HasTaken mid plain answer new → HasAnswered old answer new
+taken_answer old mid plain None new passed text taken = absurd taken
+taken_answer old mid plain (Some (Ok lexeme)) new passed text taken =
+    subst (λ (state : LexerState). HasAnswered old (Some (Ok lexeme)) state) (sym taken.1)
+    (subst (λ (view : Spanned TokenView). IsAheadPast old.text.now view mid.reader (left_in old) (outcome old.text.now).fault) (sym (taken.0 ∙ ap (λ (t : Text). plain_view t plain) text)) passed.1)
+taken_answer old mid plain (Some (Err (Error exception))) new passed text taken = absurd taken
+taken_answer old mid plain (Some (Err Memory)) new passed text taken = past_something old.text.now (plain_view old.text.now plain) mid.reader (left_in old) (outcome old.text.now).fault passed.1
+
+pub taken_lexing : (mid : LexerState) (plain : PlainLexeme) (answer : Option (Result (ℕ × Token × ℕ) (OrMemory (Diagnosed ErrorKind)))) (new : LexerState) → IsLexing mid → HasTaken mid plain answer new → IsLexing new
+taken_lexing mid plain None new lexing taken = absurd taken
+taken_lexing mid plain (Some (Ok lexeme)) new lexing taken = subst IsLexing (sym taken.1) lexing
+taken_lexing mid plain (Some (Err (Error exception))) new lexing taken = absurd taken
+taken_lexing mid plain (Some (Err Memory)) new lexing taken = subst IsLexing (sym taken) (lexing.0, (λ on. cc), tt, (λ on. cc), lexing.4)
+
+pub taken_after : (old mid : LexerState) (plain : PlainLexeme) (answer : Option (Result (ℕ × Token × ℕ) (OrMemory (Diagnosed ErrorKind)))) (new : LexerState) → old.has_ended ≡ false
+    → view_of mid ≡ record (view_of old) { yielded_count = old.yielded_count + 1; has_ended = old.has_ended || false; reads = mid.reader.reads } → HasTaken mid plain answer new
+    → view_of new ≡ record (view_of old) { yielded_count = old.yielded_count + yielded_by answer; has_ended = old.has_ended || is_ended_by answer; reads = new.reader.reads }
+taken_after old mid plain None new going after taken = absurd taken
+taken_after old mid plain (Some (Ok lexeme)) new going after taken =
+    subst (λ (state : LexerState). view_of state ≡ record (view_of old) { yielded_count = old.yielded_count + 1; has_ended = old.has_ended || false; reads = state.reader.reads }) (sym taken.1) after
+taken_after old mid plain (Some (Err (Error exception))) new going after taken = absurd taken
+taken_after old mid plain (Some (Err Memory)) new going after taken =
+    let text : mid.text.now ≡ old.text.now = ap (λ (v : LexerView). v.text) after in
+    let file : mid.code_map ≡ old.code_map = ap (λ (v : LexerView). v.code_map) after in
+    let more : mid.yielded_count ≡ old.yielded_count + 1 = ap (λ (v : LexerView). v.yielded_count) after in
+    let count : mid.yielded_count - 1 ≡ old.yielded_count + 0 = omega (arith, more) in
+    rw taken (rw (text, file, count, going) refl)
