@@ -697,6 +697,7 @@ impl Reader {
         requires stands { IsWordHere text.now self.old (record { class = class.LineEnd; len = len }) }
         ensures ahead { IfOk result (λ line_end. (lexemes : List (Spanned TokenView)) (fault : Option (Spanned Fault)) → IsAhead text.now self.old self.old.stage lexemes fault → IsAheadAfter text.now (newline_of line_end self.old.at len) self.new lexemes fault) }
         ensures memory { OnErr result ((lexemes : List (Spanned TokenView)) (fault : Option (Spanned Fault)) → IsAhead text.now self.old self.old.stage lexemes fault → IsSomething lexemes fault) }
+        ensures cut { IsCharBoundary text.now (self.old.at + len) }
         ensures less { IfOk result (λ line_end. line_end ≡ LineEnd.Passed → left_to_read text.now self.new self.new.stage < left_to_read text.now self.old self.old.stage) }
         ensures code { IfOk result (λ line_end. line_end ≡ LineEnd.Passed → IsAtCode text.now self.new) }
         ensures taken { IfOk result (λ line_end. line_end ≡ LineEnd.Passed → IsTaken len self.old self.new) }

@@ -8,7 +8,7 @@ use Rattle.starlark_grammar.specs.Tokens as grammar
 use Rattle.starlark_grammar.specs.Tokens.{Fault, Spanned}
 use Rattle.starlark_grammar.specs.Words.{Text}
 use Rattle.starlark_grammar.proofs.Lists.{drop-sum}
-use Rattle.starlark_reader.specs.Inner.Reader.{IsAhead, IsAheadPast, IsSomething, name_lexeme, text_lexeme}
+use Rattle.starlark_reader.specs.Inner.Reader.{IsAhead, IsAheadAfter, IsAheadPast, IsSomething, name_lexeme, newline_if, text_lexeme}
 use Rattle.starlark_reader.specs.declared.reader.Reader.{Reader}
 use Rattle.starlark_reader.specs.declared.reader.Stage.TheVariants as stages
 use Rattle.starlark_reader.proofs.Pieces.PieceTaken.{left_onward}
@@ -16,7 +16,9 @@ use Rattle.starlark_syntax.specs.Inner.LexerStates.{HasAnswered, HasPassed, HasT
 use Rattle.starlark_syntax.specs.Lexer.{LexerView, is_ended_by, yielded_by}
 use Rattle.starlark_syntax.specs.PlainLexemes.{IsPlainIn, plain_view}
 use Rattle.starlark_syntax.specs.declared.error.kinds.ErrorKind.{ErrorKind}
+use Rattle.starlark_syntax.specs.declared.lexer_state.FastPath.{FastPath}
 use Rattle.starlark_syntax.specs.declared.lexer_state.FastPath.TheVariants as fast
+use Rattle.starlark_syntax.proofs.LexerStates.{IsSameText}
 use Rattle.starlark_syntax.specs.declared.lexer_state.LexerState.{LexerState}
 use Rattle.starlark_syntax.specs.declared.lexer_state.Looked.TheVariants as looked
 use Rattle.starlark_syntax.specs.declared.plain_lexeme.PlainKind.{PlainKind}
@@ -24,7 +26,7 @@ use Rattle.starlark_syntax.specs.declared.plain_lexeme.PlainKind.TheVariants as 
 use Rattle.starlark_syntax.specs.declared.plain_lexeme.PlainLexeme.{PlainLexeme}
 use Rattle.starlark_text.specs.declared.or_memory.OrMemory.{OrMemory}
 use Rattle.starlark_text.specs.declared.or_memory.OrMemory.TheVariants.{Error, Memory}
-use Rattle.starlark_token.specs.TokenViews.{TokenView, Whole}
+use Rattle.starlark_token.specs.TokenViews.{TokenView, Whole, token_view}
 use Rattle.starlark_token.specs.declared.tokens.Token.{Token}
 
 -- a plain lexeme whose four offsets are in order, at character boundaries
@@ -59,7 +61,7 @@ string_shown text at mid len body end same is =
 
 -- where a lexeme was passed, something was left
 pub past_something : (text : Text) (lexeme : Spanned TokenView) (reader : Reader) (lexemes : List (Spanned TokenView)) (fault : Option (Spanned Fault)) → IsAheadPast text lexeme reader lexemes fault → IsSomething lexemes fault
-past_something text lexeme reader lexemes fault past none no = let both : lexeme ∷ past.0 ≡ [] = sym past.1 ∙ none in cc
+past_something text lexeme reader lexemes fault past none whole = let both : lexeme ∷ past.0 ≡ [] = sym past.1 ∙ none in cc
 
 -- what is made of a plain lexeme is an answer
 pub taken_answer : (old mid : LexerState) (plain : PlainLexeme) (answer : Option (Result (ℕ × Token × ℕ) (OrMemory (Diagnosed ErrorKind)))) (new : LexerState) → HasPassed old (fast.Passed plain) mid → mid.text.now ≡ old.text.now → HasTaken mid plain answer new → HasAnswered old answer new
@@ -89,3 +91,37 @@ taken_after old mid plain (Some (Err Memory)) new going after taken =
     let more : mid.yielded_count ≡ old.yielded_count + 1 = ap (λ (v : LexerView). v.yielded_count) after in
     let count : mid.yielded_count - 1 ≡ old.yielded_count + 0 = omega (arith, more) in
     rw taken (rw (text, file, count, going) refl)
+
+-- what the fast path tells of a state, it tells of one with the same text and number of items
+pub passed_same : (first now : LexerState) (found : FastPath) (new : LexerState) → IsSameText first now → HasPassed now found new → HasPassed first found new
+passed_same first now (fast.Passed plain) new same is = rw (same.0, same.2) at is
+passed_same first now (fast.Symbol terminal lexeme) new same is = rw (same.0, same.2) at is
+passed_same first now fast.Undecided new same is = is
+passed_same first now fast.OutOfMemory new same is = rw (same.0, same.2) at is
+
+-- a name was passed, where the text and the number of items are those before
+pub name_passed : (first state : LexerState) (mid new : Reader) (len : ℕ) → IsSameText first state → length state.text.now < 2 ^ 32 → mid.stage ≡ stages.Onward → new.stage ≡ stages.Onward → IsAhead state.text.now mid mid.stage (left_in state) (outcome state.text.now).fault
+    → new.at ≡ mid.at + len → IsAheadPast state.text.now (name_lexeme state.text.now mid.at len) new (left_in state) (outcome state.text.now).fault
+    → IsPlainIn first.text.now (record { kind = kind.Identifier; begin = mid.at; end = new.at; value_begin = mid.at; value_end = new.at })
+    × IsAheadPast first.text.now (plain_view first.text.now (record { kind = kind.Identifier; begin = mid.at; end = new.at; value_begin = mid.at; value_end = new.at })) new (left_in first) (outcome first.text.now).fault
+name_passed first state mid new len same short on onward ahead at is =
+    let text = state.text.now in
+    let front = reader_boundary text mid (left_in state) (outcome text).fault on ahead in
+    let last = reader_boundary text new is.0 (outcome text).fault onward is.2 in
+    let past = subst (λ (view : Spanned TokenView). IsAheadPast text view new (left_in state) (outcome text).fault) (name_shown text mid.at len new.at at) is in
+    let both : IsPlainIn text (record { kind = kind.Identifier; begin = mid.at; end = new.at; value_begin = mid.at; value_end = new.at }) × IsAheadPast text (plain_view text (record { kind = kind.Identifier; begin = mid.at; end = new.at; value_begin = mid.at; value_end = new.at })) new (left_in state) (outcome text).fault =
+    (plain_inside text kind.Identifier mid.at new.at mid.at new.at short (omega (arith, at)) (omega (arith, at)) front last front last, past) in
+    rw (same.0, same.2) at both
+
+-- a newline was passed
+pub newline_passed : (first state : LexerState) (mid new : Reader) (len : ℕ) → IsSameText first state → length state.text.now < 2 ^ 32 → mid.stage ≡ stages.Onward → IsAhead state.text.now mid mid.stage (left_in state) (outcome state.text.now).fault
+    → IsCharBoundary state.text.now (mid.at + len) → IsAheadAfter state.text.now (newline_if true mid.at len) new (left_in state) (outcome state.text.now).fault
+    → IsPlainIn first.text.now (record { kind = kind.Newline; begin = mid.at; end = mid.at + len; value_begin = mid.at + len; value_end = mid.at + len })
+    × IsAheadPast first.text.now (plain_view first.text.now (record { kind = kind.Newline; begin = mid.at; end = mid.at + len; value_begin = mid.at + len; value_end = mid.at + len })) new (left_in first) (outcome first.text.now).fault
+unfolding token_view
+newline_passed first state mid new len same short on ahead last is =
+    let text = state.text.now in
+    let front = reader_boundary text mid (left_in state) (outcome text).fault on ahead in
+    let both : IsPlainIn text (record { kind = kind.Newline; begin = mid.at; end = mid.at + len; value_begin = mid.at + len; value_end = mid.at + len }) × IsAheadPast text (plain_view text (record { kind = kind.Newline; begin = mid.at; end = mid.at + len; value_begin = mid.at + len; value_end = mid.at + len })) new (left_in state) (outcome text).fault =
+    (plain_inside text kind.Newline mid.at (mid.at + len) (mid.at + len) (mid.at + len) short (omega (arith)) (omega (arith)) front last last last, is) in
+    rw (same.0, same.2) at both

@@ -18,6 +18,8 @@ use Rattle.starlark_words.specs.Inner.Literals.{IsPlainBody}
 use Rattle.starlark_grammar.specs.Inner.Openings.{opening_view}
 use Rattle.starlark_grammar.specs.declared.class.Opening.{Opening}
 use Rattle.starlark_words.specs.Inner.Words.{IsDigitAt}
+use Rattle.std.proofs.lemmas.Str.{IsUtf8-drop}
+use Rattle.starlark_grammar.proofs.Order.Edges.{boundary_shift}
 use Rattle.starlark_reader.proofs.Literals.Pieces.{opener_plain}
 use Rattle.starlark_reader.proofs.OpenBrackets.FStrings.{keeps, one_kept}
 use Rattle.starlark_token.specs.Lexemes.{shown_lexeme}
@@ -36,7 +38,7 @@ use Rattle.starlark_reader.specs.Inner.Pending.{IsIdle}
 use Rattle.starlark_token.specs.declared.tokens.Token.{Token}
 use Rattle.starlark_words.specs.declared.scanner.word.Word.{Word}
 use Rattle.starlark_reader.specs.Inner.Pieces.{IsAfter, IsPiece, is_code, nothing_of}
-use Rattle.starlark_reader.specs.Inner.Reader.{IsAhead, IsAheadAfter, IsAheadPast, IsBangHere, IsInCode, IsPlainTextHere, IsStateAfter, IsRead, IsReadPast, IsTokenOf, IsWordHere, before_view, left_here, silent_sort, step_here}
+use Rattle.starlark_reader.specs.Inner.Reader.{IsAhead, IsAheadAfter, IsAheadPast, IsBangHere, IsInCode, IsPlainTextHere, IsStateAfter, IsRead, IsReadPast, IsReady, IsTokenOf, IsWordHere, before_view, left_here, silent_sort, step_here}
 use Rattle.starlark_token.specs.TokenViews.{TokenView, Whole, token_view}
 use Rattle.starlark_reader.specs.declared.nesting.LexerMode.{LexerMode}
 use Rattle.starlark_reader.specs.declared.nesting.LexerMode.TheVariants as mode
@@ -46,7 +48,7 @@ use Rattle.starlark_reader.specs.declared.reader.Before as sort
 use Rattle.starlark_reader.specs.declared.reader.Before.TheVariants as before
 use Rattle.starlark_reader.specs.declared.reader.Reader.{Reader}
 use Rattle.starlark_reader.specs.declared.reader.Stage.TheVariants as stage
-use Rattle.starlark_reader.proofs.Pieces.CodePlaces.{bang_at, in_text, word_at, word_len}
+use Rattle.starlark_reader.proofs.Pieces.CodePlaces.{bang_at, in_text, word_at, word_cut, word_len}
 use Rattle.starlark_reader.proofs.Pieces.Here.{piece_here, shown_own}
 use Rattle.starlark_reader.proofs.Pieces.Taken.{none_before, past_ahead, read_ahead, took, took_past}
 use Rattle.starlark_reader.proofs.Indentation.Waiting.{HandsPast, hands_none, passes_one}
@@ -340,3 +342,9 @@ text_changes value = refl
 pub terminal_shown : (place : Mode) (terminal : Terminal) (view : TokenView) → view ≡ Whole (pieces.terminal_token place terminal) → IsTokenOf terminal view
 terminal_shown AtTop terminals.ClosingCurly view is = rw is refl
 terminal_shown place terminal view is = rw is refl
+
+-- a word at the reader's offset ends at a character boundary
+pub word_boundary : (text : Text) (reader : Reader) (word : Word) → IsUtf8 text → IsReady text reader reader.stage → IsWordHere text reader word → IsCharBoundary text (reader.at + word.len)
+word_boundary text reader word utf8 ready here =
+    let left = (left_onward text reader ready.0 ready.1 here.stage ready.2).is_left in
+    boundary_shift text reader.at word.len left.1.boundary (word_cut (drop reader.at text) word.class word.len (IsUtf8-drop text reader.at utf8 left.1.boundary) (sym here.front))

@@ -1,6 +1,8 @@
 use Rattle.std.proofs.Common.{refl}
 use Rattle.starlark_reader.proofs.Pieces.NextLexeme.{onward_something}
 use Rattle.starlark_reader.proofs.Indentation.Waiting.{after_error}
+use Rattle.starlark_reader.proofs.Pieces.PieceTaken.{word_boundary}
+use Rattle.starlark_grammar.specs.declared.class.Class.TheVariants as class
 use Rattle.starlark_reader.proofs.reader.Reader.take_line_end.Goals as goal
 
 pub returns-in_err-take_counting_line_end-clause-memory : goal.returns-in_err-take_counting_line_end-clause-memory
@@ -10,3 +12,15 @@ pub returns-then-branch-clause-ahead : goal.returns-then-branch-clause-ahead
 returns-then-branch-clause-ahead c = λ lexemes fault ahead.
     let same = c.if-pass_line_end.ensures.stays refl in
     rw (same, c.if-branch.true) at (c.in_ok-take_counting_line_end.ensures.ahead lexemes fault (rw same ahead))
+
+pub returns-then-pass_line_end-clause-cut : goal.returns-then-pass_line_end-clause-cut
+returns-then-pass_line_end-clause-cut c = word_boundary c.args.text.now c.args.self.now (record { class = class.LineEnd; len = c.args.len }) c.utf8.text c.requires.ready c.requires.stands
+
+pub returns-in_err-take_counting_line_end-clause-cut : goal.returns-in_err-take_counting_line_end-clause-cut
+returns-in_err-take_counting_line_end-clause-cut c = word_boundary c.args.text.now c.args.self.now (record { class = class.LineEnd; len = c.args.len }) c.utf8.text c.requires.ready c.requires.stands
+
+pub returns-then-branch-clause-cut : goal.returns-then-branch-clause-cut
+returns-then-branch-clause-cut c = word_boundary c.args.text.now c.args.self.now (record { class = class.LineEnd; len = c.args.len }) c.utf8.text c.requires.ready c.requires.stands
+
+pub returns-else-branch-clause-cut : goal.returns-else-branch-clause-cut
+returns-else-branch-clause-cut c = word_boundary c.args.text.now c.args.self.now (record { class = class.LineEnd; len = c.args.len }) c.utf8.text c.requires.ready c.requires.stands
