@@ -78,20 +78,6 @@ taken_lexing mid plain (Some (Ok lexeme)) new lexing taken = subst IsLexing (sym
 taken_lexing mid plain (Some (Err (Error exception))) new lexing taken = absurd taken
 taken_lexing mid plain (Some (Err Memory)) new lexing taken = subst IsLexing (sym taken) (lexing.0, (λ on. cc), tt, (λ on. cc), lexing.4)
 
-pub taken_after : (old mid : LexerState) (plain : PlainLexeme) (answer : Option (Result (ℕ × Token × ℕ) (OrMemory (Diagnosed ErrorKind)))) (new : LexerState) → old.has_ended ≡ false
-    → view_of mid ≡ record (view_of old) { yielded_count = old.yielded_count + 1; has_ended = old.has_ended || false; reads = mid.reader.reads } → HasTaken mid plain answer new
-    → view_of new ≡ record (view_of old) { yielded_count = old.yielded_count + yielded_by answer; has_ended = old.has_ended || is_ended_by answer; reads = new.reader.reads }
-taken_after old mid plain None new going after taken = absurd taken
-taken_after old mid plain (Some (Ok lexeme)) new going after taken =
-    subst (λ (state : LexerState). view_of state ≡ record (view_of old) { yielded_count = old.yielded_count + 1; has_ended = old.has_ended || false; reads = state.reader.reads }) (sym taken.1) after
-taken_after old mid plain (Some (Err (Error exception))) new going after taken = absurd taken
-taken_after old mid plain (Some (Err Memory)) new going after taken =
-    let text : mid.text.now ≡ old.text.now = ap (λ (v : LexerView). v.text) after in
-    let file : mid.code_map ≡ old.code_map = ap (λ (v : LexerView). v.code_map) after in
-    let more : mid.yielded_count ≡ old.yielded_count + 1 = ap (λ (v : LexerView). v.yielded_count) after in
-    let count : mid.yielded_count - 1 ≡ old.yielded_count + 0 = omega (arith, more) in
-    rw taken (rw (text, file, count, going) refl)
-
 -- what the fast path tells of a state, it tells of one with the same text and number of items
 pub passed_same : (first now : LexerState) (found : FastPath) (new : LexerState) → IsSameText first now → HasPassed now found new → HasPassed first found new
 passed_same first now (fast.Passed plain) new same is = rw (same.0, same.2) at is
