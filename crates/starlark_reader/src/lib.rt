@@ -22,3 +22,4 @@ mod widths;
 
 pub use margins::{Margin, margin_of};
 pub use placed_token::PlacedToken;
+pub use reading::terminals::{ends_expression, own_token};

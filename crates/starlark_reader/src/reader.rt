@@ -16,7 +16,7 @@ ghost use Rattle.starlark_grammar.specs.declared.class.LiteralKind.TheVariants a
 ghost use Rattle.starlark_reader.specs.Inner.Pending.{IsIdle, IsPending};
 ghost use Rattle.starlark_reader.specs.Inner.MarginCuts.{IsCutBefore};
 ghost use Rattle.starlark_reader.specs.Inner.Reads.{HasStarted, HasLooked, HasLookedHere, HasRead, HasReadAt, HasReadNext, IsMarginRead, IsPassed, IsPassedBy, IsTaken};
-ghost use Rattle.starlark_reader.specs.Inner.Reader.{CountsLineEnds, has_read_none, IsAhead, IsAheadAfter, IsAtCode, IsBangHere, IsInCode, IsInFlatMargin, IsReached, IsStateAfter, IsNext, IsOver, IsPlainTextHere, IsRead, IsReady, IsSomething, IsWordHere, before_view, left_here, left_to_read, newline_if, newline_of, silent_sort, step_here};
+ghost use Rattle.starlark_reader.specs.Inner.Reader.{CountsLineEnds, has_read_none, IsAhead, IsAheadAfter, IsAheadPast, IsAtCode, IsBangHere, IsInCode, IsInFlatMargin, IsReached, IsStateAfter, IsNext, IsOver, IsPlainTextHere, IsRead, IsReady, IsSomething, IsTokenOf, IsWordHere, before_view, left_here, left_to_read, name_lexeme, newline_if, newline_of, silent_sort, step_here, text_lexeme};
 ghost use Rattle.starlark_reader.specs.Inner.Pieces.{IsAfter, IsLineEnd};
 ghost use Rattle.starlark_grammar.specs.AfterFaults.{next_line};
 ghost use Rattle.starlark_grammar.specs.Cuts.{is_layout, is_settled};
@@ -697,6 +697,7 @@ impl Reader {
         requires stands { IsWordHere text.now self.old (record { class = class.LineEnd; len = len }) }
         ensures ahead { IfOk result (λ line_end. (lexemes : List (Spanned TokenView)) (fault : Option (Spanned Fault)) → IsAhead text.now self.old self.old.stage lexemes fault → IsAheadAfter text.now (newline_of line_end self.old.at len) self.new lexemes fault) }
         ensures memory { OnErr result ((lexemes : List (Spanned TokenView)) (fault : Option (Spanned Fault)) → IsAhead text.now self.old self.old.stage lexemes fault → IsSomething lexemes fault) }
+        ensures cut { IsCharBoundary text.now (self.old.at + len) }
         ensures less { IfOk result (λ line_end. line_end ≡ LineEnd.Passed → left_to_read text.now self.new self.new.stage < left_to_read text.now self.old self.old.stage) }
         ensures code { IfOk result (λ line_end. line_end ≡ LineEnd.Passed → IsAtCode text.now self.new) }
         ensures taken { IfOk result (λ line_end. line_end ≡ LineEnd.Passed → IsTaken len self.old self.new) }
@@ -713,22 +714,17 @@ impl Reader {
         }
     }
 
-    /// Takes the name of `len` bytes here. Don't use the reader after an `AllocError`.
+    /// Passes the name of `len` bytes here.
     #[inline(always)]
-    pub fn take_name(&mut self, len: usize, text: &str) -> Result<PlacedToken, AllocError>
+    pub fn pass_name(&mut self, len: usize, text: &str)
         requires fits { length text.now < 2 ^ 32 }
         requires ready { IsReady text.now self.old self.old.stage }
         requires stands { IsWordHere text.now self.old (record { class = class.Identifier; len = len }) }
-        ensures ahead { IfOk result (λ given. (lexemes : List (Spanned TokenView)) (fault : Option (Spanned Fault)) → IsAhead text.now self.old self.old.stage lexemes fault → IsAheadAfter text.now (Some given) self.new lexemes fault) }
-        ensures memory { OnErr result ((lexemes : List (Spanned TokenView)) (fault : Option (Spanned Fault)) → IsAhead text.now self.old self.old.stage lexemes fault → IsSomething lexemes fault) }
-        ensures code { OnOk result (IsAtCode text.now self.new) }
-        ensures taken { OnOk result (IsTaken len self.old self.new) }
+        ensures ahead { (lexemes : List (Spanned TokenView)) (fault : Option (Spanned Fault)) → IsAhead text.now self.old self.old.stage lexemes fault → IsAheadPast text.now (name_lexeme text.now self.old.at len) self.new lexemes fault }
+        ensures code { IsAtCode text.now self.new }
+        ensures taken { IsTaken len self.old self.new }
     {
-        let begin = self.at;
-        let rest = &text[begin..];
-        let token = Token::Identifier(String::from_str(self.alloc, &rest[..len])?);
-        self.pass_token(&token, len, text);
-        Ok((begin, token, begin + len))
+        self.step_over(len, Before::Other);
     }
 
     /// Takes the comment of `len` bytes here. Don't use the reader after an `AllocError`.
@@ -775,33 +771,27 @@ impl Reader {
         plain_body_len(&mut self.reads, kind, is_raw, quote, &rest[len..])
     }
 
-    /// Takes the string literal here, whose opener has `len` bytes and whose body has `body` bytes.
-    /// One quote closes it, and it has no escapes. Don't use the reader after an `AllocError`.
+    /// Passes the string literal here, whose opener has `len` bytes and whose body has `body` bytes.
+    /// One quote closes it, and it has no escapes.
     #[inline(always)]
-    pub fn take_plain_text(
+    pub fn pass_plain_text(
         &mut self,
         is_raw: bool,
         quote: Quote,
         len: usize,
         body: usize,
         text: &str,
-    ) -> Result<PlacedToken, AllocError>
+    )
         requires fits { length text.now < 2 ^ 32 }
         requires ready { IsReady text.now self.old self.old.stage }
         requires stands { IsWordHere text.now self.old (record { class = class.Opener kind.Text is_raw quote; len = len }) }
         requires plain { IsPlainBody kind.Text is_raw quote (drop len (drop self.old.at text.now)) body }
-        ensures ahead { IfOk result (λ given. (lexemes : List (Spanned TokenView)) (fault : Option (Spanned Fault)) → IsAhead text.now self.old self.old.stage lexemes fault → IsAheadAfter text.now (Some given) self.new lexemes fault) }
-        ensures memory { OnErr result ((lexemes : List (Spanned TokenView)) (fault : Option (Spanned Fault)) → IsAhead text.now self.old self.old.stage lexemes fault → IsSomething lexemes fault) }
-        ensures code { OnOk result (IsAtCode text.now self.new) }
-        ensures taken { OnOk result (IsTaken (len + body + 1) self.old self.new) }
+        ensures ahead { (lexemes : List (Spanned TokenView)) (fault : Option (Spanned Fault)) → IsAhead text.now self.old self.old.stage lexemes fault → IsAheadPast text.now (text_lexeme text.now self.old.at len body) self.new lexemes fault }
+        ensures value { IsCharBoundary text.now (self.old.at + len) × IsCharBoundary text.now (self.old.at + len + body) }
+        ensures code { IsAtCode text.now self.new }
+        ensures taken { IsTaken (len + body + 1) self.old self.new }
     {
-        let begin = self.at;
-        let rest = &text[begin..];
-        let behind = &rest[len..];
-        let whole = len + body + 1;
-        let token = Token::String(String::from_str(self.alloc, &behind[..body])?);
-        self.pass_token(&token, whole, text);
-        Ok((begin, token, begin + whole))
+        self.step_over(len + body + 1, Before::Other);
     }
 
     /// Takes the bytes literal here, whose opener is a `b` and `quote`, and whose body has `body`
@@ -927,6 +917,7 @@ impl Reader {
         requires ready { IsReady text.now self.old self.old.stage }
         requires stands { IsWordHere text.now self.old (record { class = class.Fixed terminal; len = len }) }
         ensures ahead { (lexemes : List (Spanned TokenView)) (fault : Option (Spanned Fault)) → IsAhead text.now self.old self.old.stage lexemes fault → IsAheadAfter text.now (Some result) self.new lexemes fault }
+        ensures token { IsTokenOf terminal (token_view result.1) }
         ensures code { IsInCode self.new → IsAtCode text.now self.new }
         ensures taken { IsTaken len self.old self.new }
     {

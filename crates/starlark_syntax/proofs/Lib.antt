@@ -2,6 +2,7 @@ mod ErrorRows
 pub mod LexerItems
 pub mod LexerReads
 pub mod LexerStates
+pub mod PlainLexemes
 pub mod LexedTexts
 pub mod Held
 pub mod Items

@@ -1,13 +1,15 @@
 //! The lexer, which yields the lexemes of a text one by one.
 
-ghost use Rattle.std.specs.Prelude.{◌≡◌, ◌≤◌, ◌+◌, ◌*◌, ◌^◌, ◌↔◌, ◌||◌, None, length, true, false, IfOk, IsErr};
+ghost use Rattle.std.specs.Prelude.{◌≡◌, ◌≤◌, ◌+◌, ◌*◌, ◌^◌, ◌↔◌, ◌||◌, None, Some, length, true, false, IfOk, IfSome, IsErr};
 ghost use Rattle.std.specs.List.{slice_get};
-ghost use Rattle.starlark_syntax.specs.Lexer.{AnswersBetween, AnswersNext, AnswersWithin, HasReadFor, yielded_by, is_ended_by};
-ghost use Rattle.starlark_token.specs.TextItems.{items};
+ghost use Rattle.starlark_syntax.specs.Lexer.{AnswersBetween, AnswersNext, AnswersWithin, HasReadFor, is_ended_by, most_reads, yielded_by};
+ghost use Rattle.starlark_syntax.specs.PlainLexemes.{IsPlainIn, passed_by, plain_view};
+ghost use Rattle.starlark_token.specs.TextItems.{Given, items};
 
 pub use crate::lexer_state::Lexeme;
-use crate::lexer_state::LexerState;
-use starlark_base::codemap::{CodeMap, SourceTooLong};
+use crate::lexer_state::{FastPath, LexerState};
+use crate::plain_lexeme::{PlainKind, PlainLexeme};
+use starlark_base::codemap::{CodeMap, OrMemory, SourceTooLong};
 use starlark_base::dialect::Dialect;
 use std::alloc::Global;
 use std::marker::Model;
@@ -19,17 +21,20 @@ use std::marker::Model;
 #[derive(Drop)]
 pub struct Lexer<'a> {
     state: LexerState<'a>,
+    /// Whether `next_plain` ran out of memory, which `next` has still to say.
+    has_run_out: bool,
 }
 
 impl<'a> Model for Lexer<'a> {
-    ghost use Rattle.starlark_syntax.specs.Inner.LexerStates.{IsLexing, view_of};
+    ghost use Rattle.std.specs.Prelude.{true};
+    ghost use Rattle.starlark_syntax.specs.Inner.LexerStates.{HasRunOut, IsLexing, lexer_view};
     ghost use Rattle.starlark_syntax.specs.Lexer.{LexerView};
 
     ghost Value = { LexerView };
 
-    ghost view = { λ lexer. view_of lexer.state };
+    ghost view = { λ lexer. lexer_view lexer.state lexer.has_run_out };
 
-    ghost invariant = { λ lexer. IsLexing lexer.state };
+    ghost invariant = { λ lexer. IsLexing lexer.state × (lexer.has_run_out ≡ true → HasRunOut lexer.state) };
 }
 
 impl<'a> Lexer<'a> {
@@ -52,6 +57,7 @@ impl<'a> Lexer<'a> {
         }
         Ok(Lexer {
             state: LexerState::new(alloc, input, code_map),
+            has_run_out: false,
         })
     }
 
@@ -71,7 +77,41 @@ impl<'a> Lexer<'a> {
     {
         // The proof of `between` needs that the text is UTF-8, which the read of a `&str` says.
         let _text = self.text();
-        self.state.next()
+        let item = self.state.next();
+        if item.is_none() && self.has_run_out {
+            self.has_run_out = false;
+            return Some(Err(OrMemory::Memory));
+        }
+        item
+    }
+
+    /// Passes the next lexeme if it is plain, and returns it. `None` where it isn't, and where there
+    /// is none: `next` tells which.
+    ///
+    /// It doesn't allocate a value. Plain are names, keywords, symbols, `Newline`, and string literals
+    /// without escapes that one quote closes. Where it can't allocate for an indent, it returns `None`,
+    /// and `next` returns out of memory.
+    #[inline(always)]
+    pub fn next_plain(&mut self) -> Option<PlainLexeme>
+        ensures item { IfSome result (λ plain. slice_get (items self.old.text) self.old.yielded_count ≡ Some (Given (plain_view self.old.text plain))) }
+        ensures within { IfSome result (IsPlainIn self.old.text) }
+        ensures going { IfSome result (λ plain. self.old.has_ended ≡ false) }
+        ensures after { self.new ≡ record self.old { yielded_count = self.old.yielded_count + passed_by result; reads = self.new.reads } }
+        ensures reads { IfSome result (λ plain. self.new.reads ≤ most_reads self.old.text) }
+    {
+        let _text = self.text();
+        match self.state.next_plain() {
+            FastPath::Passed(plain) => Some(plain),
+            FastPath::Symbol(terminal, (begin, token, end)) => {
+                let kind = PlainKind::of_symbol(terminal, &token);
+                Some(PlainLexeme::of_kind(kind, begin, end))
+            }
+            FastPath::OutOfMemory => {
+                self.has_run_out = true;
+                None
+            }
+            FastPath::Undecided => None,
+        }
     }
 
     /// Number of reads of bytes so far.

@@ -7,16 +7,19 @@ ghost use Rattle.starlark_grammar.specs.Cuts.{is_settled};
 ghost use Rattle.starlark_grammar.specs.Reading.{History};
 ghost use Rattle.starlark_reader.specs.Inner.MarginCuts.{IsCutBefore};
 ghost use Rattle.starlark_reader.specs.Inner.Reader.{IsReached, IsStateAfter, has_read_none};
-ghost use Rattle.starlark_syntax.specs.Inner.LexerStates.{HasAnswered, IsBegun, IsLexing, left_in, view_of};
+ghost use Rattle.starlark_syntax.specs.Inner.LexerStates.{HasAnswered, HasPassed, HasTaken, IsBegun, IsLexing, is_out_of_memory, left_in, passed_count, plain_string, view_of};
 ghost use Rattle.starlark_syntax.specs.Lexer.{is_ended_by, yielded_by};
+ghost use Rattle.starlark_syntax.specs.PlainLexemes.{IsPlainIn};
 ghost use Rattle.starlark_syntax.specs.Inner.Looked.{HasOpened, IsFoundBehindMargin, IsFoundFurther, IsFoundFurtherInCode, IsFoundInCode, IsFoundOut, is_front, is_nothing, is_text_opener, looked_len};
 
 use crate::eval_exception::EvalException;
 use crate::fault_exception::exception;
+use crate::plain_lexeme::{PlainKind, PlainLexeme, token_of};
 use starlark_base::codemap::{CodeMap, OrMemory};
+use starlark_reader::PlacedToken;
 use starlark_reader::reader::{LineEnd, Next, Reader};
 use starlark_token::tokens::Token;
-use starlark_words::scanner::{Class, LiteralKind, ShortWord, TextOpener, Word};
+use starlark_words::scanner::{Class, LiteralKind, ShortWord, Terminal, TextOpener, Word};
 use std::alloc::Global;
 
 /// An item of a lexer: begin in bytes, token, end in bytes; or the fault, or out of memory.
@@ -96,6 +99,20 @@ fn looked_behind_margin(reader: &Reader, looked_to: usize) -> Looked
     } else {
         Looked::All
     }
+}
+
+/// The outcome of the fast path.
+#[derive(Drop)]
+pub enum FastPath {
+    /// A name, a string literal or a `Newline`, which it passed.
+    Passed(PlainLexeme),
+    /// A keyword or symbol, which it passed.
+    // With its token: a second `match` on the terminal costs a symbol ten instructions.
+    Symbol(Terminal, PlacedToken),
+    /// Out of memory, which ends the lexer.
+    OutOfMemory,
+    /// The slow path decides, unless the lexer has ended.
+    Undecided,
 }
 
 impl Looked {
@@ -365,20 +382,23 @@ impl<'a> LexerState<'a> {
         }
     }
 
-    /// Next lexeme where a text literal opens: fast if it has no escapes.
+    /// Passes the string literal here if it has no escapes and one quote closes it. Returns the
+    /// length of its opener; 0 if it isn't so, or something else comes.
+    // A number in a register: an `Option` is memory that each lexeme writes (10 % of a mix).
     #[inline(never)]
-    fn next_text(&mut self) -> Option<Lexeme>
+    fn pass_string(&mut self) -> usize
         requires lexing { IsLexing self.old }
         requires going { self.old.has_ended ≡ false }
         requires front { self.old.looked ≡ Looked.Front }
         requires opened { HasOpened self.old.text.now self.old.reader self.old.looked_to }
-        ensures answer { HasAnswered self.old result self.new }
+        ensures passed { 0 < result → HasPassed self.old (FastPath.Passed (plain_string self.old.reader.at result self.new.reader.at)) self.new }
         ensures lexing { IsLexing self.new }
-        ensures after { view_of self.new ≡ record (view_of self.old) { yielded_count = self.old.yielded_count + yielded_by result; has_ended = is_ended_by result; reads = self.new.reader.reads } }
+        ensures some { 0 < result → view_of self.new ≡ record (view_of self.old) { yielded_count = self.old.yielded_count + 1; reads = self.new.reader.reads } }
+        ensures none { result ≡ 0 → view_of self.new ≡ record (view_of self.old) { reads = self.new.reader.reads } }
     {
         let Some(TextOpener { is_raw, quote, len }) = self.reader.text_opener(self.text) else {
             self.looked = Looked::All;
-            return self.next_of_all();
+            return 0;
         };
         let kind = LiteralKind::Text;
         let body = match self
@@ -389,19 +409,93 @@ impl<'a> LexerState<'a> {
             Err(run) => {
                 self.looked_to = self.reader.at() + len + 1 + run;
                 self.looked = Looked::All;
-                return self.next_of_all();
+                return 0;
             }
         };
-        match self
-            .reader
-            .take_plain_text(is_raw, quote, len, body, self.text)
-        {
-            Ok(lexeme) => {
-                self.yielded_count += 1;
-                self.looked = looked_further(&self.reader, self.looked_to);
-                Some(Ok(lexeme))
+        self.reader
+            .pass_plain_text(is_raw, quote, len, body, self.text);
+        self.yielded_count += 1;
+        self.looked = looked_further(&self.reader, self.looked_to);
+        len
+    }
+
+    /// Passes the next lexeme if the fast path decides it: a name, a keyword, a symbol of one byte, a
+    /// newline, or a string literal without escapes.
+    #[inline(always)]
+    pub fn next_plain(&mut self) -> FastPath
+        requires { IsLexing self.old }
+        ensures ended { self.old.has_ended ≡ true → (result ≡ FastPath.Undecided) × (self.new ≡ self.old) }
+        ensures passed { self.old.has_ended ≡ false → HasPassed self.old result self.new }
+        ensures lexing { IsLexing self.new }
+        ensures after { view_of self.new ≡ record (view_of self.old) { yielded_count = self.old.yielded_count + passed_count result; has_ended = self.old.has_ended || is_out_of_memory result; reads = self.new.reader.reads } }
+    {
+        while self.looked.is_nothing() {
+            let Some(Word { class, len }) = self.reader.common_word(self.text) else {
+                self.looked_to = self.reader.at() + 1;
+                self.looked = Looked::Front;
+                return FastPath::Undecided;
+            };
+            let begin = self.reader.at();
+            match class {
+                Class::Identifier => {
+                    self.yielded_count += 1;
+                    self.reader.pass_name(len, self.text);
+                    return FastPath::Passed(PlainLexeme::name(begin, self.reader.at()));
+                }
+                Class::Fixed(terminal) => {
+                    self.yielded_count += 1;
+                    let lexeme = self.reader.take_terminal(terminal, len, self.text);
+                    self.looked = looked_in_code(&self.reader);
+                    return FastPath::Symbol(terminal, lexeme);
+                }
+                Class::LineEnd => match self.reader.take_line_end(len, self.text) {
+                    Ok(LineEnd::Passed) => {}
+                    Ok(LineEnd::Newline) => {
+                        self.yielded_count += 1;
+                        self.looked = looked_behind_margin(&self.reader, self.looked_to);
+                        let kind = PlainKind::Newline;
+                        return FastPath::Passed(PlainLexeme::of_kind(kind, begin, begin + len));
+                    }
+                    Ok(LineEnd::Fault) => {
+                        self.looked = Looked::All;
+                        return FastPath::Undecided;
+                    }
+                    Err(_) => {
+                        self.has_ended = true;
+                        self.looked = Looked::All;
+                        return FastPath::OutOfMemory;
+                    }
+                },
+                _ => {
+                    let is_text = is_text_opener(class);
+                    self.looked_to = begin + looked_len(is_text, len);
+                    self.looked = Looked::Front;
+                    if !is_text {
+                        return FastPath::Undecided;
+                    }
+                    let opener = self.pass_string();
+                    if opener == 0 {
+                        return FastPath::Undecided;
+                    }
+                    let end = self.reader.at();
+                    return FastPath::Passed(PlainLexeme::string(begin, opener, end));
+                }
             }
+        }
+        FastPath::Undecided
+    }
+
+    /// The item of a plain lexeme, which was passed. Out of memory ends the lexer.
+    #[inline(always)]
+    fn take(&mut self, plain: PlainLexeme) -> Option<Lexeme>
+        requires within { IsPlainIn self.old.text.now plain }
+        requires counted { 0 < self.old.yielded_count }
+        ensures { HasTaken self.old plain result self.new }
+    {
+        match token_of(plain, self.alloc, self.text) {
+            Ok(token) => Some(Ok((plain.begin, token, plain.end))),
             Err(_) => {
+                self.yielded_count -= 1;
                 self.has_ended = true;
                 self.looked = Looked::All;
                 Some(Err(OrMemory::Memory))
@@ -409,22 +503,20 @@ impl<'a> LexerState<'a> {
         }
     }
 
-    /// Next lexeme where the loop of `next` doesn't determine it. `is_text` says that a text literal
-    /// opens.
+    /// The next item where the fast path doesn't decide it.
+    // A function of its own: else each lexeme fills memory for the result of a call (3 %).
     #[inline(always)]
-    fn next_slowly(&mut self, is_text: bool) -> Option<Lexeme>
+    fn next_slowly(&mut self) -> Option<Lexeme>
         requires lexing { IsLexing self.old }
-        requires going { self.old.has_ended ≡ false }
-        requires front { is_text ≡ true → (self.old.looked ≡ Looked.Front) × HasOpened self.old.text.now self.old.reader self.old.looked_to }
-        ensures answer { HasAnswered self.old result self.new }
+        ensures ended { self.old.has_ended ≡ true → (result ≡ None) × (self.new ≡ self.old) }
+        ensures answer { self.old.has_ended ≡ false → HasAnswered self.old result self.new }
         ensures lexing { IsLexing self.new }
-        ensures after { view_of self.new ≡ record (view_of self.old) { yielded_count = self.old.yielded_count + yielded_by result; has_ended = is_ended_by result; reads = self.new.reader.reads } }
+        ensures after { view_of self.new ≡ record (view_of self.old) { yielded_count = self.old.yielded_count + yielded_by result; has_ended = self.old.has_ended || is_ended_by result; reads = self.new.reader.reads } }
     {
-        if is_text {
-            self.next_text()
-        } else {
-            self.next_of_all()
+        if self.has_ended {
+            return None;
         }
+        self.next_of_all()
     }
 
     /// The next lexeme, or the exception of the fault after them; `None` after all, and after any
@@ -437,67 +529,12 @@ impl<'a> LexerState<'a> {
         ensures lexing { IsLexing self.new }
         ensures after { view_of self.new ≡ record (view_of self.old) { yielded_count = self.old.yielded_count + yielded_by result; has_ended = self.old.has_ended || is_ended_by result; reads = self.new.reader.reads } }
     {
-        let is_text = loop {
-            if !self.looked.is_nothing() {
-                if self.has_ended {
-                    return None;
-                }
-                break false;
-            }
-            let Some(Word { class, len }) = self.reader.common_word(self.text) else {
-                self.looked_to = self.reader.at() + 1;
-                self.looked = Looked::Front;
-                break false;
-            };
-            match class {
-                Class::Identifier => {
-                    return match self.reader.take_name(len, self.text) {
-                        Ok(lexeme) => {
-                            self.yielded_count += 1;
-                            Some(Ok(lexeme))
-                        }
-                        Err(_) => {
-                            self.has_ended = true;
-                            self.looked = Looked::All;
-                            Some(Err(OrMemory::Memory))
-                        }
-                    };
-                }
-                Class::Fixed(terminal) => {
-                    self.yielded_count += 1;
-                    let lexeme = self.reader.take_terminal(terminal, len, self.text);
-                    self.looked = looked_in_code(&self.reader);
-                    return Some(Ok(lexeme));
-                }
-                Class::LineEnd => {
-                    let begin = self.reader.at();
-                    match self.reader.take_line_end(len, self.text) {
-                        Ok(LineEnd::Passed) => {}
-                        Ok(LineEnd::Newline) => {
-                            self.yielded_count += 1;
-                            self.looked = looked_behind_margin(&self.reader, self.looked_to);
-                            return Some(Ok((begin, Token::Newline, begin + len)));
-                        }
-                        Ok(LineEnd::Fault) => {
-                            self.looked = Looked::All;
-                            break false;
-                        }
-                        Err(_) => {
-                            self.has_ended = true;
-                            self.looked = Looked::All;
-                            return Some(Err(OrMemory::Memory));
-                        }
-                    }
-                }
-                _ => {
-                    let is_text = is_text_opener(class);
-                    self.looked_to = self.reader.at() + looked_len(is_text, len);
-                    self.looked = Looked::Front;
-                    break is_text;
-                }
-            }
-        };
-        self.next_slowly(is_text)
+        match self.next_plain() {
+            FastPath::Passed(plain) => self.take(plain),
+            FastPath::Symbol(_, lexeme) => Some(Ok(lexeme)),
+            FastPath::OutOfMemory => Some(Err(OrMemory::Memory)),
+            FastPath::Undecided => self.next_slowly(),
+        }
     }
 
     /// The offset before the text's end where it can be cut, if the lexemes yielded so far are those

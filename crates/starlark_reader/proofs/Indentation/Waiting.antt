@@ -3,7 +3,8 @@ use Rattle.std.proofs.Common.{arith, ◌≡◌, Bool, false, ℕ, ◌+◌, ◌<�
 use Rattle.std.specs.Prelude.{Option, Result, Ok, Err, OnErr, option_to_list}
 use Rattle.starlark_grammar.specs.Words.{Text}
 use Rattle.starlark_grammar.specs.Margins.{comment_of, comments_from}
-use Rattle.starlark_grammar.specs.Tokens.{Lexeme}
+use Rattle.starlark_grammar.specs.Tokens.{Lexeme, Spanned}
+use Rattle.starlark_token.specs.TokenViews.{TokenView}
 use Rattle.starlark_token.specs.Lexemes.{lexeme_view, shown_lexeme}
 use Rattle.starlark_reader.specs.Inner.Pending.{IsFirst, IsFirstAfter, IsFirstComment, IsIdle, IsPending, lexemes_after, lines_between, pending_lexemes}
 use Rattle.starlark_reader.specs.declared.pending.Behind.{Behind}
@@ -48,9 +49,16 @@ pub after_error : {A E : Type 0} (result : Result A E) (P : Type 0) → P → On
 after_error (Ok x) P p = tt
 after_error (Err e) P p = p
 
+-- the first lexemes are those passed, and the others are pending
+abbrev pub HandsPast : Text → List (Spanned TokenView) → Pending → List Lexeme → Type 0
+HandsPast text passed pending lexemes = IsPending text pending × (map shown_lexeme lexemes ≡ passed ++ map shown_lexeme (pending_lexemes text pending))
+
 -- the first of the lexemes may be the one given, and the others are pending
 abbrev pub Hands : Text → Option (ℕ × Token × ℕ) → Pending → List Lexeme → Type 0
-Hands text given pending lexemes = IsPending text pending × (map shown_lexeme lexemes ≡ map lexeme_view (option_to_list given) ++ map shown_lexeme (pending_lexemes text pending))
+Hands text given pending lexemes = HandsPast text (map lexeme_view (option_to_list given)) pending lexemes
+
+pub passes_one : (text : Text) (pending : Pending) (lexeme : Lexeme) → IsIdle text pending → HandsPast text (shown_lexeme lexeme ∷ []) pending (lexeme ∷ [])
+passes_one text pending lexeme idle = (idle.0, ap (λ ls. shown_lexeme lexeme ∷ map shown_lexeme ls) (sym idle.1))
 
 pub hands_none : (text : Text) (pending : Pending) → IsIdle text pending → Hands text None pending []
 hands_none text pending idle = (idle.0, sym (ap (map shown_lexeme) idle.1))

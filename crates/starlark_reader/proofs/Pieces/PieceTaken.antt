@@ -6,18 +6,23 @@ use Rattle.std.specs.declared.alloc.Global.{Global}
 use Rattle.starlark_grammar.specs.Words.{Text, language}
 use Rattle.starlark_grammar.specs.Numbers.{integer_of}
 use Rattle.starlark_grammar.specs.Tokens as Tokens
-use Rattle.starlark_grammar.specs.Tokens.{Fault, Spanned}
+use Rattle.starlark_grammar.specs.Tokens.{Fault, Spanned, moved}
 use Rattle.starlark_grammar.specs.declared.class.Class.TheVariants as class
 use Rattle.starlark_grammar.specs.declared.class.LiteralKind.{LiteralKind}
 use Rattle.starlark_grammar.specs.declared.class.LiteralKind.TheVariants.{Text as OfText, Bytes as OfBytes, FString as OfFString}
 use Rattle.starlark_grammar.specs.declared.class.Quote.{Quote}
 use Rattle.starlark_grammar.specs.declared.class.Terminal.{Terminal}
-use Rattle.starlark_grammar.specs.Depths.{InText, Mode}
+use Rattle.starlark_grammar.specs.declared.class.Terminal.TheVariants as terminals
+use Rattle.starlark_grammar.specs.Depths.{AtTop, InText, Mode}
 use Rattle.starlark_words.specs.Inner.Literals.{IsPlainBody}
 use Rattle.starlark_grammar.specs.Inner.Openings.{opening_view}
 use Rattle.starlark_grammar.specs.declared.class.Opening.{Opening}
 use Rattle.starlark_words.specs.Inner.Words.{IsDigitAt}
+use Rattle.std.proofs.lemmas.Str.{IsUtf8-drop}
+use Rattle.starlark_grammar.proofs.Order.Edges.{boundary_shift}
 use Rattle.starlark_reader.proofs.Literals.Pieces.{opener_plain}
+use Rattle.starlark_reader.proofs.OpenBrackets.FStrings.{keeps, one_kept}
+use Rattle.starlark_token.specs.Lexemes.{shown_lexeme}
 use Rattle.starlark_reader.specs.Inner.Steps.{IsPlainText, IsStep, text_step}
 use Rattle.starlark_reader.specs.Inner.Nesting.{Represents, change_by, is_fstring_start, mode_view}
 use Rattle.starlark_reader.specs.declared.literal.chunks.PlainText.{PlainText}
@@ -33,7 +38,7 @@ use Rattle.starlark_reader.specs.Inner.Pending.{IsIdle}
 use Rattle.starlark_token.specs.declared.tokens.Token.{Token}
 use Rattle.starlark_words.specs.declared.scanner.word.Word.{Word}
 use Rattle.starlark_reader.specs.Inner.Pieces.{IsAfter, IsPiece, is_code, nothing_of}
-use Rattle.starlark_reader.specs.Inner.Reader.{IsAhead, IsAheadAfter, IsBangHere, IsInCode, IsPlainTextHere, IsStateAfter, IsRead, IsWordHere, before_view, left_here, silent_sort, step_here}
+use Rattle.starlark_reader.specs.Inner.Reader.{IsAhead, IsAheadAfter, IsAheadPast, IsBangHere, IsInCode, IsPlainTextHere, IsStateAfter, IsRead, IsReadPast, IsReady, IsTokenOf, IsWordHere, before_view, left_here, silent_sort, step_here}
 use Rattle.starlark_token.specs.TokenViews.{TokenView, Whole, token_view}
 use Rattle.starlark_reader.specs.declared.nesting.LexerMode.{LexerMode}
 use Rattle.starlark_reader.specs.declared.nesting.LexerMode.TheVariants as mode
@@ -43,10 +48,10 @@ use Rattle.starlark_reader.specs.declared.reader.Before as sort
 use Rattle.starlark_reader.specs.declared.reader.Before.TheVariants as before
 use Rattle.starlark_reader.specs.declared.reader.Reader.{Reader}
 use Rattle.starlark_reader.specs.declared.reader.Stage.TheVariants as stage
-use Rattle.starlark_reader.proofs.Pieces.CodePlaces.{bang_at, in_text, word_at, word_len}
-use Rattle.starlark_reader.proofs.Pieces.Here.{piece_here}
-use Rattle.starlark_reader.proofs.Pieces.Taken.{none_before, read_ahead, took}
-use Rattle.starlark_reader.proofs.Indentation.Waiting.{hands_none}
+use Rattle.starlark_reader.proofs.Pieces.CodePlaces.{bang_at, in_text, word_at, word_cut, word_len}
+use Rattle.starlark_reader.proofs.Pieces.Here.{piece_here, shown_own}
+use Rattle.starlark_reader.proofs.Pieces.Taken.{none_before, past_ahead, read_ahead, took, took_past}
+use Rattle.starlark_reader.proofs.Indentation.Waiting.{HandsPast, hands_none, passes_one}
 
 -- the piece that was read is the step at the reader's offset
 pub piece_read : (text : Text) (history : History) (reader : Reader) (place : LexerMode) (balanced follows_gap : Bool) (rest : Text) (piece : code.Piece) → rest ≡ drop reader.at text → IsStateAfter text history reader
@@ -102,15 +107,9 @@ unfolding next_step situation
 word_read text history reader word kept here =
     word_at (is_gap_sort reader.before) (situation history) (drop reader.at text) (mode_after history.tokens) word.class word.len (here.code history.tokens kept.nesting) (behind_sort reader.before history.before kept.before) refl (sym here.front) here.bang
 
-pub name_step : (text : Text) (history : History) (reader : Reader) (len : ℕ) (name : String Global) → IsStateAfter text history reader → IsWordHere text reader (record { class = class.Identifier; len = len }) → string_bytes name ≡ take len (drop reader.at text)
-    → IsStep (step_here text history reader) (step.Token (token.Identifier name) len)
-unfolding token_view
-name_step text history reader len name kept here is = (
-  Tokens.Identifier (take len (drop reader.at text)),
-  ap (λ t. Whole (Tokens.Identifier t)) is,
-  refl,
-  word_read text history reader (record { class = class.Identifier; len = len }) kept here ∙ ap (λ n. pieces.token n (Tokens.Identifier (take len (drop reader.at text)))) (word_len (drop reader.at text) class.Identifier len (sym here.front)),
-)
+pub name_here : (text : Text) (history : History) (reader : Reader) (len : ℕ) → IsStateAfter text history reader → IsWordHere text reader (record { class = class.Identifier; len = len }) → step_here text history reader ≡ pieces.token len (Tokens.Identifier (take len (drop reader.at text)))
+name_here text history reader len kept here =
+    word_read text history reader (record { class = class.Identifier; len = len }) kept here ∙ ap (λ n. pieces.token n (Tokens.Identifier (take len (drop reader.at text)))) (word_len (drop reader.at text) class.Identifier len (sym here.front))
 
 pub comment_step : (text : Text) (history : History) (reader : Reader) (len : ℕ) (value : String Global) → IsStateAfter text history reader → IsWordHere text reader (record { class = class.Comment; len = len })
     → string_bytes value ≡ drop 1 (take len (drop reader.at text)) → IsStep (step_here text history reader) (step.Token (token.Comment value) len)
@@ -122,15 +121,7 @@ comment_step text history reader len value kept here is = (
   word_read text history reader (record { class = class.Comment; len = len }) kept here ∙ ap (λ n. pieces.token n (Tokens.Comment (drop 1 (take len (drop reader.at text))))) (word_len (drop reader.at text) class.Comment len (sym here.front)),
 )
 
--- names, texts and comments change neither brackets nor f-strings
-pub name_changes : (name : String Global) → change_by (token_view (token.Identifier name)) ≡ change.Nothing
-unfolding token_view change_by
-name_changes name = refl
-
-pub text_changes : (value : String Global) → change_by (token_view (token.String value)) ≡ change.Nothing
-unfolding token_view change_by
-text_changes value = refl
-
+-- bytes and comments change neither brackets nor f-strings
 pub bytes_changes : (value : Vec ℕ Global) → change_by (token_view (token.Bytes value)) ≡ change.Nothing
 unfolding token_view change_by
 bytes_changes value = refl
@@ -206,16 +197,10 @@ plain_front text history reader kind is_raw quote len count other kept here plai
     ∙ ap (λ n. pieces.opener (mode_after history.tokens) kind (pieces.opening_of is_raw quote (drop len (drop reader.at text))) n (drop len (drop reader.at text))) (word_len (drop reader.at text) (class.Opener kind is_raw quote) len (sym here.front))
     ∙ plain_opener (mode_after history.tokens) kind is_raw quote len count (drop len (drop reader.at text)) other plain
 
-pub literal_step : (text : Text) (history : History) (reader : Reader) (is_raw : Bool) (quote : Quote) (len count : ℕ) (value : String Global) → IsStateAfter text history reader
+pub text_here : (text : Text) (history : History) (reader : Reader) (is_raw : Bool) (quote : Quote) (len count : ℕ) → IsStateAfter text history reader
     → IsWordHere text reader (record { class = class.Opener OfText is_raw quote; len = len }) → IsPlainBody OfText is_raw quote (drop len (drop reader.at text)) count
-    → string_bytes value ≡ take count (drop len (drop reader.at text)) → IsStep (step_here text history reader) (step.Token (token.String value) (len + count + 1))
-unfolding token_view situation
-literal_step text history reader is_raw quote len count value kept here plain is = (
-  Tokens.String (take count (drop len (drop reader.at text))),
-  ap (λ t. Whole (Tokens.String t)) is,
-  refl,
-  plain_front text history reader OfText is_raw quote len count (λ e. cc) kept here plain,
-)
+    → step_here text history reader ≡ pieces.token (len + count + 1) (Tokens.String (take count (drop len (drop reader.at text))))
+text_here text history reader is_raw quote len count kept here plain = plain_front text history reader OfText is_raw quote len count (λ e. cc) kept here plain
 
 pub bytes_step : (text : Text) (history : History) (reader : Reader) (quote : Quote) (count : ℕ) (value : Vec ℕ Global) → IsStateAfter text history reader
     → IsWordHere text reader (record { class = class.Opener OfBytes false quote; len = 2 }) → IsPlainBody OfBytes false quote (drop 2 (drop reader.at text)) count
@@ -281,6 +266,14 @@ counting_line_end text history reader len kept here counts =
 pub left_onward : (text : Text) (reader : Reader) (lexemes : List (Spanned TokenView)) (fault : Option (Spanned Fault)) → reader.stage ≡ stage.Onward → IsAhead text reader reader.stage lexemes fault → IsAhead text reader stage.Onward lexemes fault
 left_onward text reader lexemes fault on ahead = subst (λ (s : Stage). IsAhead text reader s lexemes fault) on ahead
 
+-- what is ahead once one lexeme was passed here, whatever the history
+pub onward_past : (text : Text) (old : Reader) (lexeme : Spanned TokenView) (new : Reader) (lexemes : List (Spanned TokenView)) (fault : Option (Spanned Fault)) → ((history : History) → IsStateAfter text history old → IsReadPast text (left_here text history old) (lexeme ∷ []) new)
+    → IsIdle text old.pending → IsAhead text old stage.Onward lexemes fault → IsAheadPast text lexeme new lexemes fault
+onward_past text old lexeme new lexemes fault read idle ahead =
+    let history = ahead.is_left.0 in
+    let both = none_before text old stage.Onward lexemes fault (left_here text history old) idle ahead ahead.is_left.2 in
+    past_ahead text (left_here text history old) lexeme new lexemes fault (read history ahead.is_left.1) both.0 both.1
+
 -- what is ahead is still ahead after the piece here is read, whatever the history
 pub onward_ahead : (text : Text) (old : Reader) (given : Option (ℕ × Token × ℕ)) (new : Reader) (lexemes : List (Spanned TokenView)) (fault : Option (Spanned Fault)) → ((history : History) → IsStateAfter text history old → IsRead text (left_here text history old) given new)
     → IsIdle text old.pending → IsAhead text old stage.Onward lexemes fault → IsAheadAfter text given new lexemes fault
@@ -317,3 +310,41 @@ nothing_taken text history old new len true utf8 kept stands idle is =
 nothing_taken text history old new len false utf8 kept stands idle is =
     let here = piece_here text history old (nothing_piece len false) kept stands in
     rw is (took text history old None _ (nothing_piece len false) utf8 kept stands refl kept.nesting (kept.levels ∙ ap open_widths (sym (append-nil history.widths))) refl refl (omega (arith, kept.few, here.0)) refl (hands_none text old.pending idle))
+
+-- a token that changes neither brackets nor f-strings
+abbrev pub one_token : ℕ → Tokens.Token → Piece
+one_token len node = record { len = len; lexemes = record { begin = 0; node = node; end = len } ∷ []; width = None; sort = pieces.Other }
+
+pub token_inside : (text : Text) (history : History) (reader : Reader) (len : ℕ) (node : Tokens.Token) → IsStateAfter text history reader → step_here text history reader ≡ pieces.token len node → (1 ≤ len) × (reader.at + len ≤ length text)
+token_inside text history reader len node kept stands = piece_here text history reader (one_token len node) kept stands
+
+pub token_passed : (text : Text) (history : History) (old new : Reader) (len : ℕ) (node : Tokens.Token) → IsUtf8 text → IsStateAfter text history old → step_here text history old ≡ pieces.token len node → IsIdle text old.pending → is_fstring_start node ≡ false
+    → keeps node ≡ true → change_by (Whole node) ≡ change.Nothing → new ≡ record old { at = old.at + len; before = before.Other; stage = stage.Onward } → IsReadPast text (left_here text history old) (record { begin = old.at; node = Whole node; end = old.at + len } ∷ []) new
+token_passed text history old new len node utf8 kept stands idle own keeps none is =
+    let here = piece_here text history old (one_token len node) kept stands in
+    let start : old.at + 0 ≡ old.at = omega arith in
+    let shown : shown_lexeme (moved old.at (record { begin = 0; node = node; end = len })) ≡ record { begin = old.at; node = Whole node; end = old.at + len } = rw (start, shown_own node own) refl in
+    rw is (took_past text history old (record { begin = old.at; node = Whole node; end = old.at + len } ∷ []) _ (one_token len node) utf8 kept stands refl
+    (one_kept node history.tokens old.nesting keeps none kept.nesting)
+    (kept.levels ∙ ap open_widths (sym (append-nil history.widths))) refl refl (omega (arith, kept.few, here.0)) refl
+    (subst (λ (view : Spanned TokenView). HandsPast text (view ∷ []) old.pending (moved old.at (record { begin = 0; node = node; end = len }) ∷ [])) shown (passes_one text old.pending (moved old.at (record { begin = 0; node = node; end = len })) idle)))
+
+-- names and texts change neither brackets nor f-strings
+pub name_changes : (name : Text) → change_by (Whole (Tokens.Identifier name)) ≡ change.Nothing
+unfolding change_by
+name_changes name = refl
+
+pub text_changes : (value : Text) → change_by (Whole (Tokens.String value)) ≡ change.Nothing
+unfolding change_by
+text_changes value = refl
+
+-- the token of a keyword or symbol, in any mode
+pub terminal_shown : (place : Mode) (terminal : Terminal) (view : TokenView) → view ≡ Whole (pieces.terminal_token place terminal) → IsTokenOf terminal view
+terminal_shown AtTop terminals.ClosingCurly view is = rw is refl
+terminal_shown place terminal view is = rw is refl
+
+-- a word at the reader's offset ends at a character boundary
+pub word_boundary : (text : Text) (reader : Reader) (word : Word) → IsUtf8 text → IsReady text reader reader.stage → IsWordHere text reader word → IsCharBoundary text (reader.at + word.len)
+word_boundary text reader word utf8 ready here =
+    let left = (left_onward text reader ready.0 ready.1 here.stage ready.2).is_left in
+    boundary_shift text reader.at word.len left.1.boundary (word_cut (drop reader.at text) word.class word.len (IsUtf8-drop text reader.at utf8 left.1.boundary) (sym here.front))

@@ -20,7 +20,7 @@ use Rattle.starlark_reader.specs.Inner.Pending.{IsIdle, IsPending, lines_between
 use Rattle.starlark_reader.specs.Inner.Nesting.{Represents, bracket_count, change_by}
 use Rattle.starlark_reader.specs.Inner.MarginCuts.{IsAfterLines, IsCutBefore}
 use Rattle.starlark_reader.specs.Inner.MarginLines.{IsOfMargin}
-use Rattle.starlark_reader.specs.Inner.Reader.{begins_with_tab, has_read_none, IsAhead, IsAheadAfter, IsCutAhead, HoldsCuts, IsInFlatMargin, IsReached, IsReadTo, IsStateAfter, IsLeft, IsRead, before_view, history_from, history_of, left_here, left_to_read, remaining_outcome, step_here}
+use Rattle.starlark_reader.specs.Inner.Reader.{begins_with_tab, has_read_none, IsAhead, IsAheadAfter, IsAheadPast, IsCutAhead, HoldsCuts, IsInFlatMargin, IsReached, IsReadTo, IsStateAfter, IsLeft, IsRead, IsReadPast, before_view, history_from, history_of, left_here, left_to_read, remaining_outcome, step_here}
 use Rattle.starlark_token.specs.TokenViews.{TokenView, Whole, token_view}
 use Rattle.starlark_token.specs.declared.lexeme_error.LexemeError.{LexemeError}
 use Rattle.starlark_reader.specs.declared.nesting.Nesting.{Nesting}
@@ -45,7 +45,7 @@ use Rattle.starlark_grammar.proofs.Choices.{either}
 use Rattle.starlark_reader.proofs.Pieces.MarginCuts.{cut_of_piece, first_ahead_cut, first_cut, line_ahead_cut, line_cut, none_at_end, none_at_fault, read_first, read_more}
 use Rattle.starlark_grammar.proofs.Joining.KeptPlaces.{IsInMargin}
 use Rattle.starlark_grammar.proofs.Joining.LaidCuts.{Behind, First, MarginAt, line_laid}
-use Rattle.starlark_reader.proofs.Indentation.Waiting.{Hands, hands_first, hands_later}
+use Rattle.starlark_reader.proofs.Indentation.Waiting.{Hands, HandsPast, hands_first, hands_later}
 
 -- a state is always after the first margin of the text
 begun : (text : Text) (history : History) (reader : Reader) → IsStateAfter text history reader → is_nothing history.before ≡ false
@@ -164,8 +164,8 @@ pub record AreCutsBehind (text : Text) (history : History) (at : ℕ) (piece : P
       (length (pending_lexemes text new.pending) + length (remaining_outcome (after history piece) (at + piece.len) (drop piece.len (drop at text))).lexemes)
 
 -- a piece was read, and the rest is left after it
-read_piece : (text : Text) (whole : Outcome) (history : History) (at : ℕ) (given : Option (ℕ × Token × ℕ)) (new : Reader) (piece : Piece) → GoesOn at piece whole (remaining_outcome (after history piece) (at + piece.len) (drop piece.len (drop at text)))
-    → IsStateAfter text (after history piece) new → new.at ≡ at + piece.len → new.stage ≡ stage.Onward → Hands text given new.pending (map (moved at) piece.lexemes) → AreCutsBehind text history at piece new → IsRead text whole given new
+read_piece : (text : Text) (whole : Outcome) (history : History) (at : ℕ) (given : List (Spanned TokenView)) (new : Reader) (piece : Piece) → GoesOn at piece whole (remaining_outcome (after history piece) (at + piece.len) (drop piece.len (drop at text)))
+    → IsStateAfter text (after history piece) new → new.at ≡ at + piece.len → new.stage ≡ stage.Onward → HandsPast text given new.pending (map (moved at) piece.lexemes) → AreCutsBehind text history at piece new → IsReadPast text whole given new
 read_piece text whole history at given new piece goes kept is_at is_onward hands cuts =
     let behind : drop piece.len (drop at text) ≡ drop new.at text = sym (drop-sum at piece.len text) ∙ ap (λ n. drop n text) (sym is_at) in
     let rest = remaining_outcome (after history piece) (at + piece.len) (drop piece.len (drop at text)) in
@@ -183,9 +183,9 @@ read_piece text whole history at given new piece goes kept is_at is_onward hands
           (subst (λ n. HoldsCuts text new stage.Onward (length rest.lexemes) (n + length rest.lexemes) (length (pending_lexemes text new.pending) + length rest.lexemes)) (sym (length-map piece.lexemes (moved at))) cuts.cuts);
     }
 
-took_by : (text : Text) (history : History) (old : Reader) (given : Option (ℕ × Token × ℕ)) (new : Reader) (piece : Piece) → IsUtf8 text → IsStateAfter text history old → step_here text history old ≡ Stands piece → AreCutsBehind text history old.at piece new
+took_by : (text : Text) (history : History) (old : Reader) (given : List (Spanned TokenView)) (new : Reader) (piece : Piece) → IsUtf8 text → IsStateAfter text history old → step_here text history old ≡ Stands piece → AreCutsBehind text history old.at piece new
     → Represents (tokens_onto history.tokens piece.lexemes) new.nesting → new.levels ≡ open_widths (history.widths ++ option_to_list piece.width) → before_view new.before ≡ piece.sort → new.at ≡ old.at + piece.len → bracket_count new.nesting ≤ new.at
-    → new.stage ≡ stage.Onward → Hands text given new.pending (map (moved old.at) piece.lexemes) → IsRead text (left_here text history old) given new
+    → new.stage ≡ stage.Onward → HandsPast text given new.pending (map (moved old.at) piece.lexemes) → IsReadPast text (left_here text history old) given new
 took_by text history old given new piece utf8 kept stands cuts nesting levels before is_at few is_onward hands =
     read_piece text (left_here text history old) history old.at given new piece (onward_stands history old.at (drop old.at text) piece (begun text history old kept) stands)
     (kept_behind text history old.at new piece utf8 kept.boundary stands nesting levels before is_at few (sym (history_onward history (drop old.at text) piece (begun text history old kept) stands) ∙ kept.onward) (read_more text history old.at new.at piece kept.read stands is_at)) is_at is_onward hands cuts
@@ -205,11 +205,11 @@ no_cut_in text history at piece read begun stands other x found = by found.n fou
         cc
 
 -- a piece that is no margin
-pub took : (text : Text) (history : History) (old : Reader) (given : Option (ℕ × Token × ℕ)) (new : Reader) (piece : Piece) → IsUtf8 text → IsStateAfter text history old → step_here text history old ≡ Stands piece → is_layout piece.sort ≡ false
+pub took_past : (text : Text) (history : History) (old : Reader) (passed : List (Spanned TokenView)) (new : Reader) (piece : Piece) → IsUtf8 text → IsStateAfter text history old → step_here text history old ≡ Stands piece → is_layout piece.sort ≡ false
     → Represents (tokens_onto history.tokens piece.lexemes) new.nesting → new.levels ≡ open_widths (history.widths ++ option_to_list piece.width) → before_view new.before ≡ piece.sort → new.at ≡ old.at + piece.len → bracket_count new.nesting ≤ new.at
-    → new.stage ≡ stage.Onward → Hands text given new.pending (map (moved old.at) piece.lexemes) → IsRead text (left_here text history old) given new
-took text history old given new piece utf8 kept stands other nesting levels before =
-    took_by text history old given new piece utf8 kept stands
+    → new.stage ≡ stage.Onward → HandsPast text passed new.pending (map (moved old.at) piece.lexemes) → IsReadPast text (left_here text history old) passed new
+took_past text history old passed new piece utf8 kept stands other nesting levels before =
+    took_by text history old passed new piece utf8 kept stands
     (record {
       cut = λ on layout flat inside. let both : true ≡ false = ap is_layout (sym (ap before_view layout) ∙ before) ∙ other in cc;
       cuts = λ x behind cut least most.
@@ -217,11 +217,16 @@ took text history old given new piece utf8 kept stands other nesting levels befo
     })
     nesting levels before
 
+pub took : (text : Text) (history : History) (old : Reader) (given : Option (ℕ × Token × ℕ)) (new : Reader) (piece : Piece) → IsUtf8 text → IsStateAfter text history old → step_here text history old ≡ Stands piece → is_layout piece.sort ≡ false
+    → Represents (tokens_onto history.tokens piece.lexemes) new.nesting → new.levels ≡ open_widths (history.widths ++ option_to_list piece.width) → before_view new.before ≡ piece.sort → new.at ≡ old.at + piece.len → bracket_count new.nesting ≤ new.at
+    → new.stage ≡ stage.Onward → Hands text given new.pending (map (moved old.at) piece.lexemes) → IsRead text (left_here text history old) given new
+took text history old given new piece = took_past text history old (map lexeme_view (option_to_list given)) new piece
+
 took_first : (text : Text) (new : Reader) (piece : Piece) → IsUtf8 text → first_margin text ≡ Stands piece → AreCutsBehind text nothing 0 piece new
     → Represents (tokens_onto [] piece.lexemes) new.nesting → new.levels ≡ open_widths ([] ++ option_to_list piece.width) → before_view new.before ≡ piece.sort → new.at ≡ 0 + piece.len → bracket_count new.nesting ≤ new.at
     → new.stage ≡ stage.Onward → Hands text None new.pending (map (moved 0) piece.lexemes) → IsRead text (outcome text) None new
 took_first text new piece utf8 stands cuts nesting levels before is_at few is_onward hands =
-    read_piece text (outcome text) nothing 0 None new piece (first_stands text piece stands)
+    read_piece text (outcome text) nothing 0 [] new piece (first_stands text piece stands)
     (kept_behind text nothing 0 new piece utf8 (IsCharBoundary-start text utf8) (margin_first text ∙ stands) nesting levels before is_at few (sym (history_first text piece stands)) (read_first text new.at piece stands is_at)) is_at is_onward hands cuts
 
 pub piece_inside : (text : Text) (history : History) (old : Reader) (piece : Piece) → IsStateAfter text history old → step_here text history old ≡ Stands piece → (old.at < old.at + piece.len) × (old.at + piece.len ≤ length text)
@@ -349,30 +354,12 @@ reached_by text reader at ahead is =
 both_count : (one other : List Lexeme) → length one + length other ≡ length (map shown_lexeme one ++ map shown_lexeme other)
 both_count one other = omega (arith, length-append (map shown_lexeme one) (map shown_lexeme other), length-map one shown_lexeme, length-map other shown_lexeme)
 
-pub read_ahead : (text : Text) (whole : Outcome) (given : Option (ℕ × Token × ℕ)) (new : Reader) (lexemes : List (Spanned TokenView)) (fault : Option (Spanned grammar.Fault)) → IsRead text whole given new
-    → lexemes ≡ map shown_lexeme whole.lexemes → fault ≡ whole.fault → IsAheadAfter text given new lexemes fault
-read_ahead text whole given new lexemes fault read ahead behind = by given read.yielded_count
-  where
-    parts : lexemes ≡ map shown_lexeme read.lexemes ++ map shown_lexeme read.left.lexemes
-    parts = ahead ∙ ap (λ ls. map shown_lexeme ls) read.parts ∙ map-append shown_lexeme read.lexemes read.left.lexemes
-
-    one_first : (found : ℕ × Token × ℕ) → map shown_lexeme read.lexemes ≡ lexeme_view found ∷ map shown_lexeme (pending_lexemes text new.pending) → length read.lexemes ≡ 1 + length (pending_lexemes text new.pending)
-    one_first found e = omega (arith, ap length e, length-map read.lexemes shown_lexeme, length-map (pending_lexemes text new.pending) shown_lexeme)
-
-    by : (given : Option (ℕ × Token × ℕ)) → map shown_lexeme read.lexemes ≡ map lexeme_view (option_to_list given) ++ map shown_lexeme (pending_lexemes text new.pending) → IsAheadAfter text given new lexemes fault
-    by None e = record {
-      left = read.left;
-      is_left = read.is_left;
-      is_pending = read.is_pending;
-      ahead = parts ∙ ap (λ vs. vs ++ map shown_lexeme read.left.lexemes) e;
-      those_after = behind ∙ read.fault;
-      cut = subst (IsCutAhead text new new.stage) (both_count (pending_lexemes text new.pending) read.left.lexemes ∙ ap length (sym (parts ∙ ap (λ vs. vs ++ map shown_lexeme read.left.lexemes) e))) read.cut;
-      cuts = subst (λ n. HoldsCuts text new new.stage (length read.left.lexemes) n n) (both_count (pending_lexemes text new.pending) read.left.lexemes ∙ ap length (sym (parts ∙ ap (λ vs. vs ++ map shown_lexeme read.left.lexemes) e)))
-          (λ x behind cut least most. read.cuts x behind cut least (omega (arith, most, ap length e, length-map read.lexemes shown_lexeme, length-map (pending_lexemes text new.pending) shown_lexeme)));
-    }
-    by (Some x) e = (
+-- what is ahead after one lexeme was passed
+pub past_ahead : (text : Text) (whole : Outcome) (lexeme : Spanned TokenView) (new : Reader) (lexemes : List (Spanned TokenView)) (fault : Option (Spanned grammar.Fault)) → IsReadPast text whole (lexeme ∷ []) new
+    → lexemes ≡ map shown_lexeme whole.lexemes → fault ≡ whole.fault → IsAheadPast text lexeme new lexemes fault
+past_ahead text whole lexeme new lexemes fault read ahead behind = (
       map shown_lexeme (pending_lexemes text new.pending) ++ map shown_lexeme read.left.lexemes,
-      parts ∙ ap (λ vs. vs ++ map shown_lexeme read.left.lexemes) e,
+      parts ∙ ap (λ vs. vs ++ map shown_lexeme read.left.lexemes) read.yielded_count,
       record {
         left = read.left;
         is_left = read.is_left;
@@ -381,14 +368,37 @@ read_ahead text whole given new lexemes fault read ahead behind = by given read.
         those_after = behind ∙ read.fault;
         cut = subst (IsCutAhead text new new.stage) (both_count (pending_lexemes text new.pending) read.left.lexemes) read.cut;
         cuts = subst (λ n. HoldsCuts text new new.stage (length read.left.lexemes) n n) (both_count (pending_lexemes text new.pending) read.left.lexemes)
-            (λ at behind cut least most. read.cuts at behind cut least (omega (arith, most, one_first x e)));
+            (λ at behind cut least most. read.cuts at behind cut least (omega (arith, most, one_first)));
       },
       λ at cut.
           let count = both_count (pending_lexemes text new.pending) read.left.lexemes in
           reached_by text new at (length (map shown_lexeme (pending_lexemes text new.pending) ++ map shown_lexeme read.left.lexemes))
           (subst (λ n. IsInFlatMargin new new.stage × IsAfterLines text new.pending at (length (map shown_lexeme (pending_lexemes text new.pending) ++ map shown_lexeme read.left.lexemes)) n) count
-          (read.cuts at _ cut (omega (arith, count)) (omega (arith, count, one_first x e)))),
+          (read.cuts at _ cut (omega (arith, count)) (omega (arith, count, one_first)))),
     )
+  where
+    parts : lexemes ≡ map shown_lexeme read.lexemes ++ map shown_lexeme read.left.lexemes
+    parts = ahead ∙ ap (λ ls. map shown_lexeme ls) read.parts ∙ map-append shown_lexeme read.lexemes read.left.lexemes
+
+    one_first : length read.lexemes ≡ 1 + length (pending_lexemes text new.pending)
+    one_first = omega (arith, ap length read.yielded_count, length-map read.lexemes shown_lexeme, length-map (pending_lexemes text new.pending) shown_lexeme)
+
+pub read_ahead : (text : Text) (whole : Outcome) (given : Option (ℕ × Token × ℕ)) (new : Reader) (lexemes : List (Spanned TokenView)) (fault : Option (Spanned grammar.Fault)) → IsRead text whole given new
+    → lexemes ≡ map shown_lexeme whole.lexemes → fault ≡ whole.fault → IsAheadAfter text given new lexemes fault
+read_ahead text whole (Some found) new lexemes fault read ahead behind = past_ahead text whole (lexeme_view found) new lexemes fault read ahead behind
+read_ahead text whole None new lexemes fault read ahead behind =
+    let all : lexemes ≡ map shown_lexeme (pending_lexemes text new.pending) ++ map shown_lexeme read.left.lexemes =
+    ahead ∙ ap (λ ls. map shown_lexeme ls) read.parts ∙ map-append shown_lexeme read.lexemes read.left.lexemes ∙ ap (λ vs. vs ++ map shown_lexeme read.left.lexemes) read.yielded_count in
+    record {
+      left = read.left;
+      is_left = read.is_left;
+      is_pending = read.is_pending;
+      ahead = all;
+      those_after = behind ∙ read.fault;
+      cut = subst (IsCutAhead text new new.stage) (both_count (pending_lexemes text new.pending) read.left.lexemes ∙ ap length (sym all)) read.cut;
+      cuts = subst (λ n. HoldsCuts text new new.stage (length read.left.lexemes) n n) (both_count (pending_lexemes text new.pending) read.left.lexemes ∙ ap length (sym all))
+          (λ x behind cut least most. read.cuts x behind cut least (omega (arith, most, ap length read.yielded_count, length-map read.lexemes shown_lexeme, length-map (pending_lexemes text new.pending) shown_lexeme)));
+    }
 
 -- Less is left to read
 
@@ -444,7 +454,7 @@ module _ (text : Text) (history : History) (old : Reader) (len : ℕ) (kept : Is
             let lies = line_cut text history old.at len taken.piece kept.read (begun text history old kept) stands taken.stands (ap is_layout layout.sort) old.levels (record { begin = old.at; node = grammar.Newline; end = old.at + len }) new.pending of taken.lexemes x behind cut least most in
             ((refl, before, of.flat ∙ ap (λ (levels : List ℕ). length levels == 0) (kept.levels ∙ lies.0)), lies.1);
       } in
-      took_by text history old (Some (old.at, found, old.at + len)) new taken.piece utf8 kept stands cuts
+      took_by text history old (lexeme_view (old.at, found, old.at + len) ∷ []) new taken.piece utf8 kept stands cuts
       (rw nesting (quiet_kept taken.piece.lexemes history.tokens old.nesting layout.tokens kept.nesting)) taken.open_now (ap before_view before ∙ sym layout.sort) (is_at ∙ ap (λ n. old.at + n) (sym taken.whole)) (rw nesting few) is_onward hands
 
   pub line_refused : (new : Reader) (error : LexemeError) (end : ℕ) → IsRefused text (line_end len (open_widths history.widths) (drop (old.at + len) text)) [] history.widths new.levels new.pending error end

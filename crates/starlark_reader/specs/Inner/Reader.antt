@@ -19,7 +19,8 @@ use Rattle.starlark_reader.specs.Inner.Nesting.{Represents, bracket_count}
 use Rattle.starlark_reader.specs.Inner.Pieces.{is_code}
 use Rattle.starlark_reader.specs.Inner.Steps.{text_step}
 use Rattle.starlark_reader.specs.declared.literal.chunks.PlainText.{PlainText}
-use Rattle.starlark_token.specs.TokenViews.{TokenView}
+use Rattle.starlark_token.specs.TokenViews.{TokenView, Whole}
+use Rattle.starlark_grammar.specs.declared.class.Terminal.{Terminal}
 use Rattle.starlark_token.specs.declared.tokens.Token.{Token}
 use Rattle.starlark_token.specs.declared.tokens.Token.TheVariants as token
 use Rattle.starlark_reader.specs.declared.reader.Reader.{Reader}
@@ -134,23 +135,31 @@ pub record IsAhead (text : Text) (reader : Reader) (stage : Stage) (lexemes : Li
 abbrev pub IsReady : Text → Reader → Stage → Type 0
 IsReady text reader stage = (lexemes : List (grammar.Spanned TokenView)) × (fault : Option (grammar.Spanned grammar.Fault)) × IsAhead text reader stage lexemes fault
 
--- what is ahead after a lexeme was yielded, if one was; a kept cut right after it is reached
+-- what is ahead after a lexeme was passed; a kept cut right after it is reached
+abbrev pub IsAheadPast : Text → grammar.Spanned TokenView → Reader → List (grammar.Spanned TokenView) → Option (grammar.Spanned grammar.Fault) → Type 0
+IsAheadPast text lexeme reader lexemes fault = (more : List (grammar.Spanned TokenView)) × (lexemes ≡ lexeme ∷ more) × IsAhead text reader reader.stage more fault × ((at : ℕ) → IsCutBefore text at (length more) → IsReached reader at)
+
+-- what is ahead after a lexeme was yielded, if one was
 abbrev pub IsAheadAfter : Text → Option (ℕ × Token × ℕ) → Reader → List (grammar.Spanned TokenView) → Option (grammar.Spanned grammar.Fault) → Type 0
 IsAheadAfter text None reader lexemes fault = IsAhead text reader reader.stage lexemes fault
-IsAheadAfter text (Some lexeme) reader lexemes fault = (more : List (grammar.Spanned TokenView)) × (lexemes ≡ lexeme_view lexeme ∷ more) × IsAhead text reader reader.stage more fault × ((at : ℕ) → IsCutBefore text at (length more) → IsReached reader at)
+IsAheadAfter text (Some lexeme) reader lexemes fault = IsAheadPast text (lexeme_view lexeme) reader lexemes fault
 
--- lexemes of an outcome were read: the first may be the one given, the others are pending, and the
--- rest of the outcome is still to be read
-pub record IsRead (text : Text) (whole : grammar.Outcome) (given : Option (ℕ × Token × ℕ)) (new : Reader) : Type 0 where
+-- lexemes of an outcome were read: first those passed, the others are pending, and the rest of the
+-- outcome is still to be read
+pub record IsReadPast (text : Text) (whole : grammar.Outcome) (passed : List (grammar.Spanned TokenView)) (new : Reader) : Type 0 where
   pub lexemes : List grammar.Lexeme
   pub left : grammar.Outcome
   pub is_left : IsLeft text new new.stage left
   pub parts : whole.lexemes ≡ lexemes ++ left.lexemes
   pub fault : whole.fault ≡ left.fault
   pub is_pending : IsPending text new.pending
-  pub yielded_count : map shown_lexeme lexemes ≡ map lexeme_view (option_to_list given) ++ map shown_lexeme (pending_lexemes text new.pending)
+  pub yielded_count : map shown_lexeme lexemes ≡ passed ++ map shown_lexeme (pending_lexemes text new.pending)
   pub cut : IsCutAhead text new new.stage (length (pending_lexemes text new.pending) + length left.lexemes)
   pub cuts : HoldsCuts text new new.stage (length left.lexemes) (length lexemes + length left.lexemes) (length (pending_lexemes text new.pending) + length left.lexemes)
+
+-- lexemes of an outcome were read, of which the first may be the one given
+abbrev pub IsRead : Text → grammar.Outcome → Option (ℕ × Token × ℕ) → Reader → Type 0
+IsRead text whole given new = IsReadPast text whole (map lexeme_view (option_to_list given)) new
 
 -- the step at the reader's offset, after a history
 abbrev pub step_here : Text → History → Reader → Step
@@ -229,3 +238,25 @@ newline_if false at len = None
 abbrev pub newline_of : LineEnd → ℕ → ℕ → Option (ℕ × Token × ℕ)
 newline_of line_end.Newline at len = newline_if true at len
 newline_of line_end at len = None
+
+-- the name of `len` bytes at byte `at`
+abbrev pub name_lexeme : Text → ℕ → ℕ → grammar.Spanned TokenView
+name_lexeme text at len = record { begin = at; node = Whole (grammar.Identifier (take len (drop at text))); end = at + len }
+
+-- the string literal at byte `at`, whose opener has `len` bytes, whose body is `body` bytes without
+-- escapes, and which one quote closes
+abbrev pub text_lexeme : Text → ℕ → ℕ → ℕ → grammar.Spanned TokenView
+text_lexeme text at len body = record { begin = at; node = Whole (grammar.String (take body (drop len (drop at text)))); end = at + (len + body + 1) }
+
+-- whether a token is the end of an f-string's expression
+abbrev pub is_expression_end : TokenView → Bool
+is_expression_end (Whole grammar.FStringExprEnd) = true
+is_expression_end view = false
+
+-- the token of a keyword or symbol: itself, or the end of an f-string's expression
+abbrev pub symbol_view : (ends : Bool) → Terminal → TokenView
+symbol_view true terminal = Whole grammar.FStringExprEnd
+symbol_view false terminal = Whole (grammar.Word terminal)
+
+abbrev pub IsTokenOf : Terminal → TokenView → Type 0
+IsTokenOf terminal view = view ≡ symbol_view (is_expression_end view) terminal

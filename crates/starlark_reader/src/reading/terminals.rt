@@ -3,6 +3,7 @@
 ghost use Rattle.std.specs.Prelude.{◌≡◌, List, false};
 ghost use Rattle.starlark_grammar.specs.Depths.{mode_after};
 ghost use Rattle.starlark_reader.specs.Inner.Nesting.{Represents, is_fstring_start, mode_view};
+ghost use Rattle.starlark_reader.specs.Inner.Reader.{is_expression_end};
 ghost use Rattle.starlark_grammar.specs.Pieces as grammar;
 ghost use Rattle.starlark_token.specs.TokenViews.{Whole, token_view};
 ghost use Rattle.starlark_grammar.specs.Tokens as Tokens;
@@ -15,7 +16,7 @@ use starlark_words::scanner::Terminal;
 /// The token of a keyword or symbol by itself, whatever the lexer mode.
 #[tactic(auto, unfolding(starlark_token::specs::TokenViews::token_view))]
 #[inline(always)]
-fn own_token(terminal: Terminal) -> Token
+pub fn own_token(terminal: Terminal) -> Token
     ensures { token_view result ≡ Whole (Word terminal) }
 {
     match terminal {
@@ -107,4 +108,13 @@ pub fn token_in(nesting: &Nesting, terminal: Terminal) -> Token
         Terminal::ClosingCurly => terminal_token(nesting.place(), terminal),
         _ => own_token(terminal),
     }
+}
+
+/// Whether a token is the `}` that ends an f-string's expression.
+#[tactic(auto, unfolding(starlark_token::specs::TokenViews::token_view))]
+#[inline(always)]
+pub fn ends_expression(token: &Token) -> bool
+    ensures { result ≡ is_expression_end (token_view token.now) }
+{
+    matches!(token, Token::FStringExprEnd)
 }

@@ -1,23 +1,28 @@
 -- What is ahead of a text that is lexed so far, and what a call answers of it.
-use Rattle.std.specs.Prelude.{◌≡◌, ◌≤◌, ◌<◌, ◌^◌, ℕ, false, List, [], drop, length, map, Option, None, Some, Result, Ok, Err}
+use Rattle.std.specs.Prelude.{◌≡◌, ◌≤◌, ◌<◌, ◌^◌, ◌+◌, ◌-◌, ◌&&◌, not, Bool, ⊤, ℕ, true, false, List, [], drop, length, map, Option, None, Some, Result, Ok, Err}
 use Rattle.starlark_base.specs.Diagnostics.{Diagnosed}
 use Rattle.starlark_base.specs.Sources.{SourceFile}
 use Rattle.starlark_words.specs.Inner.Reads.{more_reads}
 use Rattle.starlark_grammar.specs.Reading.{outcome}
 use Rattle.starlark_grammar.specs.Tokens.{Fault, Spanned}
 use Rattle.starlark_grammar.specs.Words.{Text}
-use Rattle.starlark_reader.specs.Inner.Reader.{IsAhead, IsAheadAfter, IsSomething, IsStateAfter, begins_with_tab, has_read_none, history_of}
+use Rattle.starlark_reader.specs.Inner.Reader.{IsAhead, IsAheadAfter, IsAheadPast, IsSomething, IsStateAfter, IsTokenOf, begins_with_tab, has_read_none, history_of}
 use Rattle.starlark_reader.specs.Inner.Reads.{HasRead}
 use Rattle.starlark_syntax.specs.Exceptions.{IsException}
 use Rattle.starlark_syntax.specs.Inner.Looked.{GoesOn, IsInReach, IsLooked}
 use Rattle.starlark_syntax.specs.Lexer.{HasReadToFault, LexerView, most_reads}
 use Rattle.starlark_syntax.specs.declared.error.kinds.ErrorKind.{ErrorKind}
+use Rattle.starlark_syntax.specs.PlainLexemes.{IsPlainIn, plain_view}
+use Rattle.starlark_syntax.specs.declared.lexer_state.FastPath.{FastPath}
+use Rattle.starlark_syntax.specs.declared.lexer_state.FastPath.TheVariants as fast
 use Rattle.starlark_syntax.specs.declared.lexer_state.LexerState.{LexerState}
 use Rattle.starlark_syntax.specs.declared.lexer_state.Looked.TheVariants as looked
 use Rattle.starlark_text.specs.declared.or_memory.OrMemory.{OrMemory}
 use Rattle.starlark_text.specs.declared.or_memory.OrMemory.TheVariants.{Error, Memory}
-use Rattle.starlark_token.specs.Lexemes.{shown_lexeme}
-use Rattle.starlark_token.specs.TokenViews.{TokenView}
+use Rattle.starlark_syntax.specs.declared.plain_lexeme.PlainKind.TheVariants as kind
+use Rattle.starlark_syntax.specs.declared.plain_lexeme.PlainLexeme.{PlainLexeme}
+use Rattle.starlark_token.specs.Lexemes.{lexeme_view, shown_lexeme}
+use Rattle.starlark_token.specs.TokenViews.{TokenView, token_view}
 use Rattle.starlark_token.specs.declared.tokens.Token.{Token}
 
 -- the lexemes of the text that weren't yielded yet
@@ -58,3 +63,41 @@ HasAnswered old (Some (Err Memory)) new = IsSomething (left_in old) (outcome old
 HasAnswered old None new =
     (left_in old ≡ []) × ((outcome old.text.now).fault ≡ None) × IsStateAfter old.text.now (history_of old.text.now) new.reader
     × (more_reads 0 (length old.text.now) ≤ new.reader.reads) × (new.reader.reads < most_reads old.text.now)
+
+-- What the fast path tells: the first lexeme that is left, which it passed; or out of memory in the place of an item.
+abbrev pub HasPassed : LexerState → FastPath → LexerState → Type 0
+HasPassed old (fast.Passed plain) new = IsPlainIn old.text.now plain × IsAheadPast old.text.now (plain_view old.text.now plain) new.reader (left_in old) (outcome old.text.now).fault
+HasPassed old (fast.Symbol terminal lexeme) new = IsTokenOf terminal (token_view lexeme.1) × IsAheadAfter old.text.now (Some lexeme) new.reader (left_in old) (outcome old.text.now).fault
+HasPassed old fast.Undecided new = ⊤
+HasPassed old fast.OutOfMemory new = IsSomething (left_in old) (outcome old.text.now).fault
+
+-- how many lexemes the fast path passed
+abbrev pub passed_count : FastPath → ℕ
+passed_count (fast.Passed plain) = 1
+passed_count (fast.Symbol terminal lexeme) = 1
+passed_count fast.Undecided = 0
+passed_count fast.OutOfMemory = 0
+
+abbrev pub is_out_of_memory : FastPath → Bool
+is_out_of_memory fast.OutOfMemory = true
+is_out_of_memory other = false
+
+-- the string literal between two offsets, by the length of its opener
+abbrev pub plain_string : (begin opener end : ℕ) → PlainLexeme
+plain_string begin opener end = record { kind = kind.String; begin = begin; end = end; value_begin = begin + opener; value_end = end - 1 }
+
+-- A plain lexeme that was passed is an item, or there was out of memory in its place, which ends the lexer.
+abbrev pub HasTaken : LexerState → PlainLexeme → Option (Result (ℕ × Token × ℕ) (OrMemory (Diagnosed ErrorKind))) → LexerState → Type 0
+HasTaken old plain (Some (Ok lexeme)) new = (lexeme_view lexeme ≡ plain_view old.text.now plain) × (new ≡ old)
+HasTaken old plain (Some (Err Memory)) new = new ≡ record old { yielded_count = old.yielded_count - 1; has_ended = true; looked = looked.All }
+HasTaken old plain answer new = ⊥
+
+-- An error that a lexer still has to say: out of memory in the place of an item.
+pub record HasRunOut (state : LexerState) : Type 0 where
+  pub ended : state.has_ended ≡ true
+  pub few : state.yielded_count ≤ length (outcome state.text.now).lexemes
+  pub left : IsSomething (left_in state) (outcome state.text.now).fault
+
+-- the lexer as its users see it, which hasn't ended until it has said so
+abbrev pub lexer_view : LexerState → (has_run_out : Bool) → LexerView
+lexer_view state has_run_out = record (view_of state) { has_ended = state.has_ended && not has_run_out }

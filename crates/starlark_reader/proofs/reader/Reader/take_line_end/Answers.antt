@@ -3,6 +3,8 @@ use Rattle.starlark_reader.specs.Inner.Reads.{IsMarginRead}
 use Rattle.starlark_reader.specs.declared.reader.Reader.{Reader}
 use Rattle.starlark_reader.proofs.Pieces.NextLexeme.{onward_something}
 use Rattle.starlark_reader.proofs.Indentation.Waiting.{after_error}
+use Rattle.starlark_reader.proofs.Pieces.PieceTaken.{word_boundary}
+use Rattle.starlark_grammar.specs.declared.class.Class.TheVariants as class
 use Rattle.starlark_reader.proofs.reader.Reader.take_line_end.Goals as goal
 
 pub returns-in_err-take_counting_line_end-clause-memory : goal.returns-in_err-take_counting_line_end-clause-memory
@@ -17,3 +19,15 @@ pub returns-else-branch-clause-reads : goal.returns-else-branch-clause-reads
 returns-else-branch-clause-reads c = λ counts.
     let new = c.take_counting_line_end.new.self in
     subst (λ (old : Reader). IsMarginRead c.args.text.now c.args.len old new new.stage) (c.if-pass_line_end.ensures.stays refl) c.in_ok-take_counting_line_end.ensures.reads
+
+pub returns-then-pass_line_end-clause-cut : goal.returns-then-pass_line_end-clause-cut
+returns-then-pass_line_end-clause-cut c = word_boundary c.args.text.now c.args.self.now (record { class = class.LineEnd; len = c.args.len }) c.utf8.text c.requires.ready c.requires.stands
+
+pub returns-in_err-take_counting_line_end-clause-cut : goal.returns-in_err-take_counting_line_end-clause-cut
+returns-in_err-take_counting_line_end-clause-cut c = word_boundary c.args.text.now c.args.self.now (record { class = class.LineEnd; len = c.args.len }) c.utf8.text c.requires.ready c.requires.stands
+
+pub returns-then-branch-clause-cut : goal.returns-then-branch-clause-cut
+returns-then-branch-clause-cut c = word_boundary c.args.text.now c.args.self.now (record { class = class.LineEnd; len = c.args.len }) c.utf8.text c.requires.ready c.requires.stands
+
+pub returns-else-branch-clause-cut : goal.returns-else-branch-clause-cut
+returns-else-branch-clause-cut c = word_boundary c.args.text.now c.args.self.now (record { class = class.LineEnd; len = c.args.len }) c.utf8.text c.requires.ready c.requires.stands

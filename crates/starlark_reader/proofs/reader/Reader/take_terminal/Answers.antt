@@ -1,6 +1,6 @@
 use Rattle.std.proofs.Common.{◌+◌, ◌≤◌, length, rules, Some}
 use Rattle.starlark_reader.proofs.Pieces.Here.{piece_here}
-use Rattle.starlark_reader.proofs.Pieces.PieceTaken.{left_onward, onward_ahead, terminal_step}
+use Rattle.starlark_reader.proofs.Pieces.PieceTaken.{left_onward, onward_ahead, terminal_shown, terminal_step}
 use Rattle.starlark_reader.proofs.reader.Reader.take_terminal.Goals as goal
 
 pub pass_token-requires-clause-stands : goal.pass_token-requires-clause-stands
@@ -21,3 +21,8 @@ returns-clause-ahead c = λ lexemes fault ahead.
     onward_ahead c.args.text.now c.args.self.now (Some (c.args.self.now.at, c.token_in-token.result, c.args.self.now.at + c.args.len)) c.pass_token.new.self lexemes fault
     (λ history kept. c.pass_token.ensures.read history kept (terminal_step c.args.text.now history c.args.self.now c.args.terminal c.args.len c.token_in-token.result kept c.requires.stands c.token_in-token.ensures.token c.token_in-token.ensures.own))
     c.requires.stands.idle (left_onward c.args.text.now c.args.self.now lexemes fault c.requires.stands.stage ahead)
+
+pub returns-clause-token : goal.returns-clause-token
+returns-clause-token c =
+    let left = (left_onward c.args.text.now c.args.self.now c.requires.ready.0 c.requires.ready.1 c.requires.stands.stage c.requires.ready.2).is_left in
+    terminal_shown _ c.args.terminal _ (c.token_in-token.ensures.token left.0.tokens left.1.nesting)

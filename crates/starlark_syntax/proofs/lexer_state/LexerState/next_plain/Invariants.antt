@@ -3,7 +3,7 @@ use Rattle.starlark_grammar.specs.Reading.{outcome}
 use Rattle.starlark_reader.specs.Inner.Reader.{IsAhead, left_to_read}
 use Rattle.starlark_syntax.specs.Inner.LexerStates.{left_in}
 use Rattle.starlark_syntax.specs.Inner.Looked.{GoesOn, IsInReach, IsLooked}
-use Rattle.starlark_syntax.proofs.lexer_state.LexerState.next.Given as goal
+use Rattle.starlark_syntax.proofs.lexer_state.LexerState.next_plain.Given as goal
 
 abbrev pub invariant-loop-self : goal.invariant-loop-self
 invariant-loop-self l =

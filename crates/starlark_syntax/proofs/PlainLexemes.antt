@@ -1,0 +1,113 @@
+-- Plain lexemes, as the fast path passes them.
+use Rattle.std.proofs.Common.{◌≡◌, ◌≤◌, ◌<◌, ◌+◌, ◌-◌, ◌^◌, ◌∷◌, ◌||◌, Bool, true, false, ℕ, List, [], Option, Some, None, Ok, Err, ap, arith, drop, length, refl, subst, sym, take, ◌∙◌}
+use Rattle.std.specs.Prelude.{Result}
+use Rattle.std.specs.Str.{IsCharBoundary}
+use Rattle.starlark_base.specs.Diagnostics.{Diagnosed}
+use Rattle.starlark_grammar.specs.Reading.{outcome}
+use Rattle.starlark_grammar.specs.Tokens as grammar
+use Rattle.starlark_grammar.specs.Tokens.{Fault, Spanned}
+use Rattle.starlark_grammar.specs.Words.{Text}
+use Rattle.starlark_grammar.proofs.Lists.{drop-sum}
+use Rattle.starlark_reader.specs.Inner.Reader.{IsAhead, IsAheadAfter, IsAheadPast, IsSomething, name_lexeme, newline_if, text_lexeme}
+use Rattle.starlark_reader.specs.declared.reader.Reader.{Reader}
+use Rattle.starlark_reader.specs.declared.reader.Stage.TheVariants as stages
+use Rattle.starlark_reader.proofs.Pieces.PieceTaken.{left_onward}
+use Rattle.starlark_syntax.specs.Inner.LexerStates.{HasAnswered, HasPassed, HasTaken, IsLexing, left_in, plain_string, view_of}
+use Rattle.starlark_syntax.specs.Lexer.{LexerView, is_ended_by, yielded_by}
+use Rattle.starlark_syntax.specs.PlainLexemes.{IsPlainIn, plain_view}
+use Rattle.starlark_syntax.specs.declared.error.kinds.ErrorKind.{ErrorKind}
+use Rattle.starlark_syntax.specs.declared.lexer_state.FastPath.{FastPath}
+use Rattle.starlark_syntax.specs.declared.lexer_state.FastPath.TheVariants as fast
+use Rattle.starlark_syntax.proofs.LexerStates.{IsSameText}
+use Rattle.starlark_syntax.specs.declared.lexer_state.LexerState.{LexerState}
+use Rattle.starlark_syntax.specs.declared.lexer_state.Looked.TheVariants as looked
+use Rattle.starlark_syntax.specs.declared.plain_lexeme.PlainKind.{PlainKind}
+use Rattle.starlark_syntax.specs.declared.plain_lexeme.PlainKind.TheVariants as kind
+use Rattle.starlark_syntax.specs.declared.plain_lexeme.PlainLexeme.{PlainLexeme}
+use Rattle.starlark_text.specs.declared.or_memory.OrMemory.{OrMemory}
+use Rattle.starlark_text.specs.declared.or_memory.OrMemory.TheVariants.{Error, Memory}
+use Rattle.starlark_token.specs.TokenViews.{TokenView, Whole, token_view}
+use Rattle.starlark_token.specs.declared.tokens.Token.{Token}
+
+-- a plain lexeme whose four offsets are in order, at character boundaries
+pub plain_inside : (text : Text) (kind : PlainKind) (begin end value_begin value_end : ℕ) → length text < 2 ^ 32 → begin ≤ end → value_begin ≤ value_end → IsCharBoundary text begin → IsCharBoundary text end → IsCharBoundary text value_begin → IsCharBoundary text value_end
+    → IsPlainIn text (record { kind = kind; begin = begin; end = end; value_begin = value_begin; value_end = value_end })
+plain_inside text kind begin end value_begin value_end short order value first last from to = record {
+  lexeme = (order, last.0, short);
+  value = (value, to.0, short);
+  begin = first;
+  end = last;
+  value_begin = from;
+  value_end = to;
+}
+
+-- the offset of a reader in code is a character boundary
+pub reader_boundary : (text : Text) (reader : Reader) (lexemes : List (Spanned TokenView)) (fault : Option (Spanned Fault)) → reader.stage ≡ stages.Onward → IsAhead text reader reader.stage lexemes fault → IsCharBoundary text reader.at
+reader_boundary text reader lexemes fault on ahead = (left_onward text reader lexemes fault on ahead).is_left.1.boundary
+
+pub name_shown : (text : Text) (at len end : ℕ) → end ≡ at + len → name_lexeme text at len ≡ plain_view text (record { kind = kind.Identifier; begin = at; end = end; value_begin = at; value_end = end })
+name_shown text at len end is =
+    let count : len ≡ end - at = omega (arith, is) in
+    ap (λ n. record { begin = at; node = Whole (grammar.Identifier (take n (drop at text))); end = at + len }) count ∙ ap (λ n. record { begin = at; node = Whole (grammar.Identifier (take (end - at) (drop at text))); end = n }) (sym is)
+
+pub string_shown : (text : Text) (at mid len body end : ℕ) → mid ≡ at → end ≡ mid + (len + body + 1) → text_lexeme text mid len body ≡ plain_view text (plain_string at len end)
+string_shown text at mid len body end same is =
+    let count : body ≡ end - 1 - (at + len) = omega (arith, is, same) in
+    let last : at + (len + body + 1) ≡ end = omega (arith, is, same) in
+    ap (λ n. text_lexeme text n len body) same
+    ∙ ap (λ (t : Text). record { begin = at; node = Whole (grammar.String (take body t)); end = at + (len + body + 1) }) (sym (drop-sum at len text))
+    ∙ ap (λ n. record { begin = at; node = Whole (grammar.String (take n (drop (at + len) text))); end = at + (len + body + 1) }) count
+    ∙ ap (λ n. record { begin = at; node = Whole (grammar.String (take (end - 1 - (at + len)) (drop (at + len) text))); end = n }) last
+
+-- where a lexeme was passed, something was left
+pub past_something : (text : Text) (lexeme : Spanned TokenView) (reader : Reader) (lexemes : List (Spanned TokenView)) (fault : Option (Spanned Fault)) → IsAheadPast text lexeme reader lexemes fault → IsSomething lexemes fault
+past_something text lexeme reader lexemes fault past none whole = let both : lexeme ∷ past.0 ≡ [] = sym past.1 ∙ none in cc
+
+-- what is made of a plain lexeme is an answer
+pub taken_answer : (old mid : LexerState) (plain : PlainLexeme) (answer : Option (Result (ℕ × Token × ℕ) (OrMemory (Diagnosed ErrorKind)))) (new : LexerState) → HasPassed old (fast.Passed plain) mid → mid.text.now ≡ old.text.now → HasTaken mid plain answer new → HasAnswered old answer new
+taken_answer old mid plain None new passed text taken = absurd taken
+taken_answer old mid plain (Some (Ok lexeme)) new passed text taken =
+    subst (λ (state : LexerState). HasAnswered old (Some (Ok lexeme)) state) (sym taken.1)
+    (subst (λ (view : Spanned TokenView). IsAheadPast old.text.now view mid.reader (left_in old) (outcome old.text.now).fault) (sym (taken.0 ∙ ap (λ (t : Text). plain_view t plain) text)) passed.1)
+taken_answer old mid plain (Some (Err (Error exception))) new passed text taken = absurd taken
+taken_answer old mid plain (Some (Err Memory)) new passed text taken = past_something old.text.now (plain_view old.text.now plain) mid.reader (left_in old) (outcome old.text.now).fault passed.1
+
+pub taken_lexing : (mid : LexerState) (plain : PlainLexeme) (answer : Option (Result (ℕ × Token × ℕ) (OrMemory (Diagnosed ErrorKind)))) (new : LexerState) → IsLexing mid → HasTaken mid plain answer new → IsLexing new
+taken_lexing mid plain None new lexing taken = absurd taken
+taken_lexing mid plain (Some (Ok lexeme)) new lexing taken = subst IsLexing (sym taken.1) lexing
+taken_lexing mid plain (Some (Err (Error exception))) new lexing taken = absurd taken
+taken_lexing mid plain (Some (Err Memory)) new lexing taken = subst IsLexing (sym taken) (lexing.0, (λ on. cc), tt, (λ on. cc), lexing.4)
+
+-- what the fast path tells of a state, it tells of one with the same text and number of items
+pub passed_same : (first now : LexerState) (found : FastPath) (new : LexerState) → IsSameText first now → HasPassed now found new → HasPassed first found new
+passed_same first now (fast.Passed plain) new same is = rw (same.0, same.2) at is
+passed_same first now (fast.Symbol terminal lexeme) new same is = rw (same.0, same.2) at is
+passed_same first now fast.Undecided new same is = is
+passed_same first now fast.OutOfMemory new same is = rw (same.0, same.2) at is
+
+-- a name was passed, where the text and the number of items are those before
+pub name_passed : (first state : LexerState) (mid new : Reader) (len : ℕ) → IsSameText first state → length state.text.now < 2 ^ 32 → mid.stage ≡ stages.Onward → new.stage ≡ stages.Onward → IsAhead state.text.now mid mid.stage (left_in state) (outcome state.text.now).fault
+    → new.at ≡ mid.at + len → IsAheadPast state.text.now (name_lexeme state.text.now mid.at len) new (left_in state) (outcome state.text.now).fault
+    → IsPlainIn first.text.now (record { kind = kind.Identifier; begin = mid.at; end = new.at; value_begin = mid.at; value_end = new.at })
+    × IsAheadPast first.text.now (plain_view first.text.now (record { kind = kind.Identifier; begin = mid.at; end = new.at; value_begin = mid.at; value_end = new.at })) new (left_in first) (outcome first.text.now).fault
+name_passed first state mid new len same short on onward ahead at is =
+    let text = state.text.now in
+    let front = reader_boundary text mid (left_in state) (outcome text).fault on ahead in
+    let last = reader_boundary text new is.0 (outcome text).fault onward is.2 in
+    let past = subst (λ (view : Spanned TokenView). IsAheadPast text view new (left_in state) (outcome text).fault) (name_shown text mid.at len new.at at) is in
+    let both : IsPlainIn text (record { kind = kind.Identifier; begin = mid.at; end = new.at; value_begin = mid.at; value_end = new.at }) × IsAheadPast text (plain_view text (record { kind = kind.Identifier; begin = mid.at; end = new.at; value_begin = mid.at; value_end = new.at })) new (left_in state) (outcome text).fault =
+    (plain_inside text kind.Identifier mid.at new.at mid.at new.at short (omega (arith, at)) (omega (arith, at)) front last front last, past) in
+    rw (same.0, same.2) at both
+
+-- a newline was passed
+pub newline_passed : (first state : LexerState) (mid new : Reader) (len : ℕ) → IsSameText first state → length state.text.now < 2 ^ 32 → mid.stage ≡ stages.Onward → IsAhead state.text.now mid mid.stage (left_in state) (outcome state.text.now).fault
+    → IsCharBoundary state.text.now (mid.at + len) → IsAheadAfter state.text.now (newline_if true mid.at len) new (left_in state) (outcome state.text.now).fault
+    → IsPlainIn first.text.now (record { kind = kind.Newline; begin = mid.at; end = mid.at + len; value_begin = mid.at + len; value_end = mid.at + len })
+    × IsAheadPast first.text.now (plain_view first.text.now (record { kind = kind.Newline; begin = mid.at; end = mid.at + len; value_begin = mid.at + len; value_end = mid.at + len })) new (left_in first) (outcome first.text.now).fault
+unfolding token_view
+newline_passed first state mid new len same short on ahead last is =
+    let text = state.text.now in
+    let front = reader_boundary text mid (left_in state) (outcome text).fault on ahead in
+    let both : IsPlainIn text (record { kind = kind.Newline; begin = mid.at; end = mid.at + len; value_begin = mid.at + len; value_end = mid.at + len }) × IsAheadPast text (plain_view text (record { kind = kind.Newline; begin = mid.at; end = mid.at + len; value_begin = mid.at + len; value_end = mid.at + len })) new (left_in state) (outcome text).fault =
+    (plain_inside text kind.Newline mid.at (mid.at + len) (mid.at + len) (mid.at + len) short (omega (arith)) (omega (arith)) front last last last, is) in
+    rw (same.0, same.2) at both

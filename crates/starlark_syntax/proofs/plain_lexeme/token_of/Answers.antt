@@ -1,0 +1,23 @@
+use Rattle.std.proofs.Common.{◌≡◌, ap, refl, sym, ◌∙◌}
+use Rattle.starlark_grammar.specs.Tokens as grammar
+use Rattle.starlark_syntax.specs.PlainLexemes.{plain_value, token_of}
+use Rattle.starlark_token.specs.TokenViews.{Whole, token_view}
+use Rattle.starlark_syntax.proofs.plain_lexeme.token_of.Goals as goal
+
+pub returns-in_ok-from_str-in-Identifier : goal.returns-in_ok-from_str-in-Identifier
+unfolding token_view
+returns-in_ok-from_str-in-Identifier c =
+    ap (λ t. Whole (grammar.Identifier t)) (c.in_ok-from_str-in-Identifier.ensures.ok ∙ c.range-value.ensures.value) ∙ ap (λ k. Whole (token_of k (plain_value c.args.text.now c.args.plain))) (sym c.in-Identifier.is)
+
+pub returns-in_ok-from_str-in-String : goal.returns-in_ok-from_str-in-String
+unfolding token_view
+returns-in_ok-from_str-in-String c =
+    ap (λ t. Whole (grammar.String t)) (c.in_ok-from_str-in-String.ensures.ok ∙ c.range-value.ensures.value) ∙ ap (λ k. Whole (token_of k (plain_value c.args.text.now c.args.plain))) (sym c.in-String.is)
+
+pub returns-in-FStringExprEnd : goal.returns-in-FStringExprEnd
+unfolding token_view
+returns-in-FStringExprEnd c = ap (λ k. Whole (token_of k (plain_value c.args.text.now c.args.plain))) (sym c.in-FStringExprEnd.is)
+
+pub returns-in-Newline : goal.returns-in-Newline
+unfolding token_view
+returns-in-Newline c = ap (λ k. Whole (token_of k (plain_value c.args.text.now c.args.plain))) (sym c.in-Newline.is)

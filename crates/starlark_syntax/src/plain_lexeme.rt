@@ -1,0 +1,114 @@
+//! Lexemes whose value, if they have one, is a part of the text.
+
+ghost use Rattle.std.specs.Prelude.{◌≡◌, ◌≤◌, ◌<◌, ◌+◌, ◌-◌, IfOk};
+ghost use Rattle.starlark_reader.specs.Inner.Reader.{IsTokenOf};
+ghost use Rattle.starlark_syntax.specs.PlainLexemes.{IsPlainIn, plain_token, token_of};
+ghost use Rattle.starlark_token.specs.TokenViews.{Whole, token_view};
+ghost use Rattle.starlark_grammar.specs.Words.{Text};
+
+use starlark_reader::{ends_expression, own_token};
+use starlark_token::tokens::Token;
+use starlark_words::scanner::Terminal;
+use std::alloc::{AllocError, Global};
+
+/// The kind of a plain lexeme.
+#[derive(Clone, Copy)]
+pub enum PlainKind {
+    /// A name.
+    Identifier,
+    /// A string literal.
+    String,
+    /// A keyword or symbol.
+    Word(Terminal),
+    /// The `}` at the end of an f-string's expression.
+    FStringExprEnd,
+    /// A `Newline`.
+    Newline,
+}
+
+impl PlainKind {
+    /// The kind of a keyword or symbol, of which `token` is made.
+    #[inline(always)]
+    pub fn of_symbol(terminal: Terminal, token: &Token) -> PlainKind
+        requires { IsTokenOf terminal (token_view token.now) }
+        ensures { (value : Text) → token_view token.now ≡ Whole (token_of result value) }
+    {
+        if ends_expression(token) {
+            PlainKind::FStringExprEnd
+        } else {
+            PlainKind::Word(terminal)
+        }
+    }
+}
+
+/// A lexeme whose value, if it has one, is a part of the text. Offsets count bytes of the text.
+#[derive(Clone, Copy)]
+pub struct PlainLexeme {
+    pub kind: PlainKind,
+    pub begin: usize,
+    pub end: usize,
+    /// Where its value begins; for a kind without a value as `value_end`.
+    pub value_begin: usize,
+    pub value_end: usize,
+}
+
+impl PlainLexeme {
+    /// A name between two offsets.
+    #[inline(always)]
+    pub fn name(begin: usize, end: usize) -> PlainLexeme
+        ensures { result ≡ record { kind = PlainKind.Identifier; begin = begin; end = end; value_begin = begin; value_end = end } }
+    {
+        PlainLexeme {
+            kind: PlainKind::Identifier,
+            begin,
+            end,
+            value_begin: begin,
+            value_end: end,
+        }
+    }
+
+    /// A string literal between two offsets, which one quote closes. Its opener has `opener` bytes.
+    #[inline(always)]
+    pub fn string(begin: usize, opener: usize, end: usize) -> PlainLexeme
+        requires { begin + opener < end }
+        ensures { result ≡ record { kind = PlainKind.String; begin = begin; end = end; value_begin = begin + opener; value_end = end - 1 } }
+    {
+        PlainLexeme {
+            kind: PlainKind::String,
+            begin,
+            end,
+            value_begin: begin + opener,
+            value_end: end - 1,
+        }
+    }
+
+    /// A lexeme between two offsets, of a kind without a value.
+    #[inline(always)]
+    pub fn of_kind(kind: PlainKind, begin: usize, end: usize) -> PlainLexeme
+        ensures { result ≡ record { kind = kind; begin = begin; end = end; value_begin = end; value_end = end } }
+    {
+        PlainLexeme {
+            kind,
+            begin,
+            end,
+            value_begin: end,
+            value_end: end,
+        }
+    }
+}
+
+/// The token of a plain lexeme of a text.
+#[inline(always)]
+pub fn token_of(plain: PlainLexeme, alloc: Global, text: &str) -> Result<Token, AllocError>
+    requires { IsPlainIn text.now plain }
+    ensures { IfOk result (λ token. token_view token ≡ Whole (plain_token text.now plain)) }
+{
+    let value = &text[plain.value_begin..plain.value_end];
+    match plain.kind {
+        PlainKind::Identifier => Ok(Token::Identifier(String::from_str(alloc, value)?)),
+        PlainKind::String => Ok(Token::String(String::from_str(alloc, value)?)),
+        PlainKind::Word(terminal) => Ok(own_token(terminal)),
+        PlainKind::FStringExprEnd => Ok(Token::FStringExprEnd),
+        PlainKind::Newline => Ok(Token::Newline),
+    }
+}
