@@ -1,6 +1,7 @@
 pub mod Errors
 pub mod Exceptions
 pub mod Lexer
+pub mod PlainLexemes
 pub mod Inner
 pub mod LexedTexts
 pub mod Held

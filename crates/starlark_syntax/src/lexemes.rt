@@ -1,12 +1,14 @@
 //! The lexer, which yields the lexemes of a text one by one.
 
-ghost use Rattle.std.specs.Prelude.{◌≡◌, ◌≤◌, ◌+◌, ◌*◌, ◌^◌, ◌↔◌, ◌||◌, None, length, true, false, IfOk, IsErr};
+ghost use Rattle.std.specs.Prelude.{◌≡◌, ◌≤◌, ◌+◌, ◌*◌, ◌^◌, ◌↔◌, ◌||◌, None, Some, length, true, false, IfOk, IfSome, IsErr};
 ghost use Rattle.std.specs.List.{slice_get};
-ghost use Rattle.starlark_syntax.specs.Lexer.{AnswersBetween, AnswersNext, AnswersWithin, HasReadFor, yielded_by, is_ended_by};
-ghost use Rattle.starlark_token.specs.TextItems.{items};
+ghost use Rattle.starlark_syntax.specs.Lexer.{AnswersBetween, AnswersNext, AnswersWithin, HasReadFor, most_reads, yielded_by, is_ended_by};
+ghost use Rattle.starlark_syntax.specs.PlainLexemes.{IsPlainIn, passed_by, plain_view};
+ghost use Rattle.starlark_token.specs.TextItems.{Given, items};
 
 pub use crate::lexer_state::Lexeme;
 use crate::lexer_state::LexerState;
+use crate::plain_lexeme::PlainLexeme;
 use starlark_base::codemap::{CodeMap, SourceTooLong};
 use starlark_base::dialect::Dialect;
 use std::alloc::Global;
@@ -72,6 +74,20 @@ impl<'a> Lexer<'a> {
         // The proof of `between` needs that the text is UTF-8, which the read of a `&str` says.
         let _text = self.text();
         self.state.next()
+    }
+
+    /// Passes the next lexeme if it is plain, and returns it: without memory, and without its value,
+    /// which is a part of the text. `None` where it isn't plain, where it is the fault, and where there
+    /// is none; `next` tells which.
+    #[inline(always)]
+    pub fn next_plain(&mut self) -> Option<PlainLexeme>
+        ensures item { IfSome result (λ plain. slice_get (items self.old.text) self.old.yielded_count ≡ Some (Given (plain_view self.old.text plain))) }
+        ensures within { IfSome result (IsPlainIn self.old.text) }
+        ensures going { IfSome result (λ plain. self.old.has_ended ≡ false) }
+        ensures after { self.new ≡ record self.old { yielded_count = self.old.yielded_count + passed_by result; reads = self.new.reads } }
+        ensures reads { IfSome result (λ plain. self.new.reads ≤ most_reads self.old.text) }
+    {
+        None
     }
 
     /// Number of reads of bytes so far.

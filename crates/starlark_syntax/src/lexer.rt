@@ -4,6 +4,7 @@ mod source_error;
 
 pub use crate::lexed_text::LexedText;
 pub use crate::lexemes::{Lexeme, Lexer};
+pub use crate::plain_lexeme::{PlainKind, PlainLexeme};
 pub use crate::recovering_lexer::RecoveringLexer;
 pub use source_error::SourceError;
 pub use starlark_token::big_int::BigInt;
@@ -12,3 +13,4 @@ pub use starlark_token::lexeme_error::LexemeError;
 pub use starlark_token::token_int::TokenInt;
 pub use starlark_token::tokens::Token;
 pub use starlark_words::one_identifier::lex_exactly_one_identifier;
+pub use starlark_words::scanner::Terminal;

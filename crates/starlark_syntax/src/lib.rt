@@ -14,6 +14,7 @@ pub mod lexer;
 mod lexer_state;
 mod parts;
 mod passed_faults;
+mod plain_lexeme;
 mod recovering_lexer;
 pub mod restarts;
 mod tails;
