@@ -3,12 +3,16 @@
 ghost use Rattle.std.specs.Prelude.{◌≡◌, ◌+◌, ◌&&◌, ◌==◌, length};
 ghost use Rattle.starlark_c.specs.Inner.Filling.{IsNextStop, wanted_by};
 ghost use Rattle.starlark_c.specs.Records.{value_bytes};
+ghost use Rattle.starlark_grammar.specs.Words.{Text};
 ghost use Rattle.starlark_syntax.specs.Inner.LexedTexts.{is_newline_view};
+ghost use Rattle.starlark_syntax.specs.PlainLexemes.{IsPlainIn, plain_view};
+ghost use Rattle.starlark_syntax.specs.declared.plain_lexeme.PlainLexeme.{PlainLexeme};
+ghost use Rattle.starlark_token.specs.Lexemes.{lexeme_view};
 ghost use Rattle.starlark_token.specs.TokenViews.{token_view};
 
 use crate::endings::Filled;
-use crate::records::bytes_of;
-use starlark_syntax::lexer::Token;
+use crate::records::{bytes_of, bytes_of_plain};
+use starlark_syntax::lexer::{PlainKind, PlainLexeme, Token};
 
 /// An offset where the text may be cut, and what fills the buffers before it.
 #[derive(Clone, Copy)]
@@ -80,6 +84,26 @@ pub fn pass(filled: Filled, depth: usize, token: &Token) -> Passed
     }
 }
 
+/// Whether a plain lexeme is a `Newline`.
+#[inline(always)]
+fn is_plain_newline(kind: PlainKind) -> bool
+    ensures { (text : Text) (plain : PlainLexeme) → plain.kind ≡ kind → result ≡ is_newline_view (plain_view text plain).node }
+{
+    matches!(kind, PlainKind::Newline)
+}
+
+/// Counts one more plain lexeme to what fills the buffers, with so many blocks open before it.
+pub fn pass_plain(filled: Filled, depth: usize, text: &str, plain: PlainLexeme) -> Passed
+    requires { IsPlainIn text.now plain }
+    ensures { result.wanted ≡ wanted_by (filled.lexemes + 1) (filled.values + length (value_bytes (plain_view text.now plain).node)) }
+{
+    Passed {
+        wanted: filled.with(1, bytes_of_plain(text, plain).len()),
+        depth,
+        ends_piece: is_plain_newline(plain.kind) && depth == 0,
+    }
+}
+
 /// Counts one more lexeme to those that were passed, and drops it.
 pub fn pass_lexeme(passed: Passed, lexeme: (usize, Token, usize)) -> Passed
     ensures { result.wanted ≡ wanted_by (passed.wanted.lexemes + 1) (passed.wanted.values + length (value_bytes (token_view lexeme.1))) }
@@ -98,22 +122,32 @@ impl Progress {
         },
     };
 
-    /// After one more lexeme, with which `filled` fills the buffers.
+    /// Goes on after one more lexeme, with which `filled` fills the buffers.
     #[inline(always)]
-    pub fn after(self, filled: Filled, lexeme: &(usize, Token, usize)) -> Progress
-        ensures filled { result.filled ≡ filled }
-        ensures stop { IsNextStop self.stop lexeme.now filled result.stop }
+    pub fn pass(&mut self, filled: Filled, lexeme: &(usize, Token, usize))
+        ensures filled { self.new.filled ≡ filled }
+        ensures stop { IsNextStop self.old.stop (lexeme_view lexeme.now) filled self.new.stop }
     {
         let (_, token, end) = lexeme;
-        let stop = if ends_piece(self.depth, token) {
-            Stop { at: *end, filled }
-        } else {
-            self.stop
-        };
-        Progress {
-            filled,
-            depth: depth_after(self.depth, token),
-            stop,
+        if ends_piece(self.depth, token) {
+            self.stop = Stop { at: *end, filled };
         }
+        self.filled = filled;
+        self.depth = depth_after(self.depth, token);
+    }
+
+    /// Goes on after one more plain lexeme, with which `filled` fills the buffers.
+    #[inline(always)]
+    pub fn pass_plain(&mut self, filled: Filled, plain: PlainLexeme)
+        ensures filled { self.new.filled ≡ filled }
+        ensures stop { (text : Text) → IsNextStop self.old.stop (plain_view text plain) filled self.new.stop }
+    {
+        if is_plain_newline(plain.kind) && self.depth == 0 {
+            self.stop = Stop {
+                at: plain.end,
+                filled,
+            };
+        }
+        self.filled = filled;
     }
 }

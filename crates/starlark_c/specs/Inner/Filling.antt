@@ -1,5 +1,5 @@
 -- One more lexeme or fault in the caller's buffers.
-use Rattle.std.specs.Prelude.{◌≡◌, ◌<◌, ◌≤◌, ◌+◌, ◌-◌, ◌⊎◌, ℕ, true, slice_get, List, [], ◌∷◌, ◌++◌, length, take, drop, Option, Some, None, Result, Ok, Err}
+use Rattle.std.specs.Prelude.{◌≡◌, ◌<◌, ◌≤◌, ◌+◌, ◌-◌, ◌⊎◌, ℕ, true, slice_get, List, [], ◌∷◌, ◌++◌, length, take, drop, Option, Some, None, Result, Ok, Err, ⊤}
 use Rattle.std.specs.Str.{IsCharBoundary}
 use Rattle.starlark_c.specs.Endings.{AreFirst, Buffers, IsPiece, capped, lexemes_of}
 use Rattle.starlark_c.specs.Records.{fault_bytes, fault_record, record_of, value_bytes, values}
@@ -13,9 +13,7 @@ use Rattle.starlark_c.specs.declared.records.LexemeRecord.{LexemeRecord}
 use Rattle.starlark_grammar.specs.Tokens as grammar
 use Rattle.starlark_grammar.specs.Words.{Text}
 use Rattle.starlark_syntax.specs.Inner.LexedTexts.{is_newline_view}
-use Rattle.starlark_token.specs.Lexemes.{lexeme_view}
-use Rattle.starlark_token.specs.TokenViews.{TokenView, token_view}
-use Rattle.starlark_token.specs.declared.tokens.Token.{Token}
+use Rattle.starlark_token.specs.TokenViews.{TokenView}
 
 -- a list with some items in place of those from `at` on
 abbrev pub put : {A : Type 0} → ℕ → List A → List A → List A
@@ -71,17 +69,17 @@ abbrev pub IsStop : Text → (yielded : ℕ) → Stop → Type 0
 IsStop text yielded stop = (stop.filled.lexemes ≡ 0) ⊎ IsNewlineStop text yielded stop
 
 -- the stop is the old one, or is after this lexeme, which is a `Newline`
-abbrev pub IsNextStop : Stop → (ℕ × Token × ℕ) → Filled → Stop → Type 0
+abbrev pub IsNextStop : Stop → grammar.Spanned TokenView → Filled → Stop → Type 0
 IsNextStop old lexeme more new =
-    (new ≡ old) ⊎ ((new ≡ record { at = lexeme.2; filled = more }) × (is_newline_view (token_view lexeme.1) ≡ true))
+    (new ≡ old) ⊎ ((new ≡ record { at = lexeme.end; filled = more }) × (is_newline_view lexeme.node ≡ true))
 
--- the result of putting the next lexeme: how far lexing is then, or what is wanted with it
-abbrev pub PutsNext : (ℕ × Token × ℕ) → Progress → Buffers → Buffers → Result Progress Passed → Type 0
-PutsNext lexeme progress before after (Ok next) =
-    IsPut (lexeme_view lexeme) progress.filled before after next.filled × IsNextStop progress.stop lexeme next.filled next.stop
-PutsNext lexeme progress before after (Err passed) =
-    HasNoRoom (lexeme_view lexeme) progress.filled before after
-    × (passed.wanted ≡ wanted_by (progress.filled.lexemes + 1) (progress.filled.values + length (value_bytes (lexeme_view lexeme).node)))
+-- the result of putting the next lexeme: lexing went on, or nothing changed, and this is wanted with it
+abbrev pub PutsNext : grammar.Spanned TokenView → (old new : Progress) → Buffers → Buffers → Result ⊤ Passed → Type 0
+PutsNext lexeme old new before after (Ok done) =
+    IsPut lexeme old.filled before after new.filled × IsNextStop old.stop lexeme new.filled new.stop
+PutsNext lexeme old new before after (Err passed) =
+    HasNoRoom lexeme old.filled before after × (new ≡ old)
+    × (passed.wanted ≡ wanted_by (old.filled.lexemes + 1) (old.filled.values + length (value_bytes lexeme.node)))
 
 -- how much is wanted for the first `count` lexemes of a text and maybe more
 pub record IsWanted (text : Text) (count : ℕ) (wanted : Filled) : Type 0 where
