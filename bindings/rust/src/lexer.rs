@@ -122,6 +122,7 @@ impl<'a> Lexer<'a> {
     }
 
     /// The bytes of the text from one offset in the piece to another.
+    #[inline]
     fn span(&self, begin: u32, end: u32) -> Span {
         Span {
             begin: self.from + begin as usize,

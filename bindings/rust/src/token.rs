@@ -3,6 +3,7 @@
 use crate::ffi::{Buffers, LexemeRecord};
 use crate::Span;
 use std::borrow::Cow;
+use std::ops::Range;
 
 /// An integer literal's value. It isn't negative, since a sign is a token of its own.
 #[derive(Clone, Debug, PartialEq, Eq, Hash)]
@@ -85,6 +86,7 @@ macro_rules! tokens {
 
         impl Token<'_> {
             /// The token without a value that has a number in the library.
+            #[inline]
             fn of_number(number: u16) -> Option<Token<'static>> {
                 match number {
                     $($number => Some(Token::$name),)*
@@ -252,24 +254,30 @@ impl<'a> Token<'a> {
         record: &LexemeRecord,
         buffers: &Buffers,
     ) -> Self {
-        let value = || Value {
+        let value = Value {
             text,
-            end: span.end,
-            bytes: buffers.value(record),
+            span,
+            record,
+            buffers,
         };
         match record.kind {
-            1 => Token::Comment(value().text_before(&[0])),
-            5 => Token::Identifier(value().text_before(&[0])),
-            6 => Token::Int(value().integer(record)),
-            7 => Token::Float(value().text_before(&[0])),
-            8 => Token::String(value().text_before(&[1, 3])),
-            9 => Token::Bytes(value().bytes_before(&[1, 3])),
+            1 => Token::Comment(value.text_between(1, 0)),
+            5 => Token::Identifier(value.text_between(0, 0)),
+            6 => Token::Int(value.integer()),
+            7 => Token::Float(value.text_between(0, 0)),
+            8 => Token::String(value.text_between(1, 1)),
+            9 => Token::Bytes(value.bytes()),
             10 => Token::FStringStart(quotes(record.detail)),
-            11 => Token::FStringText(value().text_before(&[0])),
-            number => Token::of_number(number)
-                .unwrap_or_else(|| unreachable!("the library has no kind {number}")),
+            11 => Token::FStringText(value.text_between(0, 0)),
+            number => Token::of_number(number).unwrap_or_else(|| no_kind(number)),
         }
     }
+}
+
+/// Panics for a number that no kind has.
+#[cold]
+fn no_kind(number: u16) -> ! {
+    unreachable!("the library has no kind {number}")
 }
 
 /// The quotes with a number of the library.
@@ -278,54 +286,72 @@ fn quotes(number: u16) -> FStringQuote {
         .unwrap_or_else(|| unreachable!("the library has no quotes {number}"))
 }
 
-/// The value of a lexeme that ends at an offset in a text.
+/// The value of a lexeme of a text, whose record is in the buffers.
 struct Value<'a, 'b> {
     text: &'a str,
-    end: usize,
-    bytes: &'b [u8],
+    span: Span,
+    record: &'b LexemeRecord,
+    buffers: &'b Buffers,
 }
 
 impl<'a> Value<'a, '_> {
-    /// Where the value is in the text, byte for byte, before one of the closings of these lengths.
-    fn begin(&self, closings: &[usize]) -> Option<usize> {
-        let text = self.text.as_bytes();
-        closings.iter().find_map(|&closing| {
-            let begin = self.end.checked_sub(closing + self.bytes.len())?;
-            let is_there = text[begin..].starts_with(self.bytes);
-            is_there.then_some(begin)
-        })
+    /// The value as a text, which is borrowed if the text has it.
+    ///
+    /// `front` and `back` are what the lexeme has before and after its value, in bytes, where it has
+    /// the least: a literal of three quotes, or a raw one, has more. So if only these are missing
+    /// from the value's length, it is what is between them: each part of a literal denotes its own
+    /// bytes, or fewer than it has.
+    #[inline]
+    fn text_between(&self, front: usize, back: usize) -> Cow<'a, str> {
+        let Span { begin, end } = self.span;
+        if self.record.value_len + front + back == end - begin {
+            if let Some(text) = self.text.get(begin + front..end - back) {
+                return Cow::Borrowed(text);
+            }
+        }
+        self.text_anywhere()
     }
 
-    /// The value as a text, borrowed if it is before one of these closings.
-    fn text_before(&self, closings: &[usize]) -> Cow<'a, str> {
-        let borrowed = self
-            .begin(closings)
-            .and_then(|begin| self.text.get(begin..begin + self.bytes.len()));
-        match borrowed {
+    /// The value as a text, which is borrowed if it is before the lexeme's closing quotes.
+    #[cold]
+    fn text_anywhere(&self) -> Cow<'a, str> {
+        match self.range().and_then(|range| self.text.get(range)) {
             Some(text) => Cow::Borrowed(text),
             None => {
-                let text = String::from_utf8(self.bytes.to_vec());
+                let text = String::from_utf8(self.buffers.value(self.record).to_vec());
                 Cow::Owned(text.expect("the library's values of texts are UTF-8"))
             }
         }
     }
 
-    /// The value as bytes, borrowed if they are before one of these closings.
-    fn bytes_before(&self, closings: &[usize]) -> Cow<'a, [u8]> {
-        match self.begin(closings) {
-            Some(begin) => Cow::Borrowed(&self.text.as_bytes()[begin..begin + self.bytes.len()]),
-            None => Cow::Owned(self.bytes.to_vec()),
+    /// The value as bytes, which are borrowed if they are before the lexeme's closing quotes.
+    fn bytes(&self) -> Cow<'a, [u8]> {
+        match self.range() {
+            Some(range) => Cow::Borrowed(&self.text.as_bytes()[range]),
+            None => Cow::Owned(self.buffers.value(self.record).to_vec()),
         }
     }
 
+    /// Where the value is in the text, byte for byte: before no, one or three closing quotes.
+    fn range(&self) -> Option<Range<usize>> {
+        let text = self.text.as_bytes();
+        let bytes = self.buffers.value(self.record);
+        [0, 1, 3].into_iter().find_map(|closing| {
+            let begin = self.span.end.checked_sub(closing + bytes.len())?;
+            let range = begin..begin + bytes.len();
+            (begin >= self.span.begin && text[range.clone()] == *bytes).then_some(range)
+        })
+    }
+
     /// The value of an integer.
-    fn integer(&self, record: &LexemeRecord) -> TokenInt<'a> {
-        if self.bytes.is_empty() {
-            return TokenInt::I32(record.integer);
+    #[inline]
+    fn integer(&self) -> TokenInt<'a> {
+        if self.record.value_len == 0 {
+            return TokenInt::I32(self.record.integer);
         }
         TokenInt::BigInt {
-            digits: self.text_before(&[0]),
-            radix: u32::from(record.detail),
+            digits: self.text_anywhere(),
+            radix: u32::from(self.record.detail),
         }
     }
 }

@@ -3,7 +3,7 @@ use Rattle.std.proofs.Common.{◌≡◌, ℕ, ◌+◌, ◌≤◌, ◌||◌, fals
 use Rattle.std.specs.Prelude.{⊤}
 use Rattle.std.specs.Str.{IsCharBoundary}
 use Rattle.starlark_c.specs.Endings.{Buffers, Ends, Hold, IsText, lexemes_of}
-use Rattle.starlark_c.specs.Inner.Filling.{HasNoRoom, IsOverflow, IsStop, PutsNext, wanted_by}
+use Rattle.starlark_c.specs.Inner.Filling.{IsOverflow, IsStop, PutsNext, wanted_by}
 use Rattle.starlark_c.specs.Records.{records, value_bytes, values}
 use Rattle.starlark_c.specs.declared.endings.Ending.{Ending}
 use Rattle.starlark_c.specs.declared.progress.Passed.{Passed}

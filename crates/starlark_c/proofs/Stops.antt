@@ -1,8 +1,8 @@
 -- Where a text may be cut, and how lexing ends.
-use Rattle.std.proofs.Common.{◌≡◌, ℕ, ◌+◌, ◌-◌, ◌≤◌, ◌<◌, List, [], ◌∷◌, ◌++◌, length, take, refl, ap, sym, ◌∙◌, arith, None, Some, slice_get, true, inl, inr, ◌⊎◌, length-append}
+use Rattle.std.proofs.Common.{◌≡◌, ℕ, ◌+◌, ◌-◌, ◌≤◌, ◌<◌, length, take, refl, ap, sym, ◌∙◌, arith, Some, slice_get, inl, inr, ◌⊎◌, length-append}
 use Rattle.std.specs.Str.{IsCharBoundary}
-use Rattle.std.proofs.lemmas.List.{length-take-le, take-take, take_all}
-use Rattle.starlark_c.specs.Endings.{Buffers, Ends, Hold, IsCut, IsFull, IsPiece, IsText, lexemes_of}
+use Rattle.std.proofs.lemmas.List.{length-take-le, take-take}
+use Rattle.starlark_c.specs.Endings.{Buffers, Ends, Hold, IsText, lexemes_of}
 use Rattle.starlark_c.specs.Inner.Filling.{HasNoRoom, IsNewlineStop, IsNextStop, IsOverflow, IsStop, IsStopped, EndsAtFault}
 use Rattle.starlark_c.specs.Records.{records, value_bytes, values}
 use Rattle.starlark_c.specs.declared.endings.Ending.{Ending}
@@ -16,7 +16,6 @@ use Rattle.starlark_c.proofs.Ends.{ends_fault}
 use Rattle.starlark_grammar.specs.Reading.{outcome}
 use Rattle.starlark_grammar.specs.Tokens.{Fault, Spanned}
 use Rattle.starlark_grammar.specs.Words.{Text}
-use Rattle.starlark_syntax.specs.Inner.LexedTexts.{is_newline_view}
 use Rattle.starlark_token.specs.TokenViews.{TokenView}
 
 -- The stop after one lexeme more.

@@ -1,5 +1,4 @@
-use Rattle.std.proofs.Common.{◌≡◌, ℕ, ◌+◌, ◌≤◌, false, length, take, refl, ap, sym, subst, ◌∙◌, arith, inl}
-use Rattle.starlark_c.specs.Endings.{lexemes_of}
+use Rattle.std.proofs.Common.{◌≡◌, refl, ap, arith, inl}
 use Rattle.starlark_c.proofs.Ends.{ends_whole}
 use Rattle.starlark_c.proofs.Filled.{hold_none, values_nil}
 use Rattle.starlark_c.proofs.Items.{given_next, next_fault, next_lexeme, next_none}
