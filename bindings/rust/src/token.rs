@@ -1,7 +1,8 @@
 //! Tokens and their values.
 
-use crate::ffi::{Buffers, LexemeRecord};
-use crate::Span;
+use crate::ffi::LexemeRecord;
+use crate::piece::Piece;
+use crate::{Fault, Lexeme};
 use std::borrow::Cow;
 use std::ops::Range;
 
@@ -58,6 +59,16 @@ impl FStringQuote {
     }
 }
 
+// The numbers of the tokens that have a value, in the library.
+const COMMENT: u16 = 1;
+const IDENTIFIER: u16 = 5;
+const INT: u16 = 6;
+const FLOAT: u16 = 7;
+const STRING: u16 = 8;
+const BYTES: u16 = 9;
+const FSTRING_START: u16 = 10;
+const FSTRING_TEXT: u16 = 11;
+
 /// Declares `Token`, with the tokens that have no value and their numbers in the library.
 macro_rules! tokens {
     ($($(#[$doc:meta])* $name:ident = $number:literal,)*) => {
@@ -84,13 +95,28 @@ macro_rules! tokens {
             $($(#[$doc])* $name,)*
         }
 
-        impl Token<'_> {
-            /// The token without a value that has a number in the library.
+        impl<'a> Token<'a> {
+            /// What a lexer yields for a record of a piece.
+            // Each arm makes the whole item. One that is made of a token after the `match` is copied
+            // twice: 12 instructions a lexeme more.
             #[inline]
-            fn of_number(number: u16) -> Option<Token<'static>> {
-                match number {
-                    $($number => Some(Token::$name),)*
-                    _ => None,
+            pub(crate) fn item_of_record(
+                piece: &Piece<'a>,
+                record: &LexemeRecord,
+            ) -> Option<Result<Lexeme<'a>, Fault>> {
+                let value = Value { piece, record };
+                let span = piece.span(record.begin, record.end);
+                match record.kind {
+                    $($number => Some(Ok(Lexeme { span, token: Token::$name })),)*
+                    IDENTIFIER => match value.text_between(0, 0) {
+                        Some(name) => Some(Ok(Lexeme { span, token: Token::Identifier(Cow::Borrowed(name)) })),
+                        None => Some(Ok(Lexeme { span, token: value.token() })),
+                    },
+                    STRING => match value.text_between(1, 1) {
+                        Some(text) => Some(Ok(Lexeme { span, token: Token::String(Cow::Borrowed(text)) })),
+                        None => Some(Ok(Lexeme { span, token: value.token() })),
+                    },
+                    _ => Some(Ok(Lexeme { span, token: value.token() })),
                 }
             }
 
@@ -245,112 +271,95 @@ tokens! {
     ClosingRound = 73,
 }
 
-impl<'a> Token<'a> {
-    /// The token of a record in the buffers, whose bytes in the text are the span's.
-    #[inline]
-    pub(crate) fn of_record(
-        text: &'a str,
-        span: Span,
-        record: &LexemeRecord,
-        buffers: &Buffers,
-    ) -> Self {
-        let value = Value {
-            text,
-            span,
-            record,
-            buffers,
-        };
-        match record.kind {
-            1 => Token::Comment(value.text_between(1, 0)),
-            5 => Token::Identifier(value.text_between(0, 0)),
-            6 => Token::Int(value.integer()),
-            7 => Token::Float(value.text_between(0, 0)),
-            8 => Token::String(value.text_between(1, 1)),
-            9 => Token::Bytes(value.bytes()),
-            10 => Token::FStringStart(quotes(record.detail)),
-            11 => Token::FStringText(value.text_between(0, 0)),
-            number => Token::of_number(number).unwrap_or_else(|| no_kind(number)),
-        }
-    }
-}
-
-/// Panics for a number that no kind has.
-#[cold]
-fn no_kind(number: u16) -> ! {
-    unreachable!("the library has no kind {number}")
-}
-
 /// The quotes with a number of the library.
 fn quotes(number: u16) -> FStringQuote {
     FStringQuote::of_number(number)
         .unwrap_or_else(|| unreachable!("the library has no quotes {number}"))
 }
 
-/// The value of a lexeme of a text, whose record is in the buffers.
+/// The value of a lexeme of a piece.
+#[derive(Clone, Copy)]
 struct Value<'a, 'b> {
-    text: &'a str,
-    span: Span,
+    piece: &'b Piece<'a>,
     record: &'b LexemeRecord,
-    buffers: &'b Buffers,
 }
 
-impl<'a> Value<'a, '_> {
-    /// The value as a text, which is borrowed if the text has it.
-    ///
-    /// `front` and `back` are what the lexeme has before and after its value, in bytes, where it has
-    /// the least: a literal of three quotes, or a raw one, has more. So if only these are missing
-    /// from the value's length, it is what is between them: each part of a literal denotes its own
-    /// bytes, or fewer than it has.
-    #[inline]
-    fn text_between(&self, front: usize, back: usize) -> Cow<'a, str> {
-        let Span { begin, end } = self.span;
-        if self.record.value_len + front + back == end - begin {
-            if let Some(text) = self.text.get(begin + front..end - back) {
-                return Cow::Borrowed(text);
-            }
+impl<'a, 'b> Value<'a, 'b> {
+    /// The token, of a kind that has a value.
+    // Not inlined: with all these kinds in the loop of a caller each lexeme costs 10 instructions more.
+    #[inline(never)]
+    fn token(self) -> Token<'a> {
+        match self.record.kind {
+            COMMENT => Token::Comment(self.text()),
+            IDENTIFIER => Token::Identifier(self.text()),
+            INT => Token::Int(self.integer()),
+            FLOAT => Token::Float(self.text()),
+            STRING => Token::String(self.text()),
+            BYTES => Token::Bytes(self.bytes()),
+            FSTRING_START => Token::FStringStart(quotes(self.record.detail)),
+            FSTRING_TEXT => Token::FStringText(self.text()),
+            number => unreachable!("the library has no kind {number}"),
         }
-        self.text_anywhere()
+    }
+
+    /// The value as a text, if it is what the lexeme has after its first `front` bytes and before its
+    /// last `back` bytes, which are the least that a lexeme of its kind has besides its value.
+    ///
+    /// Only the lengths are compared. They are equal only where the bytes are: a name is its value,
+    /// and each part of a literal denotes its own bytes, or fewer than it has. A literal of three
+    /// quotes, or a raw one, has more besides its value; `range` finds it.
+    #[inline]
+    fn text_between(self, front: usize, back: usize) -> Option<&'a str> {
+        let (begin, end) = (self.record.begin as usize, self.record.end as usize);
+        if self.record.value_len + front + back != end - begin {
+            return None;
+        }
+        self.piece.text.get(begin + front..end - back)
     }
 
     /// The value as a text, which is borrowed if it is before the lexeme's closing quotes.
-    #[cold]
-    fn text_anywhere(&self) -> Cow<'a, str> {
-        match self.range().and_then(|range| self.text.get(range)) {
+    fn text(self) -> Cow<'a, str> {
+        match self.range().and_then(|range| self.piece.text.get(range)) {
             Some(text) => Cow::Borrowed(text),
             None => {
-                let text = String::from_utf8(self.buffers.value(self.record).to_vec());
+                let text = String::from_utf8(self.buffered().to_vec());
                 Cow::Owned(text.expect("the library's values of texts are UTF-8"))
             }
         }
     }
 
     /// The value as bytes, which are borrowed if they are before the lexeme's closing quotes.
-    fn bytes(&self) -> Cow<'a, [u8]> {
+    fn bytes(self) -> Cow<'a, [u8]> {
         match self.range() {
-            Some(range) => Cow::Borrowed(&self.text.as_bytes()[range]),
-            None => Cow::Owned(self.buffers.value(self.record).to_vec()),
+            Some(range) => Cow::Borrowed(&self.piece.text.as_bytes()[range]),
+            None => Cow::Owned(self.buffered().to_vec()),
         }
     }
 
-    /// Where the value is in the text, byte for byte: before no, one or three closing quotes.
-    fn range(&self) -> Option<Range<usize>> {
-        let text = self.text.as_bytes();
-        let bytes = self.buffers.value(self.record);
+    /// The bytes of the value among those of all lexemes.
+    fn buffered(self) -> &'b [u8] {
+        self.piece.buffers.value(self.record)
+    }
+
+    /// Where the value is in the piece, byte for byte: before no, one or three closing quotes.
+    fn range(self) -> Option<Range<usize>> {
+        let text = self.piece.text.as_bytes();
+        let bytes = self.buffered();
         [0, 1, 3].into_iter().find_map(|closing| {
-            let begin = self.span.end.checked_sub(closing + bytes.len())?;
+            let begin = (self.record.end as usize).checked_sub(closing + bytes.len())?;
             let range = begin..begin + bytes.len();
-            (begin >= self.span.begin && text[range.clone()] == *bytes).then_some(range)
+            (begin >= self.record.begin as usize && text[range.clone()] == *bytes).then_some(range)
         })
     }
 
     /// The value of an integer.
     #[inline]
-    fn integer(&self) -> TokenInt<'a> {
+    fn integer(self) -> TokenInt<'a> {
         if self.record.value_len == 0 {
             return TokenInt::I32(self.record.integer);
         }
         TokenInt::BigInt {
-            digits: self.text_anywhere(),
+            digits: self.text(),
             radix: u32::from(self.record.detail),
         }
     }
