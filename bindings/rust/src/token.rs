@@ -59,16 +59,6 @@ impl FStringQuote {
     }
 }
 
-// The numbers of the tokens that have a value, in the library.
-const COMMENT: u16 = 1;
-const IDENTIFIER: u16 = 5;
-const INT: u16 = 6;
-const FLOAT: u16 = 7;
-const STRING: u16 = 8;
-const BYTES: u16 = 9;
-const FSTRING_START: u16 = 10;
-const FSTRING_TEXT: u16 = 11;
-
 /// Declares `Token`, with the tokens that have no value and their numbers in the library.
 macro_rules! tokens {
     ($($(#[$doc:meta])* $name:ident = $number:literal,)*) => {
@@ -108,11 +98,11 @@ macro_rules! tokens {
                 let span = piece.span(record.begin, record.end);
                 match record.kind {
                     $($number => Some(Ok(Lexeme { span, token: Token::$name })),)*
-                    IDENTIFIER => match value.text_between(0, 0) {
+                    5 => match value.text_between(0, 0) {
                         Some(name) => Some(Ok(Lexeme { span, token: Token::Identifier(Cow::Borrowed(name)) })),
                         None => Some(Ok(Lexeme { span, token: value.token() })),
                     },
-                    STRING => match value.text_between(1, 1) {
+                    8 => match value.text_between(1, 1) {
                         Some(text) => Some(Ok(Lexeme { span, token: Token::String(Cow::Borrowed(text)) })),
                         None => Some(Ok(Lexeme { span, token: value.token() })),
                     },
@@ -290,14 +280,14 @@ impl<'a, 'b> Value<'a, 'b> {
     #[inline(never)]
     fn token(self) -> Token<'a> {
         match self.record.kind {
-            COMMENT => Token::Comment(self.text()),
-            IDENTIFIER => Token::Identifier(self.text()),
-            INT => Token::Int(self.integer()),
-            FLOAT => Token::Float(self.text()),
-            STRING => Token::String(self.text()),
-            BYTES => Token::Bytes(self.bytes()),
-            FSTRING_START => Token::FStringStart(quotes(self.record.detail)),
-            FSTRING_TEXT => Token::FStringText(self.text()),
+            1 => Token::Comment(self.text()),
+            5 => Token::Identifier(self.text()),
+            6 => Token::Int(self.integer()),
+            7 => Token::Float(self.text()),
+            8 => Token::String(self.text()),
+            9 => Token::Bytes(self.bytes()),
+            10 => Token::FStringStart(quotes(self.record.detail)),
+            11 => Token::FStringText(self.text()),
             number => unreachable!("the library has no kind {number}"),
         }
     }
@@ -368,7 +358,7 @@ impl<'a, 'b> Value<'a, 'b> {
 #[cfg(test)]
 mod tests {
     use super::*;
-    use crate::ffi::kind_name;
+    use crate::ffi::{kind_name, Buffers};
 
     /// The name of a token's variant.
     fn name(token: &Token<'_>) -> String {
@@ -378,17 +368,28 @@ mod tests {
 
     #[test]
     fn numbers_have_the_names_of_the_library() {
-        let with_value = [1, 5, 6, 7, 8, 9, 10, 11];
+        let piece = Piece {
+            text: "",
+            from: 0,
+            buffers: Buffers::with_capacity(0, 0),
+        };
         for number in 0..u16::MAX {
             let library = kind_name(u32::from(number));
-            match Token::of_number(number) {
-                Some(token) => assert_eq!(name(&token), library),
-                None => assert_eq!(
-                    library.is_empty(),
-                    !with_value.contains(&number),
-                    "{number}"
-                ),
+            assert_eq!(library.is_empty(), !(1..=73).contains(&number), "{number}");
+            if library.is_empty() {
+                continue;
             }
+            let record = LexemeRecord {
+                begin: 0,
+                end: 0,
+                kind: number,
+                detail: 1,
+                integer: 0,
+                value_begin: 0,
+                value_len: 0,
+            };
+            let item = Token::item_of_record(&piece, &record);
+            assert_eq!(name(&item.unwrap().unwrap().token), library);
         }
     }
 }

@@ -1,5 +1,5 @@
 -- The buffers after the next lexeme of a text, and the lexer after it.
-use Rattle.std.proofs.Common.{◌≡◌, ℕ, ◌+◌, ◌≤◌, ◌||◌, false, refl, length, take, ap, ◌∙◌, arith, Ok, Err}
+use Rattle.std.proofs.Common.{◌≡◌, ℕ, ◌+◌, ◌≤◌, ◌||◌, false, refl, length, take, ap, subst, sym, ◌∙◌, arith, Ok, Err}
 use Rattle.std.specs.Prelude.{⊤}
 use Rattle.std.specs.Str.{IsCharBoundary}
 use Rattle.starlark_c.specs.Endings.{Buffers, Ends, Hold, IsText, lexemes_of}
@@ -10,7 +10,7 @@ use Rattle.starlark_c.specs.declared.progress.Passed.{Passed}
 use Rattle.starlark_c.specs.declared.progress.Progress.{Progress}
 use Rattle.starlark_c.proofs.Filled.{filled_by, put_next}
 use Rattle.starlark_c.proofs.Items.{IsNext}
-use Rattle.starlark_c.proofs.Stops.{all_but, overflows, stop_more}
+use Rattle.starlark_c.proofs.Stops.{IsNextStop, all_but, next_stop_is, overflows, stop_more}
 use Rattle.starlark_grammar.specs.Tokens.{Spanned}
 use Rattle.starlark_grammar.specs.Words.{Text}
 use Rattle.starlark_syntax.specs.Lexer.{LexerView}
@@ -28,11 +28,12 @@ pub has_filled_more : (text : Text) (n : ℕ) (x : Spanned TokenView) (old new :
     → HasFilled text (n + 1) new before after
 has_filled_more text n x old new before now after done had next boundary puts =
     let more = put_next (lexemes_of text) n x before now after old.filled new.filled next.more had.hold had.filled puts.0 in
+    let stop : IsNextStop old.stop x new.filled new.stop = subst (IsNextStop old.stop x new.filled) (sym (ap (λ (p : Progress). p.stop) puts.1)) (next_stop_is old x new.filled) in
     record {
       few = next.few;
       hold = more.hold;
       filled = more.counts;
-      stop = stop_more text n x new.filled old.stop new.stop had.stop puts.1 next more.counts boundary;
+      stop = stop_more text n x new.filled old.stop new.stop had.stop stop next more.counts boundary;
     }
 
 -- what is wanted with the next one, if it has no room
@@ -40,7 +41,7 @@ pub wanted_with_next : (text : Text) (n : ℕ) (x : Spanned TokenView) (old new 
     → passed.wanted ≡ wanted_by (n + 1) (length (values (take (n + 1) (lexemes_of text))))
 wanted_with_next text n x old new before now after passed had next puts =
     let both = all_but text n x old.filled next had.few had.filled in
-    puts.2 ∙ ap (λ k. wanted_by k (old.filled.values + length (value_bytes x.node))) both.0 ∙ ap (wanted_by (n + 1)) both.1
+    ap (λ (p : Passed). p.wanted) puts.2 ∙ ap (λ k. wanted_by k (old.filled.values + length (value_bytes x.node))) both.0 ∙ ap (wanted_by (n + 1)) both.1
 
 -- how lexing ends then
 pub ends_without_room : (text : Text) (n : ℕ) (x : Spanned TokenView) (old new : Progress) (before now after : Buffers) (passed : Passed) (end : Ending) → IsText text → HasFilled text n old before now → IsNext text n x → PutsNext x old new now after (Err passed)

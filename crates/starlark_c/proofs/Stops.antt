@@ -1,9 +1,10 @@
 -- Where a text may be cut, and how lexing ends.
-use Rattle.std.proofs.Common.{◌≡◌, ℕ, ◌+◌, ◌-◌, ◌≤◌, ◌<◌, length, take, refl, ap, sym, ◌∙◌, arith, Some, slice_get, inl, inr, ◌⊎◌, length-append}
+use Rattle.std.proofs.Common.{◌≡◌, ℕ, ◌+◌, ◌-◌, ◌≤◌, ◌<◌, length, take, refl, ap, sym, ◌∙◌, arith, Some, true, false, slice_get, inl, inr, ◌⊎◌, length-append}
+use Rattle.std.specs.Prelude.{Bool, ◌&&◌, ◌==◌, if◌then◌else◌}
 use Rattle.std.specs.Str.{IsCharBoundary}
 use Rattle.std.proofs.lemmas.List.{length-take-le, take-take}
 use Rattle.starlark_c.specs.Endings.{Buffers, Ends, Hold, IsText, lexemes_of}
-use Rattle.starlark_c.specs.Inner.Filling.{HasNoRoom, IsNewlineStop, IsNextStop, IsOverflow, IsStop, IsStopped, EndsAtFault}
+use Rattle.starlark_c.specs.Inner.Filling.{HasNoRoom, IsNewlineStop, IsOverflow, IsStop, IsStopped, EndsAtFault, next_stop}
 use Rattle.starlark_c.specs.Records.{records, value_bytes, values}
 use Rattle.starlark_c.specs.declared.endings.Ending.{Ending}
 use Rattle.starlark_c.specs.declared.endings.Ending.TheVariants as ending
@@ -16,7 +17,21 @@ use Rattle.starlark_c.proofs.Ends.{ends_fault}
 use Rattle.starlark_grammar.specs.Reading.{outcome}
 use Rattle.starlark_grammar.specs.Tokens.{Fault, Spanned}
 use Rattle.starlark_grammar.specs.Words.{Text}
+use Rattle.starlark_syntax.specs.Inner.LexedTexts.{is_newline_view}
 use Rattle.starlark_token.specs.TokenViews.{TokenView}
+
+-- the stop is the old one, or is after this lexeme, which is a `Newline`
+abbrev pub IsNextStop : Stop → Spanned TokenView → Filled → Stop → Type 0
+IsNextStop old lexeme more new =
+    (new ≡ old) ⊎ ((new ≡ record { at = lexeme.end; filled = more }) × (is_newline_view lexeme.node ≡ true))
+
+by_both : (is_newline is_flat : Bool) (old new : Stop) → ((if is_newline && is_flat then new else old) ≡ old) ⊎ (((if is_newline && is_flat then new else old) ≡ new) × (is_newline ≡ true))
+by_both false is_flat old new = inl refl
+by_both true false old new = inl refl
+by_both true true old new = inr (refl, refl)
+
+pub next_stop_is : (old : Progress) (x : Spanned TokenView) (more : Filled) → IsNextStop old.stop x more (next_stop old x more)
+next_stop_is old x more = by_both (is_newline_view x.node) (old.depth == 0) old.stop (record { at = x.end; filled = more })
 
 -- The stop after one lexeme more.
 pub stop_more : (text : Text) (n : ℕ) (x : Spanned TokenView) (more : Filled) (old new : Stop) → IsStop text n old → IsNextStop old x more new → IsNext text n x → more ≡ filled_by (take (n + 1) (lexemes_of text)) → IsCharBoundary text x.end

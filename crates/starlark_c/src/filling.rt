@@ -99,7 +99,7 @@ fn put_plain(
     requires plain { IsPlainIn text.now plain }
     ensures { Puts (plain_view text.now plain) filled (record { lexemes = lexemes.old; values = values.old }) (record { lexemes = lexemes.new; values = values.new }) result }
 {
-    if filled.lexemes >= lexemes.len() {
+    if lexemes.len() <= filled.lexemes {
         return None;
     }
     let end = put_plain_value(values, filled.values, text, plain)?;

@@ -1,8 +1,7 @@
 //! How far a text is lexed into buffers, and where it may be cut.
 
-ghost use Rattle.std.specs.Prelude.{◌≡◌, ◌+◌, ◌&&◌, ◌==◌, length};
-ghost use Rattle.starlark_c.specs.Inner.Filling.{IsNextStop, wanted_by};
-ghost use Rattle.starlark_c.specs.Records.{value_bytes};
+ghost use Rattle.std.specs.Prelude.{◌≡◌};
+ghost use Rattle.starlark_c.specs.Inner.Filling.{depth_after as block_depth, ends_piece as piece_ends, passed_by, progress_after};
 ghost use Rattle.starlark_grammar.specs.Words.{Text};
 ghost use Rattle.starlark_syntax.specs.Inner.LexedTexts.{is_newline_view};
 ghost use Rattle.starlark_syntax.specs.PlainLexemes.{IsPlainIn, plain_view};
@@ -58,14 +57,17 @@ fn is_newline(token: &Token) -> bool
 /// Whether the text may be cut after a token, with so many blocks open before it.
 #[inline(always)]
 fn ends_piece(depth: usize, token: &Token) -> bool
-    ensures { result ≡ (is_newline_view (token_view token.now) && depth == 0) }
+    ensures { result ≡ piece_ends depth (token_view token.now) }
 {
     is_newline(token) && depth == 0
 }
 
 /// Number of blocks that are open after a token, with so many open before it.
+#[tactic(auto, unfolding(starlark_token::specs::TokenViews::token_view))]
 #[inline(always)]
-fn depth_after(depth: usize, token: &Token) -> usize {
+fn depth_after(depth: usize, token: &Token) -> usize
+    ensures { result ≡ block_depth depth (token_view token.now) }
+{
     match token {
         Token::Indent => depth.saturating_add(1),
         Token::Dedent => depth.saturating_sub(1),
@@ -75,7 +77,7 @@ fn depth_after(depth: usize, token: &Token) -> usize {
 
 /// Counts one more token to what fills the buffers, with so many blocks open before it.
 pub fn pass(filled: Filled, depth: usize, token: &Token) -> Passed
-    ensures { result.wanted ≡ wanted_by (filled.lexemes + 1) (filled.values + length (value_bytes (token_view token.now))) }
+    ensures { result ≡ passed_by filled depth (token_view token.now) }
 {
     Passed {
         wanted: filled.with(1, bytes_of(token).len()),
@@ -95,7 +97,7 @@ fn is_plain_newline(kind: PlainKind) -> bool
 /// Counts one more plain lexeme to what fills the buffers, with so many blocks open before it.
 pub fn pass_plain(filled: Filled, depth: usize, text: &str, plain: PlainLexeme) -> Passed
     requires { IsPlainIn text.now plain }
-    ensures { result.wanted ≡ wanted_by (filled.lexemes + 1) (filled.values + length (value_bytes (plain_view text.now plain).node)) }
+    ensures { result ≡ passed_by filled depth (plain_view text.now plain).node }
 {
     Passed {
         wanted: filled.with(1, bytes_of_plain(text, plain).len()),
@@ -106,7 +108,7 @@ pub fn pass_plain(filled: Filled, depth: usize, text: &str, plain: PlainLexeme) 
 
 /// Counts one more lexeme to those that were passed, and drops it.
 pub fn pass_lexeme(passed: Passed, lexeme: (usize, Token, usize)) -> Passed
-    ensures { result.wanted ≡ wanted_by (passed.wanted.lexemes + 1) (passed.wanted.values + length (value_bytes (token_view lexeme.1))) }
+    ensures { result ≡ passed_by passed.wanted passed.depth (token_view lexeme.1) }
 {
     pass(passed.wanted, passed.depth, &lexeme.1)
 }
@@ -125,8 +127,7 @@ impl Progress {
     /// Goes on after one more lexeme, with which `filled` fills the buffers.
     #[inline(always)]
     pub fn pass(&mut self, filled: Filled, lexeme: &(usize, Token, usize))
-        ensures filled { self.new.filled ≡ filled }
-        ensures stop { IsNextStop self.old.stop (lexeme_view lexeme.now) filled self.new.stop }
+        ensures { self.new ≡ progress_after self.old (lexeme_view lexeme.now) filled }
     {
         let (_, token, end) = lexeme;
         if ends_piece(self.depth, token) {
@@ -136,18 +137,26 @@ impl Progress {
         self.depth = depth_after(self.depth, token);
     }
 
+    /// Makes an offset, up to which the buffers are filled, the last one where the text may be cut.
+    // Not inlined: else each lexeme, and not each `Newline`, chooses between two stops.
+    #[inline(never)]
+    fn set_stop(&mut self, at: usize)
+        ensures { self.new ≡ record self.old { stop = record { at = at; filled = self.old.filled } } }
+    {
+        self.stop = Stop {
+            at,
+            filled: self.filled,
+        };
+    }
+
     /// Goes on after one more plain lexeme, with which `filled` fills the buffers.
     #[inline(always)]
     pub fn pass_plain(&mut self, filled: Filled, plain: PlainLexeme)
-        ensures filled { self.new.filled ≡ filled }
-        ensures stop { (text : Text) → IsNextStop self.old.stop (plain_view text plain) filled self.new.stop }
+        ensures { (text : Text) → self.new ≡ progress_after self.old (plain_view text plain) filled }
     {
-        if is_plain_newline(plain.kind) && self.depth == 0 {
-            self.stop = Stop {
-                at: plain.end,
-                filled,
-            };
-        }
         self.filled = filled;
+        if is_plain_newline(plain.kind) && self.depth == 0 {
+            self.set_stop(plain.end);
+        }
     }
 }

@@ -16,10 +16,10 @@ returns c =
     let len : c.in_ok-end.end - at ≡ length (value_bytes lexeme.node) = omega (arith, some.0) in
     let one : suc n ≡ n + 1 = omega arith in
     record {
-      lexemes_fit = omega (arith, c.if-filled-lexemes.false);
+      lexemes_fit = omega (arith, c.if-lexemes-filled.false);
       values_fit = omega (arith, some.0, some.1);
       lexemes =
-          set_split list n c.plain_record_at.result (omega (arith, c.if-filled-lexemes.false))
+          set_split list n c.plain_record_at.result (omega (arith, c.if-lexemes-filled.false))
           ∙ ap (λ (r : LexemeRecord). take n list ++ r ∷ drop (suc n) list) (c.plain_record_at.ensures text len)
           ∙ ap (λ k. take n list ++ record_of at lexeme ∷ drop k list) one;
       values = some.2;
