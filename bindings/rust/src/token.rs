@@ -96,17 +96,18 @@ macro_rules! tokens {
             ) -> Option<Result<Lexeme<'a>, Fault>> {
                 let value = Value { piece, record };
                 let span = piece.span(record.begin, record.end);
+                let item = |token| Some(Ok(Lexeme { span, token }));
                 match record.kind {
-                    $($number => Some(Ok(Lexeme { span, token: Token::$name })),)*
+                    $($number => item(Token::$name),)*
                     5 => match value.text_between(0, 0) {
-                        Some(name) => Some(Ok(Lexeme { span, token: Token::Identifier(Cow::Borrowed(name)) })),
-                        None => Some(Ok(Lexeme { span, token: value.token() })),
+                        Some(name) => item(Token::Identifier(Cow::Borrowed(name))),
+                        None => item(value.token()),
                     },
                     8 => match value.text_between(1, 1) {
-                        Some(text) => Some(Ok(Lexeme { span, token: Token::String(Cow::Borrowed(text)) })),
-                        None => Some(Ok(Lexeme { span, token: value.token() })),
+                        Some(text) => item(Token::String(Cow::Borrowed(text))),
+                        None => item(value.token()),
                     },
-                    _ => Some(Ok(Lexeme { span, token: value.token() })),
+                    _ => item(value.token()),
                 }
             }
 
