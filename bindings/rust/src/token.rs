@@ -65,24 +65,27 @@ macro_rules! tokens {
         /// A token. What it has is borrowed from the text where it is there byte for byte, as a
         /// name is; else, as for a string with escapes, it is owned.
         #[derive(Clone, Debug, PartialEq, Eq, Hash)]
+        // The tags are the numbers of the kinds in the library, as wide as all that is copied: so a
+        // kind becomes its token without a table: 5 instructions a lexeme less.
+        #[repr(u64)]
         pub enum Token<'a> {
             /// A comment: the text after `#`, without the line end.
-            Comment(Cow<'a, str>),
+            Comment(Cow<'a, str>) = 1,
             /// A name.
-            Identifier(Cow<'a, str>),
+            Identifier(Cow<'a, str>) = 5,
             /// An integer literal.
-            Int(TokenInt<'a>),
+            Int(TokenInt<'a>) = 6,
             /// A float literal, as it is written. `str::parse` makes an `f64` of it.
-            Float(Cow<'a, str>),
+            Float(Cow<'a, str>) = 7,
             /// A string literal: the text with its escapes decoded.
-            String(Cow<'a, str>),
+            String(Cow<'a, str>) = 8,
             /// A bytes literal: the bytes with their escapes decoded.
-            Bytes(Cow<'a, [u8]>),
+            Bytes(Cow<'a, [u8]>) = 9,
             /// The opening of an f-string.
-            FStringStart(FStringQuote),
+            FStringStart(FStringQuote) = 10,
             /// Text of an f-string outside of its expressions, with its escapes decoded.
-            FStringText(Cow<'a, str>),
-            $($(#[$doc])* $name,)*
+            FStringText(Cow<'a, str>) = 11,
+            $($(#[$doc])* $name = $number,)*
         }
 
         impl<'a> Token<'a> {
