@@ -3,7 +3,7 @@
 ghost use Rattle.std.specs.Prelude.{◌≡◌};
 ghost use Rattle.starlark_c.specs.Kinds.{kind_name, kind_number, terminal_number, token_number};
 ghost use Rattle.starlark_grammar.specs.Words.{Text};
-ghost use Rattle.starlark_syntax.specs.PlainLexemes.{token_of_kind};
+ghost use Rattle.starlark_syntax.specs.PlainLexemes.{token_of};
 ghost use Rattle.starlark_token.specs.TokenViews.{token_view};
 
 use starlark_syntax::lexer::{PlainKind, Terminal, Token};
@@ -118,7 +118,7 @@ fn number_of_terminal(terminal: Terminal) -> u16
 #[tactic(auto, unfolding(crate::specs::Kinds::token_number))]
 #[inline(always)]
 pub fn number_of_plain(kind: PlainKind) -> u16
-    ensures { (value : Text) → result ≡ token_number (token_of_kind kind value) }
+    ensures { (value : Text) → result ≡ token_number (token_of kind value) }
 {
     match kind {
         PlainKind::Newline => 4,
