@@ -46,33 +46,57 @@ impl FaultKind {
 }
 
 /// A fault of a text: it ends a `Lexer`. It prints its message, without its place.
-#[derive(Clone, Debug, PartialEq, Eq)]
-pub struct Fault {
-    pub(crate) kind: FaultKind,
-    pub(crate) span: Span,
-    pub(crate) message: String,
+// The parts are boxed, so that an item of a lexer is no larger than a lexeme.
+#[derive(Clone, PartialEq, Eq)]
+pub struct Fault(Box<Parts>);
+
+/// What a fault has.
+#[derive(Clone, PartialEq, Eq)]
+struct Parts {
+    kind: FaultKind,
+    span: Span,
+    message: String,
 }
 
 impl Fault {
+    /// A fault with its message.
+    pub(crate) fn new(kind: FaultKind, span: Span, message: String) -> Self {
+        Fault(Box::new(Parts {
+            kind,
+            span,
+            message,
+        }))
+    }
+
     /// The kind of the fault.
     pub fn kind(&self) -> FaultKind {
-        self.kind
+        self.0.kind
     }
 
     /// The bytes of the text that are at fault.
     pub fn span(&self) -> Span {
-        self.span
+        self.0.span
     }
 
     /// The message, such as ``Parse error: invalid input `!` ``.
     pub fn message(&self) -> &str {
-        &self.message
+        &self.0.message
+    }
+}
+
+impl fmt::Debug for Fault {
+    fn fmt(&self, f: &mut fmt::Formatter<'_>) -> fmt::Result {
+        f.debug_struct("Fault")
+            .field("kind", &self.kind())
+            .field("span", &self.span())
+            .field("message", &self.message())
+            .finish()
     }
 }
 
 impl fmt::Display for Fault {
     fn fmt(&self, f: &mut fmt::Formatter<'_>) -> fmt::Result {
-        f.write_str(&self.message)
+        f.write_str(self.message())
     }
 }
 

@@ -169,16 +169,19 @@ impl Buffers {
     }
 
     /// The record with an index, if there is one.
+    #[inline]
     pub(crate) fn lexeme(&self, index: usize) -> Option<&LexemeRecord> {
         self.lexemes.get(index)
     }
 
     /// The fault with an index, of those after which the text was lexed on, if there is one.
+    #[inline]
     pub(crate) fn fault(&self, index: usize) -> Option<&FaultRecord> {
         self.faults.get(index)
     }
 
     /// The bytes of a lexeme's value.
+    #[inline]
     pub(crate) fn value(&self, lexeme: &LexemeRecord) -> &[u8] {
         &self.values[lexeme.value_begin..][..lexeme.value_len]
     }

@@ -1,6 +1,7 @@
 //! The lexer: an iterator over a text's lexemes.
 
 use crate::ffi::{self, Buffers, Ending, FaultRecord};
+use crate::piece::Piece;
 use crate::{Fault, FaultKind, Span, Token, TooLong};
 use std::iter::FusedIterator;
 
@@ -52,11 +53,9 @@ enum After {
 #[derive(Clone, Debug)]
 pub struct Lexer<'a> {
     text: &'a str,
-    /// The lexemes of a piece of the text, and the index of the next one.
-    buffers: Buffers,
+    /// A piece of the text with its lexemes, and the index of the next one.
+    piece: Piece<'a>,
     index: usize,
-    /// Offset in the text where the piece begins.
-    from: usize,
     after: After,
 }
 
@@ -91,9 +90,12 @@ impl<'a> Lexer<'a> {
         }
         Ok(Lexer {
             text,
-            buffers: Buffers::with_capacity(lexemes, values),
+            piece: Piece {
+                text,
+                from: 0,
+                buffers: Buffers::with_capacity(lexemes, values),
+            },
             index: 0,
-            from: 0,
             after: After::Text(0),
         })
     }
@@ -117,26 +119,8 @@ impl<'a> Lexer<'a> {
     /// The fault with an index among those that the buffers have, if it comes next.
     #[inline]
     pub(crate) fn next_fault(&self, index: usize) -> Option<Fault> {
-        let record = self.buffers.fault(index)?;
+        let record = self.piece.buffers.fault(index)?;
         (record.lexemes_before == self.index).then(|| self.fault(record))
-    }
-
-    /// The bytes of the text from one offset in the piece to another.
-    fn span(&self, begin: u32, end: u32) -> Span {
-        Span {
-            begin: self.from + begin as usize,
-            end: self.from + end as usize,
-        }
-    }
-
-    /// The next lexeme in the buffers.
-    #[inline]
-    fn next_in_buffers(&mut self) -> Option<Lexeme<'a>> {
-        let record = self.buffers.lexeme(self.index)?;
-        let span = self.span(record.begin, record.end);
-        let token = Token::of_record(self.text, span, record, &self.buffers);
-        self.index += 1;
-        Some(Lexeme { span, token })
     }
 
     /// The next item where the buffers have no further lexeme.
@@ -155,19 +139,20 @@ impl<'a> Lexer<'a> {
                 }
                 After::Passed(_) | After::End => return None,
             }
-            if let Some(lexeme) = self.next_in_buffers() {
-                return Some(Ok(lexeme));
+            if let Some(record) = self.piece.buffers.lexeme(0) {
+                self.index = 1;
+                return Token::item_of_record(&self.piece, record);
             }
         }
     }
 
     /// Fills the buffers with the lexemes of the text from an offset on, or of a piece of it.
     fn lex(&mut self, from: usize) {
-        let rest = &self.text[from..];
         self.index = 0;
-        self.from = from;
+        self.piece.text = &self.text[from..];
+        self.piece.from = from;
         self.after = loop {
-            match self.buffers.lex(rest) {
+            match self.piece.buffers.lex(self.piece.text) {
                 Ending::Whole => break After::End,
                 Ending::Fault(record) => break After::Fault(record),
                 Ending::Piece { next } => break After::Piece(from + next),
@@ -179,34 +164,37 @@ impl<'a> Lexer<'a> {
     /// Fills the buffers with all lexemes and faults that come after a fault of the piece.
     #[cold]
     fn lex_recovering(&mut self, record: &FaultRecord) {
-        self.from += ffi::restart(&self.text[self.from..], record);
+        let at = ffi::restart(self.piece.text, record);
+        self.piece.from += at;
+        self.piece.text = &self.piece.text[at..];
         self.index = 0;
         self.after = After::End;
-        self.buffers.lex_recovering(&self.text[self.from..]);
+        self.piece.buffers.lex_recovering(self.piece.text);
     }
 
     /// Makes the buffers larger, up to the most, and gives them at least this much room.
     fn grow(&mut self, lexemes: usize, values: usize) {
         let room = (
-            self.buffers.lexemes_capacity(),
-            self.buffers.values_capacity(),
+            self.piece.buffers.lexemes_capacity(),
+            self.piece.buffers.values_capacity(),
         );
         let lexemes = lexemes.max(twice(room.0, MOST_LEXEMES));
         let values = values.max(twice(room.1, MOST_VALUES));
         if (lexemes, values) != room {
-            self.buffers = Buffers::with_capacity(lexemes, values);
+            self.piece.buffers = Buffers::with_capacity(lexemes, values);
         }
     }
 
     /// A fault of the text, whose record counts from where the piece begins.
     fn fault(&self, record: &FaultRecord) -> Fault {
         let number = record.kind;
-        Fault {
-            kind: FaultKind::of_number(number)
-                .unwrap_or_else(|| unreachable!("the library has no fault {number}")),
-            span: self.span(record.begin, record.end),
-            message: self.buffers.message(record),
-        }
+        let kind = FaultKind::of_number(number)
+            .unwrap_or_else(|| unreachable!("the library has no fault {number}"));
+        Fault::new(
+            kind,
+            self.piece.span(record.begin, record.end),
+            self.piece.buffers.message(record),
+        )
     }
 }
 
@@ -220,10 +208,11 @@ impl<'a> Iterator for Lexer<'a> {
 
     #[inline]
     fn next(&mut self) -> Option<Self::Item> {
-        match self.next_in_buffers() {
-            Some(lexeme) => Some(Ok(lexeme)),
-            None => self.next_after_buffers(),
-        }
+        let Some(record) = self.piece.buffers.lexeme(self.index) else {
+            return self.next_after_buffers();
+        };
+        self.index += 1;
+        Token::item_of_record(&self.piece, record)
     }
 }
 
@@ -238,8 +227,8 @@ mod tests {
         let mut lexer = Lexer::with_capacity(text, lexemes, values).unwrap();
         let mut begins = Vec::new();
         while lexer.next().is_some() {
-            if begins.last() != Some(&lexer.from) {
-                begins.push(lexer.from);
+            if begins.last() != Some(&lexer.piece.from) {
+                begins.push(lexer.piece.from);
             }
         }
         begins

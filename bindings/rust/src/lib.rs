@@ -38,6 +38,7 @@ mod fault;
 #[allow(unsafe_code)]
 mod ffi;
 mod lexer;
+mod piece;
 mod places;
 mod recovering_lexer;
 mod span;

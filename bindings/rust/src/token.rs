@@ -1,8 +1,10 @@
 //! Tokens and their values.
 
-use crate::ffi::{Buffers, LexemeRecord};
-use crate::Span;
+use crate::ffi::LexemeRecord;
+use crate::piece::Piece;
+use crate::{Fault, Lexeme};
 use std::borrow::Cow;
+use std::ops::Range;
 
 /// An integer literal's value. It isn't negative, since a sign is a token of its own.
 #[derive(Clone, Debug, PartialEq, Eq, Hash)]
@@ -63,32 +65,52 @@ macro_rules! tokens {
         /// A token. What it has is borrowed from the text where it is there byte for byte, as a
         /// name is; else, as for a string with escapes, it is owned.
         #[derive(Clone, Debug, PartialEq, Eq, Hash)]
+        // The tags are the numbers of the kinds in the library, as wide as all that is copied: so a
+        // kind becomes its token without a table: 5 instructions a lexeme less.
+        #[repr(u64)]
         pub enum Token<'a> {
             /// A comment: the text after `#`, without the line end.
-            Comment(Cow<'a, str>),
+            Comment(Cow<'a, str>) = 1,
             /// A name.
-            Identifier(Cow<'a, str>),
+            Identifier(Cow<'a, str>) = 5,
             /// An integer literal.
-            Int(TokenInt<'a>),
+            Int(TokenInt<'a>) = 6,
             /// A float literal, as it is written. `str::parse` makes an `f64` of it.
-            Float(Cow<'a, str>),
+            Float(Cow<'a, str>) = 7,
             /// A string literal: the text with its escapes decoded.
-            String(Cow<'a, str>),
+            String(Cow<'a, str>) = 8,
             /// A bytes literal: the bytes with their escapes decoded.
-            Bytes(Cow<'a, [u8]>),
+            Bytes(Cow<'a, [u8]>) = 9,
             /// The opening of an f-string.
-            FStringStart(FStringQuote),
+            FStringStart(FStringQuote) = 10,
             /// Text of an f-string outside of its expressions, with its escapes decoded.
-            FStringText(Cow<'a, str>),
-            $($(#[$doc])* $name,)*
+            FStringText(Cow<'a, str>) = 11,
+            $($(#[$doc])* $name = $number,)*
         }
 
-        impl Token<'_> {
-            /// The token without a value that has a number in the library.
-            fn of_number(number: u16) -> Option<Token<'static>> {
-                match number {
-                    $($number => Some(Token::$name),)*
-                    _ => None,
+        impl<'a> Token<'a> {
+            /// What a lexer yields for a record of a piece.
+            // Each arm makes the whole item. One that is made of a token after the `match` is copied
+            // twice: 12 instructions a lexeme more.
+            #[inline]
+            pub(crate) fn item_of_record(
+                piece: &Piece<'a>,
+                record: &LexemeRecord,
+            ) -> Option<Result<Lexeme<'a>, Fault>> {
+                let value = Value { piece, record };
+                let span = piece.span(record.begin, record.end);
+                let item = |token| Some(Ok(Lexeme { span, token }));
+                match record.kind {
+                    $($number => item(Token::$name),)*
+                    5 => match value.text_between(0, 0) {
+                        Some(name) => item(Token::Identifier(Cow::Borrowed(name))),
+                        None => item(value.token()),
+                    },
+                    8 => match value.text_between(1, 1) {
+                        Some(text) => item(Token::String(Cow::Borrowed(text))),
+                        None => item(value.token()),
+                    },
+                    _ => item(value.token()),
                 }
             }
 
@@ -243,89 +265,96 @@ tokens! {
     ClosingRound = 73,
 }
 
-impl<'a> Token<'a> {
-    /// The token of a record in the buffers, whose bytes in the text are the span's.
-    #[inline]
-    pub(crate) fn of_record(
-        text: &'a str,
-        span: Span,
-        record: &LexemeRecord,
-        buffers: &Buffers,
-    ) -> Self {
-        let value = || Value {
-            text,
-            end: span.end,
-            bytes: buffers.value(record),
-        };
-        match record.kind {
-            1 => Token::Comment(value().text_before(&[0])),
-            5 => Token::Identifier(value().text_before(&[0])),
-            6 => Token::Int(value().integer(record)),
-            7 => Token::Float(value().text_before(&[0])),
-            8 => Token::String(value().text_before(&[1, 3])),
-            9 => Token::Bytes(value().bytes_before(&[1, 3])),
-            10 => Token::FStringStart(quotes(record.detail)),
-            11 => Token::FStringText(value().text_before(&[0])),
-            number => Token::of_number(number)
-                .unwrap_or_else(|| unreachable!("the library has no kind {number}")),
-        }
-    }
-}
-
 /// The quotes with a number of the library.
 fn quotes(number: u16) -> FStringQuote {
     FStringQuote::of_number(number)
         .unwrap_or_else(|| unreachable!("the library has no quotes {number}"))
 }
 
-/// The value of a lexeme that ends at an offset in a text.
+/// The value of a lexeme of a piece.
+#[derive(Clone, Copy)]
 struct Value<'a, 'b> {
-    text: &'a str,
-    end: usize,
-    bytes: &'b [u8],
+    piece: &'b Piece<'a>,
+    record: &'b LexemeRecord,
 }
 
-impl<'a> Value<'a, '_> {
-    /// Where the value is in the text, byte for byte, before one of the closings of these lengths.
-    fn begin(&self, closings: &[usize]) -> Option<usize> {
-        let text = self.text.as_bytes();
-        closings.iter().find_map(|&closing| {
-            let begin = self.end.checked_sub(closing + self.bytes.len())?;
-            let is_there = text[begin..].starts_with(self.bytes);
-            is_there.then_some(begin)
-        })
+impl<'a, 'b> Value<'a, 'b> {
+    /// The token, of a kind that has a value.
+    // Not inlined: with all these kinds in the loop of a caller each lexeme costs 10 instructions more.
+    #[inline(never)]
+    fn token(self) -> Token<'a> {
+        match self.record.kind {
+            1 => Token::Comment(self.text()),
+            5 => Token::Identifier(self.text()),
+            6 => Token::Int(self.integer()),
+            7 => Token::Float(self.text()),
+            8 => Token::String(self.text()),
+            9 => Token::Bytes(self.bytes()),
+            10 => Token::FStringStart(quotes(self.record.detail)),
+            11 => Token::FStringText(self.text()),
+            number => unreachable!("the library has no kind {number}"),
+        }
     }
 
-    /// The value as a text, borrowed if it is before one of these closings.
-    fn text_before(&self, closings: &[usize]) -> Cow<'a, str> {
-        let borrowed = self
-            .begin(closings)
-            .and_then(|begin| self.text.get(begin..begin + self.bytes.len()));
-        match borrowed {
+    /// The value as a text, if it is what the lexeme has after its first `front` bytes and before its
+    /// last `back` bytes, which are the least that a lexeme of its kind has besides its value.
+    ///
+    /// Only the lengths are compared. They are equal only where the bytes are: a name is its value,
+    /// and each part of a literal denotes its own bytes, or fewer than it has. A literal of three
+    /// quotes, or a raw one, has more besides its value; `range` finds it.
+    #[inline]
+    fn text_between(self, front: usize, back: usize) -> Option<&'a str> {
+        let (begin, end) = (self.record.begin as usize, self.record.end as usize);
+        if self.record.value_len + front + back != end - begin {
+            return None;
+        }
+        self.piece.text.get(begin + front..end - back)
+    }
+
+    /// The value as a text, which is borrowed if it is before the lexeme's closing quotes.
+    fn text(self) -> Cow<'a, str> {
+        match self.range().and_then(|range| self.piece.text.get(range)) {
             Some(text) => Cow::Borrowed(text),
             None => {
-                let text = String::from_utf8(self.bytes.to_vec());
+                let text = String::from_utf8(self.buffered().to_vec());
                 Cow::Owned(text.expect("the library's values of texts are UTF-8"))
             }
         }
     }
 
-    /// The value as bytes, borrowed if they are before one of these closings.
-    fn bytes_before(&self, closings: &[usize]) -> Cow<'a, [u8]> {
-        match self.begin(closings) {
-            Some(begin) => Cow::Borrowed(&self.text.as_bytes()[begin..begin + self.bytes.len()]),
-            None => Cow::Owned(self.bytes.to_vec()),
+    /// The value as bytes, which are borrowed if they are before the lexeme's closing quotes.
+    fn bytes(self) -> Cow<'a, [u8]> {
+        match self.range() {
+            Some(range) => Cow::Borrowed(&self.piece.text.as_bytes()[range]),
+            None => Cow::Owned(self.buffered().to_vec()),
         }
     }
 
+    /// The bytes of the value among those of all lexemes.
+    fn buffered(self) -> &'b [u8] {
+        self.piece.buffers.value(self.record)
+    }
+
+    /// Where the value is in the piece, byte for byte: before no, one or three closing quotes.
+    fn range(self) -> Option<Range<usize>> {
+        let text = self.piece.text.as_bytes();
+        let bytes = self.buffered();
+        [0, 1, 3].into_iter().find_map(|closing| {
+            let begin = (self.record.end as usize).checked_sub(closing + bytes.len())?;
+            let range = begin..begin + bytes.len();
+            (begin >= self.record.begin as usize && text[range.clone()] == *bytes).then_some(range)
+        })
+    }
+
     /// The value of an integer.
-    fn integer(&self, record: &LexemeRecord) -> TokenInt<'a> {
-        if self.bytes.is_empty() {
-            return TokenInt::I32(record.integer);
+    #[inline]
+    fn integer(self) -> TokenInt<'a> {
+        if self.record.value_len == 0 {
+            return TokenInt::I32(self.record.integer);
         }
         TokenInt::BigInt {
-            digits: self.text_before(&[0]),
-            radix: u32::from(record.detail),
+            digits: self.text(),
+            radix: u32::from(self.record.detail),
         }
     }
 }
@@ -333,7 +362,7 @@ impl<'a> Value<'a, '_> {
 #[cfg(test)]
 mod tests {
     use super::*;
-    use crate::ffi::kind_name;
+    use crate::ffi::{kind_name, Buffers};
 
     /// The name of a token's variant.
     fn name(token: &Token<'_>) -> String {
@@ -343,17 +372,28 @@ mod tests {
 
     #[test]
     fn numbers_have_the_names_of_the_library() {
-        let with_value = [1, 5, 6, 7, 8, 9, 10, 11];
+        let piece = Piece {
+            text: "",
+            from: 0,
+            buffers: Buffers::with_capacity(0, 0),
+        };
         for number in 0..u16::MAX {
             let library = kind_name(u32::from(number));
-            match Token::of_number(number) {
-                Some(token) => assert_eq!(name(&token), library),
-                None => assert_eq!(
-                    library.is_empty(),
-                    !with_value.contains(&number),
-                    "{number}"
-                ),
+            assert_eq!(library.is_empty(), !(1..=73).contains(&number), "{number}");
+            if library.is_empty() {
+                continue;
             }
+            let record = LexemeRecord {
+                begin: 0,
+                end: 0,
+                kind: number,
+                detail: 1,
+                integer: 0,
+                value_begin: 0,
+                value_len: 0,
+            };
+            let item = Token::item_of_record(&piece, &record);
+            assert_eq!(name(&item.unwrap().unwrap().token), library);
         }
     }
 }

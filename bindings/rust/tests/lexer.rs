@@ -51,6 +51,23 @@ fn values_are_decoded() {
 }
 
 #[test]
+fn a_value_is_decoded_whatever_its_length() {
+    let literals = [
+        ("'\\n\\n\\n\\n'", "\n\n\n\n"),
+        ("'\\''", "'"),
+        ("r'\\''", "'"),
+        ("r'\\a'", "\\a"),
+        ("'''\\''''", "'"),
+        ("'\\.'", "\\."),
+        ("'a\rb'", "ab"),
+        ("'\\\nab'", "ab"),
+    ];
+    for (text, value) in literals {
+        assert_eq!(string(text), value, "{text}");
+    }
+}
+
+#[test]
 fn values_are_borrowed_where_the_text_has_them() {
     for text in ["'a'", "\"a\"", "'''a'''", "r'a'", "'é'", "''"] {
         assert!(matches!(string(text), Cow::Borrowed(_)), "{text}");

@@ -1,9 +1,9 @@
 -- A piece of a text: what is before a clean cut at the end of a `Newline` that the whole text has, too.
-use Rattle.std.proofs.Common.{◌≡◌, ℕ, zero, suc, ◌+◌, ◌-◌, ◌<◌, ◌≤◌, true, List, [], ◌∷◌, ◌++◌, map, length, take, drop, refl, ap, sym, subst, ◌∙◌, arith, false, None, Some, slice_get, inl, inr, ◌⊎◌}
-use Rattle.std.specs.Prelude.{Bool, Option, option_map}
-use Rattle.std.proofs.lemmas.List.{length-map, length-take-le, map-append, take-append-drop, take_at, take-map}
+use Rattle.std.proofs.Common.{◌≡◌, ℕ, zero, suc, ◌+◌, ◌-◌, ◌<◌, ◌≤◌, true, List, [], ◌∷◌, ◌++◌, map, length, take, drop, refl, ap, sym, ◌∙◌, arith, false, None, Some, slice_get, inl, inr, ◌⊎◌}
+use Rattle.std.specs.Prelude.{Bool, Option}
+use Rattle.std.proofs.lemmas.List.{length-map, length-take-le, map-append, take-append-drop, take_at}
 use Rattle.starlark_c.specs.Endings.{IsPiece, lexemes_of}
-use Rattle.starlark_grammar.specs.Cuts.{before_newline, is_clean_cut, joined, tabbed, without_closing}
+use Rattle.starlark_grammar.specs.Cuts.{is_clean_cut, tabbed, without_closing}
 use Rattle.starlark_grammar.specs.Margins.{margin_of}
 use Rattle.starlark_grammar.specs.Reading.{outcome}
 use Rattle.starlark_grammar.specs.TextLaws.{HasFirstMargin, Join}
@@ -13,7 +13,7 @@ use Rattle.starlark_grammar.proofs.Joining.CleanCuts.{cuts_join}
 use Rattle.starlark_grammar.proofs.Joining.Laws.{tabs_behind_cuts}
 use Rattle.starlark_grammar.proofs.Joining.Tabs.{HasTab, first_margin_is, first_step, margin_tab, tab}
 use Rattle.starlark_syntax.specs.Inner.LexedTexts.{is_newline_view, last_newline_of}
-use Rattle.starlark_syntax.proofs.LexedTexts.Newlines.{FoundNewline, none_shown, some_shown}
+use Rattle.starlark_syntax.proofs.LexedTexts.Newlines.{none_shown, some_shown}
 use Rattle.starlark_token.specs.Lexemes.{shown_lexeme}
 use Rattle.starlark_token.specs.TokenViews.{TokenView}
 

@@ -1,5 +1,5 @@
 -- How lexing ends after all lexemes of a text.
-use Rattle.std.proofs.Common.{◌≡◌, ℕ, ◌+◌, ◌≤◌, ◌<◌, List, ◌++◌, length, take, refl, ap, sym, subst, ◌∙◌, arith, None, Some, inl, inr, ◌⊎◌, length-append}
+use Rattle.std.proofs.Common.{◌≡◌, ℕ, ◌+◌, ◌≤◌, ◌++◌, length, take, refl, ap, ◌∙◌, arith, None, Some, inr, length-append}
 use Rattle.std.specs.Prelude.{Option}
 use Rattle.std.proofs.lemmas.List.{take_all}
 use Rattle.starlark_c.specs.Endings.{Buffers, Ends, Hold, IsText, all_values, lexemes_of, named}
@@ -12,7 +12,6 @@ use Rattle.starlark_c.proofs.Filled.{filled_by, hold_fault, same_sizes}
 use Rattle.starlark_grammar.specs.Reading.{outcome}
 use Rattle.starlark_grammar.specs.Tokens.{Fault, Spanned}
 use Rattle.starlark_grammar.specs.Words.{Text}
-use Rattle.starlark_token.specs.TokenViews.{TokenView}
 
 pub whole_front : (text : Text) (n : ℕ) → n ≡ length (lexemes_of text) → take n (lexemes_of text) ≡ lexemes_of text
 whole_front text n all = take_all n (lexemes_of text) (omega (arith, all))

@@ -1,5 +1,5 @@
 -- Records and values of one lexeme more.
-use Rattle.std.proofs.Common.{◌≡◌, ℕ, zero, suc, ◌+◌, ◌≤◌, ◌<◌, List, [], ◌∷◌, ◌++◌, length, take, drop, refl, ap, sym, ◌∙◌, arith, append-nil, append_assoc, add-zero, length-append, length-drop}
+use Rattle.std.proofs.Common.{◌≡◌, ℕ, zero, suc, ◌+◌, ◌≤◌, List, [], ◌∷◌, ◌++◌, length, take, drop, refl, ap, sym, ◌∙◌, arith, append-nil, append_assoc, length-append, length-drop}
 use Rattle.std.proofs.Math.Seq.{drop-append-add}
 use Rattle.std.proofs.lemmas.List.{drop-drop, take-append-drop, take-append-le, take_at}
 use Rattle.std.proofs.lemmas.List.Concat.{flat_map-append}
@@ -7,7 +7,6 @@ use Rattle.starlark_c.specs.Endings.{Buffers, Hold}
 use Rattle.starlark_c.specs.Inner.Filling.{IsPut, put}
 use Rattle.starlark_c.specs.Records.{record_of, records, records_from, value_bytes, values}
 use Rattle.starlark_c.specs.declared.endings.Filled.{Filled}
-use Rattle.starlark_c.specs.declared.records.LexemeRecord.{LexemeRecord}
 use Rattle.starlark_grammar.specs.Tokens.{Spanned}
 use Rattle.starlark_grammar.specs.Words.{Text}
 use Rattle.starlark_token.specs.TokenViews.{TokenView}

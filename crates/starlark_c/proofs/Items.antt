@@ -67,18 +67,21 @@ pub record IsNext (text : Text) (h : ℕ) (x : Spanned TokenView) : Type 0 where
   pub some : h + 1 ≤ length (items text)
   pub more : take (h + 1) (lexemes_of text) ≡ take h (lexemes_of text) ++ x ∷ []
 
-pub next_lexeme : (file : SourceFile) (text : Text) (h : ℕ) (found : ℕ × Token × ℕ) → AnswersNext file (slice_get (items text) h) (Some (Ok found)) → IsNext text h (lexeme_view found)
+-- the lexeme among the items of a text
+pub given_next : (text : Text) (h : ℕ) (x : Spanned TokenView) → slice_get (items text) h ≡ Some (Given x) → IsNext text h x
 unfolding items
+given_next text h x here =
+    let at = lexeme_at (outcome text).lexemes (option_to_list (outcome text).fault) h x here in
+    let step = take_next (lexemes_of text) h x at in
+    record { is = at; few = step.0; some = (take_next (items text) h (Given x) here).0; more = step.1 }
+
+pub next_lexeme : (file : SourceFile) (text : Text) (h : ℕ) (found : ℕ × Token × ℕ) → AnswersNext file (slice_get (items text) h) (Some (Ok found)) → IsNext text h (lexeme_view found)
 next_lexeme file text h found answers = by_item (slice_get (items text) h) refl answers
   where
     by_item : (o : Option LexerItem) → slice_get (items text) h ≡ o → AnswersNext file o (Some (Ok found)) → IsNext text h (lexeme_view found)
     by_item None is answers = absurd answers
     by_item (Some (Refused fault)) is answers = absurd answers
-    by_item (Some (Given x)) is answers =
-        let here : slice_get (items text) h ≡ Some (Given (lexeme_view found)) = is ∙ ap (λ v. Some (Given v)) (sym answers) in
-        let at = lexeme_at (outcome text).lexemes (option_to_list (outcome text).fault) h (lexeme_view found) here in
-        let step = take_next (lexemes_of text) h (lexeme_view found) at in
-        record { is = at; few = step.0; some = (take_next (items text) h (Given (lexeme_view found)) here).0; more = step.1 }
+    by_item (Some (Given x)) is answers = given_next text h (lexeme_view found) (is ∙ ap (λ v. Some (Given v)) (sym answers))
 
 -- the fault of a text, after all its lexemes
 pub record IsLast (file : SourceFile) (text : Text) (h : ℕ) (exception : Diagnosed ErrorKind) : Type 0 where

@@ -4,6 +4,7 @@ pub mod CutTexts
 pub mod Ends
 pub mod Stops
 pub mod Wanted
+pub mod NextLexemes
 pub mod Lines
 pub mod KindNames
 pub mod ErrorMessages

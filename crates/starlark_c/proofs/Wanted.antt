@@ -1,5 +1,5 @@
 -- How much is wanted for the first lexemes of a text.
-use Rattle.std.proofs.Common.{◌≡◌, ℕ, ◌+◌, ◌≤◌, min, ◌++◌, length, take, refl, ap, ◌∙◌, arith, Some, length-append}
+use Rattle.std.proofs.Common.{◌≡◌, ℕ, ◌+◌, ◌≤◌, min, ◌++◌, length, take, ap, ◌∙◌, arith, Some, length-append}
 use Rattle.std.specs.Prelude.{Option}
 use Rattle.starlark_c.specs.Endings.{all_values, capped, lexemes_of, named}
 use Rattle.starlark_c.specs.Inner.Filling.{wanted_by}

@@ -4,23 +4,25 @@ ghost use Rattle.std.specs.Prelude.{◌≡◌, ◌<◌, ◌≤◌, ◌+◌, ◌^
 ghost use Rattle.starlark_base.specs.Sources.{SourceFile};
 ghost use Rattle.starlark_c.specs.Endings.{Ends, IsText, lexemes_of};
 ghost use Rattle.starlark_c.specs.Inner.Filling.{EndsAtFault, EndsByFault, IsOverflow, IsStop, IsStopped, IsWanted, Puts, PutsNext, put, wanted_by};
-ghost use Rattle.starlark_c.specs.Records.{fault_bytes, values};
+ghost use Rattle.starlark_c.specs.Records.{fault_bytes, value_bytes, values};
 ghost use Rattle.starlark_grammar.specs.Reading.{outcome};
 ghost use Rattle.starlark_grammar.specs.Tokens.{Fault as GrammarFault, Spanned};
 ghost use Rattle.starlark_syntax.specs.Exceptions.{IsException, IsFaultIn};
+ghost use Rattle.starlark_syntax.specs.PlainLexemes.{IsPlainIn, plain_view};
 ghost use Rattle.starlark_token.specs.Lexemes.{fault_view, lexeme_view};
 ghost use Rattle.starlark_token.specs.TokenViews.{token_view};
 
 use crate::endings::{Ending, Filled};
 use crate::pieces::is_piece;
-use crate::progress::{Passed, Progress, pass, pass_lexeme};
+use crate::progress::{Passed, Progress, pass, pass_lexeme, pass_plain};
 use crate::records::{
-    FaultRecord, LexemeRecord, bytes_of, bytes_of_fault, number_of_fault, record_at,
+    FaultRecord, LexemeRecord, bytes_of, bytes_of_fault, bytes_of_plain, number_of_fault,
+    plain_record_at, record_at,
 };
 use starlark_syntax::codemap::{OrMemory, Span};
 use starlark_syntax::error::{ErrorKind, ParserMessage};
 use starlark_syntax::eval_exception::EvalException;
-use starlark_syntax::lexer::{LexemeError, Lexer, Token};
+use starlark_syntax::lexer::{LexemeError, Lexer, PlainLexeme, Token};
 use std::alloc::Global;
 
 /// Writes bytes at an offset, and returns the offset after them. `None`, and nothing changes, where
@@ -59,6 +61,49 @@ pub fn put_lexeme(
     }
     let end = put_bytes(values, filled.values, bytes_of(&lexeme.1))?;
     lexemes[filled.lexemes] = record_at(filled.values, lexeme);
+    Some(Filled {
+        lexemes: filled.lexemes + 1,
+        values: end,
+    })
+}
+
+/// Writes the value of a plain lexeme of a text at an offset of the values, and returns the offset
+/// after it. `None`, and nothing changes, where it doesn't fit.
+// A kind without a value calls nothing: a copy of no bytes costs 12 instructions a lexeme.
+#[inline(always)]
+fn put_plain_value(values: &mut [u8], at: usize, text: &str, plain: PlainLexeme) -> Option<usize>
+    requires within { at ≤ length values.old }
+    requires plain { IsPlainIn text.now plain }
+    ensures some { IfSome result (λ end. (end ≡ at + length (value_bytes (plain_view text.now plain).node)) × (end ≤ length values.old) × (values.new ≡ put at (value_bytes (plain_view text.now plain).node) values.old)) }
+    ensures none { IfNone result ((length values.old < at + length (value_bytes (plain_view text.now plain).node)) × (values.new ≡ values.old)) }
+{
+    let bytes = bytes_of_plain(text, plain);
+    if bytes.is_empty() {
+        return Some(at);
+    }
+    put_bytes(values, at, bytes)
+}
+
+/// Puts a plain lexeme of a text after what fills the buffers, and returns what fills them then.
+///
+/// `None`, and nothing changes, where there is no room.
+#[inline(always)]
+fn put_plain(
+    lexemes: &mut [LexemeRecord],
+    values: &mut [u8],
+    filled: Filled,
+    text: &str,
+    plain: PlainLexeme,
+) -> Option<Filled>
+    requires values_within { filled.values ≤ length values.old }
+    requires plain { IsPlainIn text.now plain }
+    ensures { Puts (plain_view text.now plain) filled (record { lexemes = lexemes.old; values = values.old }) (record { lexemes = lexemes.new; values = values.new }) result }
+{
+    if lexemes.len() <= filled.lexemes {
+        return None;
+    }
+    let end = put_plain_value(values, filled.values, text, plain)?;
+    lexemes[filled.lexemes] = plain_record_at(filled.values, end - filled.values, plain);
     Some(Filled {
         lexemes: filled.lexemes + 1,
         values: end,
@@ -117,23 +162,26 @@ fn put_fault(_text: &str, values: &mut [u8], filled: Filled, exception: &EvalExc
     }
 }
 
-/// Puts a lexeme after what fills the buffers.
+/// Puts a lexeme after what fills the buffers, and goes on after it.
 ///
 /// Where there is no room, nothing changes, and the error is what is wanted with the lexeme.
 #[inline(always)]
 fn put_next(
     lexemes: &mut [LexemeRecord],
     values: &mut [u8],
-    progress: Progress,
+    progress: &mut Progress,
     lexeme: &(usize, Token, usize),
-) -> Result<Progress, Passed>
-    requires values_within { progress.filled.values ≤ length values.old }
+) -> Result<(), Passed>
+    requires values_within { progress.old.filled.values ≤ length values.old }
     requires begin { lexeme.now.0 < 2 ^ 32 }
     requires end { lexeme.now.2 < 2 ^ 32 }
-    ensures { PutsNext lexeme.now progress (record { lexemes = lexemes.old; values = values.old }) (record { lexemes = lexemes.new; values = values.new }) result }
+    ensures { PutsNext (lexeme_view lexeme.now) progress.old progress.new (record { lexemes = lexemes.old; values = values.old }) (record { lexemes = lexemes.new; values = values.new }) result }
 {
     match put_lexeme(lexemes, values, progress.filled, lexeme) {
-        Some(filled) => Ok(progress.after(filled, lexeme)),
+        Some(filled) => {
+            progress.pass(filled, lexeme);
+            Ok(())
+        }
         None => Err(pass(progress.filled, progress.depth, &lexeme.1)),
     }
 }
@@ -143,15 +191,39 @@ fn put_next(
 fn take_next(
     lexemes: &mut [LexemeRecord],
     values: &mut [u8],
-    progress: Progress,
+    progress: &mut Progress,
     lexeme: (usize, Token, usize),
-) -> Result<Progress, Passed>
-    requires values_within { progress.filled.values ≤ length values.old }
+) -> Result<(), Passed>
+    requires values_within { progress.old.filled.values ≤ length values.old }
     requires begin { lexeme.0 < 2 ^ 32 }
     requires end { lexeme.2 < 2 ^ 32 }
-    ensures { PutsNext lexeme progress (record { lexemes = lexemes.old; values = values.old }) (record { lexemes = lexemes.new; values = values.new }) result }
+    ensures { PutsNext (lexeme_view lexeme) progress.old progress.new (record { lexemes = lexemes.old; values = values.old }) (record { lexemes = lexemes.new; values = values.new }) result }
 {
     put_next(lexemes, values, progress, &lexeme)
+}
+
+/// Puts a plain lexeme of a text after what fills the buffers, and goes on after it.
+///
+/// Where there is no room, nothing changes, and the error is what is wanted with the lexeme.
+#[inline(always)]
+fn take_plain(
+    lexemes: &mut [LexemeRecord],
+    values: &mut [u8],
+    progress: &mut Progress,
+    text: &str,
+    plain: PlainLexeme,
+) -> Result<(), Passed>
+    requires values_within { progress.old.filled.values ≤ length values.old }
+    requires plain { IsPlainIn text.now plain }
+    ensures { PutsNext (plain_view text.now plain) progress.old progress.new (record { lexemes = lexemes.old; values = values.old }) (record { lexemes = lexemes.new; values = values.new }) result }
+{
+    match put_plain(lexemes, values, progress.filled, text, plain) {
+        Some(filled) => {
+            progress.pass_plain(filled, plain);
+            Ok(())
+        }
+        None => Err(pass_plain(progress.filled, progress.depth, text, plain)),
+    }
 }
 
 /// Length of the text that the fault of an exception names, in bytes. It drops the exception.
@@ -294,23 +366,32 @@ pub fn fill(
     ensures { Ends text.now (record { lexemes = lexemes.old; values = values.old }) (record { lexemes = lexemes.new; values = values.new }) result }
 {
     let mut progress = Progress::START;
-    while let Some(item) = lexer.next() {
-        match item {
-            Ok(lexeme) => match take_next(lexemes, values, progress, lexeme) {
-                Ok(more) => progress = more,
-                Err(passed) => return overflow(alloc, text, lexer, progress, passed),
-            },
-            Err(OrMemory::Error(exception)) => {
+    loop {
+        if let Some(plain) = lexer.next_plain() {
+            if let Err(passed) = take_plain(lexemes, values, &mut progress, text, plain) {
+                return overflow(alloc, text, lexer, progress, passed);
+            }
+            continue;
+        }
+        match lexer.next() {
+            Some(Ok(lexeme)) => {
+                if let Err(passed) = take_next(lexemes, values, &mut progress, lexeme) {
+                    return overflow(alloc, text, lexer, progress, passed);
+                }
+            }
+            Some(Err(OrMemory::Error(exception))) => {
                 return end_at_fault(alloc, text, values, progress, &exception);
             }
-            Err(OrMemory::Memory) => {
+            Some(Err(OrMemory::Memory)) => {
                 return Ending::Memory {
                     filled: progress.filled,
                 };
             }
+            None => {
+                return Ending::Whole {
+                    filled: progress.filled,
+                };
+            }
         }
-    }
-    Ending::Whole {
-        filled: progress.filled,
     }
 }

@@ -1,10 +1,12 @@
 //! The kinds of lexemes: their numbers and their names.
 
 ghost use Rattle.std.specs.Prelude.{◌≡◌};
-ghost use Rattle.starlark_c.specs.Kinds.{kind_name, kind_number};
+ghost use Rattle.starlark_c.specs.Kinds.{kind_name, kind_number, terminal_number, token_number};
+ghost use Rattle.starlark_grammar.specs.Words.{Text};
+ghost use Rattle.starlark_syntax.specs.PlainLexemes.{token_of};
 ghost use Rattle.starlark_token.specs.TokenViews.{token_view};
 
-use starlark_syntax::lexer::Token;
+use starlark_syntax::lexer::{PlainKind, Terminal, Token};
 
 /// The number of a token's kind, and 0 for a token that no lexer yields.
 ///
@@ -100,6 +102,30 @@ pub fn number_of_kind(token: &Token) -> u16
         | Token::RawHexInt
         | Token::RawBinInt
         | Token::RawOctInt => 0,
+    }
+}
+
+/// The number of a keyword or symbol: its place among them, from 16 on.
+#[tactic(auto, unfolding(crate::specs::Kinds::terminal_number))]
+#[inline(always)]
+fn number_of_terminal(terminal: Terminal) -> u16
+    ensures { result ≡ terminal_number terminal }
+{
+    terminal as u16 + 16
+}
+
+/// The number of a plain lexeme's kind.
+#[tactic(auto, unfolding(crate::specs::Kinds::token_number))]
+#[inline(always)]
+pub fn number_of_plain(kind: PlainKind) -> u16
+    ensures { (value : Text) → result ≡ token_number (token_of kind value) }
+{
+    match kind {
+        PlainKind::Newline => 4,
+        PlainKind::Identifier => 5,
+        PlainKind::String => 8,
+        PlainKind::FStringExprEnd => 13,
+        PlainKind::Word(terminal) => number_of_terminal(terminal),
     }
 }
 

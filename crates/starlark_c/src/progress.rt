@@ -1,14 +1,17 @@
 //! How far a text is lexed into buffers, and where it may be cut.
 
-ghost use Rattle.std.specs.Prelude.{◌≡◌, ◌+◌, ◌&&◌, ◌==◌, length};
-ghost use Rattle.starlark_c.specs.Inner.Filling.{IsNextStop, wanted_by};
-ghost use Rattle.starlark_c.specs.Records.{value_bytes};
+ghost use Rattle.std.specs.Prelude.{◌≡◌};
+ghost use Rattle.starlark_c.specs.Inner.Filling.{depth_after as block_depth, ends_piece as piece_ends, passed_by, progress_after};
+ghost use Rattle.starlark_grammar.specs.Words.{Text};
 ghost use Rattle.starlark_syntax.specs.Inner.LexedTexts.{is_newline_view};
+ghost use Rattle.starlark_syntax.specs.PlainLexemes.{IsPlainIn, plain_view};
+ghost use Rattle.starlark_syntax.specs.declared.plain_lexeme.PlainLexeme.{PlainLexeme};
+ghost use Rattle.starlark_token.specs.Lexemes.{lexeme_view};
 ghost use Rattle.starlark_token.specs.TokenViews.{token_view};
 
 use crate::endings::Filled;
-use crate::records::bytes_of;
-use starlark_syntax::lexer::Token;
+use crate::records::{bytes_of, bytes_of_plain};
+use starlark_syntax::lexer::{PlainKind, PlainLexeme, Token};
 
 /// An offset where the text may be cut, and what fills the buffers before it.
 #[derive(Clone, Copy)]
@@ -54,14 +57,17 @@ fn is_newline(token: &Token) -> bool
 /// Whether the text may be cut after a token, with so many blocks open before it.
 #[inline(always)]
 fn ends_piece(depth: usize, token: &Token) -> bool
-    ensures { result ≡ (is_newline_view (token_view token.now) && depth == 0) }
+    ensures { result ≡ piece_ends depth (token_view token.now) }
 {
     is_newline(token) && depth == 0
 }
 
 /// Number of blocks that are open after a token, with so many open before it.
+#[tactic(auto, unfolding(starlark_token::specs::TokenViews::token_view))]
 #[inline(always)]
-fn depth_after(depth: usize, token: &Token) -> usize {
+fn depth_after(depth: usize, token: &Token) -> usize
+    ensures { result ≡ block_depth depth (token_view token.now) }
+{
     match token {
         Token::Indent => depth.saturating_add(1),
         Token::Dedent => depth.saturating_sub(1),
@@ -71,7 +77,7 @@ fn depth_after(depth: usize, token: &Token) -> usize {
 
 /// Counts one more token to what fills the buffers, with so many blocks open before it.
 pub fn pass(filled: Filled, depth: usize, token: &Token) -> Passed
-    ensures { result.wanted ≡ wanted_by (filled.lexemes + 1) (filled.values + length (value_bytes (token_view token.now))) }
+    ensures { result ≡ passed_by filled depth (token_view token.now) }
 {
     Passed {
         wanted: filled.with(1, bytes_of(token).len()),
@@ -80,9 +86,29 @@ pub fn pass(filled: Filled, depth: usize, token: &Token) -> Passed
     }
 }
 
+/// Whether a plain lexeme is a `Newline`.
+#[inline(always)]
+fn is_plain_newline(kind: PlainKind) -> bool
+    ensures { (text : Text) (plain : PlainLexeme) → plain.kind ≡ kind → result ≡ is_newline_view (plain_view text plain).node }
+{
+    matches!(kind, PlainKind::Newline)
+}
+
+/// Counts one more plain lexeme to what fills the buffers, with so many blocks open before it.
+pub fn pass_plain(filled: Filled, depth: usize, text: &str, plain: PlainLexeme) -> Passed
+    requires { IsPlainIn text.now plain }
+    ensures { result ≡ passed_by filled depth (plain_view text.now plain).node }
+{
+    Passed {
+        wanted: filled.with(1, bytes_of_plain(text, plain).len()),
+        depth,
+        ends_piece: is_plain_newline(plain.kind) && depth == 0,
+    }
+}
+
 /// Counts one more lexeme to those that were passed, and drops it.
 pub fn pass_lexeme(passed: Passed, lexeme: (usize, Token, usize)) -> Passed
-    ensures { result.wanted ≡ wanted_by (passed.wanted.lexemes + 1) (passed.wanted.values + length (value_bytes (token_view lexeme.1))) }
+    ensures { result ≡ passed_by passed.wanted passed.depth (token_view lexeme.1) }
 {
     pass(passed.wanted, passed.depth, &lexeme.1)
 }
@@ -98,22 +124,39 @@ impl Progress {
         },
     };
 
-    /// After one more lexeme, with which `filled` fills the buffers.
+    /// Goes on after one more lexeme, with which `filled` fills the buffers.
     #[inline(always)]
-    pub fn after(self, filled: Filled, lexeme: &(usize, Token, usize)) -> Progress
-        ensures filled { result.filled ≡ filled }
-        ensures stop { IsNextStop self.stop lexeme.now filled result.stop }
+    pub fn pass(&mut self, filled: Filled, lexeme: &(usize, Token, usize))
+        ensures { self.new ≡ progress_after self.old (lexeme_view lexeme.now) filled }
     {
         let (_, token, end) = lexeme;
-        let stop = if ends_piece(self.depth, token) {
-            Stop { at: *end, filled }
-        } else {
-            self.stop
+        if ends_piece(self.depth, token) {
+            self.stop = Stop { at: *end, filled };
+        }
+        self.filled = filled;
+        self.depth = depth_after(self.depth, token);
+    }
+
+    /// Makes an offset, up to which the buffers are filled, the last one where the text may be cut.
+    // Not inlined: else each lexeme, and not each `Newline`, chooses between two stops.
+    #[inline(never)]
+    fn set_stop(&mut self, at: usize)
+        ensures { self.new ≡ record self.old { stop = record { at = at; filled = self.old.filled } } }
+    {
+        self.stop = Stop {
+            at,
+            filled: self.filled,
         };
-        Progress {
-            filled,
-            depth: depth_after(self.depth, token),
-            stop,
+    }
+
+    /// Goes on after one more plain lexeme, with which `filled` fills the buffers.
+    #[inline(always)]
+    pub fn pass_plain(&mut self, filled: Filled, plain: PlainLexeme)
+        ensures { (text : Text) → self.new ≡ progress_after self.old (plain_view text plain) filled }
+    {
+        self.filled = filled;
+        if is_plain_newline(plain.kind) && self.depth == 0 {
+            self.set_stop(plain.end);
         }
     }
 }

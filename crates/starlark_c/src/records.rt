@@ -2,11 +2,13 @@
 
 ghost use Rattle.std.specs.Prelude.{◌≡◌, ◌<◌, ◌≤◌, ◌+◌, ◌^◌, ℕ, IfSome, length};
 ghost use Rattle.starlark_c.specs.Records.{detail, fault_bytes, fault_number, integer, quotes_number, record_of, value_bytes};
+ghost use Rattle.starlark_grammar.specs.Words.{Text};
+ghost use Rattle.starlark_syntax.specs.PlainLexemes.{IsPlainIn, plain_view};
 ghost use Rattle.starlark_token.specs.Lexemes.{fault_view, lexeme_view};
 ghost use Rattle.starlark_token.specs.TokenViews.{fstring_quote_view, token_view};
 
-use crate::kinds::number_of_kind;
-use starlark_syntax::lexer::{FStringQuote, LexemeError, Token, TokenInt};
+use crate::kinds::{number_of_kind, number_of_plain};
+use starlark_syntax::lexer::{FStringQuote, LexemeError, PlainKind, PlainLexeme, Token, TokenInt};
 
 /// A lexeme: its place in the text, its kind, and where its value is among the values.
 #[repr(C)]
@@ -58,6 +60,21 @@ pub fn bytes_of(token: &Token) -> &[u8]
         Token::String(text) => text.as_bytes(),
         Token::Bytes(bytes) => bytes.as_slice(),
         Token::FStringText(text) => text.as_bytes(),
+        _ => &[],
+    }
+}
+
+/// The bytes of a plain lexeme's value, which are in its text.
+#[tactic(auto, unfolding(crate::specs::Records::value_bytes))]
+#[inline(always)]
+pub fn bytes_of_plain(text: &str, plain: PlainLexeme) -> &[u8]
+    requires { IsPlainIn text.now plain }
+    ensures { result.now ≡ value_bytes (plain_view text.now plain).node }
+{
+    match plain.kind {
+        PlainKind::Identifier | PlainKind::String => {
+            &text.as_bytes()[plain.value_begin..plain.value_end]
+        }
         _ => &[],
     }
 }
@@ -115,6 +132,25 @@ pub fn record_at(at: usize, lexeme: &(usize, Token, usize)) -> LexemeRecord
         integer: integer_of(token),
         value_begin: at,
         value_len: bytes_of(token).len(),
+    }
+}
+
+/// The record of a plain lexeme whose value is that of `len` bytes at byte `at` of the values.
+#[tactic(auto, unfolding(crate::specs::Kinds::kind_number, crate::specs::Records::integer, crate::specs::Records::detail))]
+#[inline(always)]
+pub fn plain_record_at(at: usize, len: usize, plain: PlainLexeme) -> LexemeRecord
+    requires begin { plain.begin < 2 ^ 32 }
+    requires end { plain.end < 2 ^ 32 }
+    ensures { (text : Text) → len ≡ length (value_bytes (plain_view text plain).node) → result ≡ record_of at (plain_view text plain) }
+{
+    LexemeRecord {
+        begin: plain.begin as u32,
+        end: plain.end as u32,
+        kind: number_of_plain(plain.kind),
+        detail: 0,
+        integer: 0,
+        value_begin: at,
+        value_len: len,
     }
 }
 

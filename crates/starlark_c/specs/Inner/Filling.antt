@@ -1,5 +1,5 @@
 -- One more lexeme or fault in the caller's buffers.
-use Rattle.std.specs.Prelude.{◌≡◌, ◌<◌, ◌≤◌, ◌+◌, ◌-◌, ◌⊎◌, ℕ, true, slice_get, List, [], ◌∷◌, ◌++◌, length, take, drop, Option, Some, None, Result, Ok, Err}
+use Rattle.std.specs.Prelude.{◌≡◌, ◌<◌, ◌≤◌, ◌+◌, ◌-◌, ◌⊎◌, ◌&&◌, ◌==◌, if◌then◌else◌, ℕ, Bool, true, slice_get, List, [], ◌∷◌, ◌++◌, length, take, drop, Option, Some, None, Result, Ok, Err, ⊤}
 use Rattle.std.specs.Str.{IsCharBoundary}
 use Rattle.starlark_c.specs.Endings.{AreFirst, Buffers, IsPiece, capped, lexemes_of}
 use Rattle.starlark_c.specs.Records.{fault_bytes, fault_record, record_of, value_bytes, values}
@@ -9,13 +9,10 @@ use Rattle.starlark_c.specs.declared.endings.Filled.{Filled}
 use Rattle.starlark_c.specs.declared.progress.Passed.{Passed}
 use Rattle.starlark_c.specs.declared.progress.Progress.{Progress}
 use Rattle.starlark_c.specs.declared.progress.Stop.{Stop}
-use Rattle.starlark_c.specs.declared.records.LexemeRecord.{LexemeRecord}
 use Rattle.starlark_grammar.specs.Tokens as grammar
 use Rattle.starlark_grammar.specs.Words.{Text}
 use Rattle.starlark_syntax.specs.Inner.LexedTexts.{is_newline_view}
-use Rattle.starlark_token.specs.Lexemes.{lexeme_view}
-use Rattle.starlark_token.specs.TokenViews.{TokenView, token_view}
-use Rattle.starlark_token.specs.declared.tokens.Token.{Token}
+use Rattle.starlark_token.specs.TokenViews.{TokenView, Whole}
 
 -- a list with some items in place of those from `at` on
 abbrev pub put : {A : Type 0} → ℕ → List A → List A → List A
@@ -70,18 +67,38 @@ pub record IsNewlineStop (text : Text) (yielded : ℕ) (stop : Stop) : Type 0 wh
 abbrev pub IsStop : Text → (yielded : ℕ) → Stop → Type 0
 IsStop text yielded stop = (stop.filled.lexemes ≡ 0) ⊎ IsNewlineStop text yielded stop
 
--- the stop is the old one, or is after this lexeme, which is a `Newline`
-abbrev pub IsNextStop : Stop → (ℕ × Token × ℕ) → Filled → Stop → Type 0
-IsNextStop old lexeme more new =
-    (new ≡ old) ⊎ ((new ≡ record { at = lexeme.2; filled = more }) × (is_newline_view (token_view lexeme.1) ≡ true))
+-- how many blocks are open after a token, with so many open before it
+abbrev pub depth_after : ℕ → TokenView → ℕ
+depth_after depth (Whole grammar.Indent) = capped (depth + 1)
+depth_after depth (Whole grammar.Dedent) = depth - 1
+depth_after depth view = depth
 
--- the result of putting the next lexeme: how far lexing is then, or what is wanted with it
-abbrev pub PutsNext : (ℕ × Token × ℕ) → Progress → Buffers → Buffers → Result Progress Passed → Type 0
-PutsNext lexeme progress before after (Ok next) =
-    IsPut (lexeme_view lexeme) progress.filled before after next.filled × IsNextStop progress.stop lexeme next.filled next.stop
-PutsNext lexeme progress before after (Err passed) =
-    HasNoRoom (lexeme_view lexeme) progress.filled before after
-    × (passed.wanted ≡ wanted_by (progress.filled.lexemes + 1) (progress.filled.values + length (value_bytes (lexeme_view lexeme).node)))
+-- whether the text may be cut after a token, with so many blocks open before it: after a `Newline` outside of all blocks
+abbrev pub ends_piece : ℕ → TokenView → Bool
+ends_piece depth view = is_newline_view view && depth == 0
+
+-- the last offset where the text may be cut, after one more lexeme
+abbrev pub next_stop : Progress → grammar.Spanned TokenView → Filled → Stop
+next_stop old lexeme more = if ends_piece old.depth lexeme.node then record { at = lexeme.end; filled = more } else old.stop
+
+-- how far lexing is after one more lexeme, with which this fills the buffers
+abbrev pub progress_after : Progress → grammar.Spanned TokenView → Filled → Progress
+progress_after old lexeme more = record { filled = more; depth = depth_after old.depth lexeme.node; stop = next_stop old lexeme more }
+
+-- what is wanted with one more token, and what is so after it
+abbrev pub passed_by : Filled → ℕ → TokenView → Passed
+passed_by filled depth view = record {
+  wanted = wanted_by (filled.lexemes + 1) (filled.values + length (value_bytes view));
+  depth = depth_after depth view;
+  ends_piece = ends_piece depth view;
+}
+
+-- the result of putting the next lexeme: lexing went on, or nothing changed, and this is wanted with it
+abbrev pub PutsNext : grammar.Spanned TokenView → (old new : Progress) → Buffers → Buffers → Result ⊤ Passed → Type 0
+PutsNext lexeme old new before after (Ok done) =
+    IsPut lexeme old.filled before after new.filled × (new ≡ progress_after old lexeme new.filled)
+PutsNext lexeme old new before after (Err passed) =
+    HasNoRoom lexeme old.filled before after × (new ≡ old) × (passed ≡ passed_by old.filled old.depth lexeme.node)
 
 -- how much is wanted for the first `count` lexemes of a text and maybe more
 pub record IsWanted (text : Text) (count : ℕ) (wanted : Filled) : Type 0 where

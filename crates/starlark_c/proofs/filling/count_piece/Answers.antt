@@ -1,6 +1,7 @@
-use Rattle.std.proofs.Common.{◌≡◌, ℕ, ◌+◌, ◌≤◌, false, length, take, refl, ap, sym, ◌∙◌, arith, inl, inr}
+use Rattle.std.proofs.Common.{◌≡◌, ◌+◌, false, length, take, refl, ap, ◌∙◌, arith, inl, inr}
 use Rattle.starlark_c.specs.Endings.{all_values, lexemes_of}
-use Rattle.starlark_c.specs.Records.{fault_bytes, values}
+use Rattle.starlark_c.specs.declared.progress.Passed.{Passed}
+use Rattle.starlark_c.specs.Records.{values}
 use Rattle.starlark_c.proofs.Items.{next_fault, next_lexeme}
 use Rattle.starlark_c.proofs.Wanted.{all_bytes, more_values, wanted_fault, wanted_more}
 use Rattle.starlark_syntax.specs.Lexer.{LexerView}
@@ -19,7 +20,7 @@ returns-then-passed c =
       first = inl (next.few, refl);
       more_lexemes = omega (arith, inv.later);
       more_bytes = omega (arith, inv.more, more_values text n (lexeme_view c.in-Ok.lexeme) next);
-      needs = wanted_more text n (lexeme_view c.in-Ok.lexeme) c.loop-item.passed.wanted c.pass_lexeme-passed.result.wanted next inv.wanted c.pass_lexeme-passed.ensures;
+      needs = wanted_more text n (lexeme_view c.in-Ok.lexeme) c.loop-item.passed.wanted c.pass_lexeme-passed.result.wanted next inv.wanted (ap (λ (p : Passed). p.wanted) c.pass_lexeme-passed.ensures);
     }
 
 pub loop-item-smaller : goal.loop-item-smaller
@@ -45,7 +46,7 @@ loop-item-preserved c =
       few = next.few;
       later = omega (arith, inv.later);
       more = omega (arith, inv.more, more_values text n (lexeme_view c.in-Ok.lexeme) next);
-      wanted = wanted_more text n (lexeme_view c.in-Ok.lexeme) c.loop-item.passed.wanted c.pass_lexeme-passed.result.wanted next inv.wanted c.pass_lexeme-passed.ensures;
+      wanted = wanted_more text n (lexeme_view c.in-Ok.lexeme) c.loop-item.passed.wanted c.pass_lexeme-passed.result.wanted next inv.wanted (ap (λ (p : Passed). p.wanted) c.pass_lexeme-passed.ensures);
     })
 
 pub returns-in-Err-Error : goal.returns-in-Err-Error

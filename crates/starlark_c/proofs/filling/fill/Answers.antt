@@ -1,19 +1,16 @@
-use Rattle.std.proofs.Common.{◌≡◌, ℕ, ◌+◌, ◌≤◌, false, length, take, refl, ap, sym, subst, ◌∙◌, arith, inl}
-use Rattle.std.specs.Str.{IsCharBoundary}
-use Rattle.starlark_c.specs.Endings.{lexemes_of}
-use Rattle.starlark_c.specs.Inner.Filling.{wanted_by}
-use Rattle.starlark_c.specs.Records.{value_bytes}
+use Rattle.std.proofs.Common.{◌≡◌, refl, ap, arith, inl}
 use Rattle.starlark_c.proofs.Ends.{ends_whole}
-use Rattle.starlark_c.proofs.Filled.{hold_none, put_next, values_nil}
-use Rattle.starlark_c.proofs.Items.{next_fault, next_lexeme, next_none}
-use Rattle.starlark_c.proofs.Stops.{all_but, ends_at_fault, overflows, stop_more}
+use Rattle.starlark_c.proofs.Filled.{hold_none, values_nil}
+use Rattle.starlark_c.proofs.Items.{given_next, next_fault, next_lexeme, next_none}
+use Rattle.starlark_c.proofs.NextLexemes.{HasFilled, ends_without_room, goes_on, goes_on_with, has_filled_more, stays, wanted_with_next}
+use Rattle.starlark_c.proofs.Stops.{ends_at_fault}
 use Rattle.starlark_syntax.specs.Lexer.{LexerView}
+use Rattle.starlark_syntax.specs.PlainLexemes.{plain_view}
 use Rattle.starlark_token.specs.Lexemes.{lexeme_view}
-use Rattle.starlark_token.specs.TokenViews.{token_view}
 use Rattle.starlark_c.proofs.filling.fill.Goals as goal
 
-pub loop-item-init : goal.loop-item-init
-loop-item-init c =
+pub loop-plain-init : goal.loop-plain-init
+loop-plain-init c =
     let fresh = c.requires.fresh in
     let none : c.args.lexer.now.yielded_count ≡ 0 = ap (λ (l : LexerView). l.yielded_count) fresh in
     rw none (record {
@@ -25,84 +22,157 @@ loop-item-init c =
       stop = inl refl;
     })
 
-pub loop-item-smaller : goal.loop-item-smaller
-loop-item-smaller c =
-    let inv = c.loop-item.invariant in
-    let n = c.loop-item.lexer.yielded_count in
-    let next = next_lexeme c.loop-item.lexer.code_map c.args.text.now n c.in-Ok.lexeme (rw (c.in-Ok.is, inv.text) at (c.in-Some.ensures.item inv.going)) in
-    let handed : c.next.new.self.yielded_count ≡ n + 1 = ap (λ (l : LexerView). l.yielded_count) (rw c.in-Ok.is at c.in-Some.ensures.after) in
-    omega (arith, handed, next.some)
-
-pub loop-item-preserved : goal.loop-item-preserved
-loop-item-preserved c =
-    let inv = c.loop-item.invariant in
+pub loop-plain-smaller-in-Some : goal.loop-plain-smaller-in-Some
+loop-plain-smaller-in-Some c =
+    let inv = c.loop-plain.invariant in
     let text = c.args.text.now in
-    let n = c.loop-item.lexer.yielded_count in
-    let found = c.in-Ok.lexeme in
-    let next = next_lexeme c.loop-item.lexer.code_map text n found (rw (c.in-Ok.is, inv.text) at (c.in-Some.ensures.item inv.going)) in
-    let after = rw c.in-Ok.is at c.in-Some.ensures.after in
-    let handed : c.next.new.self.yielded_count ≡ n + 1 = ap (λ (l : LexerView). l.yielded_count) after in
-    let ended : c.next.new.self.has_ended ≡ false = ap (λ (l : LexerView). l.has_ended) after ∙ rw inv.going refl in
-    let more = c.in-Ok-take_next.more in
-    let puts = c.in-Ok-take_next.ensures in
-    let filled = put_next (lexemes_of text) n (lexeme_view found) _ _ _ c.loop-item.progress.filled more.filled next.more inv.hold inv.filled puts.0 in
-    let boundary : IsCharBoundary text found.2 = (rw (c.in-Ok.is, inv.text) at c.in-Some.ensures.between).1 in
-    rw handed (record {
-      going = ended;
-      text = ap (λ (l : LexerView). l.text) after ∙ inv.text;
-      few = next.few;
-      hold = filled.hold;
-      filled = filled.counts;
-      stop = stop_more text n found more.filled c.loop-item.progress.stop more.stop inv.stop puts.1 next filled.counts boundary;
-    })
+    let n = c.loop-plain.lexer.yielded_count in
+    let x = plain_view text c.in-Some.plain in
+    let next = given_next text n x (rw inv.text at c.in-Some.ensures.item) in
+    let had : HasFilled text n c.loop-plain.progress _ _ = record { few = inv.few; hold = inv.hold; filled = inv.filled; stop = inv.stop } in
+    let on = goes_on text n 1 _ c.loop-plain.lexer c.next_plain.new.self (record { going = inv.going; text_is = inv.text; count = refl }) c.in-Some.ensures.after in
+    omega (arith, on.count, next.some)
+
+pub loop-plain-preserved-in-Some : goal.loop-plain-preserved-in-Some
+loop-plain-preserved-in-Some c =
+    let inv = c.loop-plain.invariant in
+    let text = c.args.text.now in
+    let n = c.loop-plain.lexer.yielded_count in
+    let x = plain_view text c.in-Some.plain in
+    let next = given_next text n x (rw inv.text at c.in-Some.ensures.item) in
+    let had : HasFilled text n c.loop-plain.progress _ _ = record { few = inv.few; hold = inv.hold; filled = inv.filled; stop = inv.stop } in
+    let on = goes_on text n 1 _ c.loop-plain.lexer c.next_plain.new.self (record { going = inv.going; text_is = inv.text; count = refl }) c.in-Some.ensures.after in
+    let more = has_filled_more text n x c.loop-plain.progress c.take_plain.new.progress _ _ _ _ had next (rw inv.text at c.in-Some.ensures.within).end c.in_default-take_plain.ensures in
+    rw on.count (record { going = on.going; text = on.text_is; few = more.few; hold = more.hold; filled = more.filled; stop = more.stop })
 
 pub overflow-requires-clause-few : goal.overflow-requires-clause-few
 overflow-requires-clause-few c =
-    let inv = c.loop-item.invariant in
-    let n = c.loop-item.lexer.yielded_count in
-    let next = next_lexeme c.loop-item.lexer.code_map c.args.text.now n c.in-Ok.lexeme (rw (c.in-Ok.is, inv.text) at (c.in-Some.ensures.item inv.going)) in
-    let handed : c.next.new.self.yielded_count ≡ n + 1 = ap (λ (l : LexerView). l.yielded_count) (rw c.in-Ok.is at c.in-Some.ensures.after) in
-    rw handed next.few
+    let inv = c.loop-plain.invariant in
+    let text = c.args.text.now in
+    let n = c.loop-plain.lexer.yielded_count in
+    let x = plain_view text c.in-Some.plain in
+    let next = given_next text n x (rw inv.text at c.in-Some.ensures.item) in
+    let had : HasFilled text n c.loop-plain.progress _ _ = record { few = inv.few; hold = inv.hold; filled = inv.filled; stop = inv.stop } in
+    let on = goes_on text n 1 _ c.loop-plain.lexer c.next_plain.new.self (record { going = inv.going; text_is = inv.text; count = refl }) c.in-Some.ensures.after in
+    rw on.count next.few
 
 pub overflow-requires-clause-counted : goal.overflow-requires-clause-counted
 overflow-requires-clause-counted c =
-    let inv = c.loop-item.invariant in
+    let inv = c.loop-plain.invariant in
     let text = c.args.text.now in
-    let n = c.loop-item.lexer.yielded_count in
-    let next = next_lexeme c.loop-item.lexer.code_map text n c.in-Ok.lexeme (rw (c.in-Ok.is, inv.text) at (c.in-Some.ensures.item inv.going)) in
-    let handed : c.next.new.self.yielded_count ≡ n + 1 = ap (λ (l : LexerView). l.yielded_count) (rw c.in-Ok.is at c.in-Some.ensures.after) in
-    let both = all_but text n c.in-Ok.lexeme c.loop-item.progress.filled next inv.few inv.filled in
-    rw handed (c.in-Err.ensures.1 ∙ ap (λ k. wanted_by k (c.loop-item.progress.filled.values + length (value_bytes (token_view c.in-Ok.lexeme.1)))) both.0 ∙ ap (wanted_by (n + 1)) both.1)
+    let n = c.loop-plain.lexer.yielded_count in
+    let x = plain_view text c.in-Some.plain in
+    let next = given_next text n x (rw inv.text at c.in-Some.ensures.item) in
+    let had : HasFilled text n c.loop-plain.progress _ _ = record { few = inv.few; hold = inv.hold; filled = inv.filled; stop = inv.stop } in
+    let on = goes_on text n 1 _ c.loop-plain.lexer c.next_plain.new.self (record { going = inv.going; text_is = inv.text; count = refl }) c.in-Some.ensures.after in
+    rw on.count (wanted_with_next text n x c.loop-plain.progress c.take_plain.new.progress _ _ _ c.in-Err.passed had next c.in-Err.ensures)
 
 pub returns-in-Err : goal.returns-in-Err
 returns-in-Err c =
-    let inv = c.loop-item.invariant in
+    let inv = c.loop-plain.invariant in
     let text = c.args.text.now in
-    let n = c.loop-item.lexer.yielded_count in
-    let next = next_lexeme c.loop-item.lexer.code_map text n c.in-Ok.lexeme (rw (c.in-Ok.is, inv.text) at (c.in-Some.ensures.item inv.going)) in
-    let handed : c.next.new.self.yielded_count ≡ n + 1 = ap (λ (l : LexerView). l.yielded_count) (rw c.in-Ok.is at c.in-Some.ensures.after) in
-    overflows text _ _ _ n c.in-Ok.lexeme c.loop-item.progress c.overflow.result c.requires.text next inv.few inv.hold inv.filled inv.stop c.in-Err.ensures.0 (rw handed at c.overflow.ensures)
+    let n = c.loop-plain.lexer.yielded_count in
+    let x = plain_view text c.in-Some.plain in
+    let next = given_next text n x (rw inv.text at c.in-Some.ensures.item) in
+    let had : HasFilled text n c.loop-plain.progress _ _ = record { few = inv.few; hold = inv.hold; filled = inv.filled; stop = inv.stop } in
+    let on = goes_on text n 1 _ c.loop-plain.lexer c.next_plain.new.self (record { going = inv.going; text_is = inv.text; count = refl }) c.in-Some.ensures.after in
+    ends_without_room text n x c.loop-plain.progress c.take_plain.new.progress _ _ _ c.in-Err.passed c.overflow.result c.requires.text had next c.in-Err.ensures (rw on.count at c.overflow.ensures)
 
-pub returns-in-Err-Error : goal.returns-in-Err-Error
-returns-in-Err-Error c =
-    let inv = c.loop-item.invariant in
+pub loop-plain-smaller : goal.loop-plain-smaller
+loop-plain-smaller c =
+    let inv = c.loop-plain.invariant in
     let text = c.args.text.now in
-    let n = c.loop-item.lexer.yielded_count in
-    let last = next_fault c.loop-item.lexer.code_map text n c.in-Err-Error.exception (rw (c.in-Err-Error.is, c.in-Err-Error.field-0-is, inv.text) at (c.in-Some.ensures.item inv.going)) in
-    ends_at_fault text _ _ _ n last.fault c.loop-item.progress c.end_at_fault.result c.requires.text last.is last.all inv.hold inv.filled inv.stop (c.end_at_fault.ensures last.fault last.is)
+    let n = c.loop-plain.lexer.yielded_count in
+    let lexer = c.next_plain.new.self in
+    let had : HasFilled text n c.loop-plain.progress _ _ = record { few = inv.few; hold = inv.hold; filled = inv.filled; stop = inv.stop } in
+    let was = stays text n _ c.loop-plain.lexer lexer (record { going = inv.going; text_is = inv.text; count = refl }) c.in_default.ensures.after in
+    let found = c.in-Some-Ok.lexeme in
+    let next = next_lexeme lexer.code_map text n found (rw (c.in-Some-Ok.field-0-is, was.text_is, was.count) at (c.in-Some-Ok.ensures.item was.going)) in
+    let on = goes_on_with text n _ lexer c.next.new.self was (rw c.in-Some-Ok.field-0-is at c.in-Some-Ok.ensures.after) in
+    omega (arith, on.count, next.some)
 
-pub returns : goal.returns
-returns c =
-    let inv = c.loop-item.invariant in
+pub loop-plain-preserved : goal.loop-plain-preserved
+loop-plain-preserved c =
+    let inv = c.loop-plain.invariant in
     let text = c.args.text.now in
-    let n = c.loop-item.lexer.yielded_count in
-    let none = next_none c.loop-item.lexer.code_map text n (rw inv.text at (c.in_default.ensures.item inv.going)) inv.few in
-    ends_whole text _ _ n c.loop-item.progress.filled c.requires.text none.0 none.1 inv.hold inv.filled
+    let n = c.loop-plain.lexer.yielded_count in
+    let lexer = c.next_plain.new.self in
+    let had : HasFilled text n c.loop-plain.progress _ _ = record { few = inv.few; hold = inv.hold; filled = inv.filled; stop = inv.stop } in
+    let was = stays text n _ c.loop-plain.lexer lexer (record { going = inv.going; text_is = inv.text; count = refl }) c.in_default.ensures.after in
+    let found = c.in-Some-Ok.lexeme in
+    let next = next_lexeme lexer.code_map text n found (rw (c.in-Some-Ok.field-0-is, was.text_is, was.count) at (c.in-Some-Ok.ensures.item was.going)) in
+    let on = goes_on_with text n _ lexer c.next.new.self was (rw c.in-Some-Ok.field-0-is at c.in-Some-Ok.ensures.after) in
+    let more = has_filled_more text n (lexeme_view found) c.loop-plain.progress c.take_next.new.progress _ _ _ _ had next (rw (c.in-Some-Ok.field-0-is, was.text_is) at c.in-Some-Ok.ensures.between).1 c.in_default-take_next.ensures in
+    rw on.count (record { going = on.going; text = on.text_is; few = more.few; hold = more.hold; filled = more.filled; stop = more.stop })
+
+pub overflow-requires-in-Err-take_next-clause-few : goal.overflow-requires-in-Err-take_next-clause-few
+overflow-requires-in-Err-take_next-clause-few c =
+    let inv = c.loop-plain.invariant in
+    let text = c.args.text.now in
+    let n = c.loop-plain.lexer.yielded_count in
+    let lexer = c.next_plain.new.self in
+    let had : HasFilled text n c.loop-plain.progress _ _ = record { few = inv.few; hold = inv.hold; filled = inv.filled; stop = inv.stop } in
+    let was = stays text n _ c.loop-plain.lexer lexer (record { going = inv.going; text_is = inv.text; count = refl }) c.in_default.ensures.after in
+    let found = c.in-Some-Ok.lexeme in
+    let next = next_lexeme lexer.code_map text n found (rw (c.in-Some-Ok.field-0-is, was.text_is, was.count) at (c.in-Some-Ok.ensures.item was.going)) in
+    let on = goes_on_with text n _ lexer c.next.new.self was (rw c.in-Some-Ok.field-0-is at c.in-Some-Ok.ensures.after) in
+    rw on.count next.few
+
+pub overflow-requires-in-Err-take_next-clause-counted : goal.overflow-requires-in-Err-take_next-clause-counted
+overflow-requires-in-Err-take_next-clause-counted c =
+    let inv = c.loop-plain.invariant in
+    let text = c.args.text.now in
+    let n = c.loop-plain.lexer.yielded_count in
+    let lexer = c.next_plain.new.self in
+    let had : HasFilled text n c.loop-plain.progress _ _ = record { few = inv.few; hold = inv.hold; filled = inv.filled; stop = inv.stop } in
+    let was = stays text n _ c.loop-plain.lexer lexer (record { going = inv.going; text_is = inv.text; count = refl }) c.in_default.ensures.after in
+    let found = c.in-Some-Ok.lexeme in
+    let next = next_lexeme lexer.code_map text n found (rw (c.in-Some-Ok.field-0-is, was.text_is, was.count) at (c.in-Some-Ok.ensures.item was.going)) in
+    let on = goes_on_with text n _ lexer c.next.new.self was (rw c.in-Some-Ok.field-0-is at c.in-Some-Ok.ensures.after) in
+    rw on.count (wanted_with_next text n (lexeme_view found) c.loop-plain.progress c.take_next.new.progress _ _ _ c.in-Err-take_next.passed had next c.in-Err-take_next.ensures)
+
+pub returns-in-Err-take_next : goal.returns-in-Err-take_next
+returns-in-Err-take_next c =
+    let inv = c.loop-plain.invariant in
+    let text = c.args.text.now in
+    let n = c.loop-plain.lexer.yielded_count in
+    let lexer = c.next_plain.new.self in
+    let had : HasFilled text n c.loop-plain.progress _ _ = record { few = inv.few; hold = inv.hold; filled = inv.filled; stop = inv.stop } in
+    let was = stays text n _ c.loop-plain.lexer lexer (record { going = inv.going; text_is = inv.text; count = refl }) c.in_default.ensures.after in
+    let found = c.in-Some-Ok.lexeme in
+    let next = next_lexeme lexer.code_map text n found (rw (c.in-Some-Ok.field-0-is, was.text_is, was.count) at (c.in-Some-Ok.ensures.item was.going)) in
+    let on = goes_on_with text n _ lexer c.next.new.self was (rw c.in-Some-Ok.field-0-is at c.in-Some-Ok.ensures.after) in
+    ends_without_room text n (lexeme_view found) c.loop-plain.progress c.take_next.new.progress _ _ _ c.in-Err-take_next.passed c.overflow-in-Err-take_next.result c.requires.text had next c.in-Err-take_next.ensures (rw on.count at c.overflow-in-Err-take_next.ensures)
+
+pub returns-in-Some-Err-Error : goal.returns-in-Some-Err-Error
+returns-in-Some-Err-Error c =
+    let inv = c.loop-plain.invariant in
+    let text = c.args.text.now in
+    let n = c.loop-plain.lexer.yielded_count in
+    let lexer = c.next_plain.new.self in
+    let had : HasFilled text n c.loop-plain.progress _ _ = record { few = inv.few; hold = inv.hold; filled = inv.filled; stop = inv.stop } in
+    let was = stays text n _ c.loop-plain.lexer lexer (record { going = inv.going; text_is = inv.text; count = refl }) c.in_default.ensures.after in
+    let last = next_fault lexer.code_map text n c.in-Some-Err-Error.exception (rw (c.in-Some-Err-Error.field-0-is, c.in-Some-Err-Error.field-0-0-is, was.text_is, was.count) at (c.in-Some-Err-Error.ensures.item was.going)) in
+    ends_at_fault text _ _ _ n last.fault c.loop-plain.progress c.end_at_fault.result c.requires.text last.is last.all had.hold had.filled had.stop (c.end_at_fault.ensures last.fault last.is)
+
+pub returns-in-None : goal.returns-in-None
+returns-in-None c =
+    let inv = c.loop-plain.invariant in
+    let text = c.args.text.now in
+    let n = c.loop-plain.lexer.yielded_count in
+    let lexer = c.next_plain.new.self in
+    let had : HasFilled text n c.loop-plain.progress _ _ = record { few = inv.few; hold = inv.hold; filled = inv.filled; stop = inv.stop } in
+    let was = stays text n _ c.loop-plain.lexer lexer (record { going = inv.going; text_is = inv.text; count = refl }) c.in_default.ensures.after in
+    let none = next_none lexer.code_map text n (rw (was.text_is, was.count) at (c.in-None.ensures.item was.going)) had.few in
+    ends_whole text _ _ n c.loop-plain.progress.filled c.requires.text none.0 none.1 had.hold had.filled
 
 pub end_at_fault-requires-clause-thrown : goal.end_at_fault-requires-clause-thrown
 end_at_fault-requires-clause-thrown c =
-    let inv = c.loop-item.invariant in
+    let inv = c.loop-plain.invariant in
     let text = c.args.text.now in
-    let file = c.loop-item.lexer.code_map in
-    let last = next_fault file text c.loop-item.lexer.yielded_count c.in-Err-Error.exception (rw (c.in-Err-Error.is, c.in-Err-Error.field-0-is, inv.text) at (c.in-Some.ensures.item inv.going)) in
-    (file, last.within)
+    let n = c.loop-plain.lexer.yielded_count in
+    let lexer = c.next_plain.new.self in
+    let had : HasFilled text n c.loop-plain.progress _ _ = record { few = inv.few; hold = inv.hold; filled = inv.filled; stop = inv.stop } in
+    let was = stays text n _ c.loop-plain.lexer lexer (record { going = inv.going; text_is = inv.text; count = refl }) c.in_default.ensures.after in
+    let last = next_fault lexer.code_map text n c.in-Some-Err-Error.exception (rw (c.in-Some-Err-Error.field-0-is, c.in-Some-Err-Error.field-0-0-is, was.text_is, was.count) at (c.in-Some-Err-Error.ensures.item was.going)) in
+    (lexer.code_map, last.within)

@@ -7,8 +7,8 @@ use Rattle.starlark_c.proofs.filling.fill.Given as goal
 use Rattle.starlark_token.specs.TextItems.{items}
 
 -- the lexemes that the lexer has yielded fill the buffers
-abbrev pub invariant-loop-item : goal.invariant-loop-item
-invariant-loop-item l = record {
+abbrev pub invariant-loop-plain : goal.invariant-loop-plain
+invariant-loop-plain l = record {
   going : l.lexer.has_ended ≡ false;
   text : l.lexer.text ≡ l.text;
   few : l.lexer.yielded_count ≤ length (lexemes_of l.text);
@@ -17,5 +17,5 @@ invariant-loop-item l = record {
   stop : IsStop l.text l.lexer.yielded_count l.progress.stop;
 }
 
-abbrev pub decreases-loop-item : goal.decreases-loop-item
-decreases-loop-item l = length (items l.text) - l.lexer.yielded_count
+abbrev pub decreases-loop-plain : goal.decreases-loop-plain
+decreases-loop-plain l = length (items l.text) - l.lexer.yielded_count

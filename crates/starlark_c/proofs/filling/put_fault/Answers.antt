@@ -2,7 +2,6 @@ use Rattle.std.proofs.Common.{◌≡◌, ◌+◌, length, refl, Some, ap, subst,
 use Rattle.std.specs.Prelude.{IfSome, Option}
 use Rattle.starlark_c.specs.Inner.Filling.{put, wanted_by}
 use Rattle.starlark_c.specs.Records.{fault_bytes, fault_number}
-use Rattle.starlark_c.specs.declared.records.FaultRecord.{FaultRecord}
 use Rattle.starlark_base.specs.Spans.{ByteSpan}
 use Rattle.starlark_grammar.specs.Tokens.{Fault, Spanned}
 use Rattle.starlark_syntax.specs.Exceptions.{IsException, IsFaultIn}

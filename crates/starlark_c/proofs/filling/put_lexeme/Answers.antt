@@ -4,7 +4,6 @@ use Rattle.starlark_c.specs.Inner.Filling.{put}
 use Rattle.starlark_c.specs.Records.{record_of, value_bytes}
 use Rattle.starlark_c.specs.declared.records.LexemeRecord.{LexemeRecord}
 use Rattle.starlark_token.specs.Lexemes.{lexeme_view}
-use Rattle.starlark_token.specs.TokenViews.{token_view}
 use Rattle.starlark_c.proofs.filling.put_lexeme.Goals as goal
 
 pub returns : goal.returns

@@ -1,4 +1,4 @@
-use Rattle.std.proofs.Common.{◌≡◌, ap, arith, length, sym}
+use Rattle.std.proofs.Common.{ap, arith, length, sym}
 use Rattle.starlark_c.specs.Endings.{IsText}
 use Rattle.starlark_c.proofs.Ends.{ends_memory}
 use Rattle.starlark_c.proofs.Filled.{hold_none, values_nil}

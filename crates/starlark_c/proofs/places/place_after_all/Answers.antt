@@ -1,4 +1,4 @@
-use Rattle.std.proofs.Common.{◌≡◌, ◌+◌, ap, length, ◌∙◌, count_by, refl}
+use Rattle.std.proofs.Common.{◌≡◌, ap, length, ◌∙◌, count_by, refl}
 use Rattle.std.specs.List.{after_last}
 use Rattle.std.specs.Str.{chars}
 use Rattle.starlark_base.specs.Places.{is_lf, place_after}

@@ -1,4 +1,4 @@
-use Rattle.std.proofs.Common.{◌≡◌, ◌==◌, ap, sym, ◌∙◌}
+use Rattle.std.proofs.Common.{◌==◌, ap, sym, ◌∙◌}
 use Rattle.starlark_c.proofs.FaultNumbers.{tab_number}
 use Rattle.starlark_c.proofs.restarts.restart_after.Goals as goal
 

@@ -1,0 +1,73 @@
+-- The buffers after the next lexeme of a text, and the lexer after it.
+use Rattle.std.proofs.Common.{◌≡◌, ℕ, ◌+◌, ◌≤◌, ◌||◌, false, refl, length, take, ap, subst, sym, ◌∙◌, arith, Ok, Err}
+use Rattle.std.specs.Prelude.{⊤}
+use Rattle.std.specs.Str.{IsCharBoundary}
+use Rattle.starlark_c.specs.Endings.{Buffers, Ends, Hold, IsText, lexemes_of}
+use Rattle.starlark_c.specs.Inner.Filling.{IsOverflow, IsStop, PutsNext, wanted_by}
+use Rattle.starlark_c.specs.Records.{records, value_bytes, values}
+use Rattle.starlark_c.specs.declared.endings.Ending.{Ending}
+use Rattle.starlark_c.specs.declared.progress.Passed.{Passed}
+use Rattle.starlark_c.specs.declared.progress.Progress.{Progress}
+use Rattle.starlark_c.proofs.Filled.{filled_by, put_next}
+use Rattle.starlark_c.proofs.Items.{IsNext}
+use Rattle.starlark_c.proofs.Stops.{IsNextStop, all_but, next_stop_is, overflows, stop_more}
+use Rattle.starlark_grammar.specs.Tokens.{Spanned}
+use Rattle.starlark_grammar.specs.Words.{Text}
+use Rattle.starlark_syntax.specs.Lexer.{LexerView}
+use Rattle.starlark_token.specs.TokenViews.{TokenView}
+
+-- the first lexemes of a text fill the buffers
+pub record HasFilled (text : Text) (n : ℕ) (progress : Progress) (before now : Buffers) : Type 0 where
+  pub few : n ≤ length (lexemes_of text)
+  pub hold : Hold (records (take n (lexemes_of text))) (values (take n (lexemes_of text))) before now
+  pub filled : progress.filled ≡ filled_by (take n (lexemes_of text))
+  pub stop : IsStop text n progress.stop
+
+-- and then those with the next one
+pub has_filled_more : (text : Text) (n : ℕ) (x : Spanned TokenView) (old new : Progress) (before now after : Buffers) (done : ⊤) → HasFilled text n old before now → IsNext text n x → IsCharBoundary text x.end → PutsNext x old new now after (Ok done)
+    → HasFilled text (n + 1) new before after
+has_filled_more text n x old new before now after done had next boundary puts =
+    let more = put_next (lexemes_of text) n x before now after old.filled new.filled next.more had.hold had.filled puts.0 in
+    let stop : IsNextStop old.stop x new.filled new.stop = subst (IsNextStop old.stop x new.filled) (sym (ap (λ (p : Progress). p.stop) puts.1)) (next_stop_is old x new.filled) in
+    record {
+      few = next.few;
+      hold = more.hold;
+      filled = more.counts;
+      stop = stop_more text n x new.filled old.stop new.stop had.stop stop next more.counts boundary;
+    }
+
+-- what is wanted with the next one, if it has no room
+pub wanted_with_next : (text : Text) (n : ℕ) (x : Spanned TokenView) (old new : Progress) (before now after : Buffers) (passed : Passed) → HasFilled text n old before now → IsNext text n x → PutsNext x old new now after (Err passed)
+    → passed.wanted ≡ wanted_by (n + 1) (length (values (take (n + 1) (lexemes_of text))))
+wanted_with_next text n x old new before now after passed had next puts =
+    let both = all_but text n x old.filled next had.few had.filled in
+    ap (λ (p : Passed). p.wanted) puts.2 ∙ ap (λ k. wanted_by k (old.filled.values + length (value_bytes x.node))) both.0 ∙ ap (wanted_by (n + 1)) both.1
+
+-- how lexing ends then
+pub ends_without_room : (text : Text) (n : ℕ) (x : Spanned TokenView) (old new : Progress) (before now after : Buffers) (passed : Passed) (end : Ending) → IsText text → HasFilled text n old before now → IsNext text n x → PutsNext x old new now after (Err passed)
+    → IsOverflow text (n + 1) new end → Ends text before after end
+ends_without_room text n x old new before now after passed end is had next puts over =
+    overflows text before now after n x old end is next had.few had.hold had.filled had.stop puts.0 (rw puts.1 at over)
+
+-- a lexer that goes on in a text, with so many lexemes yielded
+pub record IsGoing (text : Text) (n : ℕ) (lexer : LexerView) : Type 0 where
+  pub going : lexer.has_ended ≡ false
+  pub text_is : lexer.text ≡ text
+  pub count : lexer.yielded_count ≡ n
+
+pub goes_on : (text : Text) (n more reads : ℕ) (old new : LexerView) → IsGoing text n old → new ≡ record old { yielded_count = old.yielded_count + more; reads = reads } → IsGoing text (n + more) new
+goes_on text n more reads old new is after = record {
+  going = ap (λ (l : LexerView). l.has_ended) after ∙ is.going;
+  text_is = ap (λ (l : LexerView). l.text) after ∙ is.text_is;
+  count = ap (λ (l : LexerView). l.yielded_count) after ∙ ap (λ k. k + more) is.count;
+}
+
+pub stays : (text : Text) (n reads : ℕ) (old new : LexerView) → IsGoing text n old → new ≡ record old { yielded_count = old.yielded_count + 0; reads = reads } → IsGoing text n new
+stays text n reads old new is after = let same : n + 0 ≡ n = omega arith in rw same at (goes_on text n 0 reads old new is after)
+
+pub goes_on_with : (text : Text) (n reads : ℕ) (old new : LexerView) → IsGoing text n old → new ≡ record old { yielded_count = old.yielded_count + 1; has_ended = old.has_ended || false; reads = reads } → IsGoing text (n + 1) new
+goes_on_with text n reads old new is after = record {
+  going = ap (λ (l : LexerView). l.has_ended) after ∙ rw is.going refl;
+  text_is = ap (λ (l : LexerView). l.text) after ∙ is.text_is;
+  count = ap (λ (l : LexerView). l.yielded_count) after ∙ ap (λ k. k + 1) is.count;
+}
