@@ -24,7 +24,7 @@ pub enum Change {
 /// The effect of a token on brackets and f-strings.
 #[tactic(auto, unfolding(starlark_token::specs::TokenViews::token_view, crate::specs::Inner::Nesting::change_by))]
 #[inline(always)]
-pub fn change_of(token: &Token) -> Change
+pub(crate) fn change_of(token: &Token) -> Change
     ensures { result ≡ change_by (token_view token.now) }
 {
     match token {

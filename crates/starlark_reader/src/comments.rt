@@ -33,7 +33,7 @@ fn comment_end(reads: &mut Reads, text: &[u8], feed: usize) -> usize
 /// Returns the length of that line with its LF too. `AllocError` where memory for the text runs
 /// out.
 #[inline(always)]
-pub fn first_comment(
+pub(crate) fn first_comment(
     reads: &mut Reads,
     alloc: Global,
     text: &str,

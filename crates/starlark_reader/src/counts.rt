@@ -22,7 +22,7 @@ pub struct Brackets {
 
 impl Brackets {
     /// Counts of 0.
-    pub fn new() -> Self
+    pub(crate) fn new() -> Self
         ensures { result ≡ record { opened = 0; closed = 0 } }
     {
         Brackets {
@@ -52,7 +52,7 @@ impl Brackets {
     }
 
     /// The counts after one more token.
-    pub fn after(self, change: Change) -> Self
+    pub(crate) fn after(self, change: Change) -> Self
         ensures { self.opened + self.closed + 1 < 2 ^ 64 → result ≡ record { opened = opens change + self.opened; closed = closes change + self.closed } }
     {
         match change {
@@ -77,7 +77,7 @@ pub struct OpenFString {
 
 impl OpenFString {
     /// An f-string just after its opening.
-    pub fn new(opening: Opening) -> Self
+    pub(crate) fn new(opening: Opening) -> Self
         ensures { fstring_view result ≡ fstring_of (opening_view opening, []) }
     {
         OpenFString {
@@ -90,7 +90,7 @@ impl OpenFString {
 
     /// The lexer mode after its tokens so far.
     #[inline(always)]
-    pub fn place(&self) -> LexerMode
+    pub(crate) fn place(&self) -> LexerMode
         ensures { (found : grammar.Opening × List grammar.Token) → fstring_view self.now ≡ fstring_of found → mode_view result ≡ depths.inside found }
     {
         let Some(curly) = self.expression else {
@@ -107,7 +107,7 @@ impl OpenFString {
 
     /// Advances past one more of its tokens.
     #[inline(always)]
-    pub fn pass(&mut self, change: Change)
+    pub(crate) fn pass(&mut self, change: Change)
         ensures { (found : grammar.Opening × List grammar.Token) (node : grammar.Token) → change ≡ change_by (Whole node) → brackets_of found.1 + 1 < 2 ^ 64 →
             fstring_view self.old ≡ fstring_of found → fstring_view self.new ≡ fstring_of (found.0, node ∷ found.1) }
     {

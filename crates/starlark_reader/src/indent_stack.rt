@@ -23,7 +23,7 @@ impl Model for IndentStack {
 
 impl IndentStack {
     /// An empty stack. It doesn't allocate.
-    pub fn new(alloc: Global) -> Self
+    pub(crate) fn new(alloc: Global) -> Self
         ensures { result ≡ [] }
     {
         IndentStack {
@@ -32,7 +32,7 @@ impl IndentStack {
     }
 
     /// Number of open indents.
-    pub fn len(&self) -> usize
+    pub(crate) fn len(&self) -> usize
         ensures { result ≡ length self.now }
     {
         self.widths.len()
@@ -40,7 +40,7 @@ impl IndentStack {
 
     /// The greatest open width; 0 if none is open.
     #[inline(always)]
-    pub fn greatest(&self) -> usize
+    pub(crate) fn greatest(&self) -> usize
         ensures { result ≡ greatest_of self.now }
     {
         match self.widths.last() {
@@ -51,7 +51,7 @@ impl IndentStack {
 
     /// The greatest of the first `count` open widths; 0 if `count` is 0.
     #[inline(always)]
-    pub fn greatest_of(&self, count: usize) -> usize
+    pub(crate) fn greatest_of(&self, count: usize) -> usize
         requires { count ≤ length self.now }
         ensures { result ≡ greatest_of (take count self.now) }
     {
@@ -64,7 +64,7 @@ impl IndentStack {
 
     /// Number of open indents that a content line of a width leaves open.
     #[inline(always)]
-    pub fn left_by(&self, width: usize) -> usize
+    pub(crate) fn left_by(&self, width: usize) -> usize
         ensures { IsLeftBy self.now width result }
     {
         let mut count = self.widths.len();
@@ -78,7 +78,7 @@ impl IndentStack {
     ///
     /// After an `AllocError` the stack isn't known.
     #[inline(always)]
-    pub fn open(&mut self, width: usize) -> Result<(), AllocError>
+    pub(crate) fn open(&mut self, width: usize) -> Result<(), AllocError>
         ensures { OnOk result (self.new ≡ self.old ++ width ∷ []) }
     {
         self.widths.push(width)?;
@@ -87,7 +87,7 @@ impl IndentStack {
 
     /// Closes all indents but the first `count`.
     #[inline(always)]
-    pub fn keep_first(&mut self, count: usize)
+    pub(crate) fn keep_first(&mut self, count: usize)
         ensures { self.new ≡ take count self.old }
     {
         self.widths.truncate(count);

@@ -32,7 +32,7 @@ pub struct Margin {
 }
 
 /// Number of spaces, tabs and CR at the start of a text.
-pub fn blanks_len(reads: &mut Reads, text: &[u8]) -> usize
+pub(crate) fn blanks_len(reads: &mut Reads, text: &[u8]) -> usize
     ensures value { result ≡ grammar.blanks_len text.now }
     ensures within { result ≤ length text.now }
     ensures reads { reads.new ≡ more_reads reads.old (result + 1) }
@@ -46,7 +46,7 @@ pub fn blanks_len(reads: &mut Reads, text: &[u8]) -> usize
 }
 
 /// Length of the first line of a text with its LF. `feed` is its length without that.
-pub fn line_len(text: &[u8], feed: usize) -> usize
+pub(crate) fn line_len(text: &[u8], feed: usize) -> usize
     requires { feed ≡ prefix_len (λ b. not (grammar.is_lf b)) text.now }
     ensures line { 0 < length text.now → grammar.lines text.now ≡ take result text.now ∷ grammar.lines (drop result text.now) }
     ensures within { result ≤ length text.now }

@@ -35,7 +35,7 @@ pub struct Nesting {
 
 impl Nesting {
     /// The nesting at the start of a text. It doesn't allocate.
-    pub fn new(alloc: Global) -> Self
+    pub(crate) fn new(alloc: Global) -> Self
         ensures begins { Represents [] result }
         ensures count { bracket_count result ≡ 0 }
     {
@@ -47,7 +47,7 @@ impl Nesting {
 
     /// The lexer mode.
     #[inline(always)]
-    pub fn place(&self) -> LexerMode
+    pub(crate) fn place(&self) -> LexerMode
         ensures { (tokens : List grammar.Token) → Represents tokens self.now → mode_view result ≡ mode_after tokens }
     {
         match self.fstrings.last() {
@@ -57,7 +57,7 @@ impl Nesting {
     }
 
     /// Whether as many brackets were opened as closed, whatever their shapes.
-    pub fn is_balanced(&self) -> bool
+    pub(crate) fn is_balanced(&self) -> bool
         ensures { (tokens : List grammar.Token) → Represents tokens self.now → result ≡ is_balanced tokens }
     {
         self.brackets.opened == self.brackets.closed
@@ -65,7 +65,7 @@ impl Nesting {
 
     /// Advances past a token that begins no f-string.
     #[inline(always)]
-    pub fn pass(&mut self, token: &Token)
+    pub(crate) fn pass(&mut self, token: &Token)
         requires room { bracket_count self.old + 1 < 2 ^ 64 }
         ensures passes { (tokens : List grammar.Token) (node : grammar.Token) → token_view token.now ≡ Whole node → is_fstring_start node ≡ false →
             Represents tokens self.old → Represents (node ∷ tokens) self.new }
@@ -85,7 +85,7 @@ impl Nesting {
     }
 
     /// Advances past the start of an f-string. Nothing changes on `AllocError`.
-    pub fn begin_fstring(&mut self, opening: Opening) -> Result<(), AllocError>
+    pub(crate) fn begin_fstring(&mut self, opening: Opening) -> Result<(), AllocError>
         ensures begins { OnOk result ((tokens : List grammar.Token) → Represents tokens self.old → Represents (grammar.FStringStart (opening_view opening) ∷ tokens) self.new) }
         ensures stays { OnErr result (IsUnchanged self.old self.new) }
         ensures count { bracket_count self.new ≡ bracket_count self.old }

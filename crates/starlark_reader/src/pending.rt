@@ -82,14 +82,14 @@ impl Behind {
 
 impl Pending {
     /// No pending lexeme and no comment.
-    pub fn nothing() -> Self
+    pub(crate) fn nothing() -> Self
         ensures { (text : Text) → (pending_lexemes text result ≡ []) × IsPending text result }
     {
         Pending::only(Behind::nothing())
     }
 
     /// Pending lexemes without comments before them.
-    pub fn only(behind: Behind) -> Self
+    pub(crate) fn only(behind: Behind) -> Self
         ensures { (text : Text) → (pending_lexemes text result ≡ lexemes_after behind) × IsPending text result }
     {
         Pending {
@@ -102,7 +102,7 @@ impl Pending {
 
     /// Makes the comments of the lines from byte `from` to `to` pending, before the other lexemes.
     #[inline(always)]
-    pub fn wait_for_comments(&mut self, from: usize, to: usize, is_flat: bool)
+    pub(crate) fn wait_for_comments(&mut self, from: usize, to: usize, is_flat: bool)
         ensures { self.new ≡ record self.old { from = from; to = to; is_flat = is_flat } }
     {
         self.from = from;
@@ -112,7 +112,7 @@ impl Pending {
 
     /// Whether no lexeme is pending.
     #[inline(always)]
-    pub fn is_nothing(&self) -> bool
+    pub(crate) fn is_nothing(&self) -> bool
         ensures { result ≡ true → (text : Text) → pending_lexemes text self.now ≡ [] }
     {
         match self.behind {
@@ -123,7 +123,7 @@ impl Pending {
 
     /// Whether comments are pending.
     #[inline(always)]
-    pub fn has_comments(&self) -> bool
+    pub(crate) fn has_comments(&self) -> bool
         ensures { result ≡ nat_lt self.now.from self.now.to }
     {
         self.from < self.to
@@ -131,7 +131,7 @@ impl Pending {
 
     /// Takes the first pending comment. Nothing pending changes on `AllocError`.
     #[inline(always)]
-    pub fn next_comment(
+    pub(crate) fn next_comment(
         &mut self,
         reads: &mut Reads,
         alloc: Global,
@@ -151,7 +151,7 @@ impl Pending {
 
     /// Takes the first pending lexeme where no comments are pending; `None` if there is none.
     #[inline(always)]
-    pub fn next_mark(&mut self) -> Option<PlacedToken>
+    pub(crate) fn next_mark(&mut self) -> Option<PlacedToken>
         requires none { self.old.to ≤ self.old.from }
         ensures next { (text : Text) → IsPending text self.old → IsFirst text self.old self.new result }
         ensures lines { (text : Text) → IsLinePassed text self.old self.new result }
@@ -167,7 +167,7 @@ impl Pending {
 
     /// Takes the first pending lexeme; `None` if there is none. Nothing pending changes on
     /// `AllocError`.
-    pub fn next(
+    pub(crate) fn next(
         &mut self,
         reads: &mut Reads,
         alloc: Global,

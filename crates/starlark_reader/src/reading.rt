@@ -47,7 +47,7 @@ pub enum Piece {
 }
 
 /// Whether a lexer mode is outside of all f-strings.
-pub fn is_outside(place: LexerMode) -> bool
+pub(crate) fn is_outside(place: LexerMode) -> bool
     ensures { result ≡ is_outside (mode_view place) }
 {
     matches!(place, LexerMode::Outside)
@@ -55,7 +55,7 @@ pub fn is_outside(place: LexerMode) -> bool
 
 /// Whether newlines count: all brackets are closed and no f-string is open.
 #[inline(always)]
-pub fn line_end_counts(place: LexerMode, is_balanced: bool) -> bool
+pub(crate) fn line_end_counts(place: LexerMode, is_balanced: bool) -> bool
     ensures { result ≡ grammar.counts (mode_view place) is_balanced }
 {
     is_outside(place) && is_balanced
@@ -194,7 +194,7 @@ fn is_bang(text: &[u8]) -> bool
 ///
 /// `front` is the text's first two bytes, or more of them.
 #[inline(always)]
-pub fn bang_stands(place: LexerMode, follows_gap: bool, front: &[u8]) -> bool
+pub(crate) fn bang_stands(place: LexerMode, follows_gap: bool, front: &[u8]) -> bool
     ensures { (before : grammar.Before) → IsAfter follows_gap before → result ≡ (grammar.takes_bang (mode_view place) before && grammar.is_bang front.now) }
 {
     takes_bang(place, follows_gap) && is_bang(front)
@@ -249,7 +249,7 @@ fn code_piece(
 
 /// The piece at the start of a text, in the lexer mode `place`. It depends on whether brackets are
 /// balanced, and whether a skipped piece is right before it.
-pub fn piece_at(
+pub(crate) fn piece_at(
     reads: &mut Reads,
     alloc: Global,
     place: LexerMode,

@@ -18,7 +18,7 @@ pub enum TextEnd {
 impl TextEnd {
     /// The token of the end.
     #[tactic(auto, unfolding(starlark_token::specs::TokenViews::token_view))]
-    pub fn token(self) -> Token
+    pub(crate) fn token(self) -> Token
         ensures { token_view result ≡ Whole (text_end_node self) }
     {
         match self {

@@ -16,7 +16,7 @@ use std::alloc::AllocError;
 ///
 /// The end is in bytes from the start of the newline. A tab goes before a width of no open indent.
 #[inline(always)]
-pub fn margin_fault(len: usize, margin: Margin) -> (LexemeError, usize)
+pub(crate) fn margin_fault(len: usize, margin: Margin) -> (LexemeError, usize)
     requires { len + margin.at + margin.blanks.len < 2 ^ 64 }
     ensures { (seen : grammar.Margin) → IsMargin seen margin → IsFaultFound (margin_fault len seen) result }
 {
@@ -82,7 +82,7 @@ fn take_width(
 /// where it has a fault: then only its comments become pending, and the stack doesn't change. After
 /// an `AllocError` the stack isn't known.
 #[inline(always)]
-pub fn take_margin(
+pub(crate) fn take_margin(
     levels: &mut IndentStack,
     pending: &mut Pending,
     begin: usize,

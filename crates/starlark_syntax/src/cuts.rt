@@ -25,7 +25,7 @@ pub struct Begin {
 }
 
 /// Number of cuts up to the last one at or before byte `from`.
-pub fn cuts_up_to(cuts: &[Cut], from: usize) -> usize
+pub(crate) fn cuts_up_to(cuts: &[Cut], from: usize) -> usize
     ensures bound { result ≤ length cuts.now }
     ensures last { IsUpTo cuts.now from result }
     ensures beyond { AreBeyond cuts.now from result }
@@ -38,7 +38,7 @@ pub fn cuts_up_to(cuts: &[Cut], from: usize) -> usize
 }
 
 /// The last of the cuts at or before byte `from`, or the start of the text if there is none.
-pub fn begin_of(cuts: &[Cut], from: usize) -> Begin
+pub(crate) fn begin_of(cuts: &[Cut], from: usize) -> Begin
     ensures { (text : Text) → AreCuts text cuts.now → IsBegin text cuts.now from result }
 {
     let count = cuts_up_to(cuts, from);
@@ -60,7 +60,7 @@ pub fn begin_of(cuts: &[Cut], from: usize) -> Begin
 /// Whether a text is a clean cut, if lexing began at the cut `at` and `is_cut` says so of the rest.
 ///
 /// It is also if the rest after a cut is empty.
-pub fn is_cut_after(is_cut: bool, rest: &str, at: usize) -> bool
+pub(crate) fn is_cut_after(is_cut: bool, rest: &str, at: usize) -> bool
     ensures { result ≡ (is_cut || (length rest.now == 0 && nat_lt 0 at)) }
 {
     is_cut || (rest.is_empty() && at > 0)
@@ -69,7 +69,13 @@ pub fn is_cut_after(is_cut: bool, rest: &str, at: usize) -> bool
 /// Keeps the first `kept` cuts, and appends others, moved by `len` bytes and `count` lexemes.
 ///
 /// It doesn't allocate: the list must have room for them.
-pub fn append_cuts(cuts: &mut Vec<Cut>, kept: usize, more: Vec<Cut>, len: usize, count: usize)
+pub(crate) fn append_cuts(
+    cuts: &mut Vec<Cut>,
+    kept: usize,
+    more: Vec<Cut>,
+    len: usize,
+    count: usize,
+)
     requires room { kept + vec_len more ≤ vec_capacity cuts.old }
     requires near { AllNearCuts more.items }
     requires len { len < 2 ^ 32 }

@@ -12,7 +12,7 @@ use std::alloc::{AllocError, Global};
 /// The exception of a lexing error, with its span in a code map.
 ///
 /// `begin` and `end` count bytes. `AllocError` drops the error.
-pub fn exception(
+pub(crate) fn exception(
     alloc: Global,
     begin: usize,
     fault: LexemeError,

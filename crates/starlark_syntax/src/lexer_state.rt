@@ -171,7 +171,7 @@ fn looked_behind(reader: &Reader, looked_to: usize) -> Looked
 
 impl<'a> LexerState<'a> {
     /// Lexing that begins at the start of a text. It doesn't allocate.
-    pub fn new(alloc: Global, text: &'a str, code_map: CodeMap) -> LexerState<'a>
+    pub(crate) fn new(alloc: Global, text: &'a str, code_map: CodeMap) -> LexerState<'a>
         requires { length text.now < 2 ^ 32 }
         ensures lexing { IsLexing result }
         ensures begun { IsBegun text.now code_map result }
@@ -189,7 +189,7 @@ impl<'a> LexerState<'a> {
     }
 
     /// Lexes another text instead, of which nothing was read yet either.
-    pub fn set_text(&mut self, text: &'a str)
+    pub(crate) fn set_text(&mut self, text: &'a str)
         requires fits { length text.now < 2 ^ 32 }
         requires unread { IsBegun self.old.text.now self.old.code_map self.old }
         requires lexing { IsLexing self.old }
@@ -422,7 +422,7 @@ impl<'a> LexerState<'a> {
     /// Passes the next lexeme if the fast path decides it: a name, a keyword, a symbol of one byte, a
     /// newline, or a string literal without escapes.
     #[inline(always)]
-    pub fn next_plain(&mut self) -> FastPath
+    pub(crate) fn next_plain(&mut self) -> FastPath
         requires { IsLexing self.old }
         ensures ended { self.old.has_ended ≡ true → (result ≡ FastPath.Undecided) × (self.new ≡ self.old) }
         ensures passed { self.old.has_ended ≡ false → HasPassed self.old result self.new }
@@ -522,7 +522,7 @@ impl<'a> LexerState<'a> {
     /// The next lexeme, or the exception of the fault after them; `None` after all, and after any
     /// error.
     #[inline(always)]
-    pub fn next(&mut self) -> Option<Lexeme>
+    pub(crate) fn next(&mut self) -> Option<Lexeme>
         requires { IsLexing self.old }
         ensures ended { self.old.has_ended ≡ true → (result ≡ None) × (self.new ≡ self.old) }
         ensures answer { self.old.has_ended ≡ false → HasAnswered self.old result self.new }
@@ -540,7 +540,7 @@ impl<'a> LexerState<'a> {
     /// The offset before the text's end where it can be cut, if the lexemes yielded so far are those
     /// before one. Each such offset is returned after the last lexeme before it.
     #[inline(always)]
-    pub fn cut(&self) -> Option<usize>
+    pub(crate) fn cut(&self) -> Option<usize>
         requires lexing { IsLexing self.now }
         requires going { self.now.has_ended ≡ false }
         ensures kept { IfSome result (λ at. IsCutBefore self.now.text.now at (length (left_in self.now))) }
@@ -551,14 +551,14 @@ impl<'a> LexerState<'a> {
 
     /// The text.
     #[inline(always)]
-    pub fn text(&self) -> &'a str
+    pub(crate) fn text(&self) -> &'a str
         ensures { result.now ≡ self.now.text.now }
     {
         self.text
     }
 
     /// Number of reads of bytes so far.
-    pub fn reads(&self) -> u64
+    pub(crate) fn reads(&self) -> u64
         ensures { result ≡ self.now.reader.reads }
     {
         self.reader.reads()
@@ -566,14 +566,14 @@ impl<'a> LexerState<'a> {
 
     /// Whether no piece of the text was read. If the text has a fault, that is the one of a tab in its
     /// first margin.
-    pub fn has_read_none(&self) -> bool
+    pub(crate) fn has_read_none(&self) -> bool
         ensures { result ≡ has_read_none self.now.reader }
     {
         self.reader.has_read_none()
     }
 
     /// Whether the text is a clean cut, after its last lexeme. The look at its last byte is counted.
-    pub fn is_clean_cut(&mut self) -> bool
+    pub(crate) fn is_clean_cut(&mut self) -> bool
         ensures value { (history : History) → IsStateAfter self.old.text.now history self.old.reader → result ≡ (is_settled history && ends_with nat_eq self.old.text.now (codes "\n")) }
         ensures least { self.old.reader.reads < 2 ^ 64 - 1 → self.old.reader.reads ≤ self.new.reader.reads }
         ensures most { self.new.reader.reads ≤ self.old.reader.reads + 1 }

@@ -80,7 +80,7 @@ fn span_of(exception: &EvalException) -> Span
 ///
 /// The reads of the part are those that the state has counted. After an error the state isn't to be
 /// used again.
-pub fn read_part(alloc: Global, state: &mut LexerState<'_>) -> Result<Part, AllocError>
+pub(crate) fn read_part(alloc: Global, state: &mut LexerState<'_>) -> Result<Part, AllocError>
     requires lexing { IsLexing state.old }
     requires begun { IsBegun state.old.text.now state.old.code_map state.old }
     ensures part { IfOk result (IsPart state.old.code_map state.old.text.now) }
@@ -147,7 +147,7 @@ fn moved_exception(
 }
 
 /// The exception of a part's fault, if it has one, moved by `len` bytes into a code map.
-pub fn exception_of(
+pub(crate) fn exception_of(
     alloc: Global,
     fault: Option<EvalException>,
     len: usize,

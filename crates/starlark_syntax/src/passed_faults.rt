@@ -89,7 +89,7 @@ fn placed(
 /// Passes the fault of a text's part from byte `begin` on.
 ///
 /// The exception has its place in that part.
-pub fn pass<'a>(
+pub(crate) fn pass<'a>(
     alloc: Global,
     text: &'a str,
     begin: usize,

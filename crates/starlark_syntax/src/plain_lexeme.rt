@@ -29,7 +29,7 @@ pub enum PlainKind {
 impl PlainKind {
     /// The kind of a keyword or symbol, of which `token` is made.
     #[inline(always)]
-    pub fn of_symbol(terminal: Terminal, token: &Token) -> PlainKind
+    pub(crate) fn of_symbol(terminal: Terminal, token: &Token) -> PlainKind
         requires { IsTokenOf terminal (token_view token.now) }
         ensures { (value : Text) → token_view token.now ≡ Whole (token_of result value) }
     {
@@ -55,7 +55,7 @@ pub struct PlainLexeme {
 impl PlainLexeme {
     /// A name between two offsets.
     #[inline(always)]
-    pub fn name(begin: usize, end: usize) -> PlainLexeme
+    pub(crate) fn name(begin: usize, end: usize) -> PlainLexeme
         ensures { result ≡ record { kind = PlainKind.Identifier; begin = begin; end = end; value_begin = begin; value_end = end } }
     {
         PlainLexeme {
@@ -69,7 +69,7 @@ impl PlainLexeme {
 
     /// A string literal between two offsets, which one quote closes. Its opener has `opener` bytes.
     #[inline(always)]
-    pub fn string(begin: usize, opener: usize, end: usize) -> PlainLexeme
+    pub(crate) fn string(begin: usize, opener: usize, end: usize) -> PlainLexeme
         requires { begin + opener < end }
         ensures { result ≡ record { kind = PlainKind.String; begin = begin; end = end; value_begin = begin + opener; value_end = end - 1 } }
     {
@@ -84,7 +84,7 @@ impl PlainLexeme {
 
     /// A lexeme between two offsets, of a kind without a value.
     #[inline(always)]
-    pub fn of_kind(kind: PlainKind, begin: usize, end: usize) -> PlainLexeme
+    pub(crate) fn of_kind(kind: PlainKind, begin: usize, end: usize) -> PlainLexeme
         ensures { result ≡ record { kind = kind; begin = begin; end = end; value_begin = end; value_end = end } }
     {
         PlainLexeme {
@@ -99,7 +99,7 @@ impl PlainLexeme {
 
 /// The token of a plain lexeme of a text.
 #[inline(always)]
-pub fn token_of(plain: PlainLexeme, alloc: Global, text: &str) -> Result<Token, AllocError>
+pub(crate) fn token_of(plain: PlainLexeme, alloc: Global, text: &str) -> Result<Token, AllocError>
     requires { IsPlainIn text.now plain }
     ensures { IfOk result (λ token. token_view token ≡ Whole (plain_token text.now plain)) }
 {

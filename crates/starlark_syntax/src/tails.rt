@@ -12,7 +12,7 @@ use std::alloc::AllocError;
 
 /// Reserves room for `more` items after the first `kept` of a list. Nothing changes on
 /// `AllocError`.
-pub fn make_room<T>(list: &mut Vec<T>, kept: usize, more: usize) -> Result<(), AllocError>
+pub(crate) fn make_room<T>(list: &mut Vec<T>, kept: usize, more: usize) -> Result<(), AllocError>
     requires { kept + more < 2 ^ 64 }
     ensures room { OnOk result (kept + more ≤ vec_capacity list.new) }
     ensures same { list.new.items ≡ list.old.items }
@@ -23,7 +23,12 @@ pub fn make_room<T>(list: &mut Vec<T>, kept: usize, more: usize) -> Result<(), A
 /// Keeps the first `kept` lexemes, and appends others, moved by `len` bytes.
 ///
 /// It doesn't allocate: the list must have room for them.
-pub fn append_later(lexemes: &mut Vec<PlacedToken>, kept: usize, more: Vec<PlacedToken>, len: usize)
+pub(crate) fn append_later(
+    lexemes: &mut Vec<PlacedToken>,
+    kept: usize,
+    more: Vec<PlacedToken>,
+    len: usize,
+)
     requires room { kept + vec_len more ≤ vec_capacity lexemes.old }
     requires near { AllNear more.items }
     requires fits { len < 2 ^ 32 }
@@ -44,7 +49,7 @@ fn is_newline(token: &Token) -> bool
 }
 
 /// Index of the last `Newline` in a list of lexemes.
-pub fn last_newline(lexemes: &[PlacedToken]) -> Option<usize>
+pub(crate) fn last_newline(lexemes: &[PlacedToken]) -> Option<usize>
     ensures value { result ≡ last_newline_of (map lexeme_view lexemes.now) }
     ensures within { IfSome result (λ at. at < length lexemes.now) }
 {
@@ -76,7 +81,7 @@ pub struct Kept {
 /// If the indentation there has a tab, the last `Newline` and all lexemes after it are dropped, and
 /// the fault begins where it began. Where there is no `Newline`, all before the cut is comments,
 /// and the fault begins at the start of the text.
-pub fn kept_of(lexemes: &[PlacedToken], cuts: &[Cut], begin: Begin, has_tab: bool) -> Kept
+pub(crate) fn kept_of(lexemes: &[PlacedToken], cuts: &[Cut], begin: Begin, has_tab: bool) -> Kept
     requires { begin.lexemes ≤ length lexemes.now }
     ensures plain { has_tab ≡ false → result ≡ record { lexemes = begin.lexemes; cuts = begin.cuts; fault_at = begin.at; gives_more = true } }
     ensures comments { has_tab ≡ true → last_newline_of (map lexeme_view (take begin.lexemes lexemes.now)) ≡ None → result ≡ record { lexemes = begin.lexemes; cuts = 0; fault_at = 0; gives_more = true } }
@@ -111,7 +116,7 @@ pub fn kept_of(lexemes: &[PlacedToken], cuts: &[Cut], begin: Begin, has_tab: boo
 }
 
 /// The lexemes to append to what is kept.
-pub fn given_after(lexemes: Vec<PlacedToken>, kept: Kept) -> Vec<PlacedToken>
+pub(crate) fn given_after(lexemes: Vec<PlacedToken>, kept: Kept) -> Vec<PlacedToken>
     ensures { result.items ≡ (if kept.gives_more then lexemes.items else []) }
 {
     let mut more = lexemes;

@@ -18,7 +18,7 @@ use starlark_words::{Body, Literal, LiteralValue, Stop, closing_len, plain_chunk
 use std::alloc::{AllocError, Global};
 
 /// The f-string text up to its first stop: an expression, the closing quotes, or a fault.
-pub fn chunk_from(
+pub(crate) fn chunk_from(
     reads: &mut Reads,
     alloc: Global,
     opening: Opening,
@@ -86,7 +86,11 @@ pub struct PlainText {
 /// The f-string text up to its first stop, if it has no escapes and no LF. For any other text, or a
 /// fault, the error is the length in bytes of the run without these at its start.
 #[inline(always)]
-pub fn plain_text(reads: &mut Reads, opening: Opening, text: &str) -> Result<PlainText, usize>
+pub(crate) fn plain_text(
+    reads: &mut Reads,
+    opening: Opening,
+    text: &str,
+) -> Result<PlainText, usize>
     ensures plain { IfOk result (IsPlainText opening text.now) }
     ensures some { IfOk result (λ found. (0 < found.stop_len) × (found.stop_len ≤ 3)) }
     ensures reads { IfOk result (λ found. AreReads (found.len + 3) (2 * found.len + 4) reads.old reads.new) }

@@ -148,7 +148,7 @@ fn literal_from(
 }
 
 /// The quotes of an opening, as the token of an f-string's start has them.
-pub fn quotes_of(opening: Opening) -> FStringQuote
+pub(crate) fn quotes_of(opening: Opening) -> FStringQuote
     ensures { fstring_quote_view result ≡ record { is_raw = false; quote = opening.quote; is_triple = opening.is_triple } }
 {
     match (opening.quote, opening.is_triple) {
@@ -174,7 +174,7 @@ fn is_triple(reads: &mut Reads, quote: Quote, behind: &str) -> bool
 }
 
 /// The opening of a literal, from its opener and the text after that.
-pub fn opening_of(reads: &mut Reads, is_raw: bool, quote: Quote, behind: &str) -> Opening
+pub(crate) fn opening_of(reads: &mut Reads, is_raw: bool, quote: Quote, behind: &str) -> Opening
     ensures reads { reads.new ≡ more_reads reads.old 2 }
     ensures opening { opening_view result ≡ grammar.opening_of is_raw quote behind.now }
 {
@@ -186,7 +186,7 @@ pub fn opening_of(reads: &mut Reads, is_raw: bool, quote: Quote, behind: &str) -
 }
 
 /// A string or bytes literal. Its opener has `len` bytes, and `behind` is the text after it.
-pub fn literal_piece(
+pub(crate) fn literal_piece(
     reads: &mut Reads,
     alloc: Global,
     outside: bool,

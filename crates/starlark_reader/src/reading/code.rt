@@ -11,7 +11,7 @@ use starlark_words::scanner;
 
 /// Whether a lexer mode is code or an f-string expression, and not f-string text.
 #[inline(always)]
-pub fn is_code(place: LexerMode) -> bool
+pub(crate) fn is_code(place: LexerMode) -> bool
     ensures { result ≡ is_code (mode_view place) }
 {
     !matches!(place, LexerMode::InText(_))
@@ -20,7 +20,7 @@ pub fn is_code(place: LexerMode) -> bool
 /// Length in bytes of the run of spaces at the start of a text. In code it is a gap. Its reads are
 /// counted with those of the word after it.
 #[inline(always)]
-pub fn gap_len(text: &str) -> usize
+pub(crate) fn gap_len(text: &str) -> usize
     ensures gap { 0 < result → (s : grammar.Situation) (follows_gap : Bool) → is_code s.place ≡ true → IsAfter follows_gap s.before → grammar.step_at language s text.now ≡ grammar.gap result }
     ensures within { result ≤ length text.now }
 {

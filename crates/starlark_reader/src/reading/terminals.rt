@@ -85,7 +85,7 @@ pub fn own_token(terminal: Terminal) -> Token
 /// ends the expression.
 #[tactic(auto, unfolding(starlark_token::specs::TokenViews::token_view))]
 #[inline(always)]
-pub fn terminal_token(place: LexerMode, terminal: Terminal) -> Token
+pub(crate) fn terminal_token(place: LexerMode, terminal: Terminal) -> Token
     ensures token { token_view result ≡ Whole (grammar.terminal_token (mode_view place) terminal) }
     ensures own { is_fstring_start (grammar.terminal_token (mode_view place) terminal) ≡ false }
 {
@@ -100,7 +100,7 @@ pub fn terminal_token(place: LexerMode, terminal: Terminal) -> Token
 
 /// The token of a keyword or symbol inside a nesting. Only that of a `}` depends on the nesting.
 #[inline(always)]
-pub fn token_in(nesting: &Nesting, terminal: Terminal) -> Token
+pub(crate) fn token_in(nesting: &Nesting, terminal: Terminal) -> Token
     ensures token { (before : List Tokens.Token) → Represents before nesting.now → token_view result ≡ Whole (grammar.terminal_token (mode_after before) terminal) }
     ensures own { (before : List Tokens.Token) → Represents before nesting.now → is_fstring_start (grammar.terminal_token (mode_after before) terminal) ≡ false }
 {

@@ -21,7 +21,7 @@ use starlark_words::reads::Reads;
 use std::alloc::{AllocError, Global};
 
 /// The token of a comment, whose value leaves out the `#`.
-pub fn comment(alloc: Global, word: &str) -> Result<Step, AllocError>
+pub(crate) fn comment(alloc: Global, word: &str) -> Result<Step, AllocError>
     requires { class_in language word.now ≡ Some class.Comment }
     ensures step { IfOk result (IsStep (grammar.token (length word.now) (tokens.Comment (drop 1 word.now)))) }
     ensures word { IfOk result (IsOfWord (length word.now)) }
@@ -33,7 +33,7 @@ pub fn comment(alloc: Global, word: &str) -> Result<Step, AllocError>
 }
 
 /// The fault of tabs outside of a margin, at their start.
-pub fn tabs() -> Step
+pub(crate) fn tabs() -> Step
     ensures step { IsStep (grammar.fault 0 tokens.InvalidTab 0) result }
     ensures fault { IsTabFault result }
 {
@@ -45,7 +45,7 @@ pub fn tabs() -> Step
 }
 
 /// The fault of a reserved word.
-pub fn reserved(alloc: Global, word: &str) -> Result<Step, AllocError>
+pub(crate) fn reserved(alloc: Global, word: &str) -> Result<Step, AllocError>
     ensures step { IfOk result (IsStep (grammar.fault 0 (tokens.ReservedKeyword word.now) (length word.now))) }
     ensures word { IfOk result (IsOfWord (length word.now)) }
 {
@@ -58,7 +58,7 @@ pub fn reserved(alloc: Global, word: &str) -> Result<Step, AllocError>
 
 /// The token of an identifier, with its name.
 #[inline(always)]
-pub fn identifier(alloc: Global, word: &str) -> Result<Step, AllocError>
+pub(crate) fn identifier(alloc: Global, word: &str) -> Result<Step, AllocError>
     ensures step { IfOk result (IsStep (grammar.token (length word.now) (tokens.Identifier word.now))) }
     ensures word { IfOk result (IsOfWord (length word.now)) }
 {
@@ -69,7 +69,7 @@ pub fn identifier(alloc: Global, word: &str) -> Result<Step, AllocError>
 }
 
 /// The token of a float, whose value is its text.
-pub fn float(alloc: Global, word: &str) -> Result<Step, AllocError>
+pub(crate) fn float(alloc: Global, word: &str) -> Result<Step, AllocError>
     ensures step { IfOk result (IsStep (grammar.token (length word.now) (tokens.Float word.now))) }
     ensures word { IfOk result (IsOfWord (length word.now)) }
 {
@@ -98,7 +98,7 @@ fn integer(alloc: Global, digits: &str, base: u32, len: usize) -> Result<Step, A
 
 /// The token of an integer of one digit, from its value. It doesn't allocate.
 #[inline(always)]
-pub fn digit_token(digit: u8) -> Token
+pub(crate) fn digit_token(digit: u8) -> Token
     requires { digit < 10 }
     ensures { token_view result ≡ Whole (tokens.Int (integer_of 10 ((digit + 48) ∷ []))) }
 {
@@ -113,7 +113,7 @@ fn starts_zero(word: &[u8]) -> bool
 }
 
 /// The token of a decimal integer, or the fault of a leading 0 before more digits.
-pub fn decimal(reads: &mut Reads, alloc: Global, word: &str) -> Result<Step, AllocError>
+pub(crate) fn decimal(reads: &mut Reads, alloc: Global, word: &str) -> Result<Step, AllocError>
     requires { class_in language word.now ≡ Some class.Decimal }
     ensures reads { reads.new ≡ more_reads reads.old 2 }
     ensures step { IfOk result (λ step. (s : grammar.Situation) (behind : Text) → IsStep (grammar.word_step s class.Decimal word.now behind) step) }
@@ -130,7 +130,7 @@ pub fn decimal(reads: &mut Reads, alloc: Global, word: &str) -> Result<Step, All
 }
 
 /// The token of a hexadecimal integer.
-pub fn hexadecimal(alloc: Global, word: &str) -> Result<Step, AllocError>
+pub(crate) fn hexadecimal(alloc: Global, word: &str) -> Result<Step, AllocError>
     requires { class_in language word.now ≡ Some class.Hexadecimal }
     ensures step { IfOk result (IsStep (grammar.token (length word.now) (tokens.Int (integer_of 16 (drop 2 word.now))))) }
     ensures word { IfOk result (IsOfWord (length word.now)) }
@@ -139,7 +139,7 @@ pub fn hexadecimal(alloc: Global, word: &str) -> Result<Step, AllocError>
 }
 
 /// The token of an octal integer.
-pub fn octal(alloc: Global, word: &str) -> Result<Step, AllocError>
+pub(crate) fn octal(alloc: Global, word: &str) -> Result<Step, AllocError>
     requires { class_in language word.now ≡ Some class.Octal }
     ensures step { IfOk result (IsStep (grammar.token (length word.now) (tokens.Int (integer_of 8 (drop 2 word.now))))) }
     ensures word { IfOk result (IsOfWord (length word.now)) }
@@ -148,7 +148,7 @@ pub fn octal(alloc: Global, word: &str) -> Result<Step, AllocError>
 }
 
 /// The token of a binary integer.
-pub fn binary(alloc: Global, word: &str) -> Result<Step, AllocError>
+pub(crate) fn binary(alloc: Global, word: &str) -> Result<Step, AllocError>
     requires { class_in language word.now ≡ Some class.Binary }
     ensures step { IfOk result (IsStep (grammar.token (length word.now) (tokens.Int (integer_of 2 (drop 2 word.now))))) }
     ensures word { IfOk result (IsOfWord (length word.now)) }
