@@ -1,7 +1,7 @@
 -- Plain lexemes, as the fast path passes them.
 use Rattle.std.proofs.Common.{◌≡◌, ◌≤◌, ◌<◌, ◌+◌, ◌-◌, ◌^◌, ◌∷◌, ◌||◌, Bool, true, false, ℕ, List, [], Option, Some, None, Ok, Err, ap, arith, drop, length, refl, subst, sym, take, ◌∙◌}
-use Rattle.std.specs.Prelude.{Result}
-use Rattle.std.specs.Str.{IsCharBoundary}
+use Rattle.std.specs.Prelude.{◌&&◌, Result}
+use Rattle.std.specs.Str.{IsCharBoundary, IsUtf8}
 use Rattle.starlark_base.specs.Diagnostics.{Diagnosed}
 use Rattle.starlark_grammar.specs.Reading.{outcome}
 use Rattle.starlark_grammar.specs.Tokens as grammar
@@ -12,13 +12,14 @@ use Rattle.starlark_reader.specs.Inner.Reader.{IsAhead, IsAheadAfter, IsAheadPas
 use Rattle.starlark_reader.specs.declared.reader.Reader.{Reader}
 use Rattle.starlark_reader.specs.declared.reader.Stage.TheVariants as stages
 use Rattle.starlark_reader.proofs.Pieces.PieceTaken.{left_onward}
-use Rattle.starlark_syntax.specs.Inner.LexerStates.{HasAnswered, HasPassed, HasTaken, IsLexing, left_in, plain_string, view_of}
-use Rattle.starlark_syntax.specs.Lexer.{LexerView, is_ended_by, yielded_by}
-use Rattle.starlark_syntax.specs.PlainLexemes.{IsPlainIn, plain_view}
+use Rattle.starlark_syntax.specs.Inner.LexerStates.{HasAnswered, HasPassed, HasTaken, IsLexing, left_in, lexer_view, plain_string, view_of}
+use Rattle.starlark_syntax.specs.Lexer.{LexerView, most_reads}
+use Rattle.starlark_syntax.specs.PlainLexemes.{IsPlainIn, plain_token, plain_value, plain_view, token_of}
 use Rattle.starlark_syntax.specs.declared.error.kinds.ErrorKind.{ErrorKind}
 use Rattle.starlark_syntax.specs.declared.lexer_state.FastPath.{FastPath}
 use Rattle.starlark_syntax.specs.declared.lexer_state.FastPath.TheVariants as fast
-use Rattle.starlark_syntax.proofs.LexerStates.{IsSameText}
+use Rattle.starlark_syntax.proofs.LexerItems.{next_between}
+use Rattle.starlark_syntax.proofs.LexerStates.{IsSameText, answers_item, answers_within, lexing_read}
 use Rattle.starlark_syntax.specs.declared.lexer_state.LexerState.{LexerState}
 use Rattle.starlark_syntax.specs.declared.lexer_state.Looked.TheVariants as looked
 use Rattle.starlark_syntax.specs.declared.plain_lexeme.PlainKind.{PlainKind}
@@ -26,6 +27,7 @@ use Rattle.starlark_syntax.specs.declared.plain_lexeme.PlainKind.TheVariants as 
 use Rattle.starlark_syntax.specs.declared.plain_lexeme.PlainLexeme.{PlainLexeme}
 use Rattle.starlark_text.specs.declared.or_memory.OrMemory.{OrMemory}
 use Rattle.starlark_text.specs.declared.or_memory.OrMemory.TheVariants.{Error, Memory}
+use Rattle.starlark_token.specs.Lexemes.{lexeme_view}
 use Rattle.starlark_token.specs.TokenViews.{TokenView, Whole, token_view}
 use Rattle.starlark_token.specs.declared.tokens.Token.{Token}
 
@@ -111,3 +113,39 @@ newline_passed first state mid new len same short on ahead last is =
     let both : IsPlainIn text (record { kind = kind.Newline; begin = mid.at; end = mid.at + len; value_begin = mid.at + len; value_end = mid.at + len }) × IsAheadPast text (plain_view text (record { kind = kind.Newline; begin = mid.at; end = mid.at + len; value_begin = mid.at + len; value_end = mid.at + len })) new (left_in state) (outcome text).fault =
     (plain_inside text kind.Newline mid.at (mid.at + len) (mid.at + len) (mid.at + len) short (omega (arith)) (omega (arith)) front last last last, is) in
     rw (same.0, same.2) at both
+
+-- a keyword or symbol lies in the text
+pub symbol_inside : (state : LexerState) (lexeme : ℕ × Token × ℕ) (new : LexerState) (plain : PlainLexeme) → length state.text.now < 2 ^ 32 → state.yielded_count ≤ length (outcome state.text.now).lexemes → IsUtf8 state.text.now
+    → HasAnswered state (Some (Ok lexeme)) new → plain ≡ record { kind = plain.kind; begin = lexeme.0; end = lexeme.2; value_begin = lexeme.2; value_end = lexeme.2 } → IsPlainIn state.text.now plain
+symbol_inside state lexeme new plain short few utf8 is places =
+    let answers = answers_item state (Some (Ok lexeme)) new few is in
+    let within = answers_within state (Some (Ok lexeme)) new short is in
+    let between = next_between state.text.now state.code_map state.yielded_count (Some (Ok lexeme)) utf8 answers in
+    subst (IsPlainIn state.text.now) (sym places) (plain_inside state.text.now plain.kind lexeme.0 lexeme.2 lexeme.2 lexeme.2 short within.0 (omega (arith)) between.0 between.1 between.1 between.1)
+
+pub symbol_shown : (text : Text) (lexeme : ℕ × Token × ℕ) (plain : PlainLexeme) → token_view lexeme.1 ≡ Whole (token_of plain.kind (plain_value text plain)) → plain ≡ record { kind = plain.kind; begin = lexeme.0; end = lexeme.2; value_begin = lexeme.2; value_end = lexeme.2 }
+    → lexeme_view lexeme ≡ plain_view text plain
+symbol_shown text lexeme plain token places =
+    ap (λ (view : TokenView). record { begin = lexeme.0; node = view; end = lexeme.2 }) token
+    ∙ ap (λ n. record { begin = n; node = Whole (plain_token text plain); end = lexeme.2 }) (sym (ap (λ (p : PlainLexeme). p.begin) places))
+    ∙ ap (λ n. record { begin = plain.begin; node = Whole (plain_token text plain); end = n }) (sym (ap (λ (p : PlainLexeme). p.end) places))
+
+-- a lexer that owes no error is its state
+pub whole_view : (state : LexerState) (has_run_out : Bool) → has_run_out ≡ false → lexer_view state has_run_out ≡ view_of state
+whole_view state has_run_out none = rw none (ap (λ ended. record (view_of state) { has_ended = ended }) (by state.has_ended))
+  where
+    by : (ended : Bool) → (ended && true) ≡ ended
+    by true = refl
+    by false = refl
+
+-- an ended state passes nothing
+pub passed_going : (old : LexerState) (found : FastPath) (new : LexerState) → (found ≡ fast.Undecided → ⊥) → (old.has_ended ≡ true → (found ≡ fast.Undecided) × (new ≡ old)) → old.has_ended ≡ false
+passed_going old found new other ended = by old.has_ended refl
+  where
+    by : (b : Bool) → old.has_ended ≡ b → old.has_ended ≡ false
+    by true is = absurd (other (ended is).0)
+    by false is = is
+
+-- what was read to pass a lexeme
+pub passed_reads : (old new : LexerState) → IsLexing new → old.has_ended ≡ false → new.text.now ≡ old.text.now → new.has_ended ≡ (old.has_ended || false) → new.reader.reads ≤ most_reads old.text.now
+passed_reads old new lexing going text goes = subst (λ (t : Text). new.reader.reads ≤ most_reads t) text (lexing_read new lexing (goes ∙ ap (λ b. b || false) going))

@@ -8,7 +8,7 @@ ghost use Rattle.starlark_token.specs.TextItems.{Given, items};
 
 pub use crate::lexer_state::Lexeme;
 use crate::lexer_state::{FastPath, LexerState};
-use crate::plain_lexeme::{PlainKind, PlainLexeme};
+use crate::plain_lexeme::PlainLexeme;
 use starlark_base::codemap::{CodeMap, OrMemory, SourceTooLong};
 use starlark_base::dialect::Dialect;
 use std::alloc::Global;
@@ -26,7 +26,7 @@ pub struct Lexer<'a> {
 }
 
 impl<'a> Model for Lexer<'a> {
-    ghost use Rattle.std.specs.Prelude.{true};
+    ghost use Rattle.std.specs.Prelude.{◌≡◌, true};
     ghost use Rattle.starlark_syntax.specs.Inner.LexerStates.{HasRunOut, IsLexing, lexer_view};
     ghost use Rattle.starlark_syntax.specs.Lexer.{LexerView};
 
@@ -78,11 +78,14 @@ impl<'a> Lexer<'a> {
         // The proof of `between` needs that the text is UTF-8, which the read of a `&str` says.
         let _text = self.text();
         let item = self.state.next();
-        if item.is_none() && self.has_run_out {
+        if item.is_some() {
+            return item;
+        }
+        if self.has_run_out {
             self.has_run_out = false;
             return Some(Err(OrMemory::Memory));
         }
-        item
+        None
     }
 
     /// Passes the next lexeme if it is plain, and returns it. `None` where it isn't, and where there
@@ -102,10 +105,7 @@ impl<'a> Lexer<'a> {
         let _text = self.text();
         match self.state.next_plain() {
             FastPath::Passed(plain) => Some(plain),
-            FastPath::Symbol(terminal, (begin, token, end)) => {
-                let kind = PlainKind::of_symbol(terminal, &token);
-                Some(PlainLexeme::of_kind(kind, begin, end))
-            }
+            FastPath::Symbol(terminal, lexeme) => Some(PlainLexeme::of_symbol(terminal, lexeme)),
             FastPath::OutOfMemory => {
                 self.has_run_out = true;
                 None

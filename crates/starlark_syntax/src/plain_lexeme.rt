@@ -6,7 +6,7 @@ ghost use Rattle.starlark_syntax.specs.PlainLexemes.{IsPlainIn, plain_token, tok
 ghost use Rattle.starlark_token.specs.TokenViews.{Whole, token_view};
 ghost use Rattle.starlark_grammar.specs.Words.{Text};
 
-use starlark_reader::{ends_expression, own_token};
+use starlark_reader::{PlacedToken, ends_expression, own_token};
 use starlark_token::tokens::Token;
 use starlark_words::scanner::Terminal;
 use std::alloc::{AllocError, Global};
@@ -24,21 +24,6 @@ pub enum PlainKind {
     FStringExprEnd,
     /// A `Newline`.
     Newline,
-}
-
-impl PlainKind {
-    /// The kind of a keyword or symbol, of which `token` is made.
-    #[inline(always)]
-    pub(crate) fn of_symbol(terminal: Terminal, token: &Token) -> PlainKind
-        requires { IsTokenOf terminal (token_view token.now) }
-        ensures { (value : Text) → token_view token.now ≡ Whole (token_of result value) }
-    {
-        if ends_expression(token) {
-            PlainKind::FStringExprEnd
-        } else {
-            PlainKind::Word(terminal)
-        }
-    }
 }
 
 /// A lexeme whose value, if it has one, is a part of the text. Offsets count bytes of the text.
@@ -80,6 +65,22 @@ impl PlainLexeme {
             value_begin: begin + opener,
             value_end: end - 1,
         }
+    }
+
+    /// A keyword or symbol, of whose terminal the token is made.
+    #[inline(always)]
+    pub(crate) fn of_symbol(terminal: Terminal, lexeme: PlacedToken) -> PlainLexeme
+        requires { IsTokenOf terminal (token_view lexeme.1) }
+        ensures token { (value : Text) → token_view lexeme.1 ≡ Whole (token_of result.kind value) }
+        ensures places { result ≡ record { kind = result.kind; begin = lexeme.0; end = lexeme.2; value_begin = lexeme.2; value_end = lexeme.2 } }
+    {
+        let (begin, token, end) = lexeme;
+        let kind = if ends_expression(&token) {
+            PlainKind::FStringExprEnd
+        } else {
+            PlainKind::Word(terminal)
+        };
+        PlainLexeme::of_kind(kind, begin, end)
     }
 
     /// A lexeme between two offsets, of a kind without a value.

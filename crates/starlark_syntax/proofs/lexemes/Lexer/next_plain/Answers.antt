@@ -1,0 +1,42 @@
+use Rattle.std.proofs.Common.{◌≡◌, ◌∷◌, Bool, true, false, ap, refl, sym, ◌∙◌}
+use Rattle.std.proofs.Common.{Some}
+use Rattle.starlark_syntax.specs.Lexer.{LexerView}
+use Rattle.starlark_token.specs.TextItems.{Given}
+use Rattle.starlark_syntax.proofs.LexerItems.{lexeme_item}
+use Rattle.starlark_syntax.proofs.PlainLexemes.{passed_going, passed_reads, symbol_inside, symbol_shown}
+use Rattle.starlark_syntax.proofs.lexemes.Lexer.next_plain.Goals as goal
+
+pub returns-in-Passed-clause-item : goal.returns-in-Passed-clause-item
+returns-in-Passed-clause-item c =
+    let going = passed_going c.self.inside.state _ c.next_plain.new.self (λ other. cc) c.in-Passed.ensures.ended in
+    let past = (c.in-Passed.ensures.passed going).1 in
+    rw (← c.self.view_is) (lexeme_item c.self.inside.state.text.now c.self.inside.state.yielded_count _ past.0 past.1)
+
+pub returns-in-Passed-clause-reads : goal.returns-in-Passed-clause-reads
+returns-in-Passed-clause-reads c =
+    let going = passed_going c.self.inside.state _ c.next_plain.new.self (λ other. cc) c.in-Passed.ensures.ended in
+    let after = c.in-Passed.ensures.after in
+    rw (← c.self.view_is) (passed_reads c.self.inside.state c.next_plain.new.self c.in-Passed.ensures.lexing going (ap (λ (v : LexerView). v.text) after) (ap (λ (v : LexerView). v.has_ended) after))
+
+pub of_symbol-requires : goal.of_symbol-requires
+of_symbol-requires c =
+    let going = passed_going c.self.inside.state _ c.next_plain.new.self (λ other. cc) c.in-Symbol.ensures.ended in
+    (c.in-Symbol.ensures.passed going).0
+
+pub returns-in-Symbol-clause-item : goal.returns-in-Symbol-clause-item
+returns-in-Symbol-clause-item c =
+    let going = passed_going c.self.inside.state _ c.next_plain.new.self (λ other. cc) c.in-Symbol.ensures.ended in
+    let past = (c.in-Symbol.ensures.passed going).1 in
+    rw (← c.self.view_is) (lexeme_item c.self.inside.state.text.now c.self.inside.state.yielded_count _ past.0 past.1 ∙ ap (λ x. Some (Given x)) (symbol_shown c.self.inside.state.text.now c.in-Symbol.lexeme c.of_symbol.result (c.of_symbol.ensures.token _) c.of_symbol.ensures.places))
+
+pub returns-in-Symbol-clause-within : goal.returns-in-Symbol-clause-within
+returns-in-Symbol-clause-within c =
+    let going = passed_going c.self.inside.state _ c.next_plain.new.self (λ other. cc) c.in-Symbol.ensures.ended in
+    let same : c.text-text.result.now ≡ c.self.inside.state.text.now = c.text-text.ensures ∙ sym (ap (λ (v : LexerView). v.text) c.self.view_is) in
+    rw (← c.self.view_is) (symbol_inside c.self.inside.state c.in-Symbol.lexeme c.next_plain.new.self c.of_symbol.result c.self.invariant.0.0 (c.self.invariant.0.1 going).0 (rw same at c.text-text.utf8) (c.in-Symbol.ensures.passed going).1 c.of_symbol.ensures.places)
+
+pub returns-in-Symbol-clause-reads : goal.returns-in-Symbol-clause-reads
+returns-in-Symbol-clause-reads c =
+    let going = passed_going c.self.inside.state _ c.next_plain.new.self (λ other. cc) c.in-Symbol.ensures.ended in
+    let after = c.in-Symbol.ensures.after in
+    rw (← c.self.view_is) (passed_reads c.self.inside.state c.next_plain.new.self c.in-Symbol.ensures.lexing going (ap (λ (v : LexerView). v.text) after) (ap (λ (v : LexerView). v.has_ended) after))
