@@ -175,9 +175,13 @@ pub refused_reads : (text : Text) (len end : ℕ) (margin : Margin) (fault : Lex
 refused_reads text len end margin fault old new there inside is found stops read none =
     let here : old.at + 0 ≡ old.at = omega arith in
     let stage : new.stage ≡ stages.Fault old.at fault (old.at + end) = stops ∙ ap (λ at. stages.Fault at fault (old.at + end)) here in
-    subst (IsMarginRead text len old new) (sym stage) (refl, read.0, λ node view.
-    let search = margin_search text old.at len end margin fault (inr there) inside is found node view in
-    (omega (arith, search.reads, read.1), none, omega (arith, search.after)))
+    subst (IsMarginRead text len old new) (sym stage) (
+      refl,
+      read.0,
+      λ node view.
+          let search = margin_search text old.at len end margin fault (inr there) inside is found node view in
+          (omega (arith, search.reads, read.1), none, omega (arith, search.after)),
+    )
 
 -- the reads at the fault of a text's first margin
 pub first_refused_reads : (text : Text) (beside end : ℕ) (margin : Margin) (fault : LexemeError) (old new : Reader) → margin.at + margin.blanks.len ≤ length text
@@ -187,6 +191,9 @@ first_refused_reads text beside end margin fault old new inside is found stops r
     let begin : old.at + 0 ≡ 0 = omega (arith, has.0) in
     let last : old.at + end ≡ 0 + end = omega (arith, has.0) in
     let stage : new.stage ≡ stages.Fault 0 fault (0 + end) = stops ∙ ap (λ at. stages.Fault at fault (old.at + end)) begin ∙ ap (stages.Fault 0 fault) last in
-    subst (HasReadAt text beside new) (sym stage) (omega arith, λ node view.
-    let search = margin_search text 0 0 end margin fault (inl (refl, refl)) (omega (arith, inside)) is found node view in
-    omega (arith, search.after, search.reads, read, owes, has.1))
+    subst (HasReadAt text beside new) (sym stage) (
+      omega arith,
+      λ node view.
+          let search = margin_search text 0 0 end margin fault (inl (refl, refl)) (omega (arith, inside)) is found node view in
+          omega (arith, search.after, search.reads, read, owes, has.1),
+    )

@@ -36,10 +36,13 @@ step_reads text beside before history (steps.Token token len) old new kept stand
 step_reads text beside before history (steps.Text chunk chunk_len stop len) old new kept stands has read passed = onward_reads text beside (chunk_len + len) before old new has (omega (arith, read.0.0), omega (arith, read.0.1)) passed
 step_reads text beside before history (steps.Fault begin fault end) old new kept stands has read passed =
     let here = fault_here text history old (record { begin = begin; node = stands.0; end = end }) kept stands.2 in
-    subst (HasReadAt text beside new) (sym passed.1) (omega (arith, has.0, read.0, passed.0.1), λ node is.
-    let after = fault_restart text old.at begin end node kept.inside here.1 in
-    let search = step_search text old.at begin end fault node is kept.inside here.1 in
-    omega (arith, after, search, has.1, read.1, passed.0.1, passed.0.2))
+    subst (HasReadAt text beside new) (sym passed.1) (
+      omega (arith, has.0, read.0, passed.0.1),
+      λ node is.
+          let after = fault_restart text old.at begin end node kept.inside here.1 in
+          let search = step_search text old.at begin end fault node is kept.inside here.1 in
+          omega (arith, after, search, has.1, read.1, passed.0.1, passed.0.2),
+    )
 
 -- the reads after a newline and its margin
 pub line_reads : (text : Text) (beside len before : ℕ) (old new : Reader) → old.at + len ≤ length text → IsReadBefore beside before old.at (owed old.pending) → AreReads len (5 * len + 3) before old.reads → 0 < len
