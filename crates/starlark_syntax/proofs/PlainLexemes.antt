@@ -13,7 +13,7 @@ use Rattle.starlark_reader.specs.Inner.Reader.{IsAhead, IsAheadAfter, IsAheadPas
 use Rattle.starlark_reader.specs.declared.reader.Reader.{Reader}
 use Rattle.starlark_reader.specs.declared.reader.Stage.TheVariants as stages
 use Rattle.starlark_reader.proofs.Pieces.PieceTaken.{left_onward}
-use Rattle.starlark_syntax.specs.Inner.LexerStates.{HasAnswered, HasPassed, HasTaken, IsLexing, left_in, lexer_view, plain_string, view_of}
+use Rattle.starlark_syntax.specs.Inner.LexerStates.{HasAnswered, HasPassed, HasTaken, IsLexing, left_in, lexer_view, plain_string}
 use Rattle.starlark_syntax.specs.Lexer.{LexerView, most_reads}
 use Rattle.starlark_syntax.specs.PlainLexemes.{IsPlainIn, plain_token, plain_value, plain_view, token_of}
 use Rattle.starlark_syntax.specs.declared.error.kinds.ErrorKind.{ErrorKind}
@@ -22,7 +22,6 @@ use Rattle.starlark_syntax.specs.declared.lexer_state.FastPath.TheVariants as fa
 use Rattle.starlark_syntax.proofs.LexerItems.{next_between}
 use Rattle.starlark_syntax.proofs.LexerStates.{IsSameText, answers_item, answers_within, lexing_read}
 use Rattle.starlark_syntax.specs.declared.lexer_state.LexerState.{LexerState}
-use Rattle.starlark_syntax.specs.declared.lexer_state.Looked.TheVariants as looked
 use Rattle.starlark_syntax.specs.declared.plain_lexeme.PlainKind.{PlainKind}
 use Rattle.starlark_syntax.specs.declared.plain_lexeme.PlainKind.TheVariants as kind
 use Rattle.starlark_syntax.specs.declared.plain_lexeme.PlainLexeme.{PlainLexeme}
@@ -139,7 +138,7 @@ whole_going state has_run_out lexer none is going = by state.has_ended refl
     ended = ap (λ (v : LexerView). v.has_ended) is ∙ going
 
     by : (b : Bool) → state.has_ended ≡ b → state.has_ended ≡ false
-    by true e = let both : true ≡ false = sym (ap (λ (b : Bool). b && true) e ) ∙ ap (λ (b : Bool). state.has_ended && not b) (sym none) ∙ ended in cc
+    by true e = let both : true ≡ false = sym (ap (λ (b : Bool). b && true) e) ∙ ap (λ (b : Bool). state.has_ended && not b) (sym none) ∙ ended in cc
     by false e = e
 
 -- an ended state yields nothing

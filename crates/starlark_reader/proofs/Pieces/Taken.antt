@@ -358,24 +358,24 @@ both_count one other = omega (arith, length-append (map shown_lexeme one) (map s
 pub past_ahead : (text : Text) (whole : Outcome) (lexeme : Spanned TokenView) (new : Reader) (lexemes : List (Spanned TokenView)) (fault : Option (Spanned grammar.Fault)) → IsReadPast text whole (lexeme ∷ []) new
     → lexemes ≡ map shown_lexeme whole.lexemes → fault ≡ whole.fault → IsAheadPast text lexeme new lexemes fault
 past_ahead text whole lexeme new lexemes fault read ahead behind = (
-      map shown_lexeme (pending_lexemes text new.pending) ++ map shown_lexeme read.left.lexemes,
-      parts ∙ ap (λ vs. vs ++ map shown_lexeme read.left.lexemes) read.yielded_count,
-      record {
-        left = read.left;
-        is_left = read.is_left;
-        is_pending = read.is_pending;
-        ahead = refl;
-        those_after = behind ∙ read.fault;
-        cut = subst (IsCutAhead text new new.stage) (both_count (pending_lexemes text new.pending) read.left.lexemes) read.cut;
-        cuts = subst (λ n. HoldsCuts text new new.stage (length read.left.lexemes) n n) (both_count (pending_lexemes text new.pending) read.left.lexemes)
-            (λ at behind cut least most. read.cuts at behind cut least (omega (arith, most, one_first)));
-      },
-      λ at cut.
-          let count = both_count (pending_lexemes text new.pending) read.left.lexemes in
-          reached_by text new at (length (map shown_lexeme (pending_lexemes text new.pending) ++ map shown_lexeme read.left.lexemes))
-          (subst (λ n. IsInFlatMargin new new.stage × IsAfterLines text new.pending at (length (map shown_lexeme (pending_lexemes text new.pending) ++ map shown_lexeme read.left.lexemes)) n) count
-          (read.cuts at _ cut (omega (arith, count)) (omega (arith, count, one_first)))),
-    )
+  map shown_lexeme (pending_lexemes text new.pending) ++ map shown_lexeme read.left.lexemes,
+  parts ∙ ap (λ vs. vs ++ map shown_lexeme read.left.lexemes) read.yielded_count,
+  record {
+    left = read.left;
+    is_left = read.is_left;
+    is_pending = read.is_pending;
+    ahead = refl;
+    those_after = behind ∙ read.fault;
+    cut = subst (IsCutAhead text new new.stage) (both_count (pending_lexemes text new.pending) read.left.lexemes) read.cut;
+    cuts = subst (λ n. HoldsCuts text new new.stage (length read.left.lexemes) n n) (both_count (pending_lexemes text new.pending) read.left.lexemes)
+        (λ at behind cut least most. read.cuts at behind cut least (omega (arith, most, one_first)));
+  },
+  λ at cut.
+      let count = both_count (pending_lexemes text new.pending) read.left.lexemes in
+      reached_by text new at (length (map shown_lexeme (pending_lexemes text new.pending) ++ map shown_lexeme read.left.lexemes))
+      (subst (λ n. IsInFlatMargin new new.stage × IsAfterLines text new.pending at (length (map shown_lexeme (pending_lexemes text new.pending) ++ map shown_lexeme read.left.lexemes)) n) count
+      (read.cuts at _ cut (omega (arith, count)) (omega (arith, count, one_first)))),
+)
   where
     parts : lexemes ≡ map shown_lexeme read.lexemes ++ map shown_lexeme read.left.lexemes
     parts = ahead ∙ ap (λ ls. map shown_lexeme ls) read.parts ∙ map-append shown_lexeme read.lexemes read.left.lexemes

@@ -1,4 +1,4 @@
-use Rattle.std.proofs.Common.{◌≡◌, Option, None, Result, true, false, ap, slice_get, sym, subst, ◌∙◌, ℕ}
+use Rattle.std.proofs.Common.{◌≡◌, Option, Result, true, false, ap, slice_get, sym, subst, ◌∙◌, ℕ}
 use Rattle.std.specs.Option.{is_some}
 use Rattle.starlark_base.specs.Diagnostics.{Diagnosed}
 use Rattle.starlark_syntax.specs.Lexer.{AnswersNext, LexerView}

@@ -1,9 +1,9 @@
-use Rattle.std.proofs.Common.{◌≡◌, true, false, ap, drop, subst, ◌∙◌, ◌||◌, ◌+◌, ◌-◌, ◌*◌, ◌≤◌, ◌^◌, arith, map, refl, rules, sym}
+use Rattle.std.proofs.Common.{◌≡◌, true, false, ap, drop, ◌∙◌, ◌||◌, ◌+◌, ◌-◌, ◌*◌, ◌≤◌, ◌^◌, arith, map, refl, rules, sym}
 use Rattle.std.proofs.lemmas.List.{length-map}
 use Rattle.starlark_reader.specs.Inner.Reads.{HasLooked}
 use Rattle.starlark_token.specs.Lexemes.{shown_lexeme}
 use Rattle.starlark_grammar.specs.Reading.{outcome}
-use Rattle.starlark_syntax.proofs.LexerItems.{lexeme_within, one_more}
+use Rattle.starlark_syntax.proofs.LexerItems.{one_more}
 use Rattle.starlark_grammar.proofs.Order.Inside.{lexemes_few}
 use Rattle.starlark_reader.proofs.Pieces.ReaderReads.{looked_reads, margin_reads, taken_reads}
 use Rattle.starlark_reader.proofs.Pieces.PieceTaken.{left_onward}
@@ -11,13 +11,11 @@ use Rattle.starlark_syntax.proofs.LexerReads.{fault_counts, found_behind_margin,
 use Rattle.starlark_syntax.proofs.Reaches.{reached, word_line}
 use Rattle.starlark_syntax.proofs.RestartReads.{next_line_after}
 use Rattle.starlark_syntax.specs.Inner.LexerStates.{IsLexing}
-use Rattle.starlark_syntax.specs.Inner.Looked.{HasOpened, is_text_opener}
-use Rattle.starlark_syntax.specs.declared.lexer_state.LexerState.{LexerState}
+use Rattle.starlark_syntax.specs.Inner.Looked.{is_text_opener}
 use Rattle.starlark_syntax.specs.declared.lexer_state.Looked.TheVariants as looked
-use Rattle.starlark_syntax.proofs.LexerStates.{IsSameText, answered_same, lexing_on, same_text}
+use Rattle.starlark_syntax.proofs.LexerStates.{same_text}
 use Rattle.starlark_syntax.proofs.PlainLexemes.{name_passed, newline_passed}
 use Rattle.starlark_syntax.proofs.lexer_state.LexerState.next_plain.Goals as goal
-
 
 pub overflow_add-self-in-Identifier : goal.overflow_add-self-in-Identifier
 overflow_add-self-in-Identifier c =
@@ -120,25 +118,25 @@ overflow_add-self-in_default-class c =
 
 pub returns-in_default-clause-lexing : goal.returns-in_default-clause-lexing
 returns-in_default-clause-lexing c =
-          let quick = (nothing_looked c.loop-self.self.text.now c.loop-self.self.reader c.loop-self.self.looked_to c.loop-self.self.has_ended c.loop-self.self.looked (sym c.is_nothing.ensures ∙ c.loop-self-test.true) c.loop-self.invariant.5 c.loop-self.invariant.6) in
-          let paid = quick.3 in
-          let ahead = c.common_word.ensures.ahead _ _ (c.loop-self.invariant.4 quick.0) in
-          let inv = c.requires.1 (sym c.loop-self.invariant.3 ∙ quick.0) in
-          let inside = (left_onward c.loop-self.self.text.now c.common_word.new.self _ _ c.common_word.ensures.code.stage ahead).is_left.1.inside in
-          let looked : HasLooked 0 3 c.loop-self.self.reader c.common_word.new.self = rw c.in_default.is at c.common_word.ensures.looked in
-          let read = looked_reads c.loop-self.self.text.now paid.0 0 3 c.loop-self.self.reader c.common_word.new.self quick.1.stage paid.2 looked in
-          (rw c.loop-self.invariant.0 c.requires.0, (λ on. (rw (c.loop-self.invariant.0, c.loop-self.invariant.2) inv.0, ahead)), quick.0, (λ on. (c.common_word.ensures.code, omega (arith, inside, c.at.ensures), (λ class len front two text. omega (arith, two, c.at.ensures)), (paid.0 + 3, omega (arith, paid.1, quick.2, looked.0, c.at.ensures), read))), reached c.loop-self.self.text.now c.common_word.new.self _ c.common_word.new.self.at _ c.common_word.ensures.code.stage ahead refl (omega (arith, next_line_after c.loop-self.self.text.now c.common_word.new.self.at inside, c.at.ensures)))
+    let quick = (nothing_looked c.loop-self.self.text.now c.loop-self.self.reader c.loop-self.self.looked_to c.loop-self.self.has_ended c.loop-self.self.looked (sym c.is_nothing.ensures ∙ c.loop-self-test.true) c.loop-self.invariant.5 c.loop-self.invariant.6) in
+    let paid = quick.3 in
+    let ahead = c.common_word.ensures.ahead _ _ (c.loop-self.invariant.4 quick.0) in
+    let inv = c.requires.1 (sym c.loop-self.invariant.3 ∙ quick.0) in
+    let inside = (left_onward c.loop-self.self.text.now c.common_word.new.self _ _ c.common_word.ensures.code.stage ahead).is_left.1.inside in
+    let looked : HasLooked 0 3 c.loop-self.self.reader c.common_word.new.self = rw c.in_default.is at c.common_word.ensures.looked in
+    let read = looked_reads c.loop-self.self.text.now paid.0 0 3 c.loop-self.self.reader c.common_word.new.self quick.1.stage paid.2 looked in
+    (rw c.loop-self.invariant.0 c.requires.0, (λ on. (rw (c.loop-self.invariant.0, c.loop-self.invariant.2) inv.0, ahead)), quick.0, (λ on. (c.common_word.ensures.code, omega (arith, inside, c.at.ensures), (λ class len front two text. omega (arith, two, c.at.ensures)), (paid.0 + 3, omega (arith, paid.1, quick.2, looked.0, c.at.ensures), read))), reached c.loop-self.self.text.now c.common_word.new.self _ c.common_word.new.self.at _ c.common_word.ensures.code.stage ahead refl (omega (arith, next_line_after c.loop-self.self.text.now c.common_word.new.self.at inside, c.at.ensures)))
 
 pub returns-in-Ok-Fault-clause-lexing : goal.returns-in-Ok-Fault-clause-lexing
 returns-in-Ok-Fault-clause-lexing c =
-          let quick = (nothing_looked c.loop-self.self.text.now c.loop-self.self.reader c.loop-self.self.looked_to c.loop-self.self.has_ended c.loop-self.self.looked (sym c.is_nothing.ensures ∙ c.loop-self-test.true) c.loop-self.invariant.5 c.loop-self.invariant.6) in
-          let paid = quick.3 in
-          let ahead = c.common_word.ensures.ahead _ _ (c.loop-self.invariant.4 quick.0) in
-          let inv = c.requires.1 (sym c.loop-self.invariant.3 ∙ quick.0) in
-          let inside = word_inside c.loop-self.self.text.now c.common_word.new.self _ _ _ c.in-Some.field-0.len c.common_word.ensures.code.stage ahead (sym c.in-Some.ensures.stands.front) in
-          let margin = c.in-Ok-Fault.ensures.reads (fault_counts c.in-Ok-Fault.field-0 c.in-Ok-Fault.field-0-is) in
-          let read = margin_reads c.loop-self.self.text.now paid.0 c.in-Some.field-0.len c.loop-self.self.reader c.common_word.new.self c.take_line_end.new.self inside.1 inside.0 quick.1.stage paid.2 c.in-Some.ensures.looked margin in
-          (rw c.loop-self.invariant.0 c.requires.0, (λ on. (rw (c.loop-self.invariant.0, c.loop-self.invariant.2) inv.0, rw c.in-Ok-Fault.field-0-is at (c.in-Ok-Fault.ensures.ahead _ _ ahead))), tt, (λ on. (paid.0, omega (arith, paid.1), read)), c.loop-self.invariant.7)
+    let quick = (nothing_looked c.loop-self.self.text.now c.loop-self.self.reader c.loop-self.self.looked_to c.loop-self.self.has_ended c.loop-self.self.looked (sym c.is_nothing.ensures ∙ c.loop-self-test.true) c.loop-self.invariant.5 c.loop-self.invariant.6) in
+    let paid = quick.3 in
+    let ahead = c.common_word.ensures.ahead _ _ (c.loop-self.invariant.4 quick.0) in
+    let inv = c.requires.1 (sym c.loop-self.invariant.3 ∙ quick.0) in
+    let inside = word_inside c.loop-self.self.text.now c.common_word.new.self _ _ _ c.in-Some.field-0.len c.common_word.ensures.code.stage ahead (sym c.in-Some.ensures.stands.front) in
+    let margin = c.in-Ok-Fault.ensures.reads (fault_counts c.in-Ok-Fault.field-0 c.in-Ok-Fault.field-0-is) in
+    let read = margin_reads c.loop-self.self.text.now paid.0 c.in-Some.field-0.len c.loop-self.self.reader c.common_word.new.self c.take_line_end.new.self inside.1 inside.0 quick.1.stage paid.2 c.in-Some.ensures.looked margin in
+    (rw c.loop-self.invariant.0 c.requires.0, (λ on. (rw (c.loop-self.invariant.0, c.loop-self.invariant.2) inv.0, rw c.in-Ok-Fault.field-0-is at (c.in-Ok-Fault.ensures.ahead _ _ ahead))), tt, (λ on. (paid.0, omega (arith, paid.1), read)), c.loop-self.invariant.7)
 
 pub returns-in-Identifier-clause-passed : goal.returns-in-Identifier-clause-passed
 returns-in-Identifier-clause-passed c = λ going.
@@ -161,74 +159,74 @@ pub pass_string-opener-requires : goal.pass_string-opener-requires
 pass_string-opener-requires c =
     let is_text : c.is_text_opener-is_text.result ≡ true = c.if-not-is_text.false in
     let state : IsLexing (record c.loop-self.self { reader = c.common_word.new.self; looked_to = c.at-begin.result + c.looked_len.result; looked = looked.Front }) =
-          let quick = (nothing_looked c.loop-self.self.text.now c.loop-self.self.reader c.loop-self.self.looked_to c.loop-self.self.has_ended c.loop-self.self.looked (sym c.is_nothing.ensures ∙ c.loop-self-test.true) c.loop-self.invariant.5 c.loop-self.invariant.6) in
-          let paid = quick.3 in
-          let ahead = c.common_word.ensures.ahead _ _ (c.loop-self.invariant.4 quick.0) in
-          let inv = c.requires.1 (sym c.loop-self.invariant.3 ∙ quick.0) in
-          let front = c.in-Some.ensures.stands.front in
-          let inside = word_inside c.loop-self.self.text.now c.common_word.new.self _ _ _ c.in-Some.field-0.len c.common_word.ensures.code.stage ahead (sym front) in
-          let word = c.in-Some.ensures.looked in
-          let read = looked_reads c.loop-self.self.text.now paid.0 c.in-Some.field-0.len ((5 * c.in-Some.field-0.len - 4) + 3) c.loop-self.self.reader c.common_word.new.self quick.1.stage paid.2 word in
-          let place = c.at-begin.ensures in
-          let look = look_paid c.is_text_opener-is_text.result c.in-Some.field-0.len c.looked_len.result inside.0 c.looked_len.ensures in (
-            rw c.loop-self.invariant.0 c.requires.0,
-            (λ on. (rw (c.loop-self.invariant.0, c.loop-self.invariant.2) inv.0, ahead)),
-            quick.0,
-            (λ on. (
-              c.common_word.ensures.code,
-              omega (arith, inside.1, place, look.most),
-              (λ other n again two text.
-                  let same = same_word (drop c.common_word.new.self.at c.loop-self.self.text.now) c.in-Some.field-0.class other c.in-Some.field-0.len n front again in
-                  let plain : c.is_text_opener-is_text.result ≡ false = c.is_text_opener-is_text.ensures ∙ ap is_text_opener (sym same.0) ∙ text in
-                  omega (arith, place, look.other plain (omega (arith, two, same.1)), same.1)),
-              (paid.0 + ((5 * c.in-Some.field-0.len - 4) + 3), omega (arith, paid.1, quick.2, word.0, inside.0, place, look.paid), read),
-            )),
-            reached c.loop-self.self.text.now c.common_word.new.self _ c.common_word.new.self.at _ c.common_word.ensures.code.stage ahead refl
-                (omega (arith, word_line c.loop-self.self.text.now c.common_word.new.self.at c.in-Some.field-0.len c.in-Some.field-0.class (omega (arith, inside.1)) (sym front), place, look.most)),
-          ) in
+    let quick = (nothing_looked c.loop-self.self.text.now c.loop-self.self.reader c.loop-self.self.looked_to c.loop-self.self.has_ended c.loop-self.self.looked (sym c.is_nothing.ensures ∙ c.loop-self-test.true) c.loop-self.invariant.5 c.loop-self.invariant.6) in
+    let paid = quick.3 in
+    let ahead = c.common_word.ensures.ahead _ _ (c.loop-self.invariant.4 quick.0) in
+    let inv = c.requires.1 (sym c.loop-self.invariant.3 ∙ quick.0) in
+    let front = c.in-Some.ensures.stands.front in
+    let inside = word_inside c.loop-self.self.text.now c.common_word.new.self _ _ _ c.in-Some.field-0.len c.common_word.ensures.code.stage ahead (sym front) in
+    let word = c.in-Some.ensures.looked in
+    let read = looked_reads c.loop-self.self.text.now paid.0 c.in-Some.field-0.len ((5 * c.in-Some.field-0.len - 4) + 3) c.loop-self.self.reader c.common_word.new.self quick.1.stage paid.2 word in
+    let place = c.at-begin.ensures in
+    let look = look_paid c.is_text_opener-is_text.result c.in-Some.field-0.len c.looked_len.result inside.0 c.looked_len.ensures in (
+      rw c.loop-self.invariant.0 c.requires.0,
+      (λ on. (rw (c.loop-self.invariant.0, c.loop-self.invariant.2) inv.0, ahead)),
+      quick.0,
+      (λ on. (
+        c.common_word.ensures.code,
+        omega (arith, inside.1, place, look.most),
+        (λ other n again two text.
+            let same = same_word (drop c.common_word.new.self.at c.loop-self.self.text.now) c.in-Some.field-0.class other c.in-Some.field-0.len n front again in
+            let plain : c.is_text_opener-is_text.result ≡ false = c.is_text_opener-is_text.ensures ∙ ap is_text_opener (sym same.0) ∙ text in
+            omega (arith, place, look.other plain (omega (arith, two, same.1)), same.1)),
+        (paid.0 + ((5 * c.in-Some.field-0.len - 4) + 3), omega (arith, paid.1, quick.2, word.0, inside.0, place, look.paid), read),
+      )),
+      reached c.loop-self.self.text.now c.common_word.new.self _ c.common_word.new.self.at _ c.common_word.ensures.code.stage ahead refl
+          (omega (arith, word_line c.loop-self.self.text.now c.common_word.new.self.at c.in-Some.field-0.len c.in-Some.field-0.class (omega (arith, inside.1)) (sym front), place, look.most)),
+    ) in
     let front =
-          let quick = (nothing_looked c.loop-self.self.text.now c.loop-self.self.reader c.loop-self.self.looked_to c.loop-self.self.has_ended c.loop-self.self.looked (sym c.is_nothing.ensures ∙ c.loop-self-test.true) c.loop-self.invariant.5 c.loop-self.invariant.6) in
-          let paid = quick.3 in
-          let ahead = c.common_word.ensures.ahead _ _ (c.loop-self.invariant.4 quick.0) in
-          let front = c.in-Some.ensures.stands.front in
-          let inside = word_inside c.loop-self.self.text.now c.common_word.new.self _ _ _ c.in-Some.field-0.len c.common_word.ensures.code.stage ahead (sym front) in
-          let word = c.in-Some.ensures.looked in
-          let read = looked_reads c.loop-self.self.text.now paid.0 c.in-Some.field-0.len ((5 * c.in-Some.field-0.len - 4) + 3) c.loop-self.self.reader c.common_word.new.self quick.1.stage paid.2 word in
-          let place = c.at-begin.ensures in
-          let look = look_paid c.is_text_opener-is_text.result c.in-Some.field-0.len c.looked_len.result inside.0 c.looked_len.ensures in
-          let more : c.looked_len.result ≡ c.in-Some.field-0.len + 1 = look.text is_text in
-          word_opened c.loop-self.self.text.now c.common_word.new.self c.in-Some.field-0.class c.in-Some.field-0.len (c.at-begin.result + c.looked_len.result) (paid.0 + ((5 * c.in-Some.field-0.len - 4) + 3)) front
-              (omega (arith, place, more)) (omega (arith, paid.1, quick.2, word.0, inside.0, place, more)) read in
+    let quick = (nothing_looked c.loop-self.self.text.now c.loop-self.self.reader c.loop-self.self.looked_to c.loop-self.self.has_ended c.loop-self.self.looked (sym c.is_nothing.ensures ∙ c.loop-self-test.true) c.loop-self.invariant.5 c.loop-self.invariant.6) in
+    let paid = quick.3 in
+    let ahead = c.common_word.ensures.ahead _ _ (c.loop-self.invariant.4 quick.0) in
+    let front = c.in-Some.ensures.stands.front in
+    let inside = word_inside c.loop-self.self.text.now c.common_word.new.self _ _ _ c.in-Some.field-0.len c.common_word.ensures.code.stage ahead (sym front) in
+    let word = c.in-Some.ensures.looked in
+    let read = looked_reads c.loop-self.self.text.now paid.0 c.in-Some.field-0.len ((5 * c.in-Some.field-0.len - 4) + 3) c.loop-self.self.reader c.common_word.new.self quick.1.stage paid.2 word in
+    let place = c.at-begin.ensures in
+    let look = look_paid c.is_text_opener-is_text.result c.in-Some.field-0.len c.looked_len.result inside.0 c.looked_len.ensures in
+    let more : c.looked_len.result ≡ c.in-Some.field-0.len + 1 = look.text is_text in
+    word_opened c.loop-self.self.text.now c.common_word.new.self c.in-Some.field-0.class c.in-Some.field-0.len (c.at-begin.result + c.looked_len.result) (paid.0 + ((5 * c.in-Some.field-0.len - 4) + 3)) front
+    (omega (arith, place, more)) (omega (arith, paid.1, quick.2, word.0, inside.0, place, more)) read in
     record { lexing = state; going = (nothing_looked c.loop-self.self.text.now c.loop-self.self.reader c.loop-self.self.looked_to c.loop-self.self.has_ended c.loop-self.self.looked (sym c.is_nothing.ensures ∙ c.loop-self-test.true) c.loop-self.invariant.5 c.loop-self.invariant.6).0; front = refl; opened = front }
 
 pub returns-then-not-is_text : goal.returns-then-not-is_text
 returns-then-not-is_text c =
     let state : IsLexing (record c.loop-self.self { reader = c.common_word.new.self; looked_to = c.at-begin.result + c.looked_len.result; looked = looked.Front }) =
-          let quick = (nothing_looked c.loop-self.self.text.now c.loop-self.self.reader c.loop-self.self.looked_to c.loop-self.self.has_ended c.loop-self.self.looked (sym c.is_nothing.ensures ∙ c.loop-self-test.true) c.loop-self.invariant.5 c.loop-self.invariant.6) in
-          let paid = quick.3 in
-          let ahead = c.common_word.ensures.ahead _ _ (c.loop-self.invariant.4 quick.0) in
-          let inv = c.requires.1 (sym c.loop-self.invariant.3 ∙ quick.0) in
-          let front = c.in-Some.ensures.stands.front in
-          let inside = word_inside c.loop-self.self.text.now c.common_word.new.self _ _ _ c.in-Some.field-0.len c.common_word.ensures.code.stage ahead (sym front) in
-          let word = c.in-Some.ensures.looked in
-          let read = looked_reads c.loop-self.self.text.now paid.0 c.in-Some.field-0.len ((5 * c.in-Some.field-0.len - 4) + 3) c.loop-self.self.reader c.common_word.new.self quick.1.stage paid.2 word in
-          let place = c.at-begin.ensures in
-          let look = look_paid c.is_text_opener-is_text.result c.in-Some.field-0.len c.looked_len.result inside.0 c.looked_len.ensures in (
-            rw c.loop-self.invariant.0 c.requires.0,
-            (λ on. (rw (c.loop-self.invariant.0, c.loop-self.invariant.2) inv.0, ahead)),
-            quick.0,
-            (λ on. (
-              c.common_word.ensures.code,
-              omega (arith, inside.1, place, look.most),
-              (λ other n again two text.
-                  let same = same_word (drop c.common_word.new.self.at c.loop-self.self.text.now) c.in-Some.field-0.class other c.in-Some.field-0.len n front again in
-                  let plain : c.is_text_opener-is_text.result ≡ false = c.is_text_opener-is_text.ensures ∙ ap is_text_opener (sym same.0) ∙ text in
-                  omega (arith, place, look.other plain (omega (arith, two, same.1)), same.1)),
-              (paid.0 + ((5 * c.in-Some.field-0.len - 4) + 3), omega (arith, paid.1, quick.2, word.0, inside.0, place, look.paid), read),
-            )),
-            reached c.loop-self.self.text.now c.common_word.new.self _ c.common_word.new.self.at _ c.common_word.ensures.code.stage ahead refl
-                (omega (arith, word_line c.loop-self.self.text.now c.common_word.new.self.at c.in-Some.field-0.len c.in-Some.field-0.class (omega (arith, inside.1)) (sym front), place, look.most)),
-          ) in
+    let quick = (nothing_looked c.loop-self.self.text.now c.loop-self.self.reader c.loop-self.self.looked_to c.loop-self.self.has_ended c.loop-self.self.looked (sym c.is_nothing.ensures ∙ c.loop-self-test.true) c.loop-self.invariant.5 c.loop-self.invariant.6) in
+    let paid = quick.3 in
+    let ahead = c.common_word.ensures.ahead _ _ (c.loop-self.invariant.4 quick.0) in
+    let inv = c.requires.1 (sym c.loop-self.invariant.3 ∙ quick.0) in
+    let front = c.in-Some.ensures.stands.front in
+    let inside = word_inside c.loop-self.self.text.now c.common_word.new.self _ _ _ c.in-Some.field-0.len c.common_word.ensures.code.stage ahead (sym front) in
+    let word = c.in-Some.ensures.looked in
+    let read = looked_reads c.loop-self.self.text.now paid.0 c.in-Some.field-0.len ((5 * c.in-Some.field-0.len - 4) + 3) c.loop-self.self.reader c.common_word.new.self quick.1.stage paid.2 word in
+    let place = c.at-begin.ensures in
+    let look = look_paid c.is_text_opener-is_text.result c.in-Some.field-0.len c.looked_len.result inside.0 c.looked_len.ensures in (
+      rw c.loop-self.invariant.0 c.requires.0,
+      (λ on. (rw (c.loop-self.invariant.0, c.loop-self.invariant.2) inv.0, ahead)),
+      quick.0,
+      (λ on. (
+        c.common_word.ensures.code,
+        omega (arith, inside.1, place, look.most),
+        (λ other n again two text.
+            let same = same_word (drop c.common_word.new.self.at c.loop-self.self.text.now) c.in-Some.field-0.class other c.in-Some.field-0.len n front again in
+            let plain : c.is_text_opener-is_text.result ≡ false = c.is_text_opener-is_text.ensures ∙ ap is_text_opener (sym same.0) ∙ text in
+            omega (arith, place, look.other plain (omega (arith, two, same.1)), same.1)),
+        (paid.0 + ((5 * c.in-Some.field-0.len - 4) + 3), omega (arith, paid.1, quick.2, word.0, inside.0, place, look.paid), read),
+      )),
+      reached c.loop-self.self.text.now c.common_word.new.self _ c.common_word.new.self.at _ c.common_word.ensures.code.stage ahead refl
+          (omega (arith, word_line c.loop-self.self.text.now c.common_word.new.self.at c.in-Some.field-0.len c.in-Some.field-0.class (omega (arith, inside.1)) (sym front), place, look.most)),
+    ) in
     let going : c.args.self.now.has_ended ≡ false = sym c.loop-self.invariant.3 ∙ (nothing_looked c.loop-self.self.text.now c.loop-self.self.reader c.loop-self.self.looked_to c.loop-self.self.has_ended c.loop-self.self.looked (sym c.is_nothing.ensures ∙ c.loop-self-test.true) c.loop-self.invariant.5 c.loop-self.invariant.6).0 in
     let now : c.loop-self.self.has_ended ≡ c.args.self.now.has_ended || false = c.loop-self.invariant.3 ∙ going ∙ ap (λ b. b || false) (sym going) in
     let count : c.loop-self.self.yielded_count ≡ c.args.self.now.yielded_count + 0 = omega (arith, c.loop-self.invariant.2) in

@@ -107,13 +107,12 @@ returns-clause-passed c = λ some.
     let first = reader_boundary text c.args.self.now.reader _ _ front.0.stage inv.1 in
     let last = reader_boundary text c.pass_plain_text.new.self _ _ taken.2 is.2 in
     let value = c.pass_plain_text.ensures.value in
-    let to : c.plain_body_len.new.self.at + c.in-Some.field-0.len + c.in-Ok.body ≡ c.pass_plain_text.new.self.at - 1 = omega (arith, taken.1.0) in
-    (
+    let to : c.plain_body_len.new.self.at + c.in-Some.field-0.len + c.in-Ok.body ≡ c.pass_plain_text.new.self.at - 1 = omega (arith, taken.1.0) in (
       plain_inside text kind.String c.args.self.now.reader.at c.pass_plain_text.new.self.at (c.args.self.now.reader.at + c.in-Some.field-0.len) (c.pass_plain_text.new.self.at - 1) c.requires.lexing.0
-      (omega (arith, same, taken.1.0)) (omega (arith, same, taken.1.0)) first last
-      (subst (λ n. IsCharBoundary text (n + c.in-Some.field-0.len)) same value.0) (subst (IsCharBoundary text) to value.1),
+          (omega (arith, same, taken.1.0)) (omega (arith, same, taken.1.0)) first last
+          (subst (λ n. IsCharBoundary text (n + c.in-Some.field-0.len)) same value.0) (subst (IsCharBoundary text) to value.1),
       subst (λ (lexeme : Spanned TokenView). IsAheadPast text lexeme c.pass_plain_text.new.self (left_in c.args.self.now) (outcome text).fault)
-      (string_shown text c.args.self.now.reader.at c.plain_body_len.new.self.at c.in-Some.field-0.len c.in-Ok.body c.pass_plain_text.new.self.at same taken.1.0) is,
+          (string_shown text c.args.self.now.reader.at c.plain_body_len.new.self.at c.in-Some.field-0.len c.in-Ok.body c.pass_plain_text.new.self.at same taken.1.0) is,
     )
 
 pub returns-clause-none : goal.returns-clause-none
