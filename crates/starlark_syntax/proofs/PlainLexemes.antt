@@ -1,6 +1,7 @@
 -- Plain lexemes, as the fast path passes them.
 use Rattle.std.proofs.Common.{◌≡◌, ◌≤◌, ◌<◌, ◌+◌, ◌-◌, ◌^◌, ◌∷◌, ◌||◌, Bool, true, false, ℕ, List, [], Option, Some, None, Ok, Err, ap, arith, drop, length, refl, subst, sym, take, ◌∙◌}
-use Rattle.std.specs.Prelude.{◌&&◌, Result}
+use Rattle.std.specs.Prelude.{◌&&◌, not, Result}
+use Rattle.std.specs.Option.{is_some}
 use Rattle.std.specs.Str.{IsCharBoundary, IsUtf8}
 use Rattle.starlark_base.specs.Diagnostics.{Diagnosed}
 use Rattle.starlark_grammar.specs.Reading.{outcome}
@@ -12,7 +13,7 @@ use Rattle.starlark_reader.specs.Inner.Reader.{IsAhead, IsAheadAfter, IsAheadPas
 use Rattle.starlark_reader.specs.declared.reader.Reader.{Reader}
 use Rattle.starlark_reader.specs.declared.reader.Stage.TheVariants as stages
 use Rattle.starlark_reader.proofs.Pieces.PieceTaken.{left_onward}
-use Rattle.starlark_syntax.specs.Inner.LexerStates.{HasAnswered, HasPassed, HasTaken, IsLexing, left_in, lexer_view, plain_string, view_of}
+use Rattle.starlark_syntax.specs.Inner.LexerStates.{HasAnswered, HasPassed, HasTaken, IsLexing, left_in, lexer_view, plain_string}
 use Rattle.starlark_syntax.specs.Lexer.{LexerView, most_reads}
 use Rattle.starlark_syntax.specs.PlainLexemes.{IsPlainIn, plain_token, plain_value, plain_view, token_of}
 use Rattle.starlark_syntax.specs.declared.error.kinds.ErrorKind.{ErrorKind}
@@ -21,7 +22,6 @@ use Rattle.starlark_syntax.specs.declared.lexer_state.FastPath.TheVariants as fa
 use Rattle.starlark_syntax.proofs.LexerItems.{next_between}
 use Rattle.starlark_syntax.proofs.LexerStates.{IsSameText, answers_item, answers_within, lexing_read}
 use Rattle.starlark_syntax.specs.declared.lexer_state.LexerState.{LexerState}
-use Rattle.starlark_syntax.specs.declared.lexer_state.Looked.TheVariants as looked
 use Rattle.starlark_syntax.specs.declared.plain_lexeme.PlainKind.{PlainKind}
 use Rattle.starlark_syntax.specs.declared.plain_lexeme.PlainKind.TheVariants as kind
 use Rattle.starlark_syntax.specs.declared.plain_lexeme.PlainLexeme.{PlainLexeme}
@@ -130,13 +130,28 @@ symbol_shown text lexeme plain token places =
     ∙ ap (λ n. record { begin = n; node = Whole (plain_token text plain); end = lexeme.2 }) (sym (ap (λ (p : PlainLexeme). p.begin) places))
     ∙ ap (λ n. record { begin = plain.begin; node = Whole (plain_token text plain); end = n }) (sym (ap (λ (p : PlainLexeme). p.end) places))
 
--- a lexer that owes no error is its state
-pub whole_view : (state : LexerState) (has_run_out : Bool) → has_run_out ≡ false → lexer_view state has_run_out ≡ view_of state
-whole_view state has_run_out none = rw none (ap (λ ended. record (view_of state) { has_ended = ended }) (by state.has_ended))
+-- a lexer that owes no error has ended where its state has
+pub whole_going : (state : LexerState) (has_run_out : Bool) (lexer : LexerView) → has_run_out ≡ false → lexer_view state has_run_out ≡ lexer → lexer.has_ended ≡ false → state.has_ended ≡ false
+whole_going state has_run_out lexer none is going = by state.has_ended refl
   where
-    by : (ended : Bool) → (ended && true) ≡ ended
-    by true = refl
-    by false = refl
+    ended : (state.has_ended && not has_run_out) ≡ false
+    ended = ap (λ (v : LexerView). v.has_ended) is ∙ going
+
+    by : (b : Bool) → state.has_ended ≡ b → state.has_ended ≡ false
+    by true e = let both : true ≡ false = sym (ap (λ (b : Bool). b && true) e) ∙ ap (λ (b : Bool). state.has_ended && not b) (sym none) ∙ ended in cc
+    by false e = e
+
+-- an ended state yields nothing
+pub some_going : (state : LexerState) (found : Option (Result (ℕ × Token × ℕ) (OrMemory (Diagnosed ErrorKind)))) (new : LexerState) → is_some found ≡ true → (state.has_ended ≡ true → (found ≡ None) × (new ≡ state)) → state.has_ended ≡ false
+some_going state found new some ended = by state.has_ended refl
+  where
+    by : (b : Bool) → state.has_ended ≡ b → state.has_ended ≡ false
+    by true e = let both : true ≡ false = sym some ∙ ap is_some (ended e).0 in cc
+    by false e = e
+
+pub is_nothing : {A : Type 0} (found : Option A) → is_some found ≡ false → found ≡ None
+is_nothing None none = refl
+is_nothing (Some x) none = cc
 
 -- an ended state passes nothing
 pub passed_going : (old : LexerState) (found : FastPath) (new : LexerState) → (found ≡ fast.Undecided → ⊥) → (old.has_ended ≡ true → (found ≡ fast.Undecided) × (new ≡ old)) → old.has_ended ≡ false

@@ -21,7 +21,7 @@ use std::marker::Model;
 #[derive(Drop)]
 pub struct Lexer<'a> {
     state: LexerState<'a>,
-    /// Whether `next_plain` ran out of memory, which `next` has still to say.
+    /// Whether `next_plain` ran out of memory, which `next` has still to return.
     has_run_out: bool,
 }
 

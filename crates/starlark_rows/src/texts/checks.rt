@@ -4,7 +4,7 @@ use crate::lexeme_lines::{add_fault, add_lexeme, file_of};
 use starlark_syntax::codemap::{CodeMap, OrMemory};
 use starlark_syntax::dialect::Dialect;
 use starlark_syntax::eval_exception::EvalException;
-use starlark_syntax::lexer::{LexedText, Lexeme, Lexer, Token};
+use starlark_syntax::lexer::{LexedText, Lexeme, Lexer, PlainKind, PlainLexeme, Token};
 use std::alloc::{AllocError, Global};
 
 /// Length in bytes of the longest text whose lines are all compared.
@@ -106,6 +106,59 @@ fn is_lexeme(next: &Option<Lexeme>, wanted: &(usize, Token, usize)) -> bool {
     }
 }
 
+/// The name of a plain lexeme's kind, as its token has it.
+fn plain_kind(alloc: Global, kind: PlainKind) -> Result<String, AllocError> {
+    match kind {
+        PlainKind::Identifier => String::from_str(alloc, "Identifier"),
+        PlainKind::String => String::from_str(alloc, "String"),
+        PlainKind::Word(terminal) => format!(in alloc; "{terminal:?}"),
+        PlainKind::FStringExprEnd => String::from_str(alloc, "FStringExprEnd"),
+        PlainKind::Newline => String::from_str(alloc, "Newline"),
+    }
+}
+
+/// The value of a token that a plain lexeme can have; empty for one without a value.
+fn plain_value(token: &Token) -> &str {
+    match token {
+        Token::Identifier(value) | Token::String(value) => value.as_str(),
+        _ => "",
+    }
+}
+
+/// Whether a plain lexeme of a text is the wanted lexeme.
+fn is_plain_lexeme(
+    alloc: Global,
+    text: &str,
+    plain: PlainLexeme,
+    wanted: &(usize, Token, usize),
+) -> Result<bool, AllocError> {
+    let (begin, token, end) = wanted;
+    let Some(value) = text.get(plain.value_begin..plain.value_end) else {
+        return Ok(false);
+    };
+    if plain.begin != *begin || plain.end != *end || value != plain_value(token) {
+        return Ok(false);
+    }
+    Ok(plain_kind(alloc, plain.kind)?.as_str() == token.kind())
+}
+
+/// Whether the next item of a text's lexer is the wanted lexeme, by `next`, or by `next_plain` where
+/// that returns it.
+fn is_next(
+    alloc: Global,
+    lexer: &mut Lexer<'_>,
+    text: &str,
+    wanted: &(usize, Token, usize),
+    is_plain_first: bool,
+) -> Result<bool, AllocError> {
+    if is_plain_first {
+        if let Some(plain) = lexer.next_plain() {
+            return is_plain_lexeme(alloc, text, plain, wanted);
+        }
+    }
+    Ok(is_lexeme(&lexer.next(), wanted))
+}
+
 /// A fault as it prints with a code map of an empty text: its span in bytes, or `1:1` if that is
 /// 0-0.
 fn in_bytes(alloc: Global, fault: &EvalException) -> Result<String, AllocError> {
@@ -137,16 +190,24 @@ fn is_fault(
 
 /// Whether a lexer with a code map of an empty text yields the same lexemes and fault.
 ///
-/// After these it must yield `None`, twice.
-fn is_yielded(alloc: Global, lexed: &LexedText<'_>) -> Result<bool, AllocError> {
+/// After these it must yield `None`, twice. Where `is_plain_first`, `next_plain` is called before each
+/// call of `next`.
+fn is_yielded(
+    alloc: Global,
+    lexed: &LexedText<'_>,
+    is_plain_first: bool,
+) -> Result<bool, AllocError> {
     let file = file_of(alloc, "")?;
     let Ok(mut lexer) = Lexer::new(alloc, lexed.text(), &Dialect::Standard, file) else {
         return Ok(false);
     };
     for lexeme in lexed.lexemes() {
-        if !is_lexeme(&lexer.next(), lexeme) {
+        if !is_next(alloc, &mut lexer, lexed.text(), lexeme, is_plain_first)? {
             return Ok(false);
         }
+    }
+    if is_plain_first && lexer.next_plain().is_some() {
+        return Ok(false);
     }
     if let Some(fault) = lexed.fault() {
         if !is_fault(alloc, &lexer.next(), fault)? {
@@ -218,8 +279,11 @@ pub fn wrong_with_lexed(
     file: &CodeMap,
     printed: &[u8],
 ) -> Result<Option<&'static str>, AllocError> {
-    if !is_yielded(alloc, lexed)? {
+    if !is_yielded(alloc, lexed, false)? {
         return Ok(Some("a lexer hands out something else"));
+    }
+    if !is_yielded(alloc, lexed, true)? {
+        return Ok(Some("plain lexemes differ from the lexemes of `next`"));
     }
     if !is_printed(alloc, lexed, file, printed)? {
         return Ok(Some("something else is printed"));

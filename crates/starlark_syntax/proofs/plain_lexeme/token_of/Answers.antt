@@ -1,4 +1,4 @@
-use Rattle.std.proofs.Common.{◌≡◌, ap, refl, sym, ◌∙◌}
+use Rattle.std.proofs.Common.{ap, sym, ◌∙◌}
 use Rattle.starlark_grammar.specs.Tokens as grammar
 use Rattle.starlark_syntax.specs.PlainLexemes.{plain_value, token_of}
 use Rattle.starlark_token.specs.TokenViews.{Whole, token_view}

@@ -1,4 +1,4 @@
-use Rattle.std.proofs.Common.{◌≡◌, ◌∷◌, Bool, true, false, ap, refl, sym, ◌∙◌}
+use Rattle.std.proofs.Common.{◌≡◌, ap, sym, ◌∙◌}
 use Rattle.std.proofs.Common.{Some}
 use Rattle.starlark_syntax.specs.Lexer.{LexerView}
 use Rattle.starlark_token.specs.TextItems.{Given}

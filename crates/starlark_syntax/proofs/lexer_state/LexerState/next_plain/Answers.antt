@@ -1,9 +1,9 @@
-use Rattle.std.proofs.Common.{◌≡◌, true, false, ap, drop, subst, ◌∙◌, ◌||◌, ◌+◌, ◌-◌, ◌*◌, ◌≤◌, ◌^◌, arith, map, refl, rules, sym}
+use Rattle.std.proofs.Common.{◌≡◌, true, false, ap, drop, ◌∙◌, ◌||◌, ◌+◌, ◌-◌, ◌*◌, ◌≤◌, ◌^◌, arith, map, refl, rules, sym}
 use Rattle.std.proofs.lemmas.List.{length-map}
 use Rattle.starlark_reader.specs.Inner.Reads.{HasLooked}
 use Rattle.starlark_token.specs.Lexemes.{shown_lexeme}
 use Rattle.starlark_grammar.specs.Reading.{outcome}
-use Rattle.starlark_syntax.proofs.LexerItems.{lexeme_within, one_more}
+use Rattle.starlark_syntax.proofs.LexerItems.{one_more}
 use Rattle.starlark_grammar.proofs.Order.Inside.{lexemes_few}
 use Rattle.starlark_reader.proofs.Pieces.ReaderReads.{looked_reads, margin_reads, taken_reads}
 use Rattle.starlark_reader.proofs.Pieces.PieceTaken.{left_onward}
@@ -11,10 +11,9 @@ use Rattle.starlark_syntax.proofs.LexerReads.{fault_counts, found_behind_margin,
 use Rattle.starlark_syntax.proofs.Reaches.{reached, word_line}
 use Rattle.starlark_syntax.proofs.RestartReads.{next_line_after}
 use Rattle.starlark_syntax.specs.Inner.LexerStates.{IsLexing}
-use Rattle.starlark_syntax.specs.Inner.Looked.{HasOpened, is_text_opener}
-use Rattle.starlark_syntax.specs.declared.lexer_state.LexerState.{LexerState}
+use Rattle.starlark_syntax.specs.Inner.Looked.{is_text_opener}
 use Rattle.starlark_syntax.specs.declared.lexer_state.Looked.TheVariants as looked
-use Rattle.starlark_syntax.proofs.LexerStates.{IsSameText, answered_same, lexing_on, same_text}
+use Rattle.starlark_syntax.proofs.LexerStates.{same_text}
 use Rattle.starlark_syntax.proofs.PlainLexemes.{name_passed, newline_passed}
 use Rattle.starlark_syntax.proofs.lexer_state.LexerState.next_plain.Goals as goal
 
