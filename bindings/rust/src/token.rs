@@ -284,14 +284,14 @@ impl<'a, 'b> Value<'a, 'b> {
     #[inline(never)]
     fn token(self) -> Token<'a> {
         match self.record.kind {
-            1 => Token::Comment(self.text()),
-            5 => Token::Identifier(self.text()),
+            1 => Token::Comment(self.text_after(1)),
+            5 => Token::Identifier(self.compared_text()),
             6 => Token::Int(self.integer()),
-            7 => Token::Float(self.text()),
-            8 => Token::String(self.text()),
+            7 => Token::Float(self.text_after(0)),
+            8 => Token::String(self.compared_text()),
             9 => Token::Bytes(self.bytes()),
             10 => Token::FStringStart(quotes(self.record.detail)),
-            11 => Token::FStringText(self.text()),
+            11 => Token::FStringText(self.text_after(0)),
             number => unreachable!("the library has no kind {number}"),
         }
     }
@@ -299,8 +299,8 @@ impl<'a, 'b> Value<'a, 'b> {
     /// The value as a text, if it is what the lexeme has after its first `front` bytes and before its
     /// last `back` bytes, which are the least that a lexeme of its kind has besides its value.
     ///
-    /// Only the lengths are compared. They are equal only where the bytes are: a name is its value,
-    /// and each part of a literal denotes its own bytes, or fewer than it has. A literal of three
+    /// Only the lengths are compared. They are equal only where the bytes are: a name is its value, as
+    /// a float is, and each part of a literal denotes its own bytes, or fewer than it has. A literal of three
     /// quotes, or a raw one, has more besides its value; `range` finds it.
     #[inline]
     fn text_between(self, front: usize, back: usize) -> Option<&'a str> {
@@ -311,8 +311,18 @@ impl<'a, 'b> Value<'a, 'b> {
         self.piece.text.get(begin + front..end - back)
     }
 
+    /// The value as a text, which is borrowed if it is all that the lexeme has after its first `front`
+    /// bytes.
+    #[inline]
+    fn text_after(self, front: usize) -> Cow<'a, str> {
+        match self.text_between(front, 0) {
+            Some(text) => Cow::Borrowed(text),
+            None => self.compared_text(),
+        }
+    }
+
     /// The value as a text, which is borrowed if it is before the lexeme's closing quotes.
-    fn text(self) -> Cow<'a, str> {
+    fn compared_text(self) -> Cow<'a, str> {
         match self.range().and_then(|range| self.piece.text.get(range)) {
             Some(text) => Cow::Borrowed(text),
             None => {
@@ -353,7 +363,7 @@ impl<'a, 'b> Value<'a, 'b> {
             return TokenInt::I32(self.record.integer);
         }
         TokenInt::BigInt {
-            digits: self.text(),
+            digits: self.compared_text(),
             radix: u32::from(self.record.detail),
         }
     }
