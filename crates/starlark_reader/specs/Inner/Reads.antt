@@ -18,7 +18,7 @@ use Rattle.starlark_reader.specs.declared.reader.Stage.TheVariants as stage
 use Rattle.starlark_reader.specs.Inner.Pending.{owed}
 
 -- reads that find where lexing begins again after a fault, at most: five for each byte from the
--- begin of a tab's fault on, and five more; or one for each byte from where another fault stopped the
+-- start of a tab's fault on, and five more; or one for each byte from where another fault stopped the
 -- reading, and one more
 unfoldable pub search_reads : Text → Spanned Fault → ℕ
 search_reads text fault =
