@@ -29,11 +29,15 @@ pub enum PlainKind {
 /// A lexeme whose value, if it has one, is a part of the text. Offsets count bytes of the text.
 #[derive(Clone, Copy)]
 pub struct PlainLexeme {
+    /// Its kind, which tells whether it has a value.
     pub kind: PlainKind,
+    /// Offset of its first byte.
     pub begin: usize,
+    /// Offset after its last byte.
     pub end: usize,
-    /// Where its value begins; for a kind without a value as `value_end`.
+    /// Offset where its value begins; `end` for a kind without a value.
     pub value_begin: usize,
+    /// Offset after its value; `end` for a kind without a value.
     pub value_end: usize,
 }
 

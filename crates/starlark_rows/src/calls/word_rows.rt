@@ -4,7 +4,7 @@ use crate::calls::row_files::code_map;
 use crate::calls::rows::{Answer, Row, both, given, shown, unknown};
 use starlark_syntax::codemap::OrMemory;
 use starlark_syntax::dialect::Dialect;
-use starlark_syntax::lexer::{Lexer, Token, TokenInt, lex_exactly_one_identifier};
+use starlark_syntax::lexer::{Lexer, PlainLexeme, Token, TokenInt, lex_exactly_one_identifier};
 use std::alloc::{AllocError, Global};
 use std::fmt::{Display, Write};
 
@@ -107,6 +107,28 @@ pub fn lexemes(alloc: Global, text: &str, source: &str) -> Answer {
     lexemes_in(alloc, text, "f", source)
 }
 
+/// Adds the places of a plain lexeme of a text, and its value.
+fn add_plain(list: &mut String, text: &str, plain: PlainLexeme) -> Result<(), AllocError> {
+    let value = text.get(plain.value_begin..plain.value_end).unwrap_or("no text");
+    write!(list, "{}-{} [{value}]; ", plain.begin, plain.end)
+}
+
+/// The plain lexemes of a text, and `other` for each item that isn't one.
+fn plain_lexemes(alloc: Global, text: &str) -> Answer {
+    let mut lexer = lexer(alloc, text, "f", text)?;
+    let mut list = String::new(alloc);
+    for _ in 0..u64::MAX {
+        if let Some(plain) = lexer.next_plain() {
+            add_plain(&mut list, text, plain)?;
+        } else if lexer.next().is_some() {
+            list.push_str("other; ")?;
+        } else {
+            break;
+        }
+    }
+    Ok(list)
+}
+
 /// The answer to a call with a text.
 pub fn answer(alloc: Global, row: &Row) -> Answer {
     let text = row.text(2);
@@ -115,6 +137,7 @@ pub fn answer(alloc: Global, row: &Row) -> Answer {
         "lex_exactly_one_identifier" => shown(alloc, &lex_exactly_one_identifier(alloc, text)?),
         "lexemes" => lexemes(alloc, text, text),
         "lexemes_of_other_source" => lexemes(alloc, text, row.text(3)),
+        "plain_lexemes" => plain_lexemes(alloc, text),
         "lexemes_in_file" => lexemes_in(alloc, text, row.text(3), row.text(4)),
         _ => unknown(alloc, row),
     }
