@@ -52,7 +52,7 @@ impl Model for Document {
 }
 
 /// The least length of a segment in bytes, unless it is the only one.
-const SEGMENT_LEN: usize = 1024;
+const SEGMENT_LEN: usize = 1280;
 
 /// What an edit changed. Outside of these ranges all lexemes and faults are the old ones, and those
 /// after them are moved.

@@ -1,4 +1,4 @@
-use Rattle.std.proofs.Common.{◌≡◌, ◌+◌, ◌∙◌, sym, ap, arith, refl, length, List}
+use Rattle.std.proofs.Common.{◌≡◌, ◌∙◌, ap, arith, length, List}
 use Rattle.std.specs.List.{splice}
 use Rattle.starlark_document.proofs.Splices.{drained, spliced_one}
 use Rattle.starlark_document.specs.declared.segments.Segment.{Segment}

@@ -1,4 +1,4 @@
-use Rattle.std.proofs.Common.{ap, arith, count_by, ◌+◌, ◌∙◌}
+use Rattle.std.proofs.Common.{ap, arith, count_by, ◌+◌}
 use Rattle.starlark_base.specs.Places.{is_lf}
 use Rattle.starlark_document.proofs.LineCounts.{lines_between, lines_after}
 use Rattle.starlark_document.proofs.lexing.newline_count.Goals as goal

@@ -1,4 +1,4 @@
-use Rattle.std.proofs.Common.{◌≡◌, ℕ, ◌+◌, ◌-◌, ◌≤◌, List, ap, arith, drop, length, refl, string_bytes, subst, sym, take, true, ◌∙◌}
+use Rattle.std.proofs.Common.{◌≡◌, ℕ, ◌+◌, ◌-◌, List, arith, drop, refl, subst, sym, take, true}
 use Rattle.std.proofs.lemmas.Option.{slice_get_read}
 use Rattle.std.specs.Str.{IsCharBoundary}
 use Rattle.starlark_document.proofs.Boundaries.{IsCharBoundary-in_part, IsCharBoundary-of_part}

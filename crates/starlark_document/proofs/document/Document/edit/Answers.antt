@@ -1,4 +1,4 @@
-use Rattle.std.proofs.Common.{rules, ◌≡◌, ◌-◌, ◌+◌, ◌∙◌, sym, ap, subst, arith, refl, ℕ, length, List}
+use Rattle.std.proofs.Common.{rules, ◌≡◌, ◌-◌, ◌+◌, ◌∙◌, ap, subst, arith, refl, ℕ, length, List}
 use Rattle.starlark_document.proofs.Splices.{edited_len}
 use Rattle.starlark_document.specs.Documents.{IsRange, edited}
 use Rattle.starlark_document.specs.Inner.Parts.{IsLexedPart, IsPart}

@@ -1,7 +1,5 @@
-use Rattle.std.proofs.Common.{◌≡◌, ◌∙◌, arith, string_bytes, subst, sym, true, List, Option}
+use Rattle.std.proofs.Common.{◌∙◌, arith, string_bytes}
 use Rattle.starlark_document.proofs.Slices.{held_cut, held_of, held_range}
-use Rattle.starlark_document.specs.Inner.Parts.{IsRangeIn}
-use Rattle.starlark_document.specs.declared.parts.SegmentRange.{SegmentRange}
 use Rattle.starlark_document.proofs.document.Document.slice.Goals as goal
 
 pub range-requires-clause-start_boundary : goal.range-requires-clause-start_boundary
