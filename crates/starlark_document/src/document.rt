@@ -52,6 +52,7 @@ impl Model for Document {
 }
 
 /// The least length of a segment in bytes, unless it is the only one.
+// Measured: with less an edit is cheaper, but more of it grows with the text (docs/EXPERIMENTS.md).
 const SEGMENT_LEN: usize = 1280;
 
 /// What an edit changed. Outside of these ranges all lexemes and faults are the old ones, and those
@@ -123,8 +124,7 @@ fn empty_file(alloc: Global) -> Result<CodeMap, AllocError> {
 
 /// Puts new segments in the place of those from index `from` to index `to`.
 ///
-/// One in the place of one leaves the others where they are. After an error the segments are the
-/// old ones.
+/// Where one replaces one, the others aren't moved. After an error the segments are the old ones.
 fn put_segments(
     segments: &mut Vec<Segment>,
     from: usize,

@@ -102,7 +102,7 @@ fn placed_fault(exception: EvalException) -> PlacedFault
     }
 }
 
-/// Number of lexemes that a list keeps room for after those that it has.
+/// Number of lexemes that a list has room for, at most, after those that it has.
 pub const SPARE_LEXEMES: usize = 8;
 
 /// What is found in the front of a text.
@@ -121,7 +121,7 @@ pub struct Front {
 }
 
 impl Front {
-    /// The front before the first item. About `likely_count` lexemes will come.
+    /// The front before the first item, with room for `likely_count` lexemes and some more.
     pub fn new(alloc: Global, least_len: usize, likely_count: usize) -> Result<Front, AllocError>
         ensures { IfOk result (λ front. (text : Text) → IsFront text [] front) }
     {

@@ -88,10 +88,10 @@ fn last_newline(lexemes: &[PlacedToken]) -> usize
     lexemes.len()
 }
 
-/// Number of bytes whose LFs are counted in a `u8`: so the compiler counts 16 bytes at a time.
+/// Number of bytes whose LFs are counted in a `u8`, which lets the compiler take 16 at a time.
 const COUNTED_AT_ONCE: usize = 128;
 
-/// Number of LF among less than 256 bytes.
+/// Number of LF among fewer than 256 bytes.
 fn short_newline_count(bytes: &[u8]) -> u8
     requires { length bytes.now < 2 ^ 8 }
     ensures { result ≡ count_by is_lf bytes.now }
@@ -192,8 +192,8 @@ fn whole_segment(
 /// Lexes the first segment of a text, which ends where the text can be cut, or with the text.
 ///
 /// The text is the document's last, or other segments follow it. Where none can follow it, there is
-/// no segment: then it is to be lexed with more text. `likely_count` is about how many lexemes the
-/// segment will have.
+/// no segment: then it is to be lexed with more text. At first there is room for `likely_count`
+/// lexemes and some more.
 pub fn lex_segment(
     alloc: Global,
     file: &CodeMap,

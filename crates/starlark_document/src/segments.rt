@@ -76,8 +76,7 @@ fn texts_len(segments: &[Segment]) -> usize
     len
 }
 
-/// A segment at or before the one that holds byte `at`, and less than `SEARCH_STEP` before it where
-/// there is one.
+/// A segment at or before the one that holds byte `at`, from which a search goes on one by one.
 fn step_before(segments: &[Segment], at: usize) -> SegmentPlace
     requires some { 0 < length segments.now }
     requires lens { HaveLens segments.now }
@@ -88,7 +87,7 @@ fn step_before(segments: &[Segment], at: usize) -> SegmentPlace
     let mut index = 0;
     let mut left = at;
     while index + SEARCH_STEP < segments.len() {
-        // No sum waits for the one before it: a running offset would make one chain of all.
+        // Measured: with the offset as the start of the sum, each addition waits for the one before.
         let len = texts_len(&segments[index..index + SEARCH_STEP]);
         if left < len {
             break;
