@@ -77,7 +77,7 @@ no_faults (Refused fault ∷ more) all = cc
 
 -- the segment of a whole text that is the last of a document
 pub whole_last : (text : Text) (front : Front) (segment : Segment) → IsFront text (all_items text) front
-    → text_in segment ≡ text → segment.len ≡ length text → segment.lines ≡ count_by is_lf text → segment.content.value.lexemes ≡ front.lexemes → segment.content.value.faults ≡ front.faults
+    → text_in segment ≡ text → segment.len ≡ length text → segment.lines ≡ count_by is_lf text → segment.content.value.lexemes.items ≡ front.lexemes.items → segment.content.value.faults ≡ front.faults
     → IsFirstSegment text true segment
 whole_last text front segment is same len lines lexemes faults = record {
   within = omega (arith, len);
@@ -97,7 +97,7 @@ whole_last text front segment is same len lines lexemes faults = record {
 -- the segment of a whole text that others follow
 pub whole_open : (text : Text) (front rest : Front) (segment : Segment) → IsFront text (all_items text) front → is_closed text ≡ true
     → map lexeme_view rest.lexemes.items ≡ without_newline (map lexeme_view front.lexemes.items) → rest.faults ≡ front.faults
-    → text_in segment ≡ text → segment.len ≡ length text → segment.lines ≡ count_by is_lf text → segment.content.value.lexemes ≡ rest.lexemes → segment.content.value.faults ≡ rest.faults
+    → text_in segment ≡ text → segment.len ≡ length text → segment.lines ≡ count_by is_lf text → segment.content.value.lexemes.items ≡ rest.lexemes.items → segment.content.value.faults ≡ rest.faults
     → IsFirstSegment text false segment
 whole_open text front rest segment is closed taken kept same len lines lexemes faults = record {
   within = omega (arith, len);
@@ -120,7 +120,7 @@ whole_open text front rest segment is closed taken kept same len lines lexemes f
 -- the segment of a text up to where it can be cut, before an item that isn't a `Dedent`
 pub cut_first : (text : Text) (is_last : Bool) (items : List LexerItem) (item : LexerItem) (more : List LexerItem) (front : Front) (segment : Segment)
     → all_items text ≡ items ++ (item ∷ more) → IsFront text items front → front.is_cut ≡ true → is_dedent_item item ≡ false
-    → text_in segment ≡ take front.line_end text → segment.len ≡ front.line_end → segment.lines ≡ count_by is_lf (take front.line_end text) → segment.content.value.lexemes ≡ front.lexemes → segment.content.value.faults ≡ front.faults
+    → text_in segment ≡ take front.line_end text → segment.len ≡ front.line_end → segment.lines ≡ count_by is_lf (take front.line_end text) → segment.content.value.lexemes.items ≡ front.lexemes.items → segment.content.value.faults ≡ front.faults
     → IsFirstSegment text is_last segment
 cut_first text is_last items item more front segment all is is_cut other same len lines lexemes faults =
     let ends = is.cut is_cut in

@@ -100,6 +100,23 @@ pub text_of-part : (segments : List Segment) (from count : ℕ)
 text_of-part segments from count =
     text_of-split segments from ∙ ap (λ (text : List ℕ). text_of (take from segments) ++ text) (text_of-split (drop from segments) count)
 
+-- the text of some of the segments is no longer than that of all
+pub part_within : (segments : List Segment) (from to : ℕ) → from ≤ to
+    → length (text_of (take from segments)) + length (text_of (take (to - from) (drop from segments))) ≤ length (text_of segments)
+part_within segments from to order =
+    omega (
+      arith,
+      ap length (text_of-part segments from (to - from)),
+      length-append (text_of (take from segments)) (text_of (take (to - from) (drop from segments)) ++ text_of (drop (to - from) (drop from segments))),
+      length-append (text_of (take (to - from) (drop from segments))) (text_of (drop (to - from) (drop from segments))),
+    )
+
+-- where the segments up to an index end
+pub part_end : (segments : List Segment) (from to : ℕ) → from ≤ to
+    → length (text_of (take to segments)) ≡ length (text_of (take from segments)) + length (text_of (take (to - from) (drop from segments)))
+part_end segments from to order =
+    ap length (text_of-between segments from to order) ∙ length-append (text_of (take from segments)) (text_of (take (to - from) (drop from segments)))
+
 -- texts of segments are UTF-8
 pub IsUtf8-text_of : (segments : List Segment) → IsUtf8 (text_of segments)
 IsUtf8-text_of [] = IsUtf8-nil

@@ -5,8 +5,9 @@ use Rattle.std.specs.Str.{IsCharBoundary}
 use Rattle.starlark_document.proofs.Boundaries.{IsCharBoundary-in_own, range_in_own}
 use Rattle.starlark_document.proofs.Places.{HaveLens-laid, part_reaches, text_of-part}
 use Rattle.starlark_document.specs.Documents.{IsRange}
-use Rattle.starlark_document.specs.Inner.Parts.{IsPlaceIn}
+use Rattle.starlark_document.specs.Inner.Parts.{IsPlaceIn, IsRangeIn}
 use Rattle.starlark_document.specs.Inner.Segments.{AreLaid, HaveLens, text_of}
+use Rattle.starlark_document.specs.declared.parts.SegmentRange.{SegmentRange}
 use Rattle.starlark_document.specs.declared.segments.Segment.{Segment}
 use Rattle.starlark_document.specs.declared.segments.SegmentPlace.{SegmentPlace}
 use Rattle.starlark_grammar.specs.Words.{Text}
@@ -23,32 +24,26 @@ pub record IsHeld (segments : List Segment) (first last : SegmentPlace) (whole t
   pub reach : to ≤ length (text_of segments) → (segment : Segment) → slice_get segments last.index ≡ Some segment → to ≤ last.begin + segment.len
   pub text_is : text ≡ text_of (take (last.index + 1 - first.index) (drop first.index segments))
 
-pub held_of : (segments firsts lasts texts : List Segment) (first last : SegmentPlace) (whole text appended empty : Text) (from to : ℕ) → AreLaid true segments
-    → text_of segments ≡ whole → IsRange whole from to
-    → firsts ≡ segments → IsPlaceIn firsts first → first.begin ≤ from
-    → lasts ≡ segments → IsPlaceIn lasts last → first.index ≤ last.index
-    → (to ≤ length (text_of lasts) → (segment : Segment) → slice_get lasts last.index ≡ Some segment → to ≤ last.begin + segment.len)
-    → texts ≡ segments → empty ≡ [] → appended ≡ empty ++ text_of (take (last.index + 1 - first.index) (drop first.index texts)) → text ≡ appended
-    → IsHeld segments first last whole text from to
-held_of segments firsts lasts texts first last whole text appended empty from to laid whole_is range same_firsts is_first before same_lasts is_last order reach same_texts is_empty added text_is =
+pub held_of : (segments found texts : List Segment) (range : SegmentRange) (whole text appended empty : Text) (from to : ℕ) → AreLaid true segments
+    → text_of segments ≡ whole → found ≡ segments → IsRangeIn found from to range
+    → texts ≡ segments → empty ≡ [] → appended ≡ empty ++ text_of (take (range.last.index + 1 - range.first.index) (drop range.first.index texts)) → text ≡ appended
+    → IsHeld segments range.first range.last whole text from to
+held_of segments found texts range whole text appended empty from to laid whole_is same_found is_found same_texts is_empty added text_is =
+    let is : IsRangeIn segments from to range = subst (λ (xs : List Segment). IsRangeIn xs from to range) same_found is_found in
     record {
       lens = HaveLens-laid true segments laid;
       whole_is = whole_is;
-      range = range;
-      is_first = subst (λ (xs : List Segment). IsPlaceIn xs first) same_firsts is_first;
-      is_last = subst (λ (xs : List Segment). IsPlaceIn xs last) same_lasts is_last;
-      order = order;
-      before = before;
-      reach =
-          subst
-          (λ (xs : List Segment). to ≤ length (text_of xs) → (segment : Segment) → slice_get xs last.index ≡ Some segment → to ≤ last.begin + segment.len)
-          same_lasts
-          reach;
+      range = subst (λ (t : Text). IsRange t from to) whole_is is.is_range;
+      is_first = is.first;
+      is_last = is.last;
+      order = is.order;
+      before = is.after_first;
+      reach = λ within. is.last_reach;
       text_is =
           text_is
           ∙ added
-          ∙ ap (λ (xs : Text). xs ++ text_of (take (last.index + 1 - first.index) (drop first.index texts))) is_empty
-          ∙ ap (λ (xs : List Segment). text_of (take (last.index + 1 - first.index) (drop first.index xs))) same_texts;
+          ∙ ap (λ (xs : Text). xs ++ text_of (take (range.last.index + 1 - range.first.index) (drop range.first.index texts))) is_empty
+          ∙ ap (λ (xs : List Segment). text_of (take (range.last.index + 1 - range.first.index) (drop range.first.index xs))) same_texts;
     }
 
 held_end : (segments : List Segment) (first last : SegmentPlace) (whole text : Text) (from to : ℕ) → IsHeld segments first last whole text from to

@@ -3,7 +3,7 @@ use Rattle.std.proofs.Common.{◌≡◌, ◌≤◌, ◌<◌, ◌+◌, ◌-◌, �
 use Rattle.std.specs.Prelude.{◌⊎◌, IsSome, nat_eq, string_bytes}
 use Rattle.std.specs.Str.{IsCharBoundary, IsUtf8}
 use Rattle.std.proofs.lemmas.Str.{IsCharBoundary-from_take, IsUtf8-append, IsUtf8-had, IsUtf8-nil}
-use Rattle.std.proofs.lemmas.List.{drop-append-le, drop-drop, drop_all, get_or-append_right, get_or_append_left, take-append-le}
+use Rattle.std.proofs.lemmas.List.{drop-append-le, drop-drop, drop_all, get_or-append_right, get_or_append_left, set_split, take-append-le}
 use Rattle.std.proofs.lemmas.Option.{slice_get_read}
 use Rattle.std.proofs.lemmas.Bool.{eqb-true, false_from_ne_true}
 use Rattle.std.proofs.lemmas.Iterator.{items_from_drains}
@@ -12,7 +12,7 @@ use Rattle.std.proofs.lemmas.List.{map-id}
 use Rattle.std.specs.Iterator.{Drains}
 use Rattle.std.specs.declared.vec.IntoIter.{IntoIter}
 use Rattle.std.specs.Vec.Iter.{into_iter_items, into_iter_len, into_iter_steps}
-use Rattle.std.specs.List.{slice_get, slice_range, splice}
+use Rattle.std.specs.List.{slice_get, slice_range, slice_set, splice}
 use Rattle.std.proofs.Math.Seq.{drop-append-add, drop-append_seam, take-append-add, take-append_seam}
 use Rattle.starlark_document.proofs.Laid.{first_taken, follows_first, is_first_after, laid_append, laid_around, laid_at, laid_first, laid_head, len_at, open_append, take_one, text_append, text_at, text_split}
 use Rattle.starlark_document.proofs.Outside.{faults_outside, lexemes_outside}
@@ -187,6 +187,21 @@ touched segments from to inserted first last x y part from_here to_here order at
         ∙ ap (λ (t : Text). (text_of (take first.index segments) ++ take (from - first.begin) (text_in x)) ++ (inserted ++ t)) (back_here segments last y to to_here)
         ∙ regroup (text_of (take first.index segments)) (take (from - first.begin) (text_in x)) inserted (drop (to - last.begin) (text_in y)) (text_of (drop (last.index + 1) segments))
         ∙ ap (λ (t : Text). text_of (take first.index segments) ++ (t ++ text_of (drop (last.index + 1) segments))) (sym text)
+
+-- One segment in the place of another
+
+only_one : (xs : List Segment) (x : Segment) → length xs ≡ 1 → x ≡ get_or xs 0 x → xs ≡ x ∷ []
+only_one [] x one is = absurd (omega (arith, one))
+only_one (y ∷ []) x one is = ap (λ (z : Segment). z ∷ []) (sym is)
+only_one (y ∷ (z ∷ more)) x one is = absurd (omega (arith, one))
+
+pub spliced_one : (segments news : List Segment) (from to : ℕ) (x : Segment) → to - from ≡ 1 → from ≤ to → to ≤ length segments → length news ≡ 1 → x ≡ get_or news 0 x
+    → slice_set segments from x ≡ splice segments from to news
+spliced_one segments news from to x next order within one is =
+    let after : suc from ≡ to = omega (arith, next, order) in
+    set_split segments from x (omega (arith, next, order, within))
+    ∙ ap (λ (n : ℕ). take from segments ++ (x ∷ drop n segments)) after
+    ∙ ap (λ (xs : List Segment). take from segments ++ (xs ++ drop to segments)) (sym (only_one news x one is))
 
 -- What is lexed of a part
 

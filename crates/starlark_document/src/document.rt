@@ -2,7 +2,7 @@
 
 ghost use Rattle.std.specs.Prelude.{◌≡◌, ◌≤◌, ◌<◌, ◌^◌, ◌↔◌, ◌==◌, Err, IfErr, IfOk, IfSome, IsNone, IsTrue, OnErr, OnOk, Some, drop, length, map, slice_range, string_bytes, true, ℕ};
 ghost use Rattle.std.specs.Io.KnownBytes.{Appends};
-ghost use Rattle.std.specs.List.{prefix_len};
+ghost use Rattle.std.specs.List.{prefix_len, splice};
 ghost use Rattle.std.specs.Str.{IsCharBoundary};
 ghost use Rattle.starlark_base.specs.Lines.{line_count};
 ghost use Rattle.starlark_base.specs.Refusals.{IsRefused};
@@ -13,7 +13,10 @@ ghost use Rattle.starlark_document.specs.Places.{StandsAt, place_of};
 ghost use Rattle.starlark_grammar.specs.Words.{Text};
 
 use crate::line_places::{Place, newlines_in, offset_in_segments, place_in};
-use crate::parts::{LexedPart, Part, append_texts, end_at, lex_part, part_of_edit, write_texts};
+use crate::parts::{
+    LexedPart, Part, SegmentRange, append_texts, is_boundary_in, lex_part, part_of_edit, range_in,
+    write_texts,
+};
 use crate::segments::{Faults, Lexemes, Segment, SegmentPlace, passed_len, segment_at};
 use starlark_syntax::codemap::{CodeMap, CodeMapId, OrMemory, SourceTooLong};
 use std::alloc::{AllocError, Global};
@@ -49,7 +52,8 @@ impl Model for Document {
 }
 
 /// The least length of a segment in bytes, unless it is the only one.
-const SEGMENT_LEN: usize = 2048;
+// Measured: with less an edit is cheaper, but more of it grows with the text (docs/EXPERIMENTS.md).
+const SEGMENT_LEN: usize = 1280;
 
 /// What an edit changed. Outside of these ranges all lexemes and faults are the old ones, and those
 /// after them are moved.
@@ -118,6 +122,28 @@ fn empty_file(alloc: Global) -> Result<CodeMap, AllocError> {
     CodeMap::new(alloc, CodeMapId::EMPTY, name, String::new(alloc)).map_err(|_| AllocError)
 }
 
+/// Puts new segments in the place of those from index `from` to index `to`.
+///
+/// Where one replaces one, the others aren't moved. After an error the segments are the old ones.
+fn put_segments(
+    segments: &mut Vec<Segment>,
+    from: usize,
+    to: usize,
+    mut new: Vec<Segment>,
+) -> Result<(), AllocError>
+    requires order { from ≤ to }
+    requires within { to ≤ length segments.old.items }
+    ensures items { OnOk result (segments.new.items ≡ splice segments.old.items from to new.items) }
+    ensures refused { OnErr result (segments.new.items ≡ segments.old.items) }
+{
+    if to - from == 1 && new.len() == 1 {
+        segments[from] = new.swap_remove(0);
+        return Ok(());
+    }
+    segments.splice(from..to, new)?;
+    Ok(())
+}
+
 /// Puts the segments of a part that was lexed anew in the place of the old ones, and says what
 /// changed.
 ///
@@ -149,7 +175,7 @@ fn replace(
         starts: lexed.cost.starts,
         reads: lexed.cost.reads,
     };
-    segments.splice(first.index..lexed.end, lexed.segments)?;
+    put_segments(segments, first.index, lexed.end, lexed.segments)?;
     Ok(change)
 }
 
@@ -212,16 +238,7 @@ impl Document {
     pub fn is_char_boundary(&self, at: usize) -> bool
         ensures { IsTrue result ↔ IsCharBoundary self.now at }
     {
-        let place = segment_at(&self.segments, at);
-        let text = self.segments[place.index].content.text.as_str();
-        text.is_char_boundary(at - place.begin)
-    }
-
-    /// Whether two offsets lie in the text, in order, and at character boundaries.
-    fn has_range(&self, from: usize, to: usize) -> bool
-        ensures { IsTrue result ↔ IsRange self.now from to }
-    {
-        from <= to && self.is_char_boundary(from) && self.is_char_boundary(to)
+        is_boundary_in(&self.segments, segment_at(&self.segments, at), at)
     }
 
     /// Replaces the bytes from `from` to `to`, and lexes what the edit touches.
@@ -235,13 +252,13 @@ impl Document {
         ensures range { (result ≡ Err EditError.BadRange) ↔ (IsRange self.old from to → ⊥) }
         ensures too_long { (result ≡ Err EditError.TooLong) ↔ (IsRange self.old from to × (2 ^ 32 ≤ length (edited from to text.now self.old))) }
     {
-        if !self.has_range(from, to) {
+        let Some(range) = range_in(&self.segments, from, to) else {
             return Err(EditError::BadRange);
-        }
+        };
         if text.len() > u32::MAX as usize - (self.len - (to - from)) {
             return Err(EditError::TooLong);
         }
-        let part = part_of_edit(self.alloc, &self.segments, from, to, text)?;
+        let part = part_of_edit(self.alloc, &self.segments, range, from, to, text)?;
         let first = part.first;
         let lexed = lex_part(self.alloc, &self.file, &self.segments, part, self.least_len)?;
         let len = self.len - (to - from) + text.len();
@@ -321,11 +338,9 @@ impl Document {
         ensures text { IfOk result (λ found. IfSome found (λ text. string_bytes text ≡ slice_range self.now from to)) }
         ensures none { IfOk result (λ found. IsNone found ↔ (IsRange self.now from to → ⊥)) }
     {
-        if !self.has_range(from, to) {
+        let Some(SegmentRange { first, last }) = range_in(&self.segments, from, to) else {
             return Ok(None);
-        }
-        let first = segment_at(&self.segments, from);
-        let last = end_at(&self.segments, first, to);
+        };
         let mut text = String::new(self.alloc);
         append_texts(&mut text, &self.segments[first.index..last.index + 1])?;
         let front = from - first.begin;

@@ -102,6 +102,9 @@ fn placed_fault(exception: EvalException) -> PlacedFault
     }
 }
 
+/// Number of lexemes that a list has room for, at most, after those that it has.
+pub const SPARE_LEXEMES: usize = 8;
+
 /// What is found in the front of a text.
 #[derive(Drop)]
 pub struct Front {
@@ -118,17 +121,17 @@ pub struct Front {
 }
 
 impl Front {
-    /// The front before the first item.
-    pub fn new(alloc: Global, least_len: usize) -> Front
-        ensures { (text : Text) → IsFront text [] result }
+    /// The front before the first item, with room for `likely_count` lexemes and some more.
+    pub fn new(alloc: Global, least_len: usize, likely_count: usize) -> Result<Front, AllocError>
+        ensures { IfOk result (λ front. (text : Text) → IsFront text [] front) }
     {
-        Front {
-            lexemes: Vec::new(alloc),
+        Ok(Front {
+            lexemes: Vec::with_capacity(alloc, likely_count.saturating_add(SPARE_LEXEMES))?,
             faults: Vec::new(alloc),
             line_end: 0,
             is_cut: false,
             least_len,
-        }
+        })
     }
 
     /// Takes the next lexeme.

@@ -9,7 +9,7 @@ ghost use Rattle.starlark_base.specs.Places.{is_lf};
 ghost use Rattle.starlark_syntax.specs.RecoveringLexer.{all_items};
 ghost use Rattle.starlark_token.specs.Lexemes.{lexeme_view};
 
-use crate::fronts::{Front, is_newline};
+use crate::fronts::{Front, SPARE_LEXEMES, is_newline};
 use crate::segments::{Content, PlacedToken, Segment};
 use starlark_syntax::codemap::CodeMap;
 use starlark_syntax::dialect::Dialect;
@@ -88,14 +88,35 @@ fn last_newline(lexemes: &[PlacedToken]) -> usize
     lexemes.len()
 }
 
+/// Number of bytes whose LFs are counted in a `u8`, which lets the compiler take 16 at a time.
+const COUNTED_AT_ONCE: usize = 128;
+
+/// Number of LF among fewer than 256 bytes.
+fn short_newline_count(bytes: &[u8]) -> u8
+    requires { length bytes.now < 2 ^ 8 }
+    ensures { result ≡ count_by is_lf bytes.now }
+{
+    let mut count = 0;
+    for byte in bytes {
+        if *byte == b'\n' {
+            count += 1;
+        }
+    }
+    count
+}
+
 /// Number of LF in a text.
 fn newline_count(text: &str) -> usize
     ensures { result ≡ count_by is_lf text.now }
 {
-    text.as_bytes()
-        .iter()
-        .filter(|byte| **byte == b'\n')
-        .count()
+    let bytes = text.as_bytes();
+    let mut count = 0;
+    let mut at = 0;
+    while at + COUNTED_AT_ONCE <= bytes.len() {
+        count += short_newline_count(&bytes[at..at + COUNTED_AT_ONCE]) as usize;
+        at += COUNTED_AT_ONCE;
+    }
+    count + short_newline_count(&bytes[at..]) as usize
 }
 
 /// A segment of a text, with what was found in it.
@@ -103,12 +124,14 @@ fn segment(alloc: Global, text: &str, front: Front) -> Result<Segment, AllocErro
     ensures text { IfOk result (λ segment. text_in segment ≡ text.now) }
     ensures len { IfOk result (λ segment. segment.len ≡ length text.now) }
     ensures lines { IfOk result (λ segment. segment.lines ≡ count_by is_lf text.now) }
-    ensures lexemes { IfOk result (λ segment. segment.content.value.lexemes ≡ front.lexemes) }
+    ensures lexemes { IfOk result (λ segment. segment.content.value.lexemes.items ≡ front.lexemes.items) }
     ensures faults { IfOk result (λ segment. segment.content.value.faults ≡ front.faults) }
 {
+    let mut lexemes = front.lexemes;
+    lexemes.shrink_to(lexemes.len().saturating_add(SPARE_LEXEMES));
     let content = Content {
         text: String::from_str(alloc, text)?,
-        lexemes: front.lexemes,
+        lexemes,
         faults: front.faults,
     };
     Ok(Segment {
@@ -125,7 +148,7 @@ fn cut_segment(alloc: Global, text: &str, front: Front) -> Result<Segment, Alloc
     ensures text { IfOk result (λ segment. text_in segment ≡ take front.line_end text.now) }
     ensures len { IfOk result (λ segment. segment.len ≡ front.line_end) }
     ensures lines { IfOk result (λ segment. segment.lines ≡ count_by is_lf (take front.line_end text.now)) }
-    ensures lexemes { IfOk result (λ segment. segment.content.value.lexemes ≡ front.lexemes) }
+    ensures lexemes { IfOk result (λ segment. segment.content.value.lexemes.items ≡ front.lexemes.items) }
     ensures faults { IfOk result (λ segment. segment.content.value.faults ≡ front.faults) }
 {
     let len = front.line_end;
@@ -169,13 +192,15 @@ fn whole_segment(
 /// Lexes the first segment of a text, which ends where the text can be cut, or with the text.
 ///
 /// The text is the document's last, or other segments follow it. Where none can follow it, there is
-/// no segment: then it is to be lexed with more text.
+/// no segment: then it is to be lexed with more text. At first there is room for `likely_count`
+/// lexemes and some more.
 pub fn lex_segment(
     alloc: Global,
     file: &CodeMap,
     text: &str,
     is_last: bool,
     least_len: usize,
+    likely_count: usize,
 ) -> Result<Attempt, AllocError>
     requires fits { length text.now < 2 ^ 32 }
     ensures segment { IfOk result (λ found. IfSome found.segment (IsFirstSegment text.now is_last)) }
@@ -185,7 +210,7 @@ pub fn lex_segment(
 {
     let lexer = RecoveringLexer::new(alloc, text, &Dialect::Standard, file.dupe()?);
     let mut lexer = lexer.map_err(|_| AllocError)?;
-    let mut front = Front::new(alloc, least_len);
+    let mut front = Front::new(alloc, least_len, likely_count)?;
     while let Some(item) = lexer.next() {
         if front.ends_before(&item)? {
             return Ok(Attempt {

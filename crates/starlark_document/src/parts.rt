@@ -1,10 +1,11 @@
 //! Parts of a document: the segments that an edit touches, with their text after it.
 
-ghost use Rattle.std.specs.Prelude.{◌≡◌, ◌≤◌, ◌<◌, ◌+◌, ◌++◌, ◌^◌, Some, IfOk, OnOk, length, string_bytes, true};
+ghost use Rattle.std.specs.Prelude.{◌≡◌, ◌≤◌, ◌<◌, ◌+◌, ◌++◌, ◌^◌, ◌↔◌, Some, IfOk, IfSome, IsNone, IsTrue, OnOk, length, string_bytes, true};
 ghost use Rattle.std.specs.Io.KnownBytes.{Appends};
 ghost use Rattle.std.specs.List.{slice_get};
+ghost use Rattle.std.specs.Str.{IsCharBoundary};
 ghost use Rattle.starlark_document.specs.Documents.{IsRange, edited};
-ghost use Rattle.starlark_document.specs.Inner.Parts.{IsLexedPart, IsPart, IsPlaceIn, IsReplaced};
+ghost use Rattle.starlark_document.specs.Inner.Parts.{IsLexedPart, IsPart, IsPlaceIn, IsRangeIn, IsReplaced};
 ghost use Rattle.starlark_document.specs.Inner.Segments.{AreLaid, HaveLens, text_of};
 ghost use Rattle.starlark_grammar.specs.Words.{Text};
 
@@ -15,6 +16,15 @@ use starlark_syntax::codemap::CodeMap;
 use std::alloc::{AllocError, Global};
 use std::io;
 use std::io::Write;
+
+/// The segments that hold the ends of a range of a text.
+#[derive(Clone, Copy)]
+pub struct SegmentRange {
+    /// The segment that the range begins in.
+    pub first: SegmentPlace,
+    /// The segment that it ends in, or with.
+    pub last: SegmentPlace,
+}
 
 /// A part of a document whose text changes: the segments that it replaces, and its new text.
 #[derive(Drop)]
@@ -59,27 +69,60 @@ pub fn end_at(segments: &[Segment], from: SegmentPlace, to: usize) -> SegmentPla
     place
 }
 
-/// The part that an edit touches: the segments from that of byte `from` to that of byte `to`.
+/// Whether an offset is a character boundary of the text of segments, by the one that holds it.
+pub fn is_boundary_in(segments: &[Segment], place: SegmentPlace, at: usize) -> bool
+    requires laid { AreLaid true segments.now }
+    requires place { IsPlaceIn segments.now place }
+    requires before { place.begin ≤ at }
+    requires reach { at ≤ length (text_of segments.now) → (segment : Segment) → slice_get segments.now place.index ≡ Some segment → at ≤ place.begin + segment.len }
+    ensures { IsTrue result ↔ IsCharBoundary (text_of segments.now) at }
+{
+    let text = segments[place.index].content.text.as_str();
+    text.is_char_boundary(at - place.begin)
+}
+
+/// The segments that hold the ends of a range; `None` where the offsets aren't in order, or aren't
+/// character boundaries of the text.
+pub fn range_in(segments: &[Segment], from: usize, to: usize) -> Option<SegmentRange>
+    requires laid { AreLaid true segments.now }
+    requires fits { length (text_of segments.now) < 2 ^ 32 }
+    ensures some { IfSome result (IsRangeIn segments.now from to) }
+    ensures none { IsNone result ↔ (IsRange (text_of segments.now) from to → ⊥) }
+{
+    if to < from {
+        return None;
+    }
+    let first = segment_at(segments, from);
+    let last = end_at(segments, first, to);
+    if !is_boundary_in(segments, first, from) || !is_boundary_in(segments, last, to) {
+        return None;
+    }
+    Some(SegmentRange { first, last })
+}
+
+/// The part that an edit touches: the segments from that of the range's start to that of its end.
 fn touched_part(
     alloc: Global,
     segments: &[Segment],
+    range: SegmentRange,
     from: usize,
     to: usize,
     inserted: &str,
 ) -> Result<Part, AllocError>
     requires laid { AreLaid true segments.now }
     requires fits { length (text_of segments.now) < 2 ^ 32 }
-    requires range { IsRange (text_of segments.now) from to }
+    requires range { IsRangeIn segments.now from to range }
     ensures part { IfOk result (IsReplaced segments.now (edited from to inserted.now (text_of segments.now))) }
     ensures before { IfOk result (λ part. part.first.begin ≤ from) }
     ensures some { IfOk result (λ part. part.first.index < part.end) }
 {
-    let first = segment_at(segments, from);
-    let last = end_at(segments, first, to);
-    let mut text = String::new(alloc);
-    text.push_str(&segments[first.index].content.text.as_str()[..from - first.begin])?;
+    let SegmentRange { first, last } = range;
+    let front = &segments[first.index].content.text.as_str()[..from - first.begin];
+    let rest = &segments[last.index].content.text.as_str()[to - last.begin..];
+    let mut text = String::with_capacity(alloc, front.len() + inserted.len() + rest.len())?;
+    text.push_str(front)?;
     text.push_str(inserted)?;
-    text.push_str(&segments[last.index].content.text.as_str()[to - last.begin..])?;
+    text.push_str(rest)?;
     Ok(Part {
         first,
         end: last.index + 1,
@@ -115,17 +158,18 @@ fn with_earlier(alloc: Global, segments: &[Segment], part: Part) -> Result<Part,
 pub fn part_of_edit(
     alloc: Global,
     segments: &[Segment],
+    range: SegmentRange,
     from: usize,
     to: usize,
     inserted: &str,
 ) -> Result<Part, AllocError>
     requires laid { AreLaid true segments.now }
     requires fits { length (text_of segments.now) < 2 ^ 32 }
-    requires range { IsRange (text_of segments.now) from to }
+    requires range { IsRangeIn segments.now from to range }
     ensures part { IfOk result (IsPart segments.now (edited from to inserted.now (text_of segments.now))) }
     ensures some { IfOk result (λ part. part.first.index < part.end) }
 {
-    let part = touched_part(alloc, segments, from, to, inserted)?;
+    let part = touched_part(alloc, segments, range, from, to, inserted)?;
     with_earlier(alloc, segments, part)
 }
 
@@ -149,6 +193,14 @@ pub fn write_texts<W: Write>(segments: &[Segment], writer: &mut W) -> io::Result
     Ok(())
 }
 
+/// Number of lexemes of the segment at an index; 0 if there is none.
+fn lexeme_count(segments: &[Segment], index: usize) -> usize {
+    match segments.get(index) {
+        Some(segment) => segment.content.lexemes.len(),
+        None => 0,
+    }
+}
+
 /// Lexes a part segment by segment. Where its text isn't closed, it takes in the segments after it:
 /// one, two, four, and so on. Segments get at least `least_len` bytes where they can.
 pub fn lex_part(
@@ -169,15 +221,17 @@ pub fn lex_part(
         cost: LexingCost::none(),
     };
     let mut more = 1;
+    let mut likely_count = lexeme_count(segments, part.first.index);
     loop {
         let is_last = lexed.end == segments.len();
         let rest = &text.as_str()[lexed.len..];
-        let attempt = lex_segment(alloc, file, rest, is_last, least_len)?;
+        let attempt = lex_segment(alloc, file, rest, is_last, least_len, likely_count)?;
         lexed.cost = lexed.cost.and(attempt.cost);
         let found = attempt.segment;
         match found {
             Some(segment) => {
                 lexed.len += segment.len;
+                likely_count = segment.content.lexemes.len();
                 lexed.segments.push(segment)?;
                 if lexed.len == text.len() {
                     return Ok(lexed);

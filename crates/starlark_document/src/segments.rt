@@ -60,6 +60,47 @@ pub struct SegmentPlace {
     pub begin: usize,
 }
 
+/// Number of segments that a search passes at once.
+const SEARCH_STEP: usize = 32;
+
+/// Length of the texts of segments.
+fn texts_len(segments: &[Segment]) -> usize
+    requires lens { HaveLens segments.now }
+    requires fits { length (text_of segments.now) < 2 ^ 32 }
+    ensures { result ≡ length (text_of segments.now) }
+{
+    let mut len = 0;
+    for segment in segments {
+        len += segment.len;
+    }
+    len
+}
+
+/// A segment at or before the one that holds byte `at`, from which a search goes on one by one.
+fn step_before(segments: &[Segment], at: usize) -> SegmentPlace
+    requires some { 0 < length segments.now }
+    requires lens { HaveLens segments.now }
+    requires fits { length (text_of segments.now) < 2 ^ 32 }
+    ensures place { IsPlaceIn segments.now result }
+    ensures before { result.begin ≤ at }
+{
+    let mut index = 0;
+    let mut left = at;
+    while index + SEARCH_STEP < segments.len() {
+        // Measured: with the offset as the start of the sum, each addition waits for the one before.
+        let len = texts_len(&segments[index..index + SEARCH_STEP]);
+        if left < len {
+            break;
+        }
+        left -= len;
+        index += SEARCH_STEP;
+    }
+    SegmentPlace {
+        index,
+        begin: at - left,
+    }
+}
+
 /// The segment that holds byte `at`, or the last one.
 pub fn segment_at(segments: &[Segment], at: usize) -> SegmentPlace
     requires some { 0 < length segments.now }
@@ -70,7 +111,7 @@ pub fn segment_at(segments: &[Segment], at: usize) -> SegmentPlace
     ensures reach { at ≤ length (text_of segments.now) → (segment : Segment) → slice_get segments.now result.index ≡ Some segment → at ≤ result.begin + segment.len }
     ensures inner { result.index + 1 < length segments.now → (segment : Segment) → slice_get segments.now result.index ≡ Some segment → at < result.begin + segment.len }
 {
-    let mut place = SegmentPlace { index: 0, begin: 0 };
+    let mut place = step_before(segments, at);
     while place.index + 1 < segments.len() && place.begin + segments[place.index].len <= at {
         place.begin += segments[place.index].len;
         place.index += 1;

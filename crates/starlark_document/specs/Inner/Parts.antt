@@ -1,9 +1,12 @@
 -- Parts of a document that an edit changes.
-use Rattle.std.specs.Prelude.{◌≡◌, ◌≤◌, ◌<◌, ◌==◌, true, List, ◌++◌, length, take, drop, string_bytes, ◌⊎◌}
+use Rattle.std.specs.Prelude.{◌≡◌, ◌≤◌, ◌<◌, ◌+◌, ◌==◌, ℕ, true, List, Some, ◌++◌, length, take, drop, string_bytes, ◌⊎◌}
+use Rattle.std.specs.List.{slice_get}
+use Rattle.starlark_document.specs.Documents.{IsRange}
 use Rattle.starlark_document.specs.Inner.Costs.{IsPaid}
 use Rattle.starlark_document.specs.Inner.Segments.{AreLaid, AreOpen, text_of}
 use Rattle.starlark_document.specs.declared.parts.LexedPart.{LexedPart}
 use Rattle.starlark_document.specs.declared.parts.Part.{Part}
+use Rattle.starlark_document.specs.declared.parts.SegmentRange.{SegmentRange}
 use Rattle.starlark_document.specs.declared.segments.Segment.{Segment}
 use Rattle.starlark_document.specs.declared.segments.SegmentPlace.{SegmentPlace}
 use Rattle.starlark_grammar.specs.Words.{Text}
@@ -13,6 +16,17 @@ use Rattle.starlark_syntax.specs.Joining.{begins_plainly}
 pub record IsPlaceIn (segments : List Segment) (place : SegmentPlace) : Type 0 where
   pub inside : place.index < length segments
   pub begin : place.begin ≡ length (text_of (take place.index segments))
+
+-- a range of the text of segments, and those that hold its ends
+pub record IsRangeIn (segments : List Segment) (from to : ℕ) (range : SegmentRange) : Type 0 where
+  pub is_range : IsRange (text_of segments) from to
+  pub first : IsPlaceIn segments range.first
+  pub last : IsPlaceIn segments range.last
+  pub order : range.first.index ≤ range.last.index
+  pub after_first : range.first.begin ≤ from
+  pub after_last : range.last.begin ≤ to
+  pub first_reach : (segment : Segment) → slice_get segments range.first.index ≡ Some segment → from ≤ range.first.begin + segment.len
+  pub last_reach : (segment : Segment) → slice_get segments range.last.index ≡ Some segment → to ≤ range.last.begin + segment.len
 
 -- Segments are replaced: what is before them, the new text, and what is after them are a text.
 pub record IsReplaced (segments : List Segment) (whole : Text) (part : Part) : Type 0 where

@@ -1,6 +1,6 @@
 use Rattle.std.proofs.Common.{◌≡◌, ◌<◌, ◌-◌, ◌+◌, ◌∙◌, sym, ap, subst, arith, refl, ℕ, length, List, true}
 use Rattle.std.specs.List.{splice}
-use Rattle.starlark_document.proofs.Splices.{drained, old_end_fits, replaced_change, replaced_laid, replaced_text}
+use Rattle.starlark_document.proofs.Splices.{old_end_fits, replaced_change, replaced_laid, replaced_text}
 use Rattle.starlark_document.specs.Inner.Segments.{AreLaid, text_of}
 use Rattle.starlark_document.specs.declared.segments.Segment.{Segment}
 use Rattle.starlark_document.specs.declared.segments.SegmentPlace.{SegmentPlace}
@@ -18,16 +18,12 @@ overflow_sub-change c =
 
 pub returns-clause-text : goal.returns-clause-text
 returns-clause-text c = λ new part parts at lexed.
-    let all = c.in_ok-splice.ensures.items in
-    let same : all.1 ≡ c.args.lexed.segments.items = drained c.args.lexed.segments.items all.0 all.1 all.2.0 (all.2.1 ∙ c.args.lexed.segments.ok.0) all.3 in
-    let is : c.splice.new.self.items ≡ splice c.args.segments.now.items c.args.first.index c.args.lexed.end c.args.lexed.segments.items = all.4 ∙ ap (λ (xs : List Segment). splice c.args.segments.now.items c.args.first.index c.args.lexed.end xs) same in
+    let is : c.put_segments.new.segments.items ≡ splice c.args.segments.now.items c.args.first.index c.args.lexed.end c.args.lexed.segments.items = c.in_ok-put_segments.ensures.items in
     ap text_of (is ∙ ap (λ (place : SegmentPlace). splice c.args.segments.now.items place.index c.args.lexed.end c.args.lexed.segments.items) (sym at)) ∙ replaced_text c.args.segments.now.items new part c.args.lexed parts lexed
 
 pub returns-clause-laid : goal.returns-clause-laid
 returns-clause-laid c =
-    let all = c.in_ok-splice.ensures.items in
-    let same : all.1 ≡ c.args.lexed.segments.items = drained c.args.lexed.segments.items all.0 all.1 all.2.0 (all.2.1 ∙ c.args.lexed.segments.ok.0) all.3 in
-    let is : c.splice.new.self.items ≡ splice c.args.segments.now.items c.args.first.index c.args.lexed.end c.args.lexed.segments.items = all.4 ∙ ap (λ (xs : List Segment). splice c.args.segments.now.items c.args.first.index c.args.lexed.end xs) same in
+    let is : c.put_segments.new.segments.items ≡ splice c.args.segments.now.items c.args.first.index c.args.lexed.end c.args.lexed.segments.items = c.in_ok-put_segments.ensures.items in
     let part = c.requires.part.1 in
     let at : part.first ≡ c.args.first = c.requires.part.3 in
     let index = ap (λ (place : SegmentPlace). place.index) at in
@@ -37,9 +33,7 @@ returns-clause-laid c =
 
 pub returns-clause-change : goal.returns-clause-change
 returns-clause-change c =
-    let all = c.in_ok-splice.ensures.items in
-    let same : all.1 ≡ c.args.lexed.segments.items = drained c.args.lexed.segments.items all.0 all.1 all.2.0 (all.2.1 ∙ c.args.lexed.segments.ok.0) all.3 in
-    let is : c.splice.new.self.items ≡ splice c.args.segments.now.items c.args.first.index c.args.lexed.end c.args.lexed.segments.items = all.4 ∙ ap (λ (xs : List Segment). splice c.args.segments.now.items c.args.first.index c.args.lexed.end xs) same in
+    let is : c.put_segments.new.segments.items ≡ splice c.args.segments.now.items c.args.first.index c.args.lexed.end c.args.lexed.segments.items = c.in_ok-put_segments.ensures.items in
     let part = c.requires.part.1 in
     let new = c.requires.part.0 in
     let at : part.first ≡ c.args.first = c.requires.part.3 in
@@ -48,5 +42,5 @@ returns-clause-change c =
     let order : part.first.index < c.args.lexed.end = omega (arith, index, c.requires.order) in
     let new_end : c.args.first.begin + c.args.lexed.len ≡ part.first.begin + c.args.lexed.len = omega (arith, begin) in
     let old_end : c.args.first.begin + c.args.lexed.len + c.args.old_len - c.args.len ≡ part.first.begin + c.args.lexed.len + length (text_of c.args.segments.now.items) - length new = omega (arith, begin, c.requires.part.5, c.requires.old_len) in
-    replaced_change c.args.segments.now.items new part c.args.lexed c.requires.part.2 c.requires.part.4 c.requires.laid order c.splice.new.self.items _
+    replaced_change c.args.segments.now.items new part c.args.lexed c.requires.part.2 c.requires.part.4 c.requires.laid order c.put_segments.new.segments.items _
     (is ∙ ap (λ (n : ℕ). splice c.args.segments.now.items n c.args.lexed.end c.args.lexed.segments.items) (sym index)) (sym begin) new_end old_end refl refl refl

@@ -1,4 +1,4 @@
-use Rattle.std.proofs.Common.{◌≡◌, ◌-◌, ◌+◌, ◌∙◌, sym, ap, subst, arith, refl, ℕ, length, List}
+use Rattle.std.proofs.Common.{rules, ◌≡◌, ◌-◌, ◌+◌, ◌∙◌, ap, subst, arith, refl, ℕ, length, List}
 use Rattle.starlark_document.proofs.Splices.{edited_len}
 use Rattle.starlark_document.specs.Documents.{IsRange, edited}
 use Rattle.starlark_document.specs.Inner.Parts.{IsLexedPart, IsPart}
@@ -11,9 +11,9 @@ replace-requires-clause-part c =
     let segments = c.self.inside.segments.items in
     let new = edited c.args.from c.args.to c.args.text.now (text_of segments) in
     let part = c.in_ok-part.part in
-    let parts : IsPart segments new part = subst (λ (xs : List Segment). IsPart xs (edited c.args.from c.args.to c.args.text.now (text_of xs)) part) c.deref.ensures.value c.in_ok-part.ensures.part in
-    let lexed : IsLexedPart segments part c.in_ok-lexed.lexed = subst (λ (xs : List Segment). IsLexedPart xs part c.in_ok-lexed.lexed) c.deref-2.ensures.value c.in_ok-lexed.ensures in
-    let range : IsRange (text_of segments) c.args.from c.args.to = subst (λ (t : List ℕ). IsRange t c.args.from c.args.to) (sym c.self.view_is) (c.has_range.ensures.0 c.if-not-has_range.false) in
+    let parts : IsPart segments new part = subst (λ (xs : List Segment). IsPart xs (edited c.args.from c.args.to c.args.text.now (text_of xs)) part) c.deref-2.ensures.value c.in_ok-part.ensures.part in
+    let lexed : IsLexedPart segments part c.in_ok-lexed.lexed = subst (λ (xs : List Segment). IsLexedPart xs part c.in_ok-lexed.lexed) c.deref-3.ensures.value c.in_ok-lexed.ensures in
+    let range : IsRange (text_of segments) c.args.from c.args.to = subst (λ (xs : List Segment). IsRange (text_of xs) c.args.from c.args.to) c.deref.ensures.value c.in-Some.ensures.some.is_range in
     let len : c.self.inside.len - (c.args.to - c.args.from) + length c.args.text.now ≡ length new = omega (arith, edited_len (text_of segments) c.args.from c.args.to c.args.text.now range, c.self.invariant.1) in
     (new, part, parts, refl, lexed, len)
 
@@ -22,9 +22,9 @@ invariant_of-self-2 c =
     let segments = c.self.inside.segments.items in
     let new = edited c.args.from c.args.to c.args.text.now (text_of segments) in
     let part = c.in_ok-part.part in
-    let parts : IsPart segments new part = subst (λ (xs : List Segment). IsPart xs (edited c.args.from c.args.to c.args.text.now (text_of xs)) part) c.deref.ensures.value c.in_ok-part.ensures.part in
-    let lexed : IsLexedPart segments part c.in_ok-lexed.lexed = subst (λ (xs : List Segment). IsLexedPart xs part c.in_ok-lexed.lexed) c.deref-2.ensures.value c.in_ok-lexed.ensures in
-    let range : IsRange (text_of segments) c.args.from c.args.to = subst (λ (t : List ℕ). IsRange t c.args.from c.args.to) (sym c.self.view_is) (c.has_range.ensures.0 c.if-not-has_range.false) in
+    let parts : IsPart segments new part = subst (λ (xs : List Segment). IsPart xs (edited c.args.from c.args.to c.args.text.now (text_of xs)) part) c.deref-2.ensures.value c.in_ok-part.ensures.part in
+    let lexed : IsLexedPart segments part c.in_ok-lexed.lexed = subst (λ (xs : List Segment). IsLexedPart xs part c.in_ok-lexed.lexed) c.deref-3.ensures.value c.in_ok-lexed.ensures in
+    let range : IsRange (text_of segments) c.args.from c.args.to = subst (λ (xs : List Segment). IsRange (text_of xs) c.args.from c.args.to) c.deref.ensures.value c.in-Some.ensures.some.is_range in
     let len : c.self.inside.len - (c.args.to - c.args.from) + length c.args.text.now ≡ length new = omega (arith, edited_len (text_of segments) c.args.from c.args.to c.args.text.now range, c.self.invariant.1) in
     let text : text_of c.replace.new.segments.items ≡ new = c.in_ok-change.ensures.text new part parts refl lexed in
     let same_len = ap length text in
@@ -35,6 +35,18 @@ returns-clause-text c =
     let segments = c.self.inside.segments.items in
     let new = edited c.args.from c.args.to c.args.text.now (text_of segments) in
     let part = c.in_ok-part.part in
-    let parts : IsPart segments new part = subst (λ (xs : List Segment). IsPart xs (edited c.args.from c.args.to c.args.text.now (text_of xs)) part) c.deref.ensures.value c.in_ok-part.ensures.part in
-    let lexed : IsLexedPart segments part c.in_ok-lexed.lexed = subst (λ (xs : List Segment). IsLexedPart xs part c.in_ok-lexed.lexed) c.deref-2.ensures.value c.in_ok-lexed.ensures in
+    let parts : IsPart segments new part = subst (λ (xs : List Segment). IsPart xs (edited c.args.from c.args.to c.args.text.now (text_of xs)) part) c.deref-2.ensures.value c.in_ok-part.ensures.part in
+    let lexed : IsLexedPart segments part c.in_ok-lexed.lexed = subst (λ (xs : List Segment). IsLexedPart xs part c.in_ok-lexed.lexed) c.deref-3.ensures.value c.in_ok-lexed.ensures in
     c.in_ok-change.ensures.text new part parts refl lexed ∙ ap (λ (t : List ℕ). edited c.args.from c.args.to c.args.text.now t) c.self.view_is
+
+pub returns-in_err-change-clause-too_long : goal.returns-in_err-change-clause-too_long
+returns-in_err-change-clause-too_long c = (
+  λ is. search (rules, is),
+  λ long. absurd (omega (arith, c.if-text-self.false, edited_len c.args.self.now c.args.from c.args.to c.args.text.now long.0, long.1, c.self.invariant.1, ap length c.self.view_is)),
+)
+
+pub returns-clause-too_long : goal.returns-clause-too_long
+returns-clause-too_long c = (
+  λ is. cc,
+  λ long. absurd (omega (arith, c.if-text-self.false, edited_len c.args.self.now c.args.from c.args.to c.args.text.now long.0, long.1, c.self.invariant.1, ap length c.self.view_is)),
+)
