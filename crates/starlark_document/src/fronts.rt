@@ -103,7 +103,7 @@ fn placed_fault(exception: EvalException) -> PlacedFault
 }
 
 /// Number of lexemes that a list has room for, at most, after those that it has.
-pub const SPARE_LEXEMES: usize = 8;
+pub const SPARE_LEXEMES: usize = 4;
 
 /// What is found in the front of a text.
 #[derive(Drop)]
