@@ -7,7 +7,7 @@ use Rattle.starlark_syntax.specs.LexedTexts.{IsReadFrom, LexedView}
 use Rattle.starlark_syntax.specs.Exceptions.{IsFaultIn}
 use Rattle.starlark_syntax.specs.Lexer.{LexerView}
 use Rattle.starlark_token.specs.Lexemes.{lexeme_view, shown_lexeme}
-use Rattle.starlark_syntax.specs.Inner.LexedTexts.{AreCuts, IsBegin, IsPart, IsTakenBack, last_newline_of, later, later_cut}
+use Rattle.starlark_syntax.specs.Inner.LexedTexts.{AreCuts, IsBegin, IsPart, IsTakenBack, last_newline_of, later, later_cut, part_view}
 use Rattle.starlark_syntax.specs.declared.cuts.Cut.{Cut}
 use Rattle.starlark_token.specs.declared.tokens.Token.{Token}
 use Rattle.starlark_syntax.proofs.LexedTexts.Edits.{begin_boundary, begin_clean, begin_few, end_cut_is, read_from, relexed}
@@ -30,9 +30,9 @@ pub exception_of-requires : goal.exception_of-requires
 exception_of-requires c =
     let begin : IsBegin c.old.inside.text.now c.old.inside.cuts.items c.args.from c.begin_of-begin.result = subst (λ (xs : List Cut). IsBegin c.old.inside.text.now xs c.args.from c.begin_of-begin.result) c.deref.ensures.value (c.begin_of-begin.ensures c.old.inside.text.now (subst (AreCuts c.old.inside.text.now) (sym c.deref.ensures.value) c.old.invariant.2)) in
     let same : take c.args.from c.old.inside.text.now ≡ take c.args.from c.args.edited.now = ap (λ (v : LexedView). take c.args.from v.text) c.old.view_is ∙ c.requires.same in
-    let part : IsPart c.set_text.new.self.code_map (drop c.begin_of-begin.result.at c.args.edited.now) c.in-Ok.part = subst (λ (t : Text). IsPart c.set_text.new.self.code_map t c.in-Ok.part) (ap (λ (v : LexerView). v.text) c.set_text.ensures.begun.view ∙ c.range_from-rest.ensures.value) c.in-Ok.ensures.part in
+    let part : IsPart c.set_text.new.self.code_map (drop c.begin_of-begin.result.at c.args.edited.now) (part_view c.in-Ok.part) = subst (λ (t : Text). IsPart c.set_text.new.self.code_map t (part_view c.in-Ok.part)) (ap (λ (v : LexerView). v.text) c.set_text.ensures.begun.view ∙ c.range_from-rest.ensures.value) (c.in-Ok.ensures.part ?) in
     let short : c.begin_of-begin.result.at + length (drop c.begin_of-begin.result.at c.args.edited.now) < 2 ^ 32 = omega (arith, length-drop c.begin_of-begin.result.at c.args.edited.now, begin.before, c.requires.new.0, c.requires.fits) in
-    let made = relexed c.set_text.new.self.code_map c.old.inside.text.now c.args.edited.now c.old.inside.lexemes.items c.old.inside.cuts.items c.args.from c.begin_of-begin.result c.in-Ok.part c.kept_of-kept.result c.in-Ok.part.has_tab c.old.invariant.3.1.lexemes c.old.invariant.2 begin same c.requires.new.0 part part.tab
+    let made = relexed c.set_text.new.self.code_map c.old.inside.text.now c.args.edited.now c.old.inside.lexemes.items c.old.inside.cuts.items c.args.from c.begin_of-begin.result (part_view c.in-Ok.part) c.kept_of-kept.result c.in-Ok.part.has_tab c.old.invariant.3.1.lexemes c.old.invariant.2 begin same c.requires.new.0 part part.tab
     c.kept_of-kept.ensures.plain
     (λ h e. c.kept_of-kept.ensures.comments h (ap (λ (xs : List (ℕ × Token × ℕ)). last_newline_of (map lexeme_view (take c.begin_of-begin.result.lexemes xs))) c.deref-2.ensures.value ∙ e))
     (λ h last e. subst (λ (xs : List (ℕ × Token × ℕ)). IsTakenBack xs c.old.inside.cuts.items last c.kept_of-kept.result) c.deref-2.ensures.value
@@ -44,8 +44,8 @@ pub make_room-requires : goal.make_room-requires
 make_room-requires c =
     let begin : IsBegin c.old.inside.text.now c.old.inside.cuts.items c.args.from c.begin_of-begin.result = subst (λ (xs : List Cut). IsBegin c.old.inside.text.now xs c.args.from c.begin_of-begin.result) c.deref.ensures.value (c.begin_of-begin.ensures c.old.inside.text.now (subst (AreCuts c.old.inside.text.now) (sym c.deref.ensures.value) c.old.invariant.2)) in
     let same : take c.args.from c.old.inside.text.now ≡ take c.args.from c.args.edited.now = ap (λ (v : LexedView). take c.args.from v.text) c.old.view_is ∙ c.requires.same in
-    let part : IsPart c.set_text.new.self.code_map (drop c.begin_of-begin.result.at c.args.edited.now) c.in-Ok.part = subst (λ (t : Text). IsPart c.set_text.new.self.code_map t c.in-Ok.part) (ap (λ (v : LexerView). v.text) c.set_text.ensures.begun.view ∙ c.range_from-rest.ensures.value) c.in-Ok.ensures.part in
-    let made = relexed c.set_text.new.self.code_map c.old.inside.text.now c.args.edited.now c.old.inside.lexemes.items c.old.inside.cuts.items c.args.from c.begin_of-begin.result c.in-Ok.part c.kept_of-kept.result c.in-Ok.part.has_tab c.old.invariant.3.1.lexemes c.old.invariant.2 begin same c.requires.new.0 part part.tab
+    let part : IsPart c.set_text.new.self.code_map (drop c.begin_of-begin.result.at c.args.edited.now) (part_view c.in-Ok.part) = subst (λ (t : Text). IsPart c.set_text.new.self.code_map t (part_view c.in-Ok.part)) (ap (λ (v : LexerView). v.text) c.set_text.ensures.begun.view ∙ c.range_from-rest.ensures.value) (c.in-Ok.ensures.part ?) in
+    let made = relexed c.set_text.new.self.code_map c.old.inside.text.now c.args.edited.now c.old.inside.lexemes.items c.old.inside.cuts.items c.args.from c.begin_of-begin.result (part_view c.in-Ok.part) c.kept_of-kept.result c.in-Ok.part.has_tab c.old.invariant.3.1.lexemes c.old.invariant.2 begin same c.requires.new.0 part part.tab
     c.kept_of-kept.ensures.plain
     (λ h e. c.kept_of-kept.ensures.comments h (ap (λ (xs : List (ℕ × Token × ℕ)). last_newline_of (map lexeme_view (take c.begin_of-begin.result.lexemes xs))) c.deref-2.ensures.value ∙ e))
     (λ h last e. subst (λ (xs : List (ℕ × Token × ℕ)). IsTakenBack xs c.old.inside.cuts.items last c.kept_of-kept.result) c.deref-2.ensures.value
@@ -64,14 +64,14 @@ make_room-requires-else-is_err c =
 pub append_later-requires-clause-near : goal.append_later-requires-clause-near
 append_later-requires-clause-near c =
     let begin : IsBegin c.old.inside.text.now c.old.inside.cuts.items c.args.from c.begin_of-begin.result = subst (λ (xs : List Cut). IsBegin c.old.inside.text.now xs c.args.from c.begin_of-begin.result) c.deref.ensures.value (c.begin_of-begin.ensures c.old.inside.text.now (subst (AreCuts c.old.inside.text.now) (sym c.deref.ensures.value) c.old.invariant.2)) in
-    let part : IsPart c.set_text.new.self.code_map (drop c.begin_of-begin.result.at c.args.edited.now) c.in-Ok.part = subst (λ (t : Text). IsPart c.set_text.new.self.code_map t c.in-Ok.part) (ap (λ (v : LexerView). v.text) c.set_text.ensures.begun.view ∙ c.range_from-rest.ensures.value) c.in-Ok.ensures.part in
+    let part : IsPart c.set_text.new.self.code_map (drop c.begin_of-begin.result.at c.args.edited.now) (part_view c.in-Ok.part) = subst (λ (t : Text). IsPart c.set_text.new.self.code_map t (part_view c.in-Ok.part)) (ap (λ (v : LexerView). v.text) c.set_text.ensures.begun.view ∙ c.range_from-rest.ensures.value) (c.in-Ok.ensures.part ?) in
     let short : c.begin_of-begin.result.at + length (drop c.begin_of-begin.result.at c.args.edited.now) < 2 ^ 32 = omega (arith, length-drop c.begin_of-begin.result.at c.args.edited.now, begin.before, c.requires.new.0, c.requires.fits) in
     given_near c.set_text.new.self.code_map (drop c.begin_of-begin.result.at c.args.edited.now) c.in-Ok.part c.kept_of-kept.result.gives_more c.given_after-more.result.items part (omega (arith, short)) c.given_after-more.ensures
 
 pub append_cuts-requires-clause-near : goal.append_cuts-requires-clause-near
 append_cuts-requires-clause-near c =
     let begin : IsBegin c.old.inside.text.now c.old.inside.cuts.items c.args.from c.begin_of-begin.result = subst (λ (xs : List Cut). IsBegin c.old.inside.text.now xs c.args.from c.begin_of-begin.result) c.deref.ensures.value (c.begin_of-begin.ensures c.old.inside.text.now (subst (AreCuts c.old.inside.text.now) (sym c.deref.ensures.value) c.old.invariant.2)) in
-    let part : IsPart c.set_text.new.self.code_map (drop c.begin_of-begin.result.at c.args.edited.now) c.in-Ok.part = subst (λ (t : Text). IsPart c.set_text.new.self.code_map t c.in-Ok.part) (ap (λ (v : LexerView). v.text) c.set_text.ensures.begun.view ∙ c.range_from-rest.ensures.value) c.in-Ok.ensures.part in
+    let part : IsPart c.set_text.new.self.code_map (drop c.begin_of-begin.result.at c.args.edited.now) (part_view c.in-Ok.part) = subst (λ (t : Text). IsPart c.set_text.new.self.code_map t (part_view c.in-Ok.part)) (ap (λ (v : LexerView). v.text) c.set_text.ensures.begun.view ∙ c.range_from-rest.ensures.value) (c.in-Ok.ensures.part ?) in
     let short : c.begin_of-begin.result.at + length (drop c.begin_of-begin.result.at c.args.edited.now) < 2 ^ 32 = omega (arith, length-drop c.begin_of-begin.result.at c.args.edited.now, begin.before, c.requires.new.0, c.requires.fits) in
     cuts_near (drop c.begin_of-begin.result.at c.args.edited.now) c.in-Ok.part.cuts.items (omega (arith, short)) part.cuts.each
 
@@ -85,8 +85,8 @@ pub invariant_of-result : goal.invariant_of-result
 invariant_of-result c =
     let begin : IsBegin c.old.inside.text.now c.old.inside.cuts.items c.args.from c.begin_of-begin.result = subst (λ (xs : List Cut). IsBegin c.old.inside.text.now xs c.args.from c.begin_of-begin.result) c.deref.ensures.value (c.begin_of-begin.ensures c.old.inside.text.now (subst (AreCuts c.old.inside.text.now) (sym c.deref.ensures.value) c.old.invariant.2)) in
     let same : take c.args.from c.old.inside.text.now ≡ take c.args.from c.args.edited.now = ap (λ (v : LexedView). take c.args.from v.text) c.old.view_is ∙ c.requires.same in
-    let part : IsPart c.set_text.new.self.code_map (drop c.begin_of-begin.result.at c.args.edited.now) c.in-Ok.part = subst (λ (t : Text). IsPart c.set_text.new.self.code_map t c.in-Ok.part) (ap (λ (v : LexerView). v.text) c.set_text.ensures.begun.view ∙ c.range_from-rest.ensures.value) c.in-Ok.ensures.part in
-    let made = relexed c.set_text.new.self.code_map c.old.inside.text.now c.args.edited.now c.old.inside.lexemes.items c.old.inside.cuts.items c.args.from c.begin_of-begin.result c.in-Ok.part c.kept_of-kept.result c.in-Ok.part.has_tab c.old.invariant.3.1.lexemes c.old.invariant.2 begin same c.requires.new.0 part part.tab
+    let part : IsPart c.set_text.new.self.code_map (drop c.begin_of-begin.result.at c.args.edited.now) (part_view c.in-Ok.part) = subst (λ (t : Text). IsPart c.set_text.new.self.code_map t (part_view c.in-Ok.part)) (ap (λ (v : LexerView). v.text) c.set_text.ensures.begun.view ∙ c.range_from-rest.ensures.value) (c.in-Ok.ensures.part ?) in
+    let made = relexed c.set_text.new.self.code_map c.old.inside.text.now c.args.edited.now c.old.inside.lexemes.items c.old.inside.cuts.items c.args.from c.begin_of-begin.result (part_view c.in-Ok.part) c.kept_of-kept.result c.in-Ok.part.has_tab c.old.invariant.3.1.lexemes c.old.invariant.2 begin same c.requires.new.0 part part.tab
     c.kept_of-kept.ensures.plain
     (λ h e. c.kept_of-kept.ensures.comments h (ap (λ (xs : List (ℕ × Token × ℕ)). last_newline_of (map lexeme_view (take c.begin_of-begin.result.lexemes xs))) c.deref-2.ensures.value ∙ e))
     (λ h last e. subst (λ (xs : List (ℕ × Token × ℕ)). IsTakenBack xs c.old.inside.cuts.items last c.kept_of-kept.result) c.deref-2.ensures.value
@@ -98,7 +98,7 @@ invariant_of-result c =
     let cuts : c.append_cuts.new.cuts.items ≡ take c.kept_of-kept.result.cuts c.old.inside.cuts.items ++ map (later_cut c.begin_of-begin.result.at c.begin_of-begin.result.lexemes) c.in-Ok.part.cuts.items =
     c.append_cuts.ensures ∙ ap (λ xs. take c.kept_of-kept.result.cuts xs ++ map (later_cut c.begin_of-begin.result.at c.begin_of-begin.result.lexemes) c.in-Ok.part.cuts.items) c.make_room-else-is_err.ensures.same in (
       c.requires.fits,
-      end_cut_is c.set_text.new.self.code_map c.args.edited.now c.begin_of-begin.result.at c.in-Ok.part c.is_cut_after-is_cut.result (omega (arith, begin.before, c.requires.new.0)) (begin_clean c.old.inside.text.now c.args.edited.now c.old.inside.cuts.items c.args.from c.begin_of-begin.result begin same) part
+      end_cut_is c.set_text.new.self.code_map c.args.edited.now c.begin_of-begin.result.at (part_view c.in-Ok.part) c.is_cut_after-is_cut.result (omega (arith, begin.before, c.requires.new.0)) (begin_clean c.old.inside.text.now c.args.edited.now c.old.inside.cuts.items c.args.from c.begin_of-begin.result begin same) part
           (c.is_cut_after-is_cut.ensures ∙ ap (λ (t : Text). c.in-Ok.part.is_cut || (length t == 0 && nat_lt 0 c.begin_of-begin.result.at)) c.range_from-rest.ensures.value),
       subst (AreCuts c.args.edited.now) (sym cuts) made.are_cuts,
       (c.args.code_map.now, record { lexemes = ap (map lexeme_view) lexemes ∙ made.lexemes; fault = subst (λ f. IsFaultIn c.args.code_map.now f c.in-Ok-exception_of.fault) (sym made.fault) (c.in-Ok-exception_of.ensures.exception c.set_text.new.self.code_map (outcome (drop c.begin_of-begin.result.at c.args.edited.now)).fault part.fault) }),
@@ -108,8 +108,8 @@ pub returns-clause-lexed : goal.returns-clause-lexed
 returns-clause-lexed c =
     let begin : IsBegin c.old.inside.text.now c.old.inside.cuts.items c.args.from c.begin_of-begin.result = subst (λ (xs : List Cut). IsBegin c.old.inside.text.now xs c.args.from c.begin_of-begin.result) c.deref.ensures.value (c.begin_of-begin.ensures c.old.inside.text.now (subst (AreCuts c.old.inside.text.now) (sym c.deref.ensures.value) c.old.invariant.2)) in
     let same : take c.args.from c.old.inside.text.now ≡ take c.args.from c.args.edited.now = ap (λ (v : LexedView). take c.args.from v.text) c.old.view_is ∙ c.requires.same in
-    let part : IsPart c.set_text.new.self.code_map (drop c.begin_of-begin.result.at c.args.edited.now) c.in-Ok.part = subst (λ (t : Text). IsPart c.set_text.new.self.code_map t c.in-Ok.part) (ap (λ (v : LexerView). v.text) c.set_text.ensures.begun.view ∙ c.range_from-rest.ensures.value) c.in-Ok.ensures.part in
-    let made = relexed c.set_text.new.self.code_map c.old.inside.text.now c.args.edited.now c.old.inside.lexemes.items c.old.inside.cuts.items c.args.from c.begin_of-begin.result c.in-Ok.part c.kept_of-kept.result c.in-Ok.part.has_tab c.old.invariant.3.1.lexemes c.old.invariant.2 begin same c.requires.new.0 part part.tab
+    let part : IsPart c.set_text.new.self.code_map (drop c.begin_of-begin.result.at c.args.edited.now) (part_view c.in-Ok.part) = subst (λ (t : Text). IsPart c.set_text.new.self.code_map t (part_view c.in-Ok.part)) (ap (λ (v : LexerView). v.text) c.set_text.ensures.begun.view ∙ c.range_from-rest.ensures.value) (c.in-Ok.ensures.part ?) in
+    let made = relexed c.set_text.new.self.code_map c.old.inside.text.now c.args.edited.now c.old.inside.lexemes.items c.old.inside.cuts.items c.args.from c.begin_of-begin.result (part_view c.in-Ok.part) c.kept_of-kept.result c.in-Ok.part.has_tab c.old.invariant.3.1.lexemes c.old.invariant.2 begin same c.requires.new.0 part part.tab
     c.kept_of-kept.ensures.plain
     (λ h e. c.kept_of-kept.ensures.comments h (ap (λ (xs : List (ℕ × Token × ℕ)). last_newline_of (map lexeme_view (take c.begin_of-begin.result.lexemes xs))) c.deref-2.ensures.value ∙ e))
     (λ h last e. subst (λ (xs : List (ℕ × Token × ℕ)). IsTakenBack xs c.old.inside.cuts.items last c.kept_of-kept.result) c.deref-2.ensures.value
