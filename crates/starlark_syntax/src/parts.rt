@@ -95,6 +95,7 @@ pub(crate) fn read_part(
     requires cuts { AllByRecursion (λ (cut : Cut). cut.at ≤ length known.text.now) known.cuts.now }
     ensures part { IfOk result (λ part. part.met ≡ None → IsPart state.old.code_map state.old.text.now (part_view part)) }
     ensures met { IfOk result (λ part. IfSome part.met (λ meeting. IsMet state.old.text.now known.entry.text.now known.entry.cuts.now meeting × IsPartTo state.old.text.now meeting.at (part_view part))) }
+    ensures faultless { IfOk result (λ part. IfSome part.met (λ meeting. part.fault ≡ None)) }
     ensures counted { IfOk result (λ part. part.reads ≡ state.new.reader.reads) }
     ensures most { IfOk result (λ part. part.reads ≤ most_reads state.old.text.now) }
     ensures least { IfOk result (λ part. part.fault ≡ None → length state.old.text.now ≤ part.reads) }

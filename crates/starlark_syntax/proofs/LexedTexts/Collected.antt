@@ -113,7 +113,7 @@ pub record AreCutsSoFar (text : Text) (count : ℕ) (cuts : List Cut) : Type 0 w
 pub no_cuts_yet : (text : Text) (cuts : List Cut) → cuts ≡ [] → AreCutsSoFar text 0 cuts
 no_cuts_yet text cuts none = subst (AreCutsSoFar text 0) (sym none) (record { each = tt; order = tt; inside = tt; few = tt; all = λ at kept inside few. absurd (omega (arith, few, cut_some text at (kept_inside text at kept) (kept_parts text at kept).1)) })
 
-all_weaker : {A : Type 0} (P Q : A → Type 0) (xs : List A) → ((x : A) → P x → Q x) → AllByRecursion P xs → AllByRecursion Q xs
+pub all_weaker : {A : Type 0} (P Q : A → Type 0) (xs : List A) → ((x : A) → P x → Q x) → AllByRecursion P xs → AllByRecursion Q xs
 all_weaker P Q [] more all = tt
 all_weaker P Q (x ∷ xs) more all = (more x all.0, all_weaker P Q xs more all.1)
 

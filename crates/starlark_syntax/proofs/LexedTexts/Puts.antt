@@ -1,6 +1,9 @@
 -- A part that meets a known text, in the known text's lists.
-use Rattle.std.proofs.Common.{◌≡◌, ℕ, zero, suc, ◌+◌, ◌-◌, ◌<◌, ◌≤◌, ◌^◌, Bool, true, List, [], ◌∷◌, ◌++◌, map, take, drop, length, refl, ap, sym, subst, ◌∙◌, arith, length-append, None, Some, inl, inr, ◌⊎◌}
-use Rattle.std.specs.Prelude.{slice_get}
+use Rattle.std.proofs.Common.{◌≡◌, ℕ, zero, suc, ◌+◌, ◌-◌, ◌<◌, ◌≤◌, ◌^◌, Bool, true, false, List, [], ◌∷◌, ◌++◌, map, take, drop, length, refl, ap, sym, subst, ◌∙◌, arith, length-append, None, Some, Ok, Err, inl, inr, ◌⊎◌}
+use Rattle.std.specs.Option.{is_some}
+use Rattle.std.specs.Result.{is_err}
+use Rattle.std.proofs.lemmas.Bool.{eqb-true}
+use Rattle.std.specs.Prelude.{OnOk, Option, Result, ◌&&◌, ◌||◌, ◌==◌, nat_lt, slice_get}
 use Rattle.std.specs.List.{AllByRecursion}
 use Rattle.std.proofs.lemmas.List.{length-map, length-take-le, map-append, take-append-drop}
 use Rattle.starlark_base.specs.Sources.{SourceFile}
@@ -11,10 +14,11 @@ use Rattle.starlark_grammar.specs.Cuts.{is_clean_cut, without_closing}
 use Rattle.starlark_grammar.proofs.Joining.Laws.{faults_join, kept_cuts_keep}
 use Rattle.starlark_grammar.proofs.Joining.LineCuts.{kept_parts}
 use Rattle.starlark_reader.specs.Inner.MarginCuts.{lexemes_before}
-use Rattle.starlark_syntax.specs.Inner.LexedTexts.{AllAfter, AllNear, AllNearCuts, IsBegin, IsCutOf, IsPart, IsPutIn, PartView, later, met_part, moved_cut, moved_lexeme}
+use Rattle.starlark_syntax.specs.Inner.LexedTexts.{AllAfter, AllNear, AllNearCuts, AreCuts, IsBegin, IsCutOf, IsMet, IsPart, IsPutIn, PartView, later, met_part, moved_cut, moved_lexeme}
 use Rattle.starlark_syntax.specs.declared.cuts.Begin.{Begin}
 use Rattle.starlark_syntax.specs.declared.cuts.Cut.{Cut}
 use Rattle.starlark_syntax.specs.declared.meetings.Meeting.{Meeting}
+use Rattle.starlark_syntax.proofs.LexedTexts.Collected.{all_weaker}
 use Rattle.starlark_syntax.proofs.LexedTexts.KeptCuts.{no_more_before}
 use Rattle.starlark_syntax.proofs.LexedTexts.Edits.{begin_few}
 use Rattle.starlark_syntax.proofs.LexedTexts.Meetings.{after_one, all_drop, beyond_one, met_whole, one_is}
@@ -141,3 +145,32 @@ module _ (known text : Text) (lexemes : List (ℕ × Token × ℕ)) (cuts : List
 
   pub begin_near : begin.lexemes < 2 ^ 34
   begin_near = omega (arith, begin_few known lexemes cuts r.from begin r.lexed r.begins, count_near known r.known_short, ap length r.lexed, length-map lexemes lexeme_view, length-map (outcome known).lexemes shown_lexeme)
+
+-- Where lexing may meet a known text: after its first cuts, if it has no fault
+
+pub known_inside : (known seen : Text) (cuts given : List Cut) (count : ℕ) (has : Bool) → (has ≡ false → seen ≡ known) → (has ≡ false → given ≡ drop count cuts) → (has ≡ true → given ≡ []) → AreCuts known cuts → AllByRecursion (λ (cut : Cut). cut.at ≤ length seen) given
+known_inside known seen cuts given count true same after none are = subst (AllByRecursion (λ (cut : Cut). cut.at ≤ length seen)) (sym (none refl)) tt
+known_inside known seen cuts given count false same after none are =
+    subst (AllByRecursion (λ (cut : Cut). cut.at ≤ length seen)) (sym (after refl)) (all_drop (λ (cut : Cut). cut.at ≤ length seen) count cuts (all_weaker (IsCutOf known) (λ (cut : Cut). cut.at ≤ length seen) cuts (λ cut is. omega (arith, is.inside, ap length (same refl))) are.each))
+
+pub met_known : (text known seen : Text) (cuts given : List Cut) (count : ℕ) (meeting : Meeting) (has : Bool) → (has ≡ false → seen ≡ known) → (has ≡ false → given ≡ drop count cuts) → (has ≡ true → given ≡ []) → IsMet text seen given meeting → (has ≡ false) × IsMet text known (drop count cuts) meeting
+met_known text known seen cuts given count meeting true same after none is = let no : None ≡ Some meeting.cut = ap (λ (cs : List Cut). slice_get cs meeting.index) (sym (none refl)) ∙ is.found in cc
+met_known text known seen cuts given count meeting false same after none is = (refl, subst (λ (cs : List Cut). IsMet text known cs meeting) (after refl) (subst (λ (t : Text). IsMet text t given meeting) (same refl) is))
+
+-- a text that has something after byte `at`
+pub cut_stays_so : (is : Bool) (len at : ℕ) → 0 < len → is ≡ (is || (len == 0 && nat_lt 0 at))
+cut_stays_so is len at some = go (len == 0) refl is
+  where
+    go : (none : Bool) → (len == 0) ≡ none → (is : Bool) → is ≡ (is || (len == 0 && nat_lt 0 at))
+    go true e is = absurd (omega (arith, some, eqb-true len 0 e))
+    go false e true = refl
+    go false e false = sym (ap (λ (none : Bool). none && nat_lt 0 at) e)
+
+pub not_some : {A : Type 0} (found : Option A) (has : Bool) → has ≡ is_some found → has ≡ false → found ≡ None
+not_some None has is e = refl
+not_some (Some x) has is e = let no : true ≡ false = sym is ∙ e in cc
+
+-- what holds of a call that succeeded
+pub succeeded : {A E : Type 0} (P : Type 0) (result : Result A E) (has : Bool) → has ≡ is_err result → has ≡ false → OnOk result P → P
+succeeded P (Ok x) has is e holds = holds
+succeeded P (Err x) has is e holds = let no : true ≡ false = sym is ∙ e in cc
