@@ -135,7 +135,14 @@ pub(crate) fn put_part(
     push_moved_cuts(&mut more, &cuts[after..], meeting.cut, to)?;
     make_room(cuts, begin.cuts, more.len())?;
     let at = begin.at + meeting.at;
-    replace_lexemes(lexemes, begin.lexemes, meeting.cut, part.lexemes, begin.at, at)?;
+    replace_lexemes(
+        lexemes,
+        begin.lexemes,
+        meeting.cut,
+        part.lexemes,
+        begin.at,
+        at,
+    )?;
     append_cuts(cuts, begin.cuts, more, begin.at, begin.lexemes);
     Ok(())
 }

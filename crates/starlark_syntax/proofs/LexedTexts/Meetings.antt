@@ -9,13 +9,12 @@ use Rattle.std.proofs.lemmas.List.{length-drop, length-map, length-take-le, map-
 use Rattle.starlark_base.specs.Sources.{SourceFile}
 use Rattle.starlark_grammar.specs.Words.{Text, language}
 use Rattle.starlark_grammar.specs.Tokens.{Lexeme, Outcome, Spanned, moved}
-use Rattle.starlark_grammar.specs.Reading.{outcome, pieces_len, read}
-use Rattle.starlark_grammar.specs.Cuts.{is_clean_cut, is_kept_cut, joined, without_closing}
+use Rattle.starlark_grammar.specs.Reading.{outcome}
+use Rattle.starlark_grammar.specs.Cuts.{is_clean_cut, is_kept_cut, without_closing}
 use Rattle.starlark_grammar.specs.TextLaws.{HasFirstMargin}
 use Rattle.starlark_grammar.proofs.Joining.Laws.{cuts_of_joined, faults_join, kept_cuts_keep}
 use Rattle.starlark_grammar.proofs.Joining.LineCuts.{kept_by, kept_parts}
 use Rattle.starlark_reader.specs.Inner.MarginCuts.{IsCutBefore, lexemes_before}
-use Rattle.starlark_reader.specs.Inner.Reader.{begins_with_tab}
 use Rattle.starlark_reader.proofs.Pieces.Onward.{margin_first}
 use Rattle.starlark_reader.proofs.Pieces.Taken.{no_tab}
 use Rattle.starlark_syntax.specs.Exceptions.{IsFaultIn}

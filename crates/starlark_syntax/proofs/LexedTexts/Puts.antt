@@ -13,8 +13,7 @@ use Rattle.starlark_grammar.specs.Reading.{outcome}
 use Rattle.starlark_grammar.specs.Cuts.{is_clean_cut, without_closing}
 use Rattle.starlark_grammar.proofs.Joining.Laws.{faults_join, kept_cuts_keep}
 use Rattle.starlark_grammar.proofs.Joining.LineCuts.{kept_parts}
-use Rattle.starlark_reader.specs.Inner.MarginCuts.{lexemes_before}
-use Rattle.starlark_syntax.specs.Inner.LexedTexts.{AllAfter, AllNear, AllNearCuts, AreCuts, IsBegin, IsCutOf, IsMet, IsPart, IsPutIn, PartView, later, met_part, moved_cut, moved_lexeme}
+use Rattle.starlark_syntax.specs.Inner.LexedTexts.{AllAfter, AllNear, AllNearCuts, AreCuts, IsCutOf, IsMet, IsPart, IsPutIn, PartView, later, met_part, moved_cut, moved_lexeme}
 use Rattle.starlark_syntax.specs.declared.cuts.Begin.{Begin}
 use Rattle.starlark_syntax.specs.declared.cuts.Cut.{Cut}
 use Rattle.starlark_syntax.specs.declared.meetings.Meeting.{Meeting}

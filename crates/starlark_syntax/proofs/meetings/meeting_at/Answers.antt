@@ -1,4 +1,4 @@
-use Rattle.std.proofs.Common.{◌≡◌, ◌≤◌, ◌<◌, ◌-◌, ◌∙◌, ap, arith, drop, length, rules, slice_index_or, sym, ℕ}
+use Rattle.std.proofs.Common.{◌≤◌, ◌<◌, ◌∙◌, ap, drop, length, rules, sym}
 use Rattle.std.proofs.lemmas.Option.{slice_get-get_or}
 use Rattle.starlark_syntax.specs.declared.cuts.Cut.{Cut}
 use Rattle.starlark_syntax.proofs.LexedTexts.Begins.{all_at}

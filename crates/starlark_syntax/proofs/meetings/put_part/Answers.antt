@@ -1,8 +1,7 @@
-use Rattle.std.proofs.Common.{◌≡◌, ◌≤◌, ◌-◌, ◌+◌, ◌++◌, ◌∙◌, ap, arith, drop, length, length-drop, map, subst, sym, take, ℕ, List}
+use Rattle.std.proofs.Common.{◌≡◌, ◌≤◌, ◌-◌, ◌+◌, ◌++◌, ◌∙◌, ap, arith, drop, length, length-drop, map, subst, sym, take}
 use Rattle.std.specs.List.{AllByRecursion}
 use Rattle.std.proofs.Math.Seq.{take-length}
-use Rattle.starlark_base.specs.Sources.{SourceFile}
-use Rattle.starlark_syntax.specs.Inner.LexedTexts.{AllNearCuts, later, moved_cut, moved_lexeme, part_view}
+use Rattle.starlark_syntax.specs.Inner.LexedTexts.{AllNearCuts, moved_cut}
 use Rattle.starlark_syntax.specs.declared.cuts.Cut.{Cut}
 use Rattle.starlark_syntax.proofs.LexedTexts.Puts.{begin_near, both_moved, cuts_after, inside, known_near, order, part_near, rest_after, rest_near, to_fits, whole_near}
 use Rattle.starlark_syntax.proofs.meetings.put_part.Goals as goal

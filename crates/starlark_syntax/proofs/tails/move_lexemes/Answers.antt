@@ -1,4 +1,4 @@
-use Rattle.std.proofs.Common.{◌≡◌, ◌<◌, ◌+◌, ◌++◌, ◌∙◌, ap, arith, drop, length, map, suc, take, slice_index_or, slice_set, sym, ℕ}
+use Rattle.std.proofs.Common.{◌≡◌, ◌<◌, ◌+◌, ◌++◌, ◌∙◌, ap, arith, drop, length, map, suc, take, slice_index_or, slice_set}
 use Rattle.starlark_syntax.specs.Inner.LexedTexts.{moved_lexeme}
 use Rattle.starlark_syntax.proofs.LexedTexts.Moves.{next_same, next_set}
 use Rattle.starlark_syntax.proofs.tails.move_lexemes.Goals as goal

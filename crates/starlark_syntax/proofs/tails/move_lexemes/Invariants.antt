@@ -1,5 +1,5 @@
-use Rattle.std.proofs.Common.{◌≡◌, ◌≤◌, ◌++◌, drop, length, map, take}
-use Rattle.starlark_syntax.specs.Inner.LexedTexts.{AllAfter, AllNear, moved_lexeme}
+use Rattle.std.proofs.Common.{◌≡◌, ◌++◌, drop, map, take}
+use Rattle.starlark_syntax.specs.Inner.LexedTexts.{moved_lexeme}
 use Rattle.starlark_syntax.proofs.tails.move_lexemes.Given as goal
 
 abbrev pub invariant-loop-lexeme : goal.invariant-loop-lexeme

@@ -1,7 +1,6 @@
-use Rattle.std.proofs.Common.{◌≡◌, ◌+◌, ◌++◌, ◌∙◌, ◌≤◌, List, ap, append_assoc, arith, drop, length, map, subst, sym, take, ℕ}
+use Rattle.std.proofs.Common.{◌≡◌, ◌+◌, ◌++◌, ◌∙◌, ◌≤◌, ap, append_assoc, arith, drop, length, map, subst, sym, take}
 use Rattle.std.specs.List.{splice}
 use Rattle.starlark_syntax.specs.Inner.LexedTexts.{AllAfter, AllNear, moved_lexeme}
-use Rattle.starlark_token.specs.declared.tokens.Token.{Token}
 use Rattle.starlark_syntax.proofs.LexedTexts.Moves.{drained, spliced}
 use Rattle.starlark_syntax.proofs.tails.replace_lexemes.Goals as goal
 use Rattle.starlark_syntax.proofs.tails.replace_lexemes.Goals.{In_ok-splice}

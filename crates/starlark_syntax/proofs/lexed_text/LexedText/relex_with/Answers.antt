@@ -1,4 +1,4 @@
-use Rattle.std.proofs.Common.{rules, true, false, None, Some, ◌≡◌, refl, ℕ, ◌+◌, ◌-◌, ◌<◌, ◌≤◌, ◌^◌, ◌++◌, List, [], map, take, drop, length, ap, arith, subst, sym, ◌∙◌}
+use Rattle.std.proofs.Common.{rules, true, false, None, ◌≡◌, refl, ℕ, ◌+◌, ◌-◌, ◌<◌, ◌≤◌, ◌^◌, ◌++◌, List, [], map, take, drop, length, ap, arith, subst, sym, ◌∙◌}
 use Rattle.std.specs.Prelude.{IfSome, Option, option_map, ◌&&◌, ◌||◌, ◌==◌, if◌then◌else◌, nat_lt}
 use Rattle.std.proofs.lemmas.List.{length-drop, length-map}
 use Rattle.starlark_base.specs.Sources.{SourceFile}
@@ -18,7 +18,7 @@ use Rattle.starlark_syntax.proofs.LexedTexts.Parts.{fault_near, given_near}
 use Rattle.starlark_syntax.proofs.LexedTexts.Relexed.{count_near, cuts_near}
 use Rattle.starlark_syntax.proofs.LexedTexts.Puts.{cut_stays_so, known_inside, met_known, not_some, succeeded, whole_is}
 use Rattle.starlark_syntax.proofs.LexedTexts.Joined.{no_fault}
-use Rattle.starlark_syntax.specs.Inner.LexedTexts.{IsMet, IsPartTo, IsPutIn, PartView, met_part, moved_cut, moved_lexeme}
+use Rattle.starlark_syntax.specs.Inner.LexedTexts.{IsMet, IsPartTo, IsPutIn, PartView, met_part}
 use Rattle.starlark_syntax.proofs.LexedTexts.Edits.{IsRelexed}
 use Rattle.starlark_syntax.proofs.lexed_text.LexedText.relex_with.Goals as goal
 use Rattle.starlark_syntax.proofs.lexed_text.LexedText.relex_with.Goals.{In-Some}

@@ -1,5 +1,3 @@
-use Rattle.std.proofs.Common.{◌≡◌, subst, sym}
-use Rattle.starlark_syntax.specs.Inner.LexerStates.{left_in}
 use Rattle.starlark_syntax.proofs.LexerReads.{looked_reads}
 use Rattle.starlark_syntax.proofs.lexer_state.LexerState.count_others.Goals as goal
 
