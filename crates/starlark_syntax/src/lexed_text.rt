@@ -285,11 +285,9 @@ impl<'a> LexedText<'a> {
             }
             return Ok(LexedText {
                 text: edited,
-                lexemes: old.lexemes,
                 fault: None,
-                cuts: old.cuts,
-                is_cut: old.is_cut,
                 reads,
+                ..old
             });
         }
         let kept = kept_of(&old.lexemes, &old.cuts, begin, part.has_tab);
@@ -307,11 +305,10 @@ impl<'a> LexedText<'a> {
         append_cuts(&mut old.cuts, kept.cuts, part.cuts, begin.at, begin.lexemes);
         Ok(LexedText {
             text: edited,
-            lexemes: old.lexemes,
             fault,
-            cuts: old.cuts,
             is_cut,
             reads: part.reads,
+            ..old
         })
     }
 }
