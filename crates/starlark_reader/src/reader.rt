@@ -387,6 +387,28 @@ impl Reader {
         text.as_bytes().ends_with(b"\n")
     }
 
+    /// Counts `len + 1` reads of other bytes if those so far leave room for them. Returns whether they
+    /// do.
+    pub fn count_others(&mut self, len: usize) -> bool
+        requires { len < 2 ^ 32 }
+        ensures ahead { (text : Text) (lexemes : List (Spanned TokenView)) (fault : Option (Spanned Fault)) → IsAhead text self.old self.old.stage lexemes fault → IsAhead text self.new self.new.stage lexemes fault }
+        ensures reads { (text : Text) (beside : ℕ) → HasRead text beside self.old → HasRead text beside self.new }
+        ensures none { result ≡ false → self.new ≡ self.old }
+        ensures onward { result ≡ true → self.new.stage ≡ Stage.Onward }
+        ensures few { result ≡ true → self.new.reads < 10 * self.new.at }
+        ensures counted { result ≡ true → self.old.reads + len < self.new.reads }
+        ensures same { self.new ≡ record self.old { reads = self.new.reads } }
+    {
+        let owed = self.pending.to.saturating_sub(self.pending.from) as u64;
+        let others = owed.saturating_mul(5).saturating_add(len as u64 + 1);
+        let all = self.reads.count().saturating_add(others);
+        if !matches!(self.stage, Stage::Onward) || all >= (self.at as u64).saturating_mul(10) {
+            return false;
+        }
+        self.reads.count_run(len);
+        true
+    }
+
     /// Whether no piece of the text was read. At a fault this means a tab in the first margin.
     pub fn has_read_none(&self) -> bool
         ensures { result ≡ has_read_none self.now }

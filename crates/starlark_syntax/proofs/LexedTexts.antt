@@ -11,3 +11,6 @@ pub mod Begins
 pub mod Relexed
 pub mod Parts
 pub mod Edits
+pub mod Meetings
+pub mod Moves
+pub mod Puts

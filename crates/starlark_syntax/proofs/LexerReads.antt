@@ -181,3 +181,18 @@ plain_reads text beside least most len body old mid behind new onward has opened
     let on : HasReadAt text beside old stages.Onward = subst (HasReadAt text beside old) onward has in
     subst (HasReadAt text beside new) (sym passed.1)
     (omega (arith, few.0, short.1, opened.0, opened.3.0, looked.0, looked.3.0, on.0, passed.0.0, passed.0.1), omega (arith, few.1, short.0, opened.0, opened.2, opened.3.1, looked.0, looked.2, looked.3.1, on.1, passed.0.0, passed.0.1, passed.0.2))
+
+-- more reads of other bytes, where they are within the bound
+pub looked_reads : (text : Text) (old new : Reader) (to : ℕ) (it : Looked) → new ≡ record old { reads = new.reads } → ((beside : ℕ) → HasRead text beside old → HasRead text beside new) → IsLooked text old to it → IsLooked text new to it
+looked_reads text old new to it same more = go it
+  where
+    code : IsAtCode text old → IsAtCode text new
+    code at = subst (IsAtCode text) (sym same) (record { stage = at.stage; idle = at.idle; code = at.code })
+
+    at : new.at ≡ old.at
+    at = ap (λ (reader : Reader). reader.at) same
+
+    go : (it : Looked) → IsLooked text old to it → IsLooked text new to it
+    go looked.Nothing is = (code is.0, omega (arith, is.1, at), (is.2.0, is.2.1, more is.2.0 is.2.2))
+    go looked.Front is = (code is.0, is.1, rw at is.2, (is.3.0, is.3.1, more is.3.0 is.3.2))
+    go looked.All is = (is.0, is.1, more is.0 is.2)

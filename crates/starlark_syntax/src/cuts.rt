@@ -1,8 +1,11 @@
 //! Cuts: the offsets where a text can be cut, so that lexing can begin again there.
 
-ghost use Rattle.std.specs.Prelude.{◌≡◌, ◌&&◌, ◌||◌, ◌==◌, ◌<◌, ◌≤◌, ◌+◌, ◌++◌, ◌^◌, length, map, nat_lt, take, vec_capacity, vec_len};
+ghost use Rattle.std.specs.Prelude.{◌≡◌, ◌&&◌, ◌||◌, ◌==◌, ◌<◌, ◌≤◌, ◌+◌, ◌++◌, ◌^◌, OnOk, length, map, nat_lt, take, vec_capacity, vec_len};
+ghost use Rattle.std.specs.List.{AllByRecursion};
 ghost use Rattle.starlark_grammar.specs.Words.{Text};
-ghost use Rattle.starlark_syntax.specs.Inner.LexedTexts.{AllNearCuts, AreBeyond, AreCuts, IsBegin, IsUpTo, later_cut};
+ghost use Rattle.starlark_syntax.specs.Inner.LexedTexts.{AllNearCuts, AreBeyond, AreCuts, IsBegin, IsUpTo, later_cut, moved_cut};
+
+use std::alloc::AllocError;
 
 /// A cut: its offset in bytes, and the number of lexemes before it.
 #[derive(Clone, Copy)]
@@ -89,4 +92,25 @@ pub(crate) fn append_cuts(
             lexemes: count + cut.lexemes,
         });
     }
+}
+
+/// Appends cuts after the cut `from`, moved as that is moved to the cut `to`.
+pub(crate) fn push_moved_cuts(
+    cuts: &mut Vec<Cut>,
+    more: &[Cut],
+    from: Cut,
+    to: Cut,
+) -> Result<(), AllocError>
+    requires near { AllNearCuts more.now }
+    requires after { AllByRecursion (λ (cut : Cut). (from.at ≤ cut.at) × (from.lexemes ≤ cut.lexemes)) more.now }
+    requires fits { (to.at < 2 ^ 32) × (to.lexemes < 2 ^ 34) }
+    ensures { OnOk result (cuts.new.items ≡ cuts.old.items ++ map (moved_cut from to) more.now) }
+{
+    for cut in more {
+        cuts.push(Cut {
+            at: cut.at - from.at + to.at,
+            lexemes: cut.lexemes - from.lexemes + to.lexemes,
+        })?;
+    }
+    Ok(())
 }

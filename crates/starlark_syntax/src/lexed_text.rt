@@ -18,6 +18,7 @@ ghost use Rattle.starlark_token.specs.Lexemes.{IsWithin};
 use crate::cuts::{Cut, append_cuts, begin_of, is_cut_after};
 use crate::eval_exception::EvalException;
 use crate::lexer_state::LexerState;
+use crate::meetings::{Known, put_part};
 use crate::parts::{exception_of, read_part};
 use crate::tails::{append_later, given_after, kept_of, make_room};
 use starlark_base::codemap::{CodeMap, OrMemory, SourceTooLong};
@@ -95,7 +96,7 @@ impl<'a> LexedText<'a> {
         ensures least_reads { IfOk result (λ lexed. lexed.fault ≡ None → length state.old.text.now ≤ lexed.reads) }
     {
         let text = state.text();
-        let part = read_part(alloc, state)?;
+        let part = read_part(alloc, state, Known::none())?;
         Ok(LexedText {
             text,
             lexemes: part.lexemes,
@@ -268,9 +269,27 @@ impl<'a> LexedText<'a> {
         let begin = begin_of(&old.cuts, from);
         let rest = &edited[begin.at..];
         state.set_text(rest);
-        let Ok(part) = read_part(alloc, state) else {
+        let known = Known::after(old.text, &old.cuts, begin.cuts, old.fault.is_some());
+        let Ok(part) = read_part(alloc, state, known) else {
             return Err(old);
         };
+        if let Some(meeting) = part.met {
+            let reads = part.reads;
+            let mut lexemes = old.lexemes;
+            let mut cuts = old.cuts;
+            let put = put_part(&mut lexemes, &mut cuts, begin, part, meeting);
+            old.lexemes = lexemes;
+            old.cuts = cuts;
+            if put.is_err() {
+                return Err(old);
+            }
+            return Ok(LexedText {
+                text: edited,
+                fault: None,
+                reads,
+                ..old
+            });
+        }
         let kept = kept_of(&old.lexemes, &old.cuts, begin, part.has_tab);
         let Ok(fault) = exception_of(alloc, part.fault, kept.fault_at, code_map) else {
             return Err(old);
@@ -286,11 +305,10 @@ impl<'a> LexedText<'a> {
         append_cuts(&mut old.cuts, kept.cuts, part.cuts, begin.at, begin.lexemes);
         Ok(LexedText {
             text: edited,
-            lexemes: old.lexemes,
             fault,
-            cuts: old.cuts,
             is_cut,
             reads: part.reads,
+            ..old
         })
     }
 }

@@ -8,7 +8,7 @@ ghost use Rattle.starlark_grammar.specs.Reading.{History};
 ghost use Rattle.starlark_reader.specs.Inner.MarginCuts.{IsCutBefore};
 ghost use Rattle.starlark_reader.specs.Inner.Reader.{IsReached, IsStateAfter, has_read_none};
 ghost use Rattle.starlark_syntax.specs.Inner.LexerStates.{HasAnswered, HasPassed, HasTaken, IsBegun, IsLexing, is_out_of_memory, left_in, passed_count, plain_string, view_of};
-ghost use Rattle.starlark_syntax.specs.Lexer.{is_ended_by, yielded_by};
+ghost use Rattle.starlark_syntax.specs.Lexer.{is_ended_by, most_reads, yielded_by};
 ghost use Rattle.starlark_syntax.specs.PlainLexemes.{IsPlainIn};
 ghost use Rattle.starlark_syntax.specs.Inner.Looked.{HasOpened, IsFoundBehindMargin, IsFoundFurther, IsFoundFurtherInCode, IsFoundInCode, IsFoundOut, is_front, is_nothing, is_text_opener, looked_len};
 
@@ -555,6 +555,19 @@ impl<'a> LexerState<'a> {
         ensures { result.now ≡ self.now.text.now }
     {
         self.text
+    }
+
+    /// Counts reads of `len` other bytes if those so far leave room for them. Returns whether they do.
+    pub(crate) fn count_others(&mut self, len: usize) -> bool
+        requires fits { len < 2 ^ 32 }
+        requires lexing { IsLexing self.old }
+        requires going { self.old.has_ended ≡ false }
+        ensures lexing { IsLexing self.new }
+        ensures after { view_of self.new ≡ record (view_of self.old) { reads = self.new.reader.reads } }
+        ensures counted { result ≡ true → self.old.reader.reads + len < self.new.reader.reads }
+        ensures most { result ≡ true → self.new.reader.reads ≤ most_reads self.old.text.now }
+    {
+        self.reader.count_others(len)
     }
 
     /// Number of reads of bytes so far.

@@ -12,6 +12,7 @@ mod lexed_text;
 mod lexemes;
 pub mod lexer;
 mod lexer_state;
+mod meetings;
 mod parts;
 mod passed_faults;
 mod plain_lexeme;

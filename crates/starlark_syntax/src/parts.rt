@@ -1,16 +1,18 @@
 //! Lexes a whole text, or the rest of one.
 
 ghost use Rattle.std.specs.Prelude.{◌≡◌, ◌<◌, ◌≤◌, ◌+◌, ◌^◌, ◌++◌, Option, None, IfOk, IfSome, IsSome, OnOk, length, option_map};
+ghost use Rattle.std.specs.List.{AllByRecursion};
 ghost use Rattle.starlark_base.specs.Sources.{SourceFile};
 ghost use Rattle.starlark_grammar.specs.Tokens.{Fault, Spanned, moved};
 ghost use Rattle.starlark_syntax.specs.Exceptions.{IsException, IsFaultIn};
-ghost use Rattle.starlark_syntax.specs.Inner.LexedTexts.{IsPart, cuts_at, end_cuts};
+ghost use Rattle.starlark_syntax.specs.Inner.LexedTexts.{IsMet, IsPart, IsPartTo, cuts_at, end_cuts, part_view};
 ghost use Rattle.starlark_syntax.specs.Inner.LexerStates.{IsBegun, IsLexing};
 ghost use Rattle.starlark_syntax.specs.Lexer.{most_reads};
 
 use crate::cuts::Cut;
 use crate::eval_exception::EvalException;
 use crate::lexer_state::LexerState;
+use crate::meetings::{Known, Meeting, meeting_at};
 use starlark_base::codemap::{CodeMap, FileSpan, OrMemory, Pos, Span};
 use starlark_base::diagnostic::WithDiagnostic;
 use starlark_reader::PlacedToken;
@@ -33,6 +35,8 @@ pub struct Part {
     pub has_tab: bool,
     /// Number of reads of bytes.
     pub reads: u64,
+    /// Where lexing met a known text and stopped. There the text isn't lexed to its end.
+    pub met: Option<Meeting>,
 }
 
 /// Appends a cut at an offset after `lexemes` lexemes, if there is an offset.
@@ -76,14 +80,22 @@ fn span_of(exception: &EvalException) -> Span
     *span
 }
 
-/// Lexes a text up to its end or its first fault, from a state that has just begun.
+/// Lexes a text up to its end, its first fault or a meeting with a known text, from a state that has
+/// just begun.
 ///
 /// The reads of the part are those that the state has counted. After an error the state isn't to be
 /// used again.
-pub(crate) fn read_part(alloc: Global, state: &mut LexerState<'_>) -> Result<Part, AllocError>
+pub(crate) fn read_part(
+    alloc: Global,
+    state: &mut LexerState<'_>,
+    known: Known<'_>,
+) -> Result<Part, AllocError>
     requires lexing { IsLexing state.old }
     requires begun { IsBegun state.old.text.now state.old.code_map state.old }
-    ensures part { IfOk result (IsPart state.old.code_map state.old.text.now) }
+    requires cuts { AllByRecursion (λ (cut : Cut). cut.at ≤ length known.text.now) known.cuts.now }
+    ensures part { IfOk result (λ part. part.met ≡ None → IsPart state.old.code_map state.old.text.now (part_view part)) }
+    ensures met { IfOk result (λ part. IfSome part.met (λ meeting. IsMet state.old.text.now known.entry.text.now known.entry.cuts.now meeting × IsPartTo state.old.text.now meeting.at (part_view part))) }
+    ensures faultless { IfOk result (λ part. IfSome part.met (λ meeting. part.fault ≡ None)) }
     ensures counted { IfOk result (λ part. part.reads ≡ state.new.reader.reads) }
     ensures most { IfOk result (λ part. part.reads ≤ most_reads state.old.text.now) }
     ensures least { IfOk result (λ part. part.fault ≡ None → length state.old.text.now ≤ part.reads) }
@@ -95,7 +107,19 @@ pub(crate) fn read_part(alloc: Global, state: &mut LexerState<'_>) -> Result<Par
         match item {
             Ok(lexeme) => {
                 lexemes.push(lexeme)?;
-                push_cut(&mut cuts, state.cut(), lexemes.len())?;
+                let place = state.cut();
+                push_cut(&mut cuts, place, lexemes.len())?;
+                if let Some(meeting) = meeting_at(state, place, known) {
+                    return Ok(Part {
+                        lexemes,
+                        fault: None,
+                        cuts,
+                        is_cut: false,
+                        has_tab: false,
+                        reads: state.reads(),
+                        met: Some(meeting),
+                    });
+                }
             }
             Err(OrMemory::Memory) => return Err(AllocError),
             Err(OrMemory::Error(exception)) => {
@@ -106,6 +130,7 @@ pub(crate) fn read_part(alloc: Global, state: &mut LexerState<'_>) -> Result<Par
                     is_cut: false,
                     has_tab: state.has_read_none(),
                     reads: state.reads(),
+                    met: None,
                 });
             }
         }
@@ -120,6 +145,7 @@ pub(crate) fn read_part(alloc: Global, state: &mut LexerState<'_>) -> Result<Par
         is_cut,
         has_tab: false,
         reads,
+        met: None,
     })
 }
 

@@ -1,7 +1,7 @@
 //! Replaces the end of a list of lexemes.
 
-ghost use Rattle.std.specs.Prelude.{◌≡◌, ◌<◌, ◌≤◌, ◌+◌, ◌++◌, ◌^◌, [], ℕ, None, IfSome, OnOk, Some, if◌then◌else◌, false, length, map, take, true, vec_capacity, vec_len};
-ghost use Rattle.starlark_syntax.specs.Inner.LexedTexts.{AllNear, IsTakenBack, is_newline_view, last_newline_of, later};
+ghost use Rattle.std.specs.Prelude.{◌≡◌, ◌<◌, ◌≤◌, ◌+◌, ◌++◌, ◌^◌, [], ℕ, None, IfSome, OnErr, OnOk, Some, if◌then◌else◌, drop, false, length, map, take, true, vec_capacity, vec_len};
+ghost use Rattle.starlark_syntax.specs.Inner.LexedTexts.{AllAfter, AllNear, IsTakenBack, is_newline_view, last_newline_of, later, moved_lexeme};
 ghost use Rattle.starlark_token.specs.Lexemes.{lexeme_view};
 ghost use Rattle.starlark_token.specs.TokenViews.{token_view};
 
@@ -38,6 +38,58 @@ pub(crate) fn append_later(
     for (begin, token, end) in more {
         lexemes.push_reserved((len + begin, token, len + end));
     }
+}
+
+/// Moves lexemes in place, from byte `from` to byte `to`.
+fn move_lexemes(lexemes: &mut [PlacedToken], from: usize, to: usize)
+    requires near { AllNear lexemes.old }
+    requires after { AllAfter from lexemes.old }
+    requires fits { to < 2 ^ 32 }
+    ensures { lexemes.new ≡ map (moved_lexeme from to) lexemes.old }
+{
+    for lexeme in lexemes.iter_mut() {
+        lexeme.0 = lexeme.0 - from + to;
+        lexeme.2 = lexeme.2 - from + to;
+    }
+}
+
+/// Moves the lexemes from index `first` on in place, from byte `from` to byte `to`.
+fn move_from(lexemes: &mut Vec<PlacedToken>, first: usize, from: usize, to: usize)
+    requires inside { first ≤ length lexemes.old.items }
+    requires near { AllNear (drop first lexemes.old.items) }
+    requires after { AllAfter from (drop first lexemes.old.items) }
+    requires fits { to < 2 ^ 32 }
+    ensures { lexemes.new.items ≡ take first lexemes.old.items ++ map (moved_lexeme from to) (drop first lexemes.old.items) }
+{
+    move_lexemes(&mut lexemes[first..], from, to);
+}
+
+/// Replaces the lexemes from index `kept` up to a cut by others, moved by `len` bytes, and moves
+/// those after the cut to byte `to`. Nothing changes on `AllocError`.
+pub(crate) fn replace_lexemes(
+    lexemes: &mut Vec<PlacedToken>,
+    kept: usize,
+    cut: Cut,
+    more: Vec<PlacedToken>,
+    len: usize,
+    to: usize,
+) -> Result<(), AllocError>
+    requires order { kept ≤ cut.lexemes }
+    requires inside { cut.lexemes ≤ length lexemes.old.items }
+    requires near { AllNear (drop cut.lexemes lexemes.old.items) }
+    requires more_near { AllNear more.items }
+    requires after { AllAfter cut.at (drop cut.lexemes lexemes.old.items) }
+    requires len { len < 2 ^ 32 }
+    requires to { to < 2 ^ 32 }
+    ensures made { OnOk result (lexemes.new.items ≡ take kept lexemes.old.items ++ (map (moved_lexeme 0 len) more.items ++ map (moved_lexeme cut.at to) (drop cut.lexemes lexemes.old.items))) }
+    ensures same { OnErr result (lexemes.new.items ≡ lexemes.old.items) }
+{
+    let mut more = more;
+    move_from(&mut more, 0, 0, len);
+    let end = kept + more.len();
+    lexemes.splice(kept..cut.lexemes, more)?;
+    move_from(lexemes, end, cut.at, to);
+    Ok(())
 }
 
 /// Whether a token is `Newline`.

@@ -14,10 +14,9 @@ use Rattle.starlark_grammar.specs.Cuts.{is_clean_cut, is_kept_cut, is_settled, w
 use Rattle.starlark_grammar.proofs.Joining.KeptPlaces.{cut_some}
 use Rattle.starlark_grammar.proofs.Joining.Laws.{kept_cuts_keep}
 use Rattle.starlark_grammar.proofs.Joining.LineCuts.{kept_parts}
-use Rattle.starlark_syntax.specs.Inner.LexedTexts.{AreCuts, IsCutOf, IsPart, IsRising, cuts_at, end_cuts, holds_cut}
+use Rattle.starlark_syntax.specs.Inner.LexedTexts.{AreCuts, IsCutOf, IsPart, IsRising, PartView, cuts_at, end_cuts, holds_cut}
 use Rattle.starlark_reader.specs.Inner.MarginCuts.{IsCutBefore, lexemes_before}
 use Rattle.starlark_syntax.specs.declared.cuts.Cut.{Cut}
-use Rattle.starlark_syntax.specs.declared.parts.Part.{Part}
 use Rattle.starlark_syntax.proofs.LexedTexts.CleanCuts.{faultless_cut, faulty_cut}
 use Rattle.starlark_syntax.proofs.LexedTexts.KeptCuts.{in_order, some_lexemes, take_all, whole_kept}
 use Rattle.starlark_syntax.proofs.LexedTexts.HeldCuts.{held_left, held_one, held_right, kept_inside}
@@ -73,6 +72,14 @@ one_more text file old new found lexeme is answer lexing after =
       λ at cut. answer.3 at (subst (λ n. IsCutBefore old.text.now at n) (ap length left) (subst (λ (t : Text). IsCutBefore t at (length (left_in new))) (sym same) cut)),
     )
 
+-- where only the number of reads changes
+pub same_collected : (text : Text) (file : SourceFile) (old new : LexerState) (found : List (ℕ × Token × ℕ)) → IsCollected text file old found → IsLexing new → view_of new ≡ record (view_of old) { reads = new.reader.reads } → IsCollected text file new found
+same_collected text file old new found is lexing after = record {
+  lexing = lexing;
+  view = after ∙ ap (λ (v : LexerView). record v { reads = new.reader.reads }) is.view;
+  all = is.all ∙ ap (λ vs. map lexeme_view found ++ vs) (sym (ap (λ (v : LexerView). drop v.yielded_count (map shown_lexeme (outcome v.text).lexemes)) after));
+}
+
 -- so fewer are ahead
 pub less_left : {A : Type 0} (all : ℕ) (old new : List A) (x : A) → new ≡ old ++ x ∷ [] → length old < all → all - length new < all - length old
 less_left all old new x is some = omega (arith, ap length is, length-append old (x ∷ []), some)
@@ -106,7 +113,7 @@ pub record AreCutsSoFar (text : Text) (count : ℕ) (cuts : List Cut) : Type 0 w
 pub no_cuts_yet : (text : Text) (cuts : List Cut) → cuts ≡ [] → AreCutsSoFar text 0 cuts
 no_cuts_yet text cuts none = subst (AreCutsSoFar text 0) (sym none) (record { each = tt; order = tt; inside = tt; few = tt; all = λ at kept inside few. absurd (omega (arith, few, cut_some text at (kept_inside text at kept) (kept_parts text at kept).1)) })
 
-all_weaker : {A : Type 0} (P Q : A → Type 0) (xs : List A) → ((x : A) → P x → Q x) → AllByRecursion P xs → AllByRecursion Q xs
+pub all_weaker : {A : Type 0} (P Q : A → Type 0) (xs : List A) → ((x : A) → P x → Q x) → AllByRecursion P xs → AllByRecursion Q xs
 all_weaker P Q [] more all = tt
 all_weaker P Q (x ∷ xs) more all = (more x all.0, all_weaker P Q xs more all.1)
 
@@ -183,19 +190,19 @@ all_held text cuts more count so same last at kept = go (nat_lt at (length text)
         held_right at cuts more (ap (λ n. holds_cut n more) whole ∙ last clean)
 
 -- with the exception of the text's fault after them
-pub fault_given : (text : Text) (file : SourceFile) (state new : LexerState) (part : Part) (exception : Diagnosed ErrorKind) → IsCollected text file state part.lexemes.items → HasAnswered state (Some (Err (Error exception))) new
-    → AreCutsSoFar text (length part.lexemes.items) part.cuts.items → part.fault ≡ Some exception → part.is_cut ≡ false → part.has_tab ≡ has_read_none new.reader → IsPart file text part
+pub fault_given : (text : Text) (file : SourceFile) (state new : LexerState) (part : PartView) (exception : Diagnosed ErrorKind) → IsCollected text file state part.lexemes → HasAnswered state (Some (Err (Error exception))) new
+    → AreCutsSoFar text (length part.lexemes) part.cuts → part.fault ≡ Some exception → part.is_cut ≡ false → part.has_tab ≡ has_read_none new.reader → IsPart file text part
 fault_given text file state new part exception is answer so thrown no_cut tab =
-    let same : state.text.now ≡ text = text_is text file state part.lexemes.items is in
+    let same : state.text.now ≡ text = text_is text file state part.lexemes is in
     let fault : (outcome text).fault ≡ Some answer.1.0 = ap (λ (t : Text). (outcome t).fault) (sym same) ∙ answer.1.1 in
     record {
-      lexemes = none_left text file state part.lexemes.items is answer.0;
-      fault = subst (λ f. IsFaultIn file f part.fault) (sym fault) (subst (IsFaultIn file (Some answer.1.0)) (sym thrown) (subst (λ (f : SourceFile). IsException f answer.1.0 exception) (file_is text file state part.lexemes.items is) answer.1.2));
+      lexemes = none_left text file state part.lexemes is answer.0;
+      fault = subst (λ f. IsFaultIn file f part.fault) (sym fault) (subst (IsFaultIn file (Some answer.1.0)) (sym thrown) (subst (λ (f : SourceFile). IsException f answer.1.0 exception) (file_is text file state part.lexemes is) answer.1.2));
       cuts = record {
         each = so.each;
         order = so.order;
-        all = λ place kept. subst (λ cuts. holds_cut place cuts ≡ true) (append-nil part.cuts.items)
-            (all_held text part.cuts.items [] (length part.lexemes.items) so (found_all text file state part.lexemes.items is answer.0) (λ clean. let both : true ≡ false = sym clean ∙ faulty_cut text answer.1.0 fault in cc) place kept);
+        all = λ place kept. subst (λ cuts. holds_cut place cuts ≡ true) (append-nil part.cuts)
+            (all_held text part.cuts [] (length part.lexemes) so (found_all text file state part.lexemes is answer.0) (λ clean. let both : true ≡ false = sym clean ∙ faulty_cut text answer.1.0 fault in cc) place kept);
       };
       is_cut = no_cut ∙ sym (faulty_cut text answer.1.0 fault);
       tab = tab ∙ answer.2 ∙ ap begins_with_tab same;
@@ -217,14 +224,14 @@ end_is text cuts count false so is same = record {
 }
 
 -- where the text has none
-pub all_given : (text : Text) (file : SourceFile) (state new : LexerState) (part : Part) (cuts : List Cut) → IsCollected text file state part.lexemes.items → HasAnswered state None new → part.fault ≡ None
-    → AreCutsSoFar text (length part.lexemes.items) cuts → part.cuts.items ≡ cuts ++ end_cuts text (length part.lexemes.items) part.is_cut → part.is_cut ≡ is_clean_cut text → part.has_tab ≡ false → IsPart file text part
+pub all_given : (text : Text) (file : SourceFile) (state new : LexerState) (part : PartView) (cuts : List Cut) → IsCollected text file state part.lexemes → HasAnswered state None new → part.fault ≡ None
+    → AreCutsSoFar text (length part.lexemes) cuts → part.cuts ≡ cuts ++ end_cuts text (length part.lexemes) part.is_cut → part.is_cut ≡ is_clean_cut text → part.has_tab ≡ false → IsPart file text part
 all_given text file state new part cuts is answer no_fault so same is_cut no_tabs =
-    let none : (outcome text).fault ≡ None = ap (λ (t : Text). (outcome t).fault) (sym (text_is text file state part.lexemes.items is)) ∙ answer.1 in
+    let none : (outcome text).fault ≡ None = ap (λ (t : Text). (outcome t).fault) (sym (text_is text file state part.lexemes is)) ∙ answer.1 in
     record {
-      lexemes = none_left text file state part.lexemes.items is answer.0;
+      lexemes = none_left text file state part.lexemes is answer.0;
       fault = subst (λ f. IsFaultIn file f part.fault) (sym none) (subst (IsFaultIn file None) (sym no_fault) tt);
-      cuts = subst (AreCuts text) (sym same) (end_is text cuts (length part.lexemes.items) part.is_cut so is_cut (found_all text file state part.lexemes.items is answer.0));
+      cuts = subst (AreCuts text) (sym same) (end_is text cuts (length part.lexemes) part.is_cut so is_cut (found_all text file state part.lexemes is answer.0));
       is_cut = is_cut;
       tab = let margin = begun text none in no_tabs ∙ sym (no_tab text margin.0 (sym (margin_first text) ∙ margin.1));
     }

@@ -22,10 +22,9 @@ use Rattle.starlark_grammar.proofs.Joining.LineCuts.{kept_parts}
 use Rattle.starlark_grammar.proofs.Joining.Tabs.{HasTab, behind_tab, first_margin_is, first_step, margin_tab, outcome_by, tab, tab_longest}
 use Rattle.starlark_grammar.proofs.Reading.Readings.{one_longest, read_is}
 use Rattle.starlark_token.specs.Lexemes.{lexeme_view, shown_lexeme}
-use Rattle.starlark_syntax.specs.Inner.LexedTexts.{AreBeyond, AreCuts, IsBegin, IsCutOf, IsPart, IsTakenBack, holds_cut, last_newline_of, later, later_cut}
+use Rattle.starlark_syntax.specs.Inner.LexedTexts.{AreBeyond, AreCuts, IsBegin, IsCutOf, IsPart, IsTakenBack, PartView, holds_cut, last_newline_of, later, later_cut}
 use Rattle.starlark_syntax.specs.declared.cuts.Begin.{Begin}
 use Rattle.starlark_syntax.specs.declared.cuts.Cut.{Cut}
-use Rattle.starlark_syntax.specs.declared.parts.Part.{Part}
 use Rattle.starlark_syntax.specs.declared.tails.Kept.{Kept}
 use Rattle.starlark_token.specs.declared.tokens.Token.{Token}
 use Rattle.starlark_token.specs.TokenViews.{TokenView}
@@ -40,10 +39,10 @@ use Rattle.starlark_syntax.proofs.LexedTexts.Relexed.{above_later, all_both, all
 use Rattle.starlark_reader.proofs.Pieces.Onward.{first_fails}
 
 -- What is kept and what is put behind it are what a text comes to.
-pub record IsRelexed (edited : Text) (ls : List (ℕ × Token × ℕ)) (cuts : List Cut) (at count : ℕ) (part : Part) (kept : Kept) : Type 0 where
-  pub lexemes : map lexeme_view (take kept.lexemes ls ++ map (later at) (if kept.gives_more then part.lexemes.items else [])) ≡ map shown_lexeme (outcome edited).lexemes
+pub record IsRelexed (edited : Text) (ls : List (ℕ × Token × ℕ)) (cuts : List Cut) (at count : ℕ) (part : PartView) (kept : Kept) : Type 0 where
+  pub lexemes : map lexeme_view (take kept.lexemes ls ++ map (later at) (if kept.gives_more then part.lexemes else [])) ≡ map shown_lexeme (outcome edited).lexemes
   pub fault : (outcome edited).fault ≡ option_map (moved kept.fault_at) (outcome (drop at edited)).fault
-  pub are_cuts : AreCuts edited (take kept.cuts cuts ++ map (later_cut at count) part.cuts.items)
+  pub are_cuts : AreCuts edited (take kept.cuts cuts ++ map (later_cut at count) part.cuts)
   pub near : kept.fault_at ≤ at
   pub few : kept.lexemes ≤ length ls
 
@@ -66,22 +65,22 @@ begin_at None = 0
 begin_at (Some fault) = fault.begin
 
 -- Lexed from the text's begin on
-pub relexed_start : (file : SourceFile) (old edited : Text) (ls : List (ℕ × Token × ℕ)) (cuts : List Cut) (part : Part) (count : ℕ) → AreCuts old cuts → AllByRecursion (λ (cut : Cut). cut.at ≤ 0) (take count cuts) → IsPart file edited part
+pub relexed_start : (file : SourceFile) (old edited : Text) (ls : List (ℕ × Token × ℕ)) (cuts : List Cut) (part : PartView) (count : ℕ) → AreCuts old cuts → AllByRecursion (λ (cut : Cut). cut.at ≤ 0) (take count cuts) → IsPart file edited part
     → IsRelexed edited ls cuts 0 0 part (record { lexemes = 0; cuts = count; fault_at = 0; gives_more = true })
 relexed_start file old edited ls cuts part count are up_to is = record {
-  lexemes = viewed_later 0 part.lexemes.items ∙ unmoved (map lexeme_view part.lexemes.items) ∙ is.lexemes;
+  lexemes = viewed_later 0 part.lexemes ∙ unmoved (map lexeme_view part.lexemes) ∙ is.lexemes;
   fault = sym (unmoved_fault (outcome edited).fault);
   are_cuts = record {
-    each = all_both (IsCutOf edited) (take count cuts) _ (all_stay old edited 0 0 (take count cuts) refl (omega arith) (omega arith) (omega arith) (all_take (IsCutOf old) count cuts are.each) up_to) (subst (AllByRecursion (IsCutOf edited)) (sym (same_cuts part.cuts.items)) is.cuts.each);
-    order = rising_both 0 (take count cuts) _ (rising_take count cuts are.order) (rising_later 0 0 part.cuts.items is.cuts.order) up_to (above_later edited 0 0 part.cuts.items is.cuts.each);
-    all = λ x kept. held_right x (take count cuts) _ (subst (λ (found : List Cut). holds_cut x found ≡ true) (sym (same_cuts part.cuts.items)) (is.cuts.all x kept));
+    each = all_both (IsCutOf edited) (take count cuts) _ (all_stay old edited 0 0 (take count cuts) refl (omega arith) (omega arith) (omega arith) (all_take (IsCutOf old) count cuts are.each) up_to) (subst (AllByRecursion (IsCutOf edited)) (sym (same_cuts part.cuts)) is.cuts.each);
+    order = rising_both 0 (take count cuts) _ (rising_take count cuts are.order) (rising_later 0 0 part.cuts is.cuts.order) up_to (above_later edited 0 0 part.cuts is.cuts.each);
+    all = λ x kept. held_right x (take count cuts) _ (subst (λ (found : List Cut). holds_cut x found ≡ true) (sym (same_cuts part.cuts)) (is.cuts.all x kept));
   };
   near = omega arith;
   few = omega arith;
 }
 
 -- Lexed from a kept cut on
-module _ (file : SourceFile) (old edited : Text) (ls : List (ℕ × Token × ℕ)) (cuts : List Cut) (part : Part) (at count : ℕ) (lexed : map lexeme_view ls ≡ map shown_lexeme (outcome old).lexemes) (are : AreCuts old cuts)
+module _ (file : SourceFile) (old edited : Text) (ls : List (ℕ × Token × ℕ)) (cuts : List Cut) (part : PartView) (at count : ℕ) (lexed : map lexeme_view ls ≡ map shown_lexeme (outcome old).lexemes) (are : AreCuts old cuts)
     (is : IsCutOf old (record { at = at; lexemes = count })) (same : take at old ≡ take at edited) (inside : at ≤ length edited) (is_part : IsPart file (drop at edited) part) where
   front : Text
   front = take at edited
@@ -117,11 +116,11 @@ module _ (file : SourceFile) (old edited : Text) (ls : List (ℕ × Token × ℕ
 
   -- all of them, and those of what was read
   all_views : (outcome edited).lexemes ≡ without_closing (outcome (take at edited)).lexemes ++ map (moved at) (outcome (drop at edited)).lexemes
-      → map lexeme_view (take count ls ++ map (later at) part.lexemes.items) ≡ map shown_lexeme (outcome edited).lexemes
+      → map lexeme_view (take count ls ++ map (later at) part.lexemes) ≡ map shown_lexeme (outcome edited).lexemes
   all_views e =
-      map-append lexeme_view (take count ls) (map (later at) part.lexemes.items)
-      ∙ ap (λ vs. vs ++ map lexeme_view (map (later at) part.lexemes.items)) kept_views
-      ∙ ap (λ vs. map shown_lexeme (without_closing (outcome (take at edited)).lexemes) ++ vs) (viewed_later at part.lexemes.items ∙ ap (map (moved at)) is_part.lexemes ∙ sym (shown_later at (outcome (drop at edited)).lexemes))
+      map-append lexeme_view (take count ls) (map (later at) part.lexemes)
+      ∙ ap (λ vs. vs ++ map lexeme_view (map (later at) part.lexemes)) kept_views
+      ∙ ap (λ vs. map shown_lexeme (without_closing (outcome (take at edited)).lexemes) ++ vs) (viewed_later at part.lexemes ∙ ap (map (moved at)) is_part.lexemes ∙ sym (shown_later at (outcome (drop at edited)).lexemes))
       ∙ sym (map-append shown_lexeme (without_closing (outcome (take at edited)).lexemes) (map (moved at) (outcome (drop at edited)).lexemes))
       ∙ ap (map shown_lexeme) (sym e)
 
@@ -135,18 +134,18 @@ module _ (file : SourceFile) (old edited : Text) (ls : List (ℕ × Token × ℕ
   relexed_cut kept_cuts up_to beyond margin =
       let joined = ap outcome (sym whole) ∙ cuts_join (take at edited) (drop at edited) clean margin in
       let reach : pieces_len (read language edited).pieces ≡ length (take at edited) + pieces_len (read language (drop at edited)).pieces = ap (λ (t : Text). pieces_len (read language t).pieces) (sym whole) ∙ reach_joined (take at edited) (drop at edited) clean margin in
-      let behind = all_later (take at edited) (drop at edited) part.cuts.items clean margin is_part.cuts.each in
+      let behind = all_later (take at edited) (drop at edited) part.cuts clean margin is_part.cuts.each in
       record {
         lexemes = all_views (ap (λ (o : Outcome). o.lexemes) joined ∙ ap (λ n. without_closing (outcome (take at edited)).lexemes ++ map (moved n) (outcome (drop at edited)).lexemes) len);
         fault = ap (λ (o : Outcome). o.fault) joined ∙ ap (λ n. option_map (moved n) (outcome (drop at edited)).fault) len;
         are_cuts = record {
           each = all_both (IsCutOf edited) (take kept_cuts cuts) _ (all_stay old edited at at (take kept_cuts cuts) same inside (omega arith) (omega (arith, reach, len)) (all_take (IsCutOf old) kept_cuts cuts are.each) up_to)
-              (subst (λ n. AllByRecursion (IsCutOf edited) (map (later_cut at n) part.cuts.items)) count_is
-              (subst (λ n. AllByRecursion (IsCutOf edited) (map (later_cut n (length (without_closing (outcome (take at edited)).lexemes))) part.cuts.items)) len
-              (subst (λ (t : Text). AllByRecursion (IsCutOf t) (map (later_cut (length (take at edited)) (length (without_closing (outcome (take at edited)).lexemes))) part.cuts.items)) whole behind)));
-          order = rising_both at (take kept_cuts cuts) _ (rising_take kept_cuts cuts are.order) (rising_later at count part.cuts.items is_part.cuts.order) up_to (above_later (drop at edited) at count part.cuts.items is_part.cuts.each);
-          all = λ x kept. subst (λ n. holds_cut x (take kept_cuts cuts ++ map (later_cut n count) part.cuts.items) ≡ true) len
-              (held_joined (take at edited) (drop at edited) (take kept_cuts cuts) part.cuts.items count clean margin
+              (subst (λ n. AllByRecursion (IsCutOf edited) (map (later_cut at n) part.cuts)) count_is
+              (subst (λ n. AllByRecursion (IsCutOf edited) (map (later_cut n (length (without_closing (outcome (take at edited)).lexemes))) part.cuts)) len
+              (subst (λ (t : Text). AllByRecursion (IsCutOf t) (map (later_cut (length (take at edited)) (length (without_closing (outcome (take at edited)).lexemes))) part.cuts)) whole behind)));
+          order = rising_both at (take kept_cuts cuts) _ (rising_take kept_cuts cuts are.order) (rising_later at count part.cuts is_part.cuts.order) up_to (above_later (drop at edited) at count part.cuts is_part.cuts.each);
+          all = λ x kept. subst (λ n. holds_cut x (take kept_cuts cuts ++ map (later_cut n count) part.cuts) ≡ true) len
+              (held_joined (take at edited) (drop at edited) (take kept_cuts cuts) part.cuts count clean margin
               (λ x less there. held_old x at kept_cuts (omega (arith, less, len)) (omega (arith, less, len)) beyond (ap is_clean_cut (sym (take_within x at edited (omega (arith, less, len)))) ∙ there))
               is_part.cuts.all x (ap (λ (t : Text). is_kept_cut t x) whole ∙ kept));
         };
@@ -190,7 +189,7 @@ module _ (file : SourceFile) (old edited : Text) (ls : List (ℕ × Token × ℕ
           lexemes = all_views (ap (λ (o : Outcome). o.lexemes) all ∙ ap (λ n. without_closing (outcome (take at edited)).lexemes ++ map (moved n) (margin_of (drop at edited)).comments) len
               ∙ ap (λ (o : Outcome). without_closing (outcome (take at edited)).lexemes ++ map (moved at) o.lexemes) (sym fails));
           fault = ap (λ (o : Outcome). o.fault) all ∙ ap (λ (o : Outcome). option_map (moved 0) o.fault) (sym fails);
-          are_cuts = subst (λ (found : List Cut). AreCuts edited (map (later_cut at count) found)) (sym (no_cuts part.cuts.items is_part.cuts.each))
+          are_cuts = subst (λ (found : List Cut). AreCuts edited (map (later_cut at count) found)) (sym (no_cuts part.cuts is_part.cuts.each))
               (record { each = tt; order = tt; all = λ x kept. absurd (omega (arith, kept_some edited x kept, (kept_parts edited x kept).0, tab_reach (record { begin = 0; node = InvalidTab; end = 0 }) (ap (λ (o : Outcome). o.fault) all))) });
           near = omega arith;
           few = few;
@@ -235,7 +234,7 @@ module _ (file : SourceFile) (old edited : Text) (ls : List (ℕ × Token × ℕ
         let here : pieces_len bt.front + 0 ≡ found.begin = fault in
         let up_to : AllByRecursion (λ (cut : Cut). cut.at ≤ kept.fault_at) (take kept.cuts cuts) = all_up_to cuts kept.fault_at kept.cuts (record { at = 0; lexemes = 0 }) are.order taken.few taken.up_to in
         let near : kept.fault_at ≤ at = omega (arith, placed, here, bt.less, len) in
-        let nil : map (later_cut at count) part.cuts.items ≡ [] = ap (map (later_cut at count)) (no_cuts part.cuts.items is_part.cuts.each) in
+        let nil : map (later_cut at count) part.cuts ≡ [] = ap (map (later_cut at count)) (no_cuts part.cuts is_part.cuts.each) in
         record {
           lexemes = rw (taken.count, taken.gives_none) (ap (map lexeme_view) (append-nil (take last ls) ∙ sym (take_less last count ls (omega (arith, less)))) ∙ sym (take-map lexeme_view last (take count ls)) ∙ ap (take last) kept_views ∙ take-map shown_lexeme last lexemes ∙ ap (λ (o : Outcome). map shown_lexeme o.lexemes) (sym all));
           fault = ap (λ (o : Outcome). o.fault) all ∙ at_place found.begin kept.fault_at placed ∙ ap (λ (o : Outcome). option_map (moved kept.fault_at) o.fault) (sym fails);
@@ -276,7 +275,7 @@ begin_few old ls cuts from begin lexed is = by is.stands
         omega (arith, cut.lexemes, ap length lexed, length-map ls lexeme_view, length-map (outcome old).lexemes shown_lexeme, ap length law.1, length-append (without_closing (outcome (take begin.at old)).lexemes) law.0)
 
 -- all cases together
-pub relexed : (file : SourceFile) (old edited : Text) (ls : List (ℕ × Token × ℕ)) (cuts : List Cut) (from : ℕ) (begin : Begin) (part : Part) (kept : Kept) (has : Bool) → map lexeme_view ls ≡ map shown_lexeme (outcome old).lexemes → AreCuts old cuts → IsBegin old cuts from begin
+pub relexed : (file : SourceFile) (old edited : Text) (ls : List (ℕ × Token × ℕ)) (cuts : List Cut) (from : ℕ) (begin : Begin) (part : PartView) (kept : Kept) (has : Bool) → map lexeme_view ls ≡ map shown_lexeme (outcome old).lexemes → AreCuts old cuts → IsBegin old cuts from begin
     → take from old ≡ take from edited → from ≤ length edited → IsPart file (drop begin.at edited) part → has ≡ (is_content (margin_of (drop begin.at edited)).behind && has_tab (margin_of (drop begin.at edited)))
     → (has ≡ false → kept ≡ record { lexemes = begin.lexemes; cuts = begin.cuts; fault_at = begin.at; gives_more = true })
     → (has ≡ true → last_newline_of (map lexeme_view (take begin.lexemes ls)) ≡ None → kept ≡ record { lexemes = begin.lexemes; cuts = 0; fault_at = 0; gives_more = true })
@@ -327,7 +326,7 @@ relexed file old edited ls cuts from begin part kept has lexed are is same insid
     by (inr cut) = by_cut cut
 
 -- whether the end is a clean cut
-pub end_cut_is : (file : SourceFile) (edited : Text) (at : ℕ) (part : Part) (found : Bool) → at ≤ length edited → ((at ≡ 0) ⊎ (is_clean_cut (take at edited) ≡ true)) → IsPart file (drop at edited) part → found ≡ (part.is_cut || (length (drop at edited) == 0 && nat_lt 0 at)) → found ≡ is_clean_cut edited
+pub end_cut_is : (file : SourceFile) (edited : Text) (at : ℕ) (part : PartView) (found : Bool) → at ≤ length edited → ((at ≡ 0) ⊎ (is_clean_cut (take at edited) ≡ true)) → IsPart file (drop at edited) part → found ≡ (part.is_cut || (length (drop at edited) == 0 && nat_lt 0 at)) → found ≡ is_clean_cut edited
 end_cut_is file edited at part found inside (inl start) is by = by ∙ ap (λ b. part.is_cut || (length (drop at edited) == 0 && b)) (ap (nat_lt 0) start) ∙ no_more part.is_cut (length (drop at edited) == 0) ∙ is.is_cut ∙ ap (λ n. is_clean_cut (drop n edited)) start
   where
     no_more : (a b : Bool) → (a || (b && false)) ≡ a

@@ -10,7 +10,7 @@ use Rattle.starlark_grammar.specs.Reading.{outcome}
 use Rattle.starlark_syntax.specs.LexedTexts.{IsLexed}
 use Rattle.starlark_syntax.specs.Exceptions.{IsException, IsFaultIn}
 use Rattle.starlark_token.specs.Lexemes.{lexeme_view}
-use Rattle.starlark_syntax.specs.Inner.LexedTexts.{AllNear, IsPart}
+use Rattle.starlark_syntax.specs.Inner.LexedTexts.{AllNear, IsPart, part_view}
 use Rattle.starlark_syntax.specs.declared.parts.Part.{Part}
 use Rattle.starlark_syntax.proofs.LexedTexts.Within.{lexemes_near}
 use Rattle.starlark_grammar.proofs.Order.Inside.{fault_within}
@@ -46,10 +46,10 @@ unmoved_fault (Some fault) =
     let end : 0 + fault.end ≡ fault.end = omega arith in
     rw (begin, end) refl
 
-pub lexed_part : (file : SourceFile) (text : Text) (part : Part) (reads : ℕ) → IsPart file text part → IsLexed file (record { text = text; lexemes = map lexeme_view part.lexemes.items; fault = part.fault; reads = reads })
+pub lexed_part : (file : SourceFile) (text : Text) (part : Part) (reads : ℕ) → IsPart file text (part_view part) → IsLexed file (record { text = text; lexemes = map lexeme_view part.lexemes.items; fault = part.fault; reads = reads })
 lexed_part file text part reads is = record { lexemes = is.lexemes; fault = is.fault }
 
 -- the lexemes that are given lie near
-pub given_near : (file : SourceFile) (text : Text) (part : Part) (gives : Bool) (given : List (ℕ × Token × ℕ)) → IsPart file text part → length text < 2 ^ 32 → given ≡ (if gives then part.lexemes.items else []) → AllNear given
+pub given_near : (file : SourceFile) (text : Text) (part : Part) (gives : Bool) (given : List (ℕ × Token × ℕ)) → IsPart file text (part_view part) → length text < 2 ^ 32 → given ≡ (if gives then part.lexemes.items else []) → AllNear given
 given_near file text part true given is short same = subst AllNear (sym same) (lexemes_near text part.lexemes.items is.lexemes short)
 given_near file text part false given is short same = subst AllNear (sym same) tt

@@ -1,11 +1,13 @@
 -- The lexemes and cuts of a lexed text, as the code stores them.
-use Rattle.std.specs.Prelude.{◌≡◌, Bool, true, false, ℕ, suc, ◌+◌, ◌-◌, ◌<◌, ◌≤◌, ◌^◌, List, [], ◌∷◌, map, length, drop, take, slice_get, ◌==◌, Option, Some, None, ⊤, ◌⊎◌}
+use Rattle.std.specs.Prelude.{◌≡◌, Bool, true, false, ℕ, suc, ◌+◌, ◌-◌, ◌<◌, ◌≤◌, ◌^◌, List, [], ◌∷◌, ◌++◌, map, length, drop, take, slice_get, ◌==◌, Option, Some, None, ⊤, ◌⊎◌}
 use Rattle.std.specs.List.{AllByRecursion, list_any}
+use Rattle.starlark_base.specs.Diagnostics.{Diagnosed}
 use Rattle.starlark_base.specs.Sources.{SourceFile}
+use Rattle.starlark_syntax.specs.declared.error.kinds.ErrorKind.{ErrorKind}
 use Rattle.starlark_grammar.specs.Words.{Text}
 use Rattle.starlark_grammar.specs.Tokens as grammar
 use Rattle.starlark_grammar.specs.Reading.{outcome}
-use Rattle.starlark_grammar.specs.Cuts.{is_clean_cut, is_kept_cut}
+use Rattle.starlark_grammar.specs.Cuts.{is_clean_cut, is_kept_cut, without_closing}
 use Rattle.starlark_token.specs.TokenViews.{TokenView, Whole}
 use Rattle.starlark_token.specs.declared.tokens.Token.{Token}
 use Rattle.starlark_syntax.specs.Exceptions.{IsFaultIn}
@@ -14,6 +16,7 @@ use Rattle.starlark_reader.specs.Inner.MarginCuts.{lexemes_before}
 use Rattle.starlark_reader.specs.Inner.Reader.{begins_with_tab}
 use Rattle.starlark_syntax.specs.declared.cuts.Begin.{Begin}
 use Rattle.starlark_syntax.specs.declared.cuts.Cut.{Cut}
+use Rattle.starlark_syntax.specs.declared.meetings.Meeting.{Meeting}
 use Rattle.starlark_syntax.specs.declared.parts.Part.{Part}
 use Rattle.starlark_syntax.specs.declared.tails.Kept.{Kept}
 
@@ -24,6 +27,10 @@ later len lexeme = (len + lexeme.0, lexeme.1, len + lexeme.2)
 -- the lexemes' begins and ends are less than 2^32
 abbrev pub AllNear : List (ℕ × Token × ℕ) → Type 0
 AllNear lexemes = AllByRecursion (λ (lexeme : ℕ × Token × ℕ). (lexeme.0 < 2 ^ 32) × (lexeme.2 < 2 ^ 32)) lexemes
+
+-- the lexemes begin and end at or after byte `from`
+abbrev pub AllAfter : ℕ → List (ℕ × Token × ℕ) → Type 0
+AllAfter from lexemes = AllByRecursion (λ (lexeme : ℕ × Token × ℕ). (from ≤ lexeme.0) × (from ≤ lexeme.2)) lexemes
 
 -- a cut, moved by `len` bytes and `count` lexemes
 abbrev pub later_cut : ℕ → ℕ → Cut → Cut
@@ -90,13 +97,71 @@ pub record IsTakenBack (lexemes : List (ℕ × Token × ℕ)) (cuts : List Cut) 
   pub up_to : IsUpTo cuts kept.fault_at kept.cuts
   pub beyond : AreBeyond cuts kept.fault_at kept.cuts
 
+-- a part as a proof sees it
+pub record PartView : Type 0 where
+  pub lexemes : List (ℕ × Token × ℕ)
+  pub fault : Option (Diagnosed ErrorKind)
+  pub cuts : List Cut
+  pub is_cut : Bool
+  pub has_tab : Bool
+
+abbrev pub part_view : Part → PartView
+part_view part = record { lexemes = part.lexemes.items; fault = part.fault; cuts = part.cuts.items; is_cut = part.is_cut; has_tab = part.has_tab }
+
 -- the part has the lexemes, the fault and the cuts of the text; the fault is in a code map
-pub record IsPart (file : SourceFile) (text : Text) (part : Part) : Type 0 where
-  pub lexemes : map lexeme_view part.lexemes.items ≡ map shown_lexeme (outcome text).lexemes
+pub record IsPart (file : SourceFile) (text : Text) (part : PartView) : Type 0 where
+  pub lexemes : map lexeme_view part.lexemes ≡ map shown_lexeme (outcome text).lexemes
   pub fault : IsFaultIn file (outcome text).fault part.fault
-  pub cuts : AreCuts text part.cuts.items
+  pub cuts : AreCuts text part.cuts
   pub is_cut : part.is_cut ≡ is_clean_cut text
   pub tab : part.has_tab ≡ begins_with_tab text
+
+-- the part has the lexemes and the cuts of the text up to a kept cut
+pub record IsPartTo (text : Text) (at : ℕ) (part : PartView) : Type 0 where
+  pub inside : at < length text
+  pub is_kept : is_kept_cut text at ≡ true
+  pub lexemes : map lexeme_view part.lexemes ≡ map shown_lexeme (without_closing (outcome (take at text)).lexemes)
+  pub each : AllByRecursion (IsCutOf text) part.cuts
+  pub order : IsRising part.cuts
+  pub up_to : AllByRecursion (λ (cut : Cut). cut.at ≤ at) part.cuts
+  pub all : (other : ℕ) → is_kept_cut text other ≡ true → other ≤ at → holds_cut other part.cuts ≡ true
+
+-- a text meets a known text: after byte `meeting.at` of the one are the same bytes as after the
+-- other's cut
+pub record IsMet (text known : Text) (cuts : List Cut) (meeting : Meeting) : Type 0 where
+  pub found : slice_get cuts meeting.index ≡ Some meeting.cut
+  pub same : drop meeting.at text ≡ drop meeting.cut.at known
+
+-- a lexeme, moved from byte `from` to byte `to`
+abbrev pub moved_lexeme : (from to : ℕ) → ℕ × Token × ℕ → ℕ × Token × ℕ
+moved_lexeme from to lexeme = (lexeme.0 - from + to, lexeme.1, lexeme.2 - from + to)
+
+-- a cut, moved as one cut was to another
+abbrev pub moved_cut : (from to : Cut) → Cut → Cut
+moved_cut from to cut = record { at = cut.at - from.at + to.at; lexemes = cut.lexemes - from.lexemes + to.lexemes }
+
+-- the part, and then what a known text has after the cut that was met
+abbrev pub met_part : (from to : Cut) (index : ℕ) → List (ℕ × Token × ℕ) → List Cut → Bool → PartView → PartView
+met_part from to index lexemes cuts is_cut part = record {
+  lexemes = part.lexemes ++ map (moved_lexeme from.at to.at) (drop from.lexemes lexemes);
+  fault = None;
+  cuts = part.cuts ++ map (moved_cut from to) (drop (index + 1) cuts);
+  is_cut = is_cut;
+  has_tab = false;
+}
+
+-- a part of a text that meets a known text without fault, and where the part is put in the known
+-- text's lists
+pub record IsPutIn (known text : Text) (lexemes : List (ℕ × Token × ℕ)) (cuts : List Cut) (begin : Begin) (part : PartView) (meeting : Meeting) : Type 0 where
+  pub from : ℕ
+  pub lexed : map lexeme_view lexemes ≡ map shown_lexeme (outcome known).lexemes
+  pub faultless : (outcome known).fault ≡ None
+  pub are : AreCuts known cuts
+  pub begins : IsBegin known cuts from begin
+  pub met : IsMet text known (drop begin.cuts cuts) meeting
+  pub to : IsPartTo text meeting.at part
+  pub known_short : length known < 2 ^ 32
+  pub short : begin.at + length text < 2 ^ 32
 
 -- the token is `Newline`
 abbrev pub is_newline_view : TokenView → Bool

@@ -1,6 +1,6 @@
 use Rattle.std.proofs.Common.{◌≡◌, ◌<◌, ◌≤◌, ◌+◌, ◌++◌, ◌∷◌, [], Err, IfSome, List, None, Ok, Some, arith, ap, false, length, length-append, refl, subst, sym, ℕ, ◌∙◌}
 use Rattle.std.specs.List.{ends_with}
-use Rattle.std.specs.Prelude.{◌&&◌, codes, nat_eq}
+use Rattle.std.specs.Prelude.{◌&&◌, Option, codes, nat_eq}
 use Rattle.starlark_words.specs.Inner.Reads.{more_reads}
 use Rattle.starlark_grammar.specs.Cuts.{is_clean_cut, is_settled}
 use Rattle.starlark_grammar.specs.Reading.{outcome}
@@ -8,13 +8,14 @@ use Rattle.starlark_grammar.specs.Words.{Text}
 use Rattle.starlark_reader.specs.Inner.MarginCuts.{IsCutBefore}
 use Rattle.starlark_reader.specs.Inner.Reader.{IsStateAfter}
 use Rattle.starlark_syntax.specs.Lexer.{LexerView}
-use Rattle.starlark_syntax.specs.Inner.LexedTexts.{cuts_at, end_cuts}
+use Rattle.starlark_syntax.specs.Inner.LexedTexts.{IsMet, cuts_at, end_cuts}
 use Rattle.starlark_syntax.specs.Inner.LexerStates.{HasAnswered, left_in, view_of}
 use Rattle.starlark_syntax.specs.Lexer.{most_reads}
 use Rattle.starlark_text.specs.declared.or_memory.OrMemory.TheVariants.{Error}
 use Rattle.starlark_token.specs.declared.tokens.Token.{Token}
-use Rattle.starlark_syntax.proofs.LexedTexts.Collected.{AreCutsSoFar, IsCollected, all_counted, all_given, collected_none, cuts_more, fault_given, goes_on, less_left, no_cuts_yet, one_more, settled_is, some_given, text_is}
+use Rattle.starlark_syntax.proofs.LexedTexts.Collected.{AreCutsSoFar, IsCollected, all_counted, all_given, collected_none, cuts_more, fault_given, goes_on, less_left, no_cuts_yet, one_more, same_collected, settled_is, some_given, text_is}
 use Rattle.starlark_syntax.proofs.LexedTexts.HeldCuts.{kept_some}
+use Rattle.starlark_syntax.proofs.LexedTexts.Meetings.{met_front}
 use Rattle.starlark_syntax.proofs.parts.read_part.Goals as goal
 
 pub loop-item-init : goal.loop-item-init
@@ -34,17 +35,40 @@ loop-item-preserved c =
     let collected : IsCollected text c.args.state.now.code_map c.next.new.self c.push.new.self.items = subst (IsCollected text c.args.state.now.code_map c.next.new.self) (sym c.in_ok-push-in-Ok.ensures.items) more.0 in
     let one : length c.push.new.self.items ≡ length c.loop-item.lexemes.items + 1 = ap length c.in_ok-push-in-Ok.ensures.items ∙ length-append c.loop-item.lexemes.items (c.in-Ok.lexeme ∷ []) in
     let same = text_is text c.args.state.now.code_map c.next.new.self c.push.new.self.items collected in
-    let cuts = cuts_more text (length c.loop-item.lexemes.items) (left_in c.next.new.self) c.loop-item.cuts.items c.cut.result c.loop-item.invariant.cuts (omega (arith, one, all_counted text c.args.state.now.code_map c.next.new.self c.push.new.self.items collected))
-    (subst (λ (t : Text). IfSome c.cut.result (λ at. IsCutBefore t at (length (left_in c.next.new.self)))) same c.cut.ensures.kept)
-    (λ at cut. c.cut.ensures.reached at (more.2 at cut) (kept_some text at cut.is_kept) (subst (λ (t : Text). at < length t) (sym same) cut.inside)) in
+    let cuts = cuts_more text (length c.loop-item.lexemes.items) (left_in c.next.new.self) c.loop-item.cuts.items c.cut-place.result c.loop-item.invariant.cuts (omega (arith, one, all_counted text c.args.state.now.code_map c.next.new.self c.push.new.self.items collected))
+    (subst (λ (t : Text). IfSome c.cut-place.result (λ at. IsCutBefore t at (length (left_in c.next.new.self)))) same c.cut-place.ensures.kept)
+    (λ at cut. c.cut-place.ensures.reached at (more.2 at cut) (kept_some text at cut.is_kept) (subst (λ (t : Text). at < length t) (sym same) cut.inside)) in
     let counted : c.len.result ≡ length c.loop-item.lexemes.items + 1 = omega (arith, c.len.ensures, c.push.new.self.ok, one) in
     record {
-      collected = collected;
-      cuts = subst (λ n. AreCutsSoFar text n c.push_cut.new.cuts.items) (sym one) (subst (AreCutsSoFar text (length c.loop-item.lexemes.items + 1)) (sym (c.in_ok-push_cut-in-Ok.ensures ∙ ap (λ n. c.loop-item.cuts.items ++ cuts_at c.cut.result n) counted)) cuts);
+      collected = same_collected text c.args.state.now.code_map c.next.new.self c.meeting_at.new.state c.push.new.self.items collected c.meeting_at.ensures.lexing c.meeting_at.ensures.after;
+      cuts = subst (λ n. AreCutsSoFar text n c.push_cut.new.cuts.items) (sym one) (subst (AreCutsSoFar text (length c.loop-item.lexemes.items + 1)) (sym (c.in_ok-push_cut-in-Ok.ensures ∙ ap (λ n. c.loop-item.cuts.items ++ cuts_at c.cut-place.result n) counted)) cuts);
     }
 
+pub returns-in-Some-meeting_at-clause-met : goal.returns-in-Some-meeting_at-clause-met
+returns-in-Some-meeting_at-clause-met c =
+    let text = c.args.state.now.text.now in
+    let is = c.loop-item.invariant.collected in
+    let going : c.loop-item.state.has_ended ≡ false = goes_on _ _ c.loop-item.state c.loop-item.lexemes.items is in
+    let answer : HasAnswered c.loop-item.state (Some (Ok c.in-Ok.lexeme)) c.next.new.self = rw c.in-Ok.is at (c.in-Some.ensures.answer going) in
+    let after : view_of c.next.new.self ≡ record (view_of c.loop-item.state) { yielded_count = c.loop-item.state.yielded_count + 1; has_ended = false; reads = c.next.new.self.reader.reads } = rw (c.in-Ok.is, going) at c.in-Some.ensures.after in
+    let more = one_more text c.args.state.now.code_map c.loop-item.state c.next.new.self c.loop-item.lexemes.items c.in-Ok.lexeme is answer c.in-Some.ensures.lexing after in
+    let collected : IsCollected text c.args.state.now.code_map c.next.new.self c.push.new.self.items = subst (IsCollected text c.args.state.now.code_map c.next.new.self) (sym c.in_ok-push-in-Ok.ensures.items) more.0 in
+    let one : length c.push.new.self.items ≡ length c.loop-item.lexemes.items + 1 = ap length c.in_ok-push-in-Ok.ensures.items ∙ length-append c.loop-item.lexemes.items (c.in-Ok.lexeme ∷ []) in
+    let same = text_is text c.args.state.now.code_map c.next.new.self c.push.new.self.items collected in
+    let cuts = cuts_more text (length c.loop-item.lexemes.items) (left_in c.next.new.self) c.loop-item.cuts.items c.cut-place.result c.loop-item.invariant.cuts (omega (arith, one, all_counted text c.args.state.now.code_map c.next.new.self c.push.new.self.items collected))
+    (subst (λ (t : Text). IfSome c.cut-place.result (λ at. IsCutBefore t at (length (left_in c.next.new.self)))) same c.cut-place.ensures.kept)
+    (λ at cut. c.cut-place.ensures.reached at (more.2 at cut) (kept_some text at cut.is_kept) (subst (λ (t : Text). at < length t) (sym same) cut.inside)) in
+    let counted : c.len.result ≡ length c.loop-item.lexemes.items + 1 = omega (arith, c.len.ensures, c.push.new.self.ok, one) in
+    let so : AreCutsSoFar text (length c.push.new.self.items) c.push_cut.new.cuts.items = subst (λ n. AreCutsSoFar text n c.push_cut.new.cuts.items) (sym one) (subst (AreCutsSoFar text (length c.loop-item.lexemes.items + 1)) (sym (c.in_ok-push_cut-in-Ok.ensures ∙ ap (λ n. c.loop-item.cuts.items ++ cuts_at c.cut-place.result n) counted)) cuts) in
+    let reached : c.cut-place.result ≡ Some c.in-Some-meeting_at.meeting.at = c.in-Some-meeting_at.ensures.place in
+    let before : IsCutBefore text c.in-Some-meeting_at.meeting.at (length (left_in c.next.new.self)) = subst (λ (t : Text). IsCutBefore t c.in-Some-meeting_at.meeting.at (length (left_in c.next.new.self))) same (subst (λ (found : Option ℕ). IfSome found (λ at. IsCutBefore c.next.new.self.text.now at (length (left_in c.next.new.self)))) reached c.cut-place.ensures.kept) in
+    let last : c.push_cut.new.cuts.items ≡ c.loop-item.cuts.items ++ cuts_at (Some c.in-Some-meeting_at.meeting.at) (length c.push.new.self.items) = c.in_ok-push_cut-in-Ok.ensures ∙ ap (λ n. c.loop-item.cuts.items ++ cuts_at c.cut-place.result n) (counted ∙ sym one) ∙ ap (λ (found : Option ℕ). c.loop-item.cuts.items ++ cuts_at found (length c.push.new.self.items)) reached in (
+      subst (λ (t : Text). IsMet t c.args.known.text.now c.args.known.cuts.now c.in-Some-meeting_at.meeting) same c.in-Some-meeting_at.ensures.met,
+      met_front text c.args.state.now.code_map c.next.new.self c.loop-item.cuts.items c.in-Some-meeting_at.meeting.at _ collected before so last,
+    )
+
 pub returns-in-Err-Error-clause-part : goal.returns-in-Err-Error-clause-part
-returns-in-Err-Error-clause-part c =
+returns-in-Err-Error-clause-part c = λ none.
     let is = c.loop-item.invariant.collected in
     let going : c.loop-item.state.has_ended ≡ false = goes_on _ _ c.loop-item.state c.loop-item.lexemes.items is in
     let answer : HasAnswered c.loop-item.state (Some (Err (Error c.in-Err-Error.exception))) c.next.new.self = rw c.in-Err-Error.field-0-is at (rw c.in-Err-Error.is at (c.in-Some.ensures.answer going)) in
@@ -58,7 +82,7 @@ with_end_cut-requires c =
     rw c.deref.ensures.value (some_given _ _ c.loop-item.state c.next.new.self c.loop-item.lexemes.items is answer)
 
 pub returns-clause-part : goal.returns-clause-part
-returns-clause-part c =
+returns-clause-part c = λ none.
     let text = c.args.state.now.text.now in
     let file = c.args.state.now.code_map in
     let is = c.loop-item.invariant.collected in
@@ -87,7 +111,7 @@ returns-in-Err-Error-clause-most c =
     let is = c.loop-item.invariant.collected in
     let going : c.loop-item.state.has_ended ≡ false = goes_on _ _ c.loop-item.state c.loop-item.lexemes.items is in
     let answer : HasAnswered c.loop-item.state (Some (Err (Error c.in-Err-Error.exception))) c.next.new.self = rw c.in-Err-Error.field-0-is at (rw c.in-Err-Error.is at (c.in-Some.ensures.answer going)) in
-    rw c.reads.ensures (subst (λ (t : Text). c.next.new.self.reader.reads ≤ most_reads t) (text_is _ _ c.loop-item.state c.loop-item.lexemes.items is) answer.3)
+    rw c.reads-in-Err-Error.ensures (subst (λ (t : Text). c.next.new.self.reader.reads ≤ most_reads t) (text_is _ _ c.loop-item.state c.loop-item.lexemes.items is) answer.3)
 
 pub returns-clause-most : goal.returns-clause-most
 returns-clause-most c =

@@ -1,0 +1,13 @@
+use Rattle.starlark_syntax.proofs.LexerReads.{looked_reads}
+use Rattle.starlark_syntax.proofs.lexer_state.LexerState.count_others.Goals as goal
+
+pub returns-clause-lexing : goal.returns-clause-lexing
+returns-clause-lexing c =
+    let state = c.args.self.now in
+    let now = c.requires.lexing.1 c.requires.going in (
+      c.requires.lexing.0,
+      (λ on. (now.0, c.count_others.ensures.ahead state.text.now _ _ now.1)),
+      c.requires.lexing.2,
+      (λ on. looked_reads state.text.now state.reader c.count_others.new.self state.looked_to state.looked c.count_others.ensures.same (c.count_others.ensures.reads state.text.now) (c.requires.lexing.3 c.requires.going)),
+      c.requires.lexing.4,
+    )
