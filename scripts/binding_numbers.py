@@ -40,7 +40,7 @@ def arms(file, name):
     text = file.read_text()
     pairs = [(plain(variant), int(number)) for number, variant in re.findall(rf"^ +(\d+) => {name}::(\w+)", text, re.M)]
     if name == "Token":
-        pairs += found(file, r"(?m)^    (\w+) = (\d+),$")
+        pairs += found(file, r"(?m)^        (\w+) = (\d+),$")
     return sorted(pairs, key=lambda pair: pair[1])
 
 

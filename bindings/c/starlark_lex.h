@@ -125,8 +125,8 @@ enum starlark_quotes {
 enum starlark_status {
     STARLARK_WHOLE = 0,    /* the text has no fault, and all its lexemes are in the buffers */
     STARLARK_FAULT = 1,    /* the text has a fault; all lexemes before it are in the buffers */
-    STARLARK_FULL = 2,     /* the buffers have no room for the text: they have a piece of it, if
-                              `next` isn't 0 */
+    STARLARK_FULL = 2,     /* the buffers have no room for the text, or the text is a front: they
+                              have a piece of it, if `next` isn't 0 */
     STARLARK_NOT_UTF8 = 3, /* the bytes are not UTF-8 */
     STARLARK_TOO_LONG = 4, /* the text has more than 4294967295 bytes */
     STARLARK_MEMORY = 5    /* malloc or realloc returned NULL */
@@ -184,13 +184,29 @@ typedef struct starlark_outcome {
  * Where the buffers are full they have the lexemes up to offset `next` of the text, a clean cut: a
  * line ends there, and no bracket, block or f-string is open. The text from there on is lexed by a
  * next call, whose offsets count from there. The lexemes of all calls, one after another, are those
- * of the whole text. Each call tests that all bytes which it is given are UTF-8, and lexes the
- * piece that it returns with STARLARK_FULL twice.
+ * of the whole text. Each call tests that all bytes which it is given are UTF-8.
  */
 uint32_t starlark_lex(const uint8_t *text, size_t text_len,
                       starlark_lexeme *lexemes, size_t lexemes_cap,
                       uint8_t *values, size_t values_cap,
                       starlark_outcome *outcome);
+
+/* Lexes the front of a longer text up to the last offset in it where the lexer finds that the text
+ * may be cut. Does all else as starlark_lex with the front.
+ *
+ * With STARLARK_FULL and `next` above 0 the buffers have the lexemes up to the clean cut `next`, which
+ * are the first of the longer text, whatever follows the front. The text from there on is lexed by a
+ * next call. With any other status no such offset was found that the buffers have room for. Then
+ * STARLARK_WHOLE and STARLARK_FAULT say how the front ends as a text of its own, and not yet how the
+ * longer text goes on: lex a longer front, or all that is left by starlark_lex.
+ *
+ * A front ends at a character boundary, so best after an LF. It is tested for UTF-8 once. So a text
+ * of any length is lexed with small buffers that stay in the caches of the processor, and a text that
+ * is still being read is lexed as far as it is known. */
+uint32_t starlark_lex_front(const uint8_t *front, size_t front_len,
+                            starlark_lexeme *lexemes, size_t lexemes_cap,
+                            uint8_t *values, size_t values_cap,
+                            starlark_outcome *outcome);
 
 /* What starlark_restart returns where no fault of the text has the numbers. */
 #define STARLARK_NO_RESTART SIZE_MAX

@@ -6,7 +6,8 @@
  * printed of each. Of a record that isn't a plain text (its fronts, a repetition, an edit) nothing is
  * compared. Each text of at most 64 bytes is also lexed in pieces, with buffers of each smaller size:
  * the pieces joined have to be the whole, what a call says it wants has to be enough for the next
- * one, and nothing may be written outside of what a call tells.
+ * one, and nothing may be written outside of what a call tells. Each text is also lexed front by
+ * front, a short one with fronts of each length.
  *
  * Their parts `recovered` are texts that are lexed on after their faults, with buffers of each size
  * from 0 to what the whole text needs: by starlark_lex and starlark_restart, and by
@@ -273,14 +274,22 @@ static void release(buffers given)
     free(given.values);
 }
 
-static starlark_outcome lex(bytes source, buffers into)
+/* starlark_lex or starlark_lex_front. */
+typedef uint32_t lex_call(const uint8_t *, size_t, starlark_lexeme *, size_t, uint8_t *, size_t, starlark_outcome *);
+
+static starlark_outcome lex_by(lex_call *call, bytes source, buffers into)
 {
     starlark_outcome outcome;
     memset(&outcome, UNTOUCHED, sizeof outcome);
-    uint32_t status = starlark_lex(source.at, source.len, into.lexemes, into.lexemes_cap, into.values, into.values_cap, &outcome);
+    uint32_t status = call(source.at, source.len, into.lexemes, into.lexemes_cap, into.values, into.values_cap, &outcome);
     if (status != outcome.status)
         stop("another status was returned than told");
     return outcome;
+}
+
+static starlark_outcome lex(bytes source, buffers into)
+{
+    return lex_by(starlark_lex, source, into);
 }
 
 /* Whether nothing is written after what an outcome counts, or after the buffers where they are full. */
@@ -372,6 +381,58 @@ static bool are_all_pieces(const lexed *whole, size_t *calls)
             return false;
     for (size_t values = 0; values <= whole->outcome.values; values++)
         if (!are_pieces(whole, whole->outcome.lexemes, values, calls) || !are_pieces(whole, values + 1, values, calls))
+            return false;
+    return true;
+}
+
+/* The front of a text of at least some bytes, which ends at a character boundary. */
+static bytes front_of(bytes source, size_t len)
+{
+    if (len > source.len)
+        len = source.len;
+    while (len < source.len && (source.at[len] & 0xC0) == 0x80)
+        len++;
+    return (bytes){source.at, len};
+}
+
+/* Whether a text that is lexed front by front is the whole text. A front has some bytes, and more
+ * where it has no cut. Adds to the numbers of calls and of cuts. */
+static bool are_fronts(const lexed *whole, size_t len, size_t *calls, size_t *cuts)
+{
+    size_t from = 0;
+    size_t index = 0;
+    size_t window = len;
+    for (;;) {
+        bytes rest = {whole->source.at + from, whole->source.len - from};
+        bytes front = front_of(rest, window);
+        buffers into = buffers_of(2 * front.len + 1, 2 * front.len);
+        starlark_outcome outcome = lex_by(starlark_lex_front, front, into);
+        ++*calls;
+        bool is_cut = outcome.status == STARLARK_FULL;
+        bool is_last = !is_cut && front.len == rest.len;
+        bool is_right = is_cut || is_last ? are_next(whole, index, from, &outcome, into) : is_kept(into, &outcome);
+        if (is_cut)
+            is_right = is_right && outcome.next > 0 && outcome.next < front.len && front.at[outcome.next - 1] == '\n';
+        if (is_last)
+            is_right = is_right && outcome.status == whole->outcome.status
+                && index + outcome.lexemes == whole->outcome.lexemes && is_same_fault(whole, from, &outcome, into.values);
+        release(into);
+        if (!is_right || is_last)
+            return is_right;
+        if (is_cut)
+            ++*cuts;
+        index += is_cut ? outcome.lexemes : 0;
+        from += is_cut ? outcome.next : 0;
+        window = is_cut ? len : 2 * window + 1;
+    }
+}
+
+/* Whether a text that is lexed by fronts of each length, or of some lengths, is the whole text. */
+static bool are_all_fronts(const lexed *whole, size_t *calls, size_t *cuts)
+{
+    size_t step = whole->source.len <= SMALL_TEXT ? 1 : whole->source.len / 3;
+    for (size_t len = 0; len <= whole->source.len; len += step)
+        if (!are_fronts(whole, len, calls, cuts))
             return false;
     return true;
 }
@@ -532,6 +593,7 @@ typedef struct tally {
     size_t texts;
     size_t lexemes;
     size_t calls;
+    size_t cuts;
 } tally;
 
 /* Lexes a text, and returns the end of its lines in what has to be printed. */
@@ -552,6 +614,10 @@ static size_t compare(bytes source, size_t number, bytes printed, size_t at, tal
     lexed whole = {source, into, outcome};
     if (source.len <= SMALL_TEXT && outcome.status <= STARLARK_FAULT && !are_all_pieces(&whole, &counts->calls)) {
         fprintf(stderr, "stored_texts: the pieces of text %zu, with small buffers, are not the whole\n", number);
+        exit(1);
+    }
+    if (outcome.status <= STARLARK_FAULT && !are_all_fronts(&whole, &counts->calls, &counts->cuts)) {
+        fprintf(stderr, "stored_texts: the fronts of text %zu are not the whole\n", number);
         exit(1);
     }
     if (!is_recovered(&whole)) {
@@ -700,7 +766,7 @@ static size_t compare_recovering(bytes source, size_t number, bytes printed, siz
 /* Compares all texts that are lexed on after their faults. */
 static void compare_all_recovered(bytes stored, bytes printed)
 {
-    tally counts = {0, 0, 0};
+    tally counts = {0, 0, 0, 0};
     size_t out = 0;
     for (size_t at = 0; at < stored.len; counts.texts++) {
         size_t begin = line_end(stored, at);
@@ -741,10 +807,47 @@ static void refuse_numbers(void)
         stop("numbers of no fault have a place to begin again");
 }
 
+/* Where starlark_lex_front cuts a front, and 0 where it doesn't. */
+static size_t cut_of(const char *front)
+{
+    bytes source = {(uint8_t *)front, strlen(front)};
+    buffers into = buffers_of(2 * source.len + 1, 2 * source.len);
+    starlark_outcome outcome = lex_by(starlark_lex_front, source, into);
+    release(into);
+    return outcome.status == STARLARK_FULL ? outcome.next : 0;
+}
+
+/* Calls with fronts of which the last cut is known. */
+static void cut_fronts(void)
+{
+    static const struct {
+        const char *front;
+        size_t cut;
+    } fronts[] = {
+        {"", 0},
+        {"a", 0},
+        {"a\n", 0},
+        {"a\nb", 2},
+        {"a\nb\nc", 4},
+        {"a\nb\n\n# c\nd", 9},
+        {"f(\n  a,\n)\nb", 10},
+        {"if a:\n  b\nc", 0},
+        {"if a:\n  b\nc\nd", 12},
+        {"a\n'''b\n", 2},
+        {"a\nb\n\tc", 2},
+        {"a\n$\nb", 2},
+    };
+    for (size_t at = 0; at < sizeof fronts / sizeof fronts[0]; at++)
+        if (cut_of(fronts[at].front) != fronts[at].cut) {
+            fprintf(stderr, "stored_texts: front %zu is cut at %zu\n", at, cut_of(fronts[at].front));
+            exit(1);
+        }
+}
+
 /* Compares all texts. */
 static void compare_all(bytes stored, bytes printed)
 {
-    tally counts = {0, 0, 0};
+    tally counts = {0, 0, 0, 0};
     size_t at = 0;
     size_t out = 0;
     for (size_t number = 1; at < stored.len; number++) {
@@ -759,7 +862,8 @@ static void compare_all(bytes stored, bytes printed)
     }
     if (out != printed.len)
         stop("there are more lines than texts");
-    printf("%zu texts, %zu lexemes, %zu calls with small buffers\n", counts.texts, counts.lexemes, counts.calls);
+    printf("%zu texts, %zu lexemes, %zu calls with small buffers and fronts, %zu cuts\n", counts.texts, counts.lexemes, counts.calls,
+           counts.cuts);
 }
 
 /* The part of a name in a file, which is a list of parts: a line `part NAME LEN`, and LEN bytes. */
@@ -788,6 +892,7 @@ int main(int count, char **words)
     bytes printed = read_file(words[2]);
     compare_all(part_of(stored, "texts"), part_of(printed, "texts"));
     refuse_numbers();
+    cut_fronts();
     compare_all_recovered(part_of(stored, "recovered"), part_of(printed, "recovered"));
     free(stored.at);
     free(printed.at);

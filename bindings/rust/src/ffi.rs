@@ -93,6 +93,16 @@ extern "C" {
         outcome: *mut Outcome,
     ) -> u32;
 
+    fn starlark_lex_front(
+        front: *const u8,
+        front_len: usize,
+        lexemes: *mut LexemeRecord,
+        lexemes_cap: usize,
+        values: *mut u8,
+        values_cap: usize,
+        outcome: *mut Outcome,
+    ) -> u32;
+
     fn starlark_lex_recovering(
         text: *const u8,
         text_len: usize,
@@ -126,6 +136,17 @@ extern "C" {
     #[cfg(test)]
     fn starlark_kind_name(kind: u32, name: *mut u8, name_cap: usize) -> usize;
 }
+
+/// `starlark_lex` or `starlark_lex_front`.
+type LexCall = unsafe extern "C" fn(
+    *const u8,
+    usize,
+    *mut LexemeRecord,
+    usize,
+    *mut u8,
+    usize,
+    *mut Outcome,
+) -> u32;
 
 /// How lexing a text into buffers ended.
 #[derive(Clone, Copy, Debug)]
@@ -217,13 +238,33 @@ impl Buffers {
     /// The text has at most `u32::MAX` bytes. Where memory runs out the process aborts, as it does
     /// where a `Vec` gets none.
     pub(crate) fn lex(&mut self, text: &str) -> Ending {
+        // SAFETY: the call is one of the two.
+        unsafe { self.lex_by(starlark_lex, text) }
+    }
+
+    /// Lexes the front of a longer text into the buffers, up to the last offset where the library
+    /// finds that the text may be cut. They have nothing but the lexemes before it then.
+    ///
+    /// The ending is `Piece` if there is such an offset. Else it is what `lex` returns for the front,
+    /// where it isn't known yet how the text goes on. Where memory runs out the process aborts.
+    pub(crate) fn lex_front(&mut self, front: &str) -> Ending {
+        // SAFETY: the call is one of the two.
+        unsafe { self.lex_by(starlark_lex_front, front) }
+    }
+
+    /// Lexes a text of at most `u32::MAX` bytes into the buffers by a call of the library.
+    ///
+    /// # Safety
+    ///
+    /// The call is `starlark_lex` or `starlark_lex_front`.
+    unsafe fn lex_by(&mut self, call: LexCall, text: &str) -> Ending {
         let mut outcome = Outcome::default();
         self.clear();
         // SAFETY: `text` is readable for its length, and both buffers are writable for their
         // capacities, which are numbers of records and bytes. The call reads nothing of them.
         // The four are different memory, no pointer is null, and all live until the call returns.
         unsafe {
-            starlark_lex(
+            call(
                 text.as_ptr(),
                 text.len(),
                 self.lexemes.as_mut_ptr(),

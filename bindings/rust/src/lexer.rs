@@ -5,9 +5,14 @@ use crate::piece::Piece;
 use crate::{Fault, FaultKind, Span, Token, TooLong};
 use std::iter::FusedIterator;
 
-/// The largest buffers that a lexer makes of itself. A piece that needs more gets more.
-const MOST_LEXEMES: usize = 1 << 22;
-const MOST_VALUES: usize = 1 << 26;
+/// How many bytes of a text are lexed by one call at first. What a call fills then stays in the caches
+/// of the processor.
+// What is after the last cut of a window is lexed again: with a fourth of it a mix of statements and
+// functions takes a twelfth longer.
+const WINDOW: usize = 1 << 16;
+
+/// How many times larger a window gets that has no cut.
+const GROWTH: usize = 4;
 
 /// A token with its bytes in the text.
 #[derive(Clone, Debug, PartialEq, Eq, Hash)]
@@ -35,8 +40,9 @@ enum After {
 
 /// The lexemes of a text, in order. The first fault is the last item.
 ///
-/// It keeps the lexemes of a piece of the text, 32 bytes each, until they are yielded. A text of up
-/// to 8 MB is mostly one piece. Of a longer text each piece but the last is lexed twice.
+/// It keeps the lexemes of a piece of the text, 32 bytes each, until they are yielded. A piece ends
+/// where the text may be cut, and mostly has up to 64 KB. Where no such offset is found the piece is
+/// longer: at most all that is left of the text.
 ///
 /// ```
 /// use starlark_lexer::{FaultKind, Lexer, Token, TokenInt};
@@ -57,6 +63,8 @@ pub struct Lexer<'a> {
     piece: Piece<'a>,
     index: usize,
     after: After,
+    /// How many bytes of the text one call lexes.
+    window: usize,
 }
 
 impl<'a> Lexer<'a> {
@@ -66,8 +74,7 @@ impl<'a> Lexer<'a> {
     ///
     /// `TooLong` for a text of more than 4,294,967,295 bytes.
     pub fn new(text: &'a str) -> Result<Self, TooLong> {
-        let lexemes = (text.len() / 2 + 16).min(MOST_LEXEMES);
-        let values = (text.len() + 16).min(MOST_VALUES);
+        let (lexemes, values) = room_for(text.len().min(WINDOW));
         Lexer::with_capacity(text, lexemes, values)
     }
 
@@ -75,7 +82,7 @@ impl<'a> Lexer<'a> {
     /// bytes of their values. Whatever the room is, the lexemes are the same.
     ///
     /// Small buffers hold less, and lex the text in more pieces, which takes longer. They grow for
-    /// each further piece.
+    /// each further piece, up to the room for some 64 KB of the text.
     ///
     /// # Errors
     ///
@@ -97,6 +104,7 @@ impl<'a> Lexer<'a> {
             },
             index: 0,
             after: After::Text(0),
+            window: WINDOW,
         })
     }
 
@@ -152,11 +160,21 @@ impl<'a> Lexer<'a> {
         self.piece.text = &self.text[from..];
         self.piece.from = from;
         self.after = loop {
-            match self.piece.buffers.lex(self.piece.text) {
-                Ending::Whole => break After::End,
-                Ending::Fault(record) => break After::Fault(record),
+            let front = front_of(self.piece.text, self.window);
+            let is_whole = front.len() == self.piece.text.len();
+            let ending = if is_whole {
+                self.piece.buffers.lex(front)
+            } else {
+                self.piece.buffers.lex_front(front)
+            };
+            match ending {
                 Ending::Piece { next } => break After::Piece(from + next),
                 Ending::Full { lexemes, values } => self.grow(lexemes, values),
+                Ending::Whole if is_whole => break After::End,
+                Ending::Fault(record) if is_whole => break After::Fault(record),
+                Ending::Whole | Ending::Fault(_) => {
+                    self.window = self.window.saturating_mul(GROWTH);
+                }
             }
         };
     }
@@ -172,14 +190,15 @@ impl<'a> Lexer<'a> {
         self.piece.buffers.lex_recovering(self.piece.text);
     }
 
-    /// Makes the buffers larger, up to the most, and gives them at least this much room.
+    /// Makes the buffers larger, up to the room for a window, and gives them at least this much room.
     fn grow(&mut self, lexemes: usize, values: usize) {
         let room = (
             self.piece.buffers.lexemes_capacity(),
             self.piece.buffers.values_capacity(),
         );
-        let lexemes = lexemes.max(twice(room.0, MOST_LEXEMES));
-        let values = values.max(twice(room.1, MOST_VALUES));
+        let most = room_for(self.window.min(self.piece.text.len()));
+        let lexemes = lexemes.max(twice(room.0, most.0));
+        let values = values.max(twice(room.1, most.1));
         if (lexemes, values) != room {
             self.piece.buffers = Buffers::with_capacity(lexemes, values);
         }
@@ -196,6 +215,29 @@ impl<'a> Lexer<'a> {
             self.piece.buffers.message(record),
         )
     }
+}
+
+/// The room in buffers for a text of so many bytes, unless it has more lexemes than is usual.
+fn room_for(len: usize) -> (usize, usize) {
+    (len / 2 + 16, len + 16)
+}
+
+/// The front of a text that one call lexes: all, or about so many bytes of it.
+///
+/// It ends after the first letter of a line near its end, if there is such a line: there a statement
+/// mostly begins, before which the text may be cut.
+fn front_of(text: &str, window: usize) -> &str {
+    if text.len() <= window {
+        return text;
+    }
+    let from = window - window / 4;
+    let begins_line = |pair: &[u8]| pair[0] == b'\n' && pair[1].is_ascii_alphabetic();
+    let tail = &text.as_bytes()[from..window];
+    if let Some(at) = tail.windows(2).rposition(begins_line) {
+        return &text[..from + at + 2];
+    }
+    let end = (0..=window).rev().find(|&end| text.is_char_boundary(end));
+    &text[..end.unwrap_or(0)]
 }
 
 /// Twice a capacity, if that isn't more than the most; else the capacity.
@@ -242,6 +284,33 @@ mod tests {
         assert!(begins.len() > 4, "{begins:?}");
         assert!(begins.iter().all(|begin| begin % 2 == 0), "{begins:?}");
         assert!(pieces(&text, 4096, 8).len() > 4);
+    }
+
+    /// The items of a text, by windows of some bytes at first.
+    fn items(text: &str, window: usize) -> Vec<Result<Lexeme<'_>, Fault>> {
+        let mut lexer = Lexer::new(text).unwrap();
+        lexer.window = window;
+        lexer.collect()
+    }
+
+    #[test]
+    fn windows_of_each_size_give_the_same_items() {
+        let block =
+            "def f(a):\n    return 'é'\n\nx = [\n  1,\n]\n# c\n\ny = f('''\na\n''')  # 汉\n";
+        for end in ["", "z", "if z:\n  y\n", "z = !", "z = '''\n", "\tz"] {
+            let text = block.repeat(3) + end;
+            let whole = items(&text, text.len());
+            for window in 1..text.len() {
+                assert_eq!(items(&text, window), whole, "{window} bytes: {end:?}");
+            }
+        }
+    }
+
+    #[test]
+    fn a_front_ends_where_a_statement_may_begin() {
+        assert_eq!(front_of("a\nb\ncd", 8), "a\nb\ncd");
+        assert_eq!(front_of("abcdefghi\nj\nk", 12), "abcdefghi\nj");
+        assert_eq!(front_of("abcdefghiéj", 10), "abcdefghi");
     }
 
     #[test]

@@ -2,7 +2,7 @@
 
 use crate::ffi::LexemeRecord;
 use crate::piece::Piece;
-use crate::{Fault, Lexeme};
+use crate::{Fault, Lexeme, Span};
 use std::borrow::Cow;
 use std::ops::Range;
 
@@ -59,14 +59,21 @@ impl FStringQuote {
     }
 }
 
-/// Declares `Token`, with the tokens that have no value and their numbers in the library.
+/// The least number of a token of which the greater numbers are also tokens without a value.
+const FIRST_SYMBOL: u16 = 12;
+
+/// Declares `Token`, with the tokens that have no value and their numbers in the library. Those of
+/// the second list have all numbers from the least of them to the greatest.
 macro_rules! tokens {
-    ($($(#[$doc:meta])* $name:ident = $number:literal,)*) => {
+    (
+        layout { $($(#[$layout_doc:meta])* $layout:ident = $layout_number:literal,)* }
+        symbols { $($(#[$doc:meta])* $name:ident = $number:literal,)* }
+    ) => {
         /// A token. What it has is borrowed from the text where it is there byte for byte, as a
         /// name is; else, as for a string with escapes, it is owned.
         #[derive(Clone, Debug, PartialEq, Eq, Hash)]
         // The tags are the numbers of the kinds in the library, as wide as all that is copied: so a
-        // kind becomes its token without a table: 5 instructions a lexeme less.
+        // kind becomes its token without a table.
         #[repr(u64)]
         pub enum Token<'a> {
             /// A comment: the text after `#`, without the line end.
@@ -85,6 +92,7 @@ macro_rules! tokens {
             FStringStart(FStringQuote) = 10,
             /// Text of an f-string outside of its expressions, with its escapes decoded.
             FStringText(Cow<'a, str>) = 11,
+            $($(#[$layout_doc])* $layout = $layout_number,)*
             $($(#[$doc])* $name = $number,)*
         }
 
@@ -101,16 +109,27 @@ macro_rules! tokens {
                 let span = piece.span(record.begin, record.end);
                 let item = |token| Some(Ok(Lexeme { span, token }));
                 match record.kind {
-                    $($number => item(Token::$name),)*
+                    number if number >= FIRST_SYMBOL => item(Token::symbol(number)),
                     5 => match value.text_between(0, 0) {
                         Some(name) => item(Token::Identifier(Cow::Borrowed(name))),
-                        None => item(value.token()),
+                        None => value.item(span),
                     },
                     8 => match value.text_between(1, 1) {
                         Some(text) => item(Token::String(Cow::Borrowed(text))),
-                        None => item(value.token()),
+                        None => value.item(span),
                     },
-                    _ => item(value.token()),
+                    $($layout_number => item(Token::$layout),)*
+                    _ => value.item(span),
+                }
+            }
+
+            /// The token with a number of the second list.
+            // A match on nothing but these numbers: it costs no table.
+            #[inline]
+            fn symbol(number: u16) -> Token<'a> {
+                match number {
+                    $($number => Token::$name,)*
+                    _ => no_kind(number),
                 }
             }
 
@@ -125,6 +144,7 @@ macro_rules! tokens {
                     Token::Bytes(bytes) => Token::Bytes(Cow::Owned(bytes.into_owned())),
                     Token::FStringStart(quote) => Token::FStringStart(quote),
                     Token::FStringText(text) => Token::FStringText(Cow::Owned(text.into_owned())),
+                    $(Token::$layout => Token::$layout,)*
                     $(Token::$name => Token::$name,)*
                 }
             }
@@ -133,136 +153,146 @@ macro_rules! tokens {
 }
 
 tokens! {
-    /// The margin of a line opens a block.
-    Indent = 2,
-    /// A block ends.
-    Dedent = 3,
-    /// A logical line ends, or a blank line.
-    Newline = 4,
-    /// The `{` of an f-string's expression.
-    FStringExprStart = 12,
-    /// The `}` of an f-string's expression.
-    FStringExprEnd = 13,
-    /// The `!` before the conversion of an f-string's expression.
-    FStringBang = 14,
-    /// The closing quotes of an f-string.
-    FStringEnd = 15,
-    /// The keyword `and`.
-    And = 16,
-    /// The keyword `break`.
-    Break = 17,
-    /// The keyword `continue`.
-    Continue = 18,
-    /// The keyword `def`.
-    Def = 19,
-    /// The keyword `elif`.
-    Elif = 20,
-    /// The keyword `else`.
-    Else = 21,
-    /// The keyword `for`.
-    For = 22,
-    /// The keyword `if`.
-    If = 23,
-    /// The keyword `in`.
-    In = 24,
-    /// The keyword `lambda`.
-    Lambda = 25,
-    /// The keyword `load`.
-    Load = 26,
-    /// The keyword `not`.
-    Not = 27,
-    /// The keyword `or`.
-    Or = 28,
-    /// The keyword `pass`.
-    Pass = 29,
-    /// The keyword `return`.
-    Return = 30,
-    /// `,`
-    Comma = 31,
-    /// `;`
-    Semicolon = 32,
-    /// `:`
-    Colon = 33,
-    /// `+=`
-    PlusEqual = 34,
-    /// `-=`
-    MinusEqual = 35,
-    /// `*=`
-    StarEqual = 36,
-    /// `/=`
-    SlashEqual = 37,
-    /// `//=`
-    SlashSlashEqual = 38,
-    /// `%=`
-    PercentEqual = 39,
-    /// `==`
-    EqualEqual = 40,
-    /// `!=`
-    BangEqual = 41,
-    /// `<=`
-    LessEqual = 42,
-    /// `>=`
-    GreaterEqual = 43,
-    /// `**`
-    StarStar = 44,
-    /// `->`
-    MinusGreater = 45,
-    /// `=`
-    Equal = 46,
-    /// `<`
-    LessThan = 47,
-    /// `>`
-    GreaterThan = 48,
-    /// `-`
-    Minus = 49,
-    /// `+`
-    Plus = 50,
-    /// `*`
-    Star = 51,
-    /// `%`
-    Percent = 52,
-    /// `/`
-    Slash = 53,
-    /// `//`
-    SlashSlash = 54,
-    /// `.`
-    Dot = 55,
-    /// `&`
-    Ampersand = 56,
-    /// `|`
-    Pipe = 57,
-    /// `^`
-    Caret = 58,
-    /// `<<`
-    LessLess = 59,
-    /// `>>`
-    GreaterGreater = 60,
-    /// `~`
-    Tilde = 61,
-    /// `&=`
-    AmpersandEqual = 62,
-    /// `|=`
-    PipeEqual = 63,
-    /// `^=`
-    CaretEqual = 64,
-    /// `<<=`
-    LessLessEqual = 65,
-    /// `>>=`
-    GreaterGreaterEqual = 66,
-    /// `...`
-    Ellipsis = 67,
-    /// `[`
-    OpeningSquare = 68,
-    /// `{`
-    OpeningCurly = 69,
-    /// `(`
-    OpeningRound = 70,
-    /// `]`
-    ClosingSquare = 71,
-    /// `}`
-    ClosingCurly = 72,
-    /// `)`
-    ClosingRound = 73,
+    layout {
+        /// The margin of a line opens a block.
+        Indent = 2,
+        /// A block ends.
+        Dedent = 3,
+        /// A logical line ends, or a blank line.
+        Newline = 4,
+    }
+    symbols {
+        /// The `{` of an f-string's expression.
+        FStringExprStart = 12,
+        /// The `}` of an f-string's expression.
+        FStringExprEnd = 13,
+        /// The `!` before the conversion of an f-string's expression.
+        FStringBang = 14,
+        /// The closing quotes of an f-string.
+        FStringEnd = 15,
+        /// The keyword `and`.
+        And = 16,
+        /// The keyword `break`.
+        Break = 17,
+        /// The keyword `continue`.
+        Continue = 18,
+        /// The keyword `def`.
+        Def = 19,
+        /// The keyword `elif`.
+        Elif = 20,
+        /// The keyword `else`.
+        Else = 21,
+        /// The keyword `for`.
+        For = 22,
+        /// The keyword `if`.
+        If = 23,
+        /// The keyword `in`.
+        In = 24,
+        /// The keyword `lambda`.
+        Lambda = 25,
+        /// The keyword `load`.
+        Load = 26,
+        /// The keyword `not`.
+        Not = 27,
+        /// The keyword `or`.
+        Or = 28,
+        /// The keyword `pass`.
+        Pass = 29,
+        /// The keyword `return`.
+        Return = 30,
+        /// `,`
+        Comma = 31,
+        /// `;`
+        Semicolon = 32,
+        /// `:`
+        Colon = 33,
+        /// `+=`
+        PlusEqual = 34,
+        /// `-=`
+        MinusEqual = 35,
+        /// `*=`
+        StarEqual = 36,
+        /// `/=`
+        SlashEqual = 37,
+        /// `//=`
+        SlashSlashEqual = 38,
+        /// `%=`
+        PercentEqual = 39,
+        /// `==`
+        EqualEqual = 40,
+        /// `!=`
+        BangEqual = 41,
+        /// `<=`
+        LessEqual = 42,
+        /// `>=`
+        GreaterEqual = 43,
+        /// `**`
+        StarStar = 44,
+        /// `->`
+        MinusGreater = 45,
+        /// `=`
+        Equal = 46,
+        /// `<`
+        LessThan = 47,
+        /// `>`
+        GreaterThan = 48,
+        /// `-`
+        Minus = 49,
+        /// `+`
+        Plus = 50,
+        /// `*`
+        Star = 51,
+        /// `%`
+        Percent = 52,
+        /// `/`
+        Slash = 53,
+        /// `//`
+        SlashSlash = 54,
+        /// `.`
+        Dot = 55,
+        /// `&`
+        Ampersand = 56,
+        /// `|`
+        Pipe = 57,
+        /// `^`
+        Caret = 58,
+        /// `<<`
+        LessLess = 59,
+        /// `>>`
+        GreaterGreater = 60,
+        /// `~`
+        Tilde = 61,
+        /// `&=`
+        AmpersandEqual = 62,
+        /// `|=`
+        PipeEqual = 63,
+        /// `^=`
+        CaretEqual = 64,
+        /// `<<=`
+        LessLessEqual = 65,
+        /// `>>=`
+        GreaterGreaterEqual = 66,
+        /// `...`
+        Ellipsis = 67,
+        /// `[`
+        OpeningSquare = 68,
+        /// `{`
+        OpeningCurly = 69,
+        /// `(`
+        OpeningRound = 70,
+        /// `]`
+        ClosingSquare = 71,
+        /// `}`
+        ClosingCurly = 72,
+        /// `)`
+        ClosingRound = 73,
+    }
+}
+
+/// Panics for a number of no kind.
+#[cold]
+fn no_kind(number: u16) -> ! {
+    unreachable!("the library has no kind {number}")
 }
 
 /// The quotes with a number of the library.
@@ -279,9 +309,16 @@ struct Value<'a, 'b> {
 }
 
 impl<'a, 'b> Value<'a, 'b> {
-    /// The token, of a kind that has a value.
+    /// What a lexer yields for it, of a kind that has a value.
     // Not inlined: with all these kinds in the loop of a caller each lexeme costs 10 instructions more.
+    // It is the whole item: else the caller looks at those of all kinds what they are.
     #[inline(never)]
+    fn item(self, span: Span) -> Option<Result<Lexeme<'a>, Fault>> {
+        let token = self.token();
+        Some(Ok(Lexeme { span, token }))
+    }
+
+    /// The token, of a kind that has a value.
     fn token(self) -> Token<'a> {
         match self.record.kind {
             1 => Token::Comment(self.text_after(1)),
@@ -292,7 +329,7 @@ impl<'a, 'b> Value<'a, 'b> {
             9 => Token::Bytes(self.bytes()),
             10 => Token::FStringStart(quotes(self.record.detail)),
             11 => Token::FStringText(self.text_after(0)),
-            number => unreachable!("the library has no kind {number}"),
+            number => no_kind(number),
         }
     }
 

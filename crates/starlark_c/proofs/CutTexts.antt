@@ -1,100 +1,108 @@
--- A piece of a text: what is before a clean cut at the end of a `Newline` that the whole text has, too.
-use Rattle.std.proofs.Common.{◌≡◌, ℕ, zero, suc, ◌+◌, ◌-◌, ◌<◌, ◌≤◌, true, List, [], ◌∷◌, ◌++◌, map, length, take, drop, refl, ap, sym, ◌∙◌, arith, false, None, Some, slice_get, inl, inr, ◌⊎◌}
-use Rattle.std.specs.Prelude.{Bool, Option}
-use Rattle.std.proofs.lemmas.List.{length-map, length-take-le, map-append, take-append-drop, take_at}
+-- A piece of a text: what is before a kept cut. Also of one that begins with the text.
+use Rattle.std.proofs.Common.{◌≡◌, ℕ, ◌<◌, ◌≤◌, Bool, true, false, not, List, [], ◌∷◌, ◌++◌, map, length, take, drop, refl, ap, subst, sym, ◌∙◌, arith, ◌⊎◌, inl, inr, length-append}
+use Rattle.std.specs.Prelude.{◌||◌, ◌==◌, if◌then◌else◌, sum_by, take_while}
+use Rattle.std.specs.List.{onto_first}
+use Rattle.std.specs.Str.{byte}
+use Rattle.std.proofs.lemmas.Bool.{both_ways}
+use Rattle.std.proofs.lemmas.List.{drop-append-le, length-map, length-take, map-append, take-append-drop, take-append-le, take_at}
 use Rattle.starlark_c.specs.Endings.{IsPiece, lexemes_of}
-use Rattle.starlark_grammar.specs.Cuts.{is_clean_cut, tabbed, without_closing}
-use Rattle.starlark_grammar.specs.Margins.{margin_of}
-use Rattle.starlark_grammar.specs.Reading.{outcome}
+use Rattle.starlark_c.specs.Inner.Filling.{is_without_margin}
+use Rattle.starlark_grammar.specs.Cuts.{is_clean_cut, is_kept_cut, without_closing}
+use Rattle.starlark_grammar.specs.Margins.{blanks_len, has_tab, is_blank, is_comment_only, is_lf, lines, margin_of}
+use Rattle.starlark_grammar.specs.Pieces.{Fails}
+use Rattle.starlark_grammar.specs.Reading.{IsLongestReading, nothing, outcome, pieces_len, read}
 use Rattle.starlark_grammar.specs.TextLaws.{HasFirstMargin, Join}
-use Rattle.starlark_grammar.specs.Tokens.{Lexeme, Outcome, Spanned, moved}
+use Rattle.starlark_grammar.specs.Tokens.{Lexeme, Outcome, moved}
 use Rattle.starlark_grammar.specs.Words.{Text, language}
 use Rattle.starlark_grammar.proofs.Joining.CleanCuts.{cuts_join}
-use Rattle.starlark_grammar.proofs.Joining.Laws.{tabs_behind_cuts}
-use Rattle.starlark_grammar.proofs.Joining.Tabs.{HasTab, first_margin_is, first_step, margin_tab, tab}
-use Rattle.starlark_syntax.specs.Inner.LexedTexts.{is_newline_view, last_newline_of}
-use Rattle.starlark_syntax.proofs.LexedTexts.Newlines.{none_shown, some_shown}
+use Rattle.starlark_grammar.proofs.Joining.LineCuts.{kept_parts}
+use Rattle.starlark_grammar.proofs.Joining.Tabs.{HasTab, behind_tab, first_margin_is, tab}
+use Rattle.starlark_grammar.proofs.Reading.Readings.{one_longest, read_is}
+use Rattle.starlark_syntax.proofs.LexedTexts.HeldCuts.{kept_some}
+use Rattle.starlark_syntax.specs.Lexer.{IsCutAfter}
 use Rattle.starlark_token.specs.Lexemes.{shown_lexeme}
-use Rattle.starlark_token.specs.TokenViews.{TokenView}
 
--- no item of a list is past its end
-past : {A : Type 0} (xs : List A) (k : ℕ) (x : A) → slice_get xs k ≡ Some x → length xs ≤ k → ⊥
-past [] zero x e far = cc
-past [] (suc k) x e far = cc
-past (y ∷ ys) zero x e far = omega (arith, far)
-past (y ∷ ys) (suc k) x e far = past ys k x e (omega (arith, far))
-
--- an item of the front of a list
-in_front : {A : Type 0} (xs ys : List A) (k : ℕ) → k < length xs → slice_get (xs ++ ys) k ≡ slice_get xs k
-in_front [] ys k h = absurd (omega (arith, h))
-in_front (x ∷ xs) ys zero h = refl
-in_front (x ∷ xs) ys (suc k) h = in_front xs ys k (omega (arith, h))
-
--- a list in which no `Newline` is found has none
-not_found : (xs : List (Spanned TokenView)) (k : ℕ) (x : Spanned TokenView) → last_newline_of xs ≡ None → slice_get xs k ≡ Some x → is_newline_view x.node ≡ true → ⊥
-not_found [] zero x none e is = cc
-not_found [] (suc k) x none e is = cc
-not_found (y ∷ ys) k x none e is = go k e (last_newline_of ys) refl (is_newline_view y.node) refl (λ j f g. not_found ys j x f g is)
+-- a text is what is before a kept cut of it, joined with the rest
+kept_joins : (text : Text) (at : ℕ) → is_kept_cut text at ≡ true → Join (take at text) (drop at text)
+kept_joins text at kept = go (first_margin_is (drop at text))
   where
-    go : (k : ℕ) → slice_get (y ∷ ys) k ≡ Some x → (rest : Option ℕ) → last_newline_of ys ≡ rest → (first : Bool) → is_newline_view y.node ≡ first → ((j : ℕ) → last_newline_of ys ≡ None → slice_get ys j ≡ Some x → ⊥) → ⊥
-    go k e (Some at) f first g again = let some : Some (suc at) ≡ None = sym (rw f refl) ∙ none in cc
-    go k e None f true g again = let some : Some 0 ≡ None = sym (rw (f, g) refl) ∙ none in cc
-    go zero e None f false g again =
-        let same : y ≡ x = cc in
-        let no : true ≡ false = sym is ∙ ap (λ (l : Spanned TokenView). is_newline_view l.node) (sym same) ∙ g in
-        cc
-    go (suc k) e None f false g again = again k f e
-
-pub piece_of : (text : Text) (at count : ℕ) (x : Spanned TokenView) → 0 < at → at ≤ length text → is_clean_cut (take at text) ≡ true → length (outcome (take at text)).lexemes ≡ count + 1 → 0 < count
-    → slice_get (lexemes_of text) (count - 1) ≡ Some x → is_newline_view x.node ≡ true → IsPiece text at count
-piece_of text at count x positive inside clean counted some here newline = go (first_margin_is (drop at text))
-  where
-    first : Text
-    first = take at text
-
-    whole : first ++ drop at text ≡ text
+    whole : take at text ++ drop at text ≡ text
     whole = take-append-drop at text
 
-    front : List Lexeme
-    front = without_closing (outcome first).lexemes
-
-    many : length front ≡ count
-    many = length-take-le (length (outcome first).lexemes - 1) (outcome first).lexemes (omega arith) ∙ omega (arith, counted)
-
-    by_newline : (outcome text).lexemes ≡ (tabbed (length first) front (margin_of (drop at text)).comments).lexemes → (last : Option ℕ) → last_newline_of (map shown_lexeme front) ≡ last → IsPiece text at count
-    by_newline all None e =
-        let none = none_shown front e in
-        let lexemes : (outcome text).lexemes ≡ front ++ map (moved (length first)) (margin_of (drop at text)).comments = all ∙ rw none refl in
-        let there : slice_get (map shown_lexeme front) (count - 1) ≡ Some x =
-        sym (in_front (map shown_lexeme front) (map shown_lexeme (map (moved (length first)) (margin_of (drop at text)).comments)) (count - 1) (omega (arith, length-map front shown_lexeme, many, some)))
-        ∙ ap (λ (ls : List (Spanned TokenView)). slice_get ls (count - 1)) (sym (map-append shown_lexeme front (map (moved (length first)) (margin_of (drop at text)).comments)))
-        ∙ ap (λ (ls : List Lexeme). slice_get (map shown_lexeme ls) (count - 1)) (sym lexemes)
-        ∙ here in
-        absurd (not_found (map shown_lexeme front) (count - 1) x e there newline)
-    by_newline all (Some last) e =
-        let found = some_shown front last e in
-        let lexemes : (outcome text).lexemes ≡ take last front = all ∙ rw found.is refl in
-        let few : length (lexemes_of text) ≤ count - 1 = omega (arith, length-map (outcome text).lexemes shown_lexeme, ap length lexemes, length-take-le last front (omega (arith, found.inside)), found.inside, many) in
-        absurd (past (lexemes_of text) (count - 1) x here few)
-
-    go : HasFirstMargin language (drop at text) ⊎ HasTab (margin_of (drop at text)) → IsPiece text at count
-    go (inl margin) =
-        let joins : Join first (drop at text) = cuts_join first (drop at text) clean margin in
-        let all : (outcome text).lexemes ≡ front ++ map (moved (length first)) (outcome (drop at text)).lexemes =
-        ap (λ (t : Text). (outcome t).lexemes) (sym whole) ∙ ap (λ (o : Outcome). o.lexemes) joins in
-        record {
-          some = positive;
-          inside = inside;
-          clean = clean;
-          lexemes =
-              ap (λ (ls : List Lexeme). take count (map shown_lexeme ls)) all
-              ∙ ap (take count) (map-append shown_lexeme front (map (moved (length first)) (outcome (drop at text)).lexemes))
-              ∙ take_at (map shown_lexeme front) _ count (length-map front shown_lexeme ∙ many);
-          joins = joins;
-        }
+    go : HasFirstMargin language (drop at text) ⊎ HasTab (margin_of (drop at text)) → Join (take at text) (drop at text)
+    go (inl margin) = cuts_join (take at text) (drop at text) (kept_parts text at kept).1 margin
     go (inr has) =
-        let fails = first_step (drop at text) ∙ margin_tab 0 [] [] (margin_of (drop at text)) has in
-        let tabs = tabs_behind_cuts first (drop at text) tab clean fails in
-        let all : (outcome text).lexemes ≡ (tabbed (length first) front (margin_of (drop at text)).comments).lexemes =
-        ap (λ (t : Text). (outcome t).lexemes) (sym whole) ∙ ap (λ (o : Outcome). o.lexemes) tabs in
-        by_newline all (last_newline_of (map shown_lexeme front)) refl
+        let found = behind_tab (take at text) (drop at text) (kept_parts text at kept).1 has in
+        let same = one_longest language nothing text (read language text).pieces found.front (read language text).last (Fails tab) (read_is language text)
+        (subst (λ (t : Text). IsLongestReading language nothing t found.front (Fails tab)) whole found.longest) in
+        absurd (omega (arith, found.less, (kept_parts text at kept).0, ap pieces_len same.0, length-take at text))
+
+piece_by : (text : Text) (at count : ℕ) → 0 < at → at ≤ length text → is_clean_cut (take at text) ≡ true → length (without_closing (outcome (take at text)).lexemes) ≡ count → Join (take at text) (drop at text) → IsPiece text at count
+piece_by text at count some inside clean counted joins =
+    let first = take at text in
+    let front = without_closing (outcome first).lexemes in
+    let all : (outcome text).lexemes ≡ front ++ map (moved (length first)) (outcome (drop at text)).lexemes =
+    ap (λ (t : Text). (outcome t).lexemes) (sym (take-append-drop at text)) ∙ ap (λ (o : Outcome). o.lexemes) joins in
+    record {
+      some = some;
+      inside = inside;
+      clean = clean;
+      lexemes =
+          ap (λ (ls : List Lexeme). take count (map shown_lexeme ls)) all
+          ∙ ap (take count) (map-append shown_lexeme front (map (moved (length first)) (outcome (drop at text)).lexemes))
+          ∙ take_at (map shown_lexeme front) _ count (length-map front shown_lexeme ∙ counted);
+      joins = joins;
+    }
+
+pub piece_at : (text : Text) (at count : ℕ) → IsCutAfter text count at → IsPiece text at count
+piece_at text at count cut = piece_by text at count (kept_some text at cut.is_kept) (omega (arith, cut.inside)) (kept_parts text at cut.is_kept).1 cut.lexemes (kept_joins text at cut.is_kept)
+
+-- Fronts of longer texts
+
+-- a line that begins with neither a blank nor a comment has no blanks in its first margin
+no_blanks : (b : ℕ) (bs : Text) → is_blank b ≡ false → (b == byte "#") ≡ false → (margin_of (b ∷ bs)).blanks ≡ []
+unfolding margin_of lines
+no_blanks b bs blank comment = ap blanks (first (is_lf b)) ∙ rw blank refl
+  where
+    blanks : List Text → Text
+    blanks passed = take (blanks_len (drop (sum_by (λ (line : Text). length line) passed) (b ∷ bs))) (drop (sum_by (λ (line : Text). length line) passed) (b ∷ bs))
+
+    line : (more : Text) → is_comment_only (b ∷ more) ≡ false
+    line more = rw (blank, comment) refl
+
+    none : (more : List Text) → take_while is_comment_only (onto_first b more) ≡ []
+    none [] = rw (line []) refl
+    none (l ∷ more) = rw (line l) refl
+
+    first : (feed : Bool) → take_while is_comment_only (if feed then (b ∷ []) ∷ lines bs else onto_first b (lines bs)) ≡ []
+    first true = rw (line []) refl
+    first false = none (lines bs)
+
+neither : (x y : Bool) → not (x || y) ≡ true → (x ≡ false) × (y ≡ false)
+neither true y h = cc
+neither false true h = cc
+neither false false h = (refl, refl)
+
+-- so its first margin stands, whatever follows
+front_margin : (text rest : Text) → is_without_margin text ≡ true → HasFirstMargin language (text ++ rest)
+unfolding is_without_margin
+front_margin [] rest empty = cc
+front_margin (b ∷ bs) rest empty = go (first_margin_is (b ∷ (bs ++ rest)))
+  where
+    go : HasFirstMargin language (b ∷ (bs ++ rest)) ⊎ HasTab (margin_of (b ∷ (bs ++ rest))) → HasFirstMargin language (b ∷ (bs ++ rest))
+    go (inl margin) = margin
+    go (inr has) =
+        let tests = neither (is_blank b) (b == byte "#") empty in
+        let none : has_tab (margin_of (b ∷ (bs ++ rest))) ≡ false = rw (no_blanks b (bs ++ rest) tests.0 tests.1) refl in
+        absurd (both_ways _ none has.is)
+
+-- a piece of a front is one of the longer text, with the same lexemes
+pub piece_followed : (text rest : Text) (at count : ℕ) → IsCutAfter text count at → is_without_margin (drop at text) ≡ true → (IsPiece (text ++ rest) at count) × (take count (lexemes_of (text ++ rest)) ≡ take count (lexemes_of text))
+piece_followed text rest at count cut empty =
+    let inside : at ≤ length text = omega (arith, cut.inside) in
+    let clean = (kept_parts text at cut.is_kept).1 in
+    let same : take at (text ++ rest) ≡ take at text = take-append-le at text rest inside in
+    let behind : drop at (text ++ rest) ≡ drop at text ++ rest = drop-append-le at text rest inside in
+    let joins : Join (take at (text ++ rest)) (drop at (text ++ rest)) = rw (same, behind) (cuts_join (take at text) (drop at text ++ rest) clean (front_margin (drop at text) rest empty)) in
+    let piece = piece_by (text ++ rest) at count (kept_some text at cut.is_kept) (omega (arith, inside, length-append text rest)) (rw same clean) (rw same cut.lexemes) joins in
+    (piece, piece.lexemes ∙ ap (λ (t : Text). map shown_lexeme (without_closing (outcome t).lexemes)) same ∙ sym (piece_at text at count cut).lexemes)

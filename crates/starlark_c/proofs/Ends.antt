@@ -3,12 +3,12 @@ use Rattle.std.proofs.Common.{◌≡◌, ℕ, ◌+◌, ◌≤◌, ◌++◌, leng
 use Rattle.std.specs.Prelude.{Option}
 use Rattle.std.proofs.lemmas.List.{take_all}
 use Rattle.starlark_c.specs.Endings.{Buffers, Ends, Hold, IsText, all_values, lexemes_of, named}
-use Rattle.starlark_c.specs.Inner.Filling.{EndsByFault, wanted_by}
+use Rattle.starlark_c.specs.Inner.Filling.{EndsByFault, filled_by, wanted_by}
 use Rattle.starlark_c.specs.Records.{fault_bytes, fault_record, records, values}
 use Rattle.starlark_c.specs.declared.endings.Ending.{Ending}
 use Rattle.starlark_c.specs.declared.endings.Ending.TheVariants as ending
 use Rattle.starlark_c.specs.declared.endings.Filled.{Filled}
-use Rattle.starlark_c.proofs.Filled.{filled_by, hold_fault, same_sizes}
+use Rattle.starlark_c.proofs.Filled.{hold_fault, same_sizes}
 use Rattle.starlark_grammar.specs.Reading.{outcome}
 use Rattle.starlark_grammar.specs.Tokens.{Fault, Spanned}
 use Rattle.starlark_grammar.specs.Words.{Text}

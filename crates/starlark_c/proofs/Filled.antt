@@ -4,9 +4,10 @@ use Rattle.std.proofs.Math.Seq.{drop-append-add}
 use Rattle.std.proofs.lemmas.List.{drop-drop, take-append-drop, take-append-le, take_at}
 use Rattle.std.proofs.lemmas.List.Concat.{flat_map-append}
 use Rattle.starlark_c.specs.Endings.{Buffers, Hold}
-use Rattle.starlark_c.specs.Inner.Filling.{IsPut, put}
+use Rattle.starlark_c.specs.Inner.Filling.{IsPut, filled_by, put}
 use Rattle.starlark_c.specs.Records.{record_of, records, records_from, value_bytes, values}
 use Rattle.starlark_c.specs.declared.endings.Filled.{Filled}
+use Rattle.starlark_c.specs.declared.records.LexemeRecord.{LexemeRecord}
 use Rattle.starlark_grammar.specs.Tokens.{Spanned}
 use Rattle.starlark_grammar.specs.Words.{Text}
 use Rattle.starlark_token.specs.TokenViews.{TokenView}
@@ -61,10 +62,6 @@ put_more front items base now after at here was is =
 pub same_length : {A : Type 0} (front base now : List A) → now ≡ front ++ drop (length front) base → length front ≤ length base → length now ≡ length base
 same_length front base now was fits = omega (arith, ap length was, length-append front (drop (length front) base), length-drop (length front) base, fits)
 
--- what fills the buffers after some lexemes
-abbrev pub filled_by : List (Spanned TokenView) → Filled
-filled_by xs = record { lexemes = length xs; values = length (values xs) }
-
 pub hold_none : (before : Buffers) → Hold (records []) (values []) before before
 hold_none before = rw (records_nil, values_nil) (record { lexemes_fit = omega arith; values_fit = omega arith; lexemes = refl; values = refl })
 
@@ -102,17 +99,25 @@ fewer_values c xs = omega (arith, ap length (values_parts c xs), length-append (
 take_values : (c : ℕ) (xs : List (Spanned TokenView)) → take (length (values (take c xs))) (values xs) ≡ values (take c xs)
 take_values c xs = ap (take (length (values (take c xs)))) (values_parts c xs) ∙ take_at (values (take c xs)) (values (drop c xs)) (length (values (take c xs))) refl
 
+-- the first of some records
+pub front_records : (xs : List (Spanned TokenView)) (more : List LexemeRecord) (c : ℕ) → c ≤ length xs → take c (records xs ++ more) ≡ records (take c xs)
+front_records xs more c few = take-append-le c (records xs) more (omega (arith, few, length_records 0 xs)) ∙ take_records 0 c xs
+
 -- The first of the lexemes that the buffers have.
 pub front_lexemes : (before after : Buffers) (xs : List (Spanned TokenView)) (c : ℕ) → Hold (records xs) (values xs) before after → c ≤ length xs → take c after.lexemes ≡ records (take c xs)
-front_lexemes before after xs c held few =
-    ap (take c) held.lexemes
-    ∙ take-append-le c (records xs) (drop (length (records xs)) before.lexemes) (omega (arith, few, length_records 0 xs))
-    ∙ take_records 0 c xs
+front_lexemes before after xs c held few = ap (take c) held.lexemes ∙ front_records xs (drop (length (records xs)) before.lexemes) c few
 
 pub front_values : (before after : Buffers) (xs : List (Spanned TokenView)) (c : ℕ) → Hold (records xs) (values xs) before after → take (length (values (take c xs))) after.values ≡ values (take c xs)
 front_values before after xs c held =
     ap (take (length (values (take c xs)))) held.values
     ∙ take-append-le (length (values (take c xs))) (values xs) (drop (length (values xs)) before.values) (fewer_values c xs)
+    ∙ take_values c xs
+
+-- the same of values that have more after them
+pub front_values_more : (base now more : Text) (xs : List (Spanned TokenView)) (c : ℕ) → now ≡ (values xs ++ more) ++ base → take (length (values (take c xs))) now ≡ values (take c xs)
+front_values_more base now more xs c is =
+    ap (take (length (values (take c xs)))) (is ∙ append_assoc (values xs) more base)
+    ∙ take-append-le (length (values (take c xs))) (values xs) (more ++ base) (fewer_values c xs)
     ∙ take_values c xs
 
 -- The text that a fault names, after the values.

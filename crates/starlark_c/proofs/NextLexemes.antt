@@ -1,16 +1,15 @@
 -- The buffers after the next lexeme of a text, and the lexer after it.
-use Rattle.std.proofs.Common.{◌≡◌, ℕ, ◌+◌, ◌≤◌, ◌||◌, false, refl, length, take, ap, subst, sym, ◌∙◌, arith, Ok, Err}
-use Rattle.std.specs.Prelude.{⊤}
-use Rattle.std.specs.Str.{IsCharBoundary}
-use Rattle.starlark_c.specs.Endings.{Buffers, Ends, Hold, IsText, lexemes_of}
-use Rattle.starlark_c.specs.Inner.Filling.{IsOverflow, IsStop, PutsNext, wanted_by}
+use Rattle.std.proofs.Common.{◌≡◌, ℕ, ◌+◌, ◌≤◌, ◌||◌, false, refl, length, take, ap, ◌∙◌, arith, Ok, Err}
+use Rattle.std.specs.Prelude.{Bool, ⊤}
+use Rattle.starlark_c.specs.Endings.{Buffers, Hold, IsText, lexemes_of}
+use Rattle.starlark_c.specs.Inner.Filling.{EndsWithStop, IsOverflow, IsStop, MayStop, PutsNext, filled_by, wanted_by}
 use Rattle.starlark_c.specs.Records.{records, value_bytes, values}
 use Rattle.starlark_c.specs.declared.endings.Ending.{Ending}
-use Rattle.starlark_c.specs.declared.progress.Passed.{Passed}
+use Rattle.starlark_c.specs.declared.endings.Filled.{Filled}
 use Rattle.starlark_c.specs.declared.progress.Progress.{Progress}
-use Rattle.starlark_c.proofs.Filled.{filled_by, put_next}
+use Rattle.starlark_c.proofs.Filled.{put_next}
 use Rattle.starlark_c.proofs.Items.{IsNext}
-use Rattle.starlark_c.proofs.Stops.{IsNextStop, all_but, next_stop_is, overflows, stop_more}
+use Rattle.starlark_c.proofs.Stops.{all_but, overflow_filled, overflows, stop_stays}
 use Rattle.starlark_grammar.specs.Tokens.{Spanned}
 use Rattle.starlark_grammar.specs.Words.{Text}
 use Rattle.starlark_syntax.specs.Lexer.{LexerView}
@@ -23,31 +22,38 @@ pub record HasFilled (text : Text) (n : ℕ) (progress : Progress) (before now :
   pub filled : progress.filled ≡ filled_by (take n (lexemes_of text))
   pub stop : IsStop text n progress.stop
 
--- and then those with the next one
-pub has_filled_more : (text : Text) (n : ℕ) (x : Spanned TokenView) (old new : Progress) (before now after : Buffers) (done : ⊤) → HasFilled text n old before now → IsNext text n x → IsCharBoundary text x.end → PutsNext x old new now after (Ok done)
+-- and then those with the next one, after which there may be a stop
+pub has_filled_more : (text : Text) (n : ℕ) (x : Spanned TokenView) (old new : Progress) (before now after : Buffers) (done : ⊤) → HasFilled text n old before now → IsNext text n x → PutsNext x old new now after (Ok done)
     → HasFilled text (n + 1) new before after
-has_filled_more text n x old new before now after done had next boundary puts =
+has_filled_more text n x old new before now after done had next puts =
     let more = put_next (lexemes_of text) n x before now after old.filled new.filled next.more had.hold had.filled puts.0 in
-    let stop : IsNextStop old.stop x new.filled new.stop = subst (IsNextStop old.stop x new.filled) (sym (ap (λ (p : Progress). p.stop) puts.1)) (next_stop_is old x new.filled) in
-    record {
-      few = next.few;
-      hold = more.hold;
-      filled = more.counts;
-      stop = stop_more text n x new.filled old.stop new.stop had.stop stop next more.counts boundary;
-    }
+    record { few = next.few; hold = more.hold; filled = more.counts; stop = rw puts.1 (stop_stays text n old.stop had.stop) }
+
+pub may_stop : (text : Text) (n : ℕ) (progress : Progress) (before now : Buffers) → HasFilled text (n + 1) progress before now → MayStop text (n + 1) progress
+may_stop text n progress before now had = record { some = omega arith; few = had.few; filled = had.filled; stop = had.stop }
+
+-- and then with a stop
+pub has_stopped : (text : Text) (n : ℕ) (old new : Progress) (before now : Buffers) → HasFilled text n old before now → new.filled ≡ old.filled → IsStop text n new.stop → HasFilled text n new before now
+has_stopped text n old new before now had same stop = record { few = had.few; hold = had.hold; filled = same ∙ had.filled; stop = stop }
 
 -- what is wanted with the next one, if it has no room
-pub wanted_with_next : (text : Text) (n : ℕ) (x : Spanned TokenView) (old new : Progress) (before now after : Buffers) (passed : Passed) → HasFilled text n old before now → IsNext text n x → PutsNext x old new now after (Err passed)
-    → passed.wanted ≡ wanted_by (n + 1) (length (values (take (n + 1) (lexemes_of text))))
-wanted_with_next text n x old new before now after passed had next puts =
+pub wanted_with_next : (text : Text) (n : ℕ) (x : Spanned TokenView) (old new : Progress) (before now after : Buffers) (wanted : Filled) → HasFilled text n old before now → IsNext text n x → PutsNext x old new now after (Err wanted)
+    → wanted ≡ wanted_by (n + 1) (length (values (take (n + 1) (lexemes_of text))))
+wanted_with_next text n x old new before now after wanted had next puts =
     let both = all_but text n x old.filled next had.few had.filled in
-    ap (λ (p : Passed). p.wanted) puts.2 ∙ ap (λ k. wanted_by k (old.filled.values + length (value_bytes x.node))) both.0 ∙ ap (wanted_by (n + 1)) both.1
+    puts.2 ∙ ap (λ k. wanted_by k (old.filled.values + length (value_bytes x.node))) both.0 ∙ ap (wanted_by (n + 1)) both.1
 
 -- how lexing ends then
-pub ends_without_room : (text : Text) (n : ℕ) (x : Spanned TokenView) (old new : Progress) (before now after : Buffers) (passed : Passed) (end : Ending) → IsText text → HasFilled text n old before now → IsNext text n x → PutsNext x old new now after (Err passed)
-    → IsOverflow text (n + 1) new end → Ends text before after end
-ends_without_room text n x old new before now after passed end is had next puts over =
-    overflows text before now after n x old end is next had.few had.hold had.filled had.stop puts.0 (rw puts.1 at over)
+pub ends_without_room : (text : Text) (n : ℕ) (x : Spanned TokenView) (old new : Progress) (before now after : Buffers) (wanted : Filled) (end : Ending) (is_front : Bool) → IsText text → old.stop.is_front ≡ is_front → HasFilled text n old before now → IsNext text n x → PutsNext x old new now after (Err wanted)
+    → IsOverflow text (n + 1) new end → EndsWithStop text is_front before after (end, new.stop)
+ends_without_room text n x old new before now after wanted end is_front is kind had next puts over = (
+  overflows text before now after n x old end is next had.few had.hold had.filled had.stop puts.0 (rw puts.1 at over),
+  n,
+  had.few,
+  rw puts.1 had.stop,
+  rw puts.1 kind,
+  overflow_filled text (n + 1) new end over,
+)
 
 -- a lexer that goes on in a text, with so many lexemes yielded
 pub record IsGoing (text : Text) (n : ℕ) (lexer : LexerView) : Type 0 where

@@ -1,63 +1,41 @@
 -- Where a text may be cut, and how lexing ends.
-use Rattle.std.proofs.Common.{◌≡◌, ℕ, ◌+◌, ◌-◌, ◌≤◌, ◌<◌, length, take, refl, ap, sym, ◌∙◌, arith, Some, true, false, slice_get, inl, inr, ◌⊎◌, length-append}
-use Rattle.std.specs.Prelude.{Bool, ◌&&◌, ◌==◌, if◌then◌else◌}
-use Rattle.std.specs.Str.{IsCharBoundary}
+use Rattle.std.proofs.Common.{◌≡◌, ℕ, ◌+◌, ◌≤◌, ◌<◌, length, take, drop, refl, ap, sym, ◌∙◌, arith, Some, true, inl, inr, subst, ◌++◌, ◌⊎◌, length-append}
 use Rattle.std.proofs.lemmas.List.{length-take-le, take-take}
-use Rattle.starlark_c.specs.Endings.{Buffers, Ends, Hold, IsText, lexemes_of}
-use Rattle.starlark_c.specs.Inner.Filling.{HasNoRoom, IsNewlineStop, IsOverflow, IsStop, IsStopped, EndsAtFault, next_stop}
+use Rattle.starlark_c.specs.Endings.{Buffers, Ends, EndsFront, Hold, IsCut, IsText, all_values, lexemes_of, named}
+use Rattle.starlark_c.specs.Inner.Filling.{EndsAtFault, EndsWithStop, HasNoRoom, IsCutIn, IsFilledTo, IsOverflow, IsStop, IsStopIn, IsStopped, MayStop, filled_by, has_stop}
 use Rattle.starlark_c.specs.Records.{records, value_bytes, values}
 use Rattle.starlark_c.specs.declared.endings.Ending.{Ending}
 use Rattle.starlark_c.specs.declared.endings.Ending.TheVariants as ending
 use Rattle.starlark_c.specs.declared.endings.Filled.{Filled}
 use Rattle.starlark_c.specs.declared.progress.Progress.{Progress}
 use Rattle.starlark_c.specs.declared.progress.Stop.{Stop}
-use Rattle.starlark_c.proofs.Filled.{filled_by, front_lexemes, front_values, same_sizes, values_more}
+use Rattle.starlark_c.proofs.Filled.{front_lexemes, front_records, front_values, front_values_more, same_sizes, values_more}
 use Rattle.starlark_c.proofs.Items.{IsNext}
+use Rattle.starlark_c.proofs.CutTexts.{piece_at, piece_followed}
 use Rattle.starlark_c.proofs.Ends.{ends_fault}
 use Rattle.starlark_grammar.specs.Reading.{outcome}
 use Rattle.starlark_grammar.specs.Tokens.{Fault, Spanned}
 use Rattle.starlark_grammar.specs.Words.{Text}
-use Rattle.starlark_syntax.specs.Inner.LexedTexts.{is_newline_view}
 use Rattle.starlark_token.specs.TokenViews.{TokenView}
 
--- the stop is the old one, or is after this lexeme, which is a `Newline`
-abbrev pub IsNextStop : Stop → Spanned TokenView → Filled → Stop → Type 0
-IsNextStop old lexeme more new =
-    (new ≡ old) ⊎ ((new ≡ record { at = lexeme.end; filled = more }) × (is_newline_view lexeme.node ≡ true))
+-- the stop stays one after one lexeme more
+pub stop_stays : (text : Text) (n : ℕ) (stop : Stop) → IsStop text n stop → IsStop text (n + 1) stop
+stop_stays text n stop (inl none) = inl none
+stop_stays text n stop (inr is) = inr (record { some = is.some; few = omega (arith, is.few); cut = is.cut; values = is.values })
 
-by_both : (is_newline is_flat : Bool) (old new : Stop) → ((if is_newline && is_flat then new else old) ≡ old) ⊎ (((if is_newline && is_flat then new else old) ≡ new) × (is_newline ≡ true))
-by_both false is_flat old new = inl refl
-by_both true false old new = inl refl
-by_both true true old new = inr (refl, refl)
-
-pub next_stop_is : (old : Progress) (x : Spanned TokenView) (more : Filled) → IsNextStop old.stop x more (next_stop old x more)
-next_stop_is old x more = by_both (is_newline_view x.node) (old.depth == 0) old.stop (record { at = x.end; filled = more })
-
--- The stop after one lexeme more.
-pub stop_more : (text : Text) (n : ℕ) (x : Spanned TokenView) (more : Filled) (old new : Stop) → IsStop text n old → IsNextStop old x more new → IsNext text n x → more ≡ filled_by (take (n + 1) (lexemes_of text)) → IsCharBoundary text x.end
-    → IsStop text (n + 1) new
-stop_more text n x more old new before (inl same) next counted boundary = rw same (kept before)
-  where
-    kept : IsStop text n old → IsStop text (n + 1) old
-    kept (inl none) = inl none
-    kept (inr stop) = inr (record { lexeme = stop.lexeme; some = stop.some; few = omega (arith, stop.few); is = stop.is; newline = stop.newline; values = stop.values; boundary = stop.boundary })
-stop_more text n x more old new before (inr here) next counted boundary =
-    let count : more.lexemes ≡ n + 1 = ap (λ (f : Filled). f.lexemes) counted ∙ length-take-le (n + 1) (lexemes_of text) next.few in
-    let index : more.lexemes - 1 ≡ n = omega (arith, count) in
-    let bytes : more.values ≡ length (values (take more.lexemes (lexemes_of text))) =
-    ap (λ (f : Filled). f.values) counted ∙ ap (λ k. length (values (take k (lexemes_of text)))) (sym count) in
-    rw here.0 (inr (record {
-      lexeme = x;
-      some = omega (arith, count);
+-- a stop after all lexemes that were yielded
+pub stop_at : (text : Text) (n at : ℕ) (progress : Progress) → MayStop text n progress → IsCutIn text progress.stop.is_front n at → IsStop text n (record { at = at; filled = progress.filled; is_front = progress.stop.is_front })
+stop_at text n at progress may cut =
+    let count : progress.filled.lexemes ≡ n = ap (λ (f : Filled). f.lexemes) may.filled ∙ length-take-le n (lexemes_of text) may.few in
+    inr (record {
+      some = omega (arith, count, may.some);
       few = omega (arith, count);
-      is = ap (slice_get (lexemes_of text)) index ∙ next.is;
-      newline = here.1;
-      values = bytes;
-      boundary = boundary;
-    }))
+      cut = rw count cut;
+      values = ap (λ (f : Filled). f.values) may.filled ∙ ap (λ k. length (values (take k (lexemes_of text)))) (sym count);
+    })
 
 -- What a stop that is none leaves.
-pub no_stop : (text : Text) (n : ℕ) (stop : Stop) → IsStop text n stop → 0 < stop.filled.lexemes → IsNewlineStop text n stop
+pub no_stop : (text : Text) (n : ℕ) (stop : Stop) → IsStop text n stop → 0 < stop.filled.lexemes → IsStopIn text n stop
 no_stop text n stop (inl none) some = absurd (omega (arith, none, some))
 no_stop text n stop (inr is) some = is
 
@@ -83,7 +61,7 @@ stopped text before now after n progress (ending.Piece filled next) is few held 
     let lexemes : take count after.lexemes ≡ records (take count (take n all)) = ap (take count) same_lexemes ∙ front_lexemes before now (take n all) count held less in
     let bytes : take (length (values (take count (take n all)))) after.values ≡ values (take count (take n all)) = ap (take (length (values (take count (take n all))))) same_values ∙ front_values before now (take n all) count held in
     let same : filled ≡ record { lexemes = count; values = length (values (take count all)) } = over.1 ∙ ap (λ v. record { lexemes = count; values = v }) here.values in
-    (is, record { count = count; piece = over.0; all_lexemes = rw front at lexemes; all_values = rw front at bytes; counts = same })
+    (is, record { count = count; piece = rw over.0 (piece_at text progress.stop.at count here.cut.cut); all_lexemes = rw front at lexemes; all_values = rw front at bytes; counts = same })
 stopped text before now after n progress (ending.Memory told) is few held counted stop same_lexemes same_values over =
     (is, record { count = n; few = few; hold = rw (same_lexemes, same_values) held; counts = over ∙ counted ∙ ap (λ k. record { lexemes = k; values = length (values (take n (lexemes_of text))) }) (length-take-le n (lexemes_of text) few) })
 stopped text before now after n progress (ending.Full wanted) is few held counted stop same_lexemes same_values over = absurd over
@@ -120,3 +98,80 @@ ends_at_fault text before now values_after n fault progress (ending.Memory told)
 ends_at_fault text before now values_after n fault progress (ending.Whole filled) is has all held counted stop ends = absurd ends.0
 ends_at_fault text before now values_after n fault progress (ending.NotUtf8 valid) is has all held counted stop ends = absurd ends.0
 ends_at_fault text before now values_after n fault progress ending.TooLong is has all held counted stop ends = absurd ends.0
+
+-- The stop where a piece ends.
+pub overflow_filled : (text : Text) (count : ℕ) (progress : Progress) (end : Ending) → IsOverflow text count progress end → IsFilledTo progress.stop end
+overflow_filled text count progress (ending.Piece filled next) over = (over.1, over.2)
+overflow_filled text count progress (ending.Whole filled) over = tt
+overflow_filled text count progress (ending.Fault filled fault) over = tt
+overflow_filled text count progress (ending.Full wanted) over = tt
+overflow_filled text count progress (ending.NotUtf8 valid) over = tt
+overflow_filled text count progress (ending.Memory filled) over = tt
+overflow_filled text count progress ending.TooLong over = tt
+
+pub fault_filled : (text : Text) (fault : Spanned Fault) (progress : Progress) (before after : Text) (end : Ending) → EndsAtFault text fault progress before after end → IsFilledTo progress.stop end
+fault_filled text fault progress before after (ending.Piece filled next) ends = (ends.0.1, ends.0.2)
+fault_filled text fault progress before after (ending.Whole filled) ends = tt
+fault_filled text fault progress before after (ending.Fault filled told) ends = tt
+fault_filled text fault progress before after (ending.Full wanted) ends = tt
+fault_filled text fault progress before after (ending.NotUtf8 valid) ends = tt
+fault_filled text fault progress before after (ending.Memory filled) ends = tt
+fault_filled text fault progress before after ending.TooLong ends = tt
+
+-- How lexing the front of a longer text ends, at its last stop.
+cut_there : (text : Text) (after : Buffers) (n : ℕ) (stop : Stop) → IsStopIn text n stop → stop.is_front ≡ true → take stop.filled.lexemes after.lexemes ≡ records (take stop.filled.lexemes (lexemes_of text))
+    → take (length (values (take stop.filled.lexemes (lexemes_of text)))) after.values ≡ values (take stop.filled.lexemes (lexemes_of text)) → (rest : Text) → IsCut (text ++ rest) after stop.filled stop.at
+cut_there text after n stop here front lexemes bytes rest =
+    let both = piece_followed text rest stop.at stop.filled.lexemes here.cut.cut (here.cut.stays front) in
+    record {
+      count = stop.filled.lexemes;
+      piece = both.0;
+      all_lexemes = rw both.1 lexemes;
+      all_values = rw both.1 bytes;
+      counts = rw both.1 (ap (λ v. record { lexemes = stop.filled.lexemes; values = v }) here.values);
+    }
+
+pub front_cut : (text : Text) (before after : Buffers) (end : Ending) (stop : Stop) → EndsWithStop text true before after (end, stop) → (stop.filled.lexemes ≡ 0 → ⊥) → has_stop end ≡ true → EndsFront text before after (ending.Piece stop.filled stop.at)
+front_cut text before after end stop ends some over = by_stop ends.3
+  where
+    c : ℕ
+    c = stop.filled.lexemes
+
+    by_end : IsStopIn text ends.1 stop → (end : Ending) → Ends text before after end → IsFilledTo stop end → has_stop end ≡ true → EndsFront text before after (ending.Piece stop.filled stop.at)
+    by_end here (ending.Whole filled) is filling over =
+        let few : c ≤ length (lexemes_of text) = omega (arith, here.few, ends.2) in
+        (is.0, cut_there text after ends.1 stop here ends.4 (front_lexemes before after (lexemes_of text) c is.1.hold few) (front_values before after (lexemes_of text) c is.1.hold))
+    by_end here (ending.Fault filled fault) is filling over =
+        let few : c ≤ length (lexemes_of text) = omega (arith, here.few, ends.2) in
+        let held = is.1.hold in (
+          is.0,
+          cut_there text after ends.1 stop here ends.4 (ap (take c) held.lexemes ∙ front_records (lexemes_of text) (drop (length (records (lexemes_of text))) before.lexemes) c few)
+              (front_values_more (drop (length (all_values text)) before.values) after.values (named (outcome text).fault) (lexemes_of text) c held.values),
+        )
+    by_end here (ending.Piece filled next) is filling over =
+        let same : is.1.count ≡ c = sym (ap (λ (f : Filled). f.lexemes) is.1.counts) ∙ ap (λ (f : Filled). f.lexemes) filling.0 in (
+          is.0,
+          cut_there text after ends.1 stop here ends.4 (subst (λ k. take k after.lexemes ≡ records (take k (lexemes_of text))) same is.1.all_lexemes)
+              (subst (λ k. take (length (values (take k (lexemes_of text)))) after.values ≡ values (take k (lexemes_of text))) same is.1.all_values),
+        )
+    by_end here (ending.Full wanted) is filling over = cc
+    by_end here (ending.NotUtf8 valid) is filling over = cc
+    by_end here (ending.Memory filled) is filling over = cc
+    by_end here ending.TooLong is filling over = cc
+
+    by_stop : IsStop text ends.1 stop → EndsFront text before after (ending.Piece stop.filled stop.at)
+    by_stop (inl none) = absurd (some none)
+    by_stop (inr here) = by_end here end ends.0 ends.5 over
+
+-- Where there is no stop in a front all is as for a text.
+pub front_stays : (text : Text) (before after : Buffers) (end : Ending) (stop : Stop) → EndsWithStop text true before after (end, stop) → (0 < stop.filled.lexemes → has_stop end ≡ true → ⊥) → EndsFront text before after end
+front_stays text before after end stop ends none = by_end end ends.0 ends.5 none
+  where
+    by_end : (end : Ending) → Ends text before after end → IsFilledTo stop end → (0 < stop.filled.lexemes → has_stop end ≡ true → ⊥) → EndsFront text before after end
+    by_end (ending.Piece filled next) is filling none = absurd (none filling.1 refl)
+    by_end (ending.Whole filled) is filling none = is
+    by_end (ending.Fault filled fault) is filling none = is
+    by_end (ending.Full wanted) is filling none = is
+    by_end (ending.NotUtf8 valid) is filling none = is
+    by_end (ending.Memory filled) is filling none = is
+    by_end ending.TooLong is filling none = is

@@ -110,3 +110,9 @@ Ends text before after (ending.Full wanted) = IsText text × IsFull text before 
 Ends text before after (ending.Memory filled) = IsText text × IsBegun text before after filled
 Ends text before after (ending.NotUtf8 valid) = (length text < 2 ^ 32) × (¬ IsUtf8 text) × IsValidUpTo text valid × (after ≡ before)
 Ends text before after ending.TooLong = (2 ^ 32 ≤ length text) × (after ≡ before)
+
+-- How lexing the front of a longer text ends: where it ends at a cut, the buffers have the lexemes of the longer text up to
+-- there, whatever follows the front. Else all is as for a text.
+abbrev pub EndsFront : Text → Buffers → Buffers → Ending → Type 0
+EndsFront front before after (ending.Piece filled next) = IsText front × ((rest : Text) → IsCut (front ++ rest) after filled next)
+EndsFront front before after end = Ends front before after end

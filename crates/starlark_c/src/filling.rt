@@ -2,8 +2,8 @@
 
 ghost use Rattle.std.specs.Prelude.{◌≡◌, ◌<◌, ◌≤◌, ◌+◌, ◌^◌, ℕ, Some, IfSome, IfNone, false, length, take};
 ghost use Rattle.starlark_base.specs.Sources.{SourceFile};
-ghost use Rattle.starlark_c.specs.Endings.{Ends, IsText, lexemes_of};
-ghost use Rattle.starlark_c.specs.Inner.Filling.{EndsAtFault, EndsByFault, IsOverflow, IsStop, IsStopped, IsWanted, Puts, PutsNext, put, wanted_by};
+ghost use Rattle.starlark_c.specs.Endings.{IsText, lexemes_of};
+ghost use Rattle.starlark_c.specs.Inner.Filling.{EndsAtFault, EndsByFault, EndsWithStop, IsCutIn, IsOverflow, IsStop, IsStopped, IsWanted, MayStop, Puts, PutsNext, is_without_margin, put, wanted_by};
 ghost use Rattle.starlark_c.specs.Records.{fault_bytes, value_bytes, values};
 ghost use Rattle.starlark_grammar.specs.Reading.{outcome};
 ghost use Rattle.starlark_grammar.specs.Tokens.{Fault as GrammarFault, Spanned};
@@ -13,8 +13,7 @@ ghost use Rattle.starlark_token.specs.Lexemes.{fault_view, lexeme_view};
 ghost use Rattle.starlark_token.specs.TokenViews.{token_view};
 
 use crate::endings::{Ending, Filled};
-use crate::pieces::is_piece;
-use crate::progress::{Passed, Progress, pass, pass_lexeme, pass_plain};
+use crate::progress::{Progress, Stop, is_plain_newline, want, want_lexeme, want_plain};
 use crate::records::{
     FaultRecord, LexemeRecord, bytes_of, bytes_of_fault, bytes_of_plain, number_of_fault,
     plain_record_at, record_at,
@@ -171,7 +170,7 @@ fn put_next(
     values: &mut [u8],
     progress: &mut Progress,
     lexeme: &(usize, Token, usize),
-) -> Result<(), Passed>
+) -> Result<(), Filled>
     requires values_within { progress.old.filled.values ≤ length values.old }
     requires begin { lexeme.now.0 < 2 ^ 32 }
     requires end { lexeme.now.2 < 2 ^ 32 }
@@ -179,10 +178,10 @@ fn put_next(
 {
     match put_lexeme(lexemes, values, progress.filled, lexeme) {
         Some(filled) => {
-            progress.pass(filled, lexeme);
+            progress.filled = filled;
             Ok(())
         }
-        None => Err(pass(progress.filled, progress.depth, &lexeme.1)),
+        None => Err(want(progress.filled, &lexeme.1)),
     }
 }
 
@@ -193,7 +192,7 @@ fn take_next(
     values: &mut [u8],
     progress: &mut Progress,
     lexeme: (usize, Token, usize),
-) -> Result<(), Passed>
+) -> Result<(), Filled>
     requires values_within { progress.old.filled.values ≤ length values.old }
     requires begin { lexeme.0 < 2 ^ 32 }
     requires end { lexeme.2 < 2 ^ 32 }
@@ -212,17 +211,17 @@ fn take_plain(
     progress: &mut Progress,
     text: &str,
     plain: PlainLexeme,
-) -> Result<(), Passed>
+) -> Result<(), Filled>
     requires values_within { progress.old.filled.values ≤ length values.old }
     requires plain { IsPlainIn text.now plain }
     ensures { PutsNext (plain_view text.now plain) progress.old progress.new (record { lexemes = lexemes.old; values = values.old }) (record { lexemes = lexemes.new; values = values.new }) result }
 {
     match put_plain(lexemes, values, progress.filled, text, plain) {
         Some(filled) => {
-            progress.pass_plain(filled, plain);
+            progress.filled = filled;
             Ok(())
         }
-        None => Err(pass_plain(progress.filled, progress.depth, text, plain)),
+        None => Err(want_plain(progress.filled, text, plain)),
     }
 }
 
@@ -234,94 +233,111 @@ fn named_len(exception: EvalException) -> usize
     bytes_of_fault(error_of(&exception)).len()
 }
 
+/// Whether a line begins with neither a blank nor a comment.
+#[tactic(auto, unfolding(crate::specs::Inner::Filling::is_without_margin))]
+fn has_no_margin(line: &[u8]) -> bool
+    ensures { result ≡ is_without_margin line.now }
+{
+    match line {
+        [b' ' | b'\t' | b'\r' | b'#', ..] => false,
+        [_, ..] => true,
+        [] => false,
+    }
+}
+
+/// Where a text may be cut after the lexemes that its lexer has yielded, if it may.
+///
+/// The front of a longer text may be cut only before a line that begins with neither a blank nor a
+/// comment. Else what follows the front could put a tab before content there, which takes the `Newline`
+/// before the cut back.
+#[inline(always)]
+fn cut_of(text: &str, is_front: bool, lexer: &Lexer<'_>) -> Option<usize>
+    requires { lexer.now.text ≡ text.now }
+    ensures { IfSome result (IsCutIn text.now is_front lexer.now.yielded_count) }
+{
+    let at = lexer.cut()?;
+    if is_front && !has_no_margin(&text.as_bytes()[at..]) {
+        return None;
+    }
+    Some(at)
+}
+
 /// How much the lexemes of a text want up to where it may be cut, or all of them and its fault.
 ///
 /// What was passed is counted: the lexemes that the lexer has yielded. `None` where memory runs out.
-fn count_piece(lexer: &mut Lexer<'_>, passed: Passed) -> Option<Filled>
+fn count_piece(text: &str, is_front: bool, lexer: &mut Lexer<'_>, passed: Filled) -> Option<Filled>
+    requires same { lexer.old.text ≡ text.now }
     requires going { lexer.old.has_ended ≡ false }
     requires few { lexer.old.yielded_count ≤ length (lexemes_of lexer.old.text) }
-    requires counted { passed.wanted ≡ wanted_by lexer.old.yielded_count (length (values (take lexer.old.yielded_count (lexemes_of lexer.old.text)))) }
+    requires counted { passed ≡ wanted_by lexer.old.yielded_count (length (values (take lexer.old.yielded_count (lexemes_of lexer.old.text)))) }
     ensures { IfSome result (IsWanted lexer.old.text lexer.old.yielded_count) }
 {
     let mut passed = passed;
     while let Some(item) = lexer.next() {
         match item {
             Ok(lexeme) => {
-                passed = pass_lexeme(passed, lexeme);
-                if passed.ends_piece {
-                    return Some(passed.wanted);
+                passed = want_lexeme(passed, lexeme);
+                if cut_of(text, is_front, lexer).is_some() {
+                    return Some(passed);
                 }
             }
             Err(OrMemory::Error(exception)) => {
-                return Some(passed.wanted.with(0, named_len(exception)));
+                return Some(passed.with(0, named_len(exception)));
             }
             Err(OrMemory::Memory) => return None,
         }
     }
-    Some(passed.wanted)
+    Some(passed)
 }
 
 /// How much the first piece of a text wants, where a lexeme, which a lexer has just yielded, has no
 /// room. `None` where memory runs out.
-fn wanted_with(lexer: &mut Lexer<'_>, passed: Passed) -> Option<Filled>
+fn count_first_piece(
+    text: &str,
+    is_front: bool,
+    lexer: &mut Lexer<'_>,
+    passed: Filled,
+) -> Option<Filled>
+    requires same { lexer.old.text ≡ text.now }
     requires going { lexer.old.has_ended ≡ false }
     requires few { lexer.old.yielded_count ≤ length (lexemes_of lexer.old.text) }
-    requires counted { passed.wanted ≡ wanted_by lexer.old.yielded_count (length (values (take lexer.old.yielded_count (lexemes_of lexer.old.text)))) }
+    requires counted { passed ≡ wanted_by lexer.old.yielded_count (length (values (take lexer.old.yielded_count (lexemes_of lexer.old.text)))) }
     ensures { IfSome result (IsWanted lexer.old.text lexer.old.yielded_count) }
 {
-    if passed.ends_piece {
-        return Some(passed.wanted);
+    if cut_of(text, is_front, lexer).is_some() {
+        return Some(passed);
     }
-    count_piece(lexer, passed)
+    count_piece(text, is_front, lexer, passed)
 }
 
-/// How lexing ends where there is no room for more and the text can be cut at the last stop.
-///
-/// `None` where there is no stop, or the text can't be cut there.
-fn end_at_stop(alloc: Global, text: &str, progress: Progress) -> Option<Ending>
-    requires fits { length text.now < 2 ^ 32 }
-    requires stop { (yielded : ℕ) × IsStop text.now yielded progress.stop }
-    ensures { IfSome result (IsStopped text.now progress) }
+/// How lexing ends where there is no room for more and the text can be cut at a stop. `None` where
+/// there is no stop.
+fn end_at_stop(_text: &str, progress: Progress) -> Option<Ending>
+    requires stop { (yielded : ℕ) × IsStop _text.now yielded progress.stop }
+    ensures { IfSome result (IsStopped _text.now progress) }
 {
     if progress.stop.filled.lexemes == 0 {
         return None;
     }
-    match is_piece(alloc, text, progress.stop) {
-        Err(_) => {
-            Some(Ending::Memory {
-                filled: progress.filled,
-            })
-        }
-        Ok(true) => {
-            Some(Ending::Piece {
-                filled: progress.stop.filled,
-                next: progress.stop.at,
-            })
-        }
-        Ok(false) => None,
-    }
+    Some(Ending::Piece {
+        filled: progress.stop.filled,
+        next: progress.stop.at,
+    })
 }
 
 /// How lexing ends where a lexeme, which a lexer has just yielded, has no room.
-fn overflow(
-    alloc: Global,
-    text: &str,
-    lexer: &mut Lexer<'_>,
-    progress: Progress,
-    passed: Passed,
-) -> Ending
-    requires fits { length text.now < 2 ^ 32 }
+fn overflow(text: &str, lexer: &mut Lexer<'_>, progress: Progress, passed: Filled) -> Ending
     requires same { lexer.old.text ≡ text.now }
     requires going { lexer.old.has_ended ≡ false }
     requires few { lexer.old.yielded_count ≤ length (lexemes_of text.now) }
-    requires counted { passed.wanted ≡ wanted_by lexer.old.yielded_count (length (values (take lexer.old.yielded_count (lexemes_of text.now)))) }
+    requires counted { passed ≡ wanted_by lexer.old.yielded_count (length (values (take lexer.old.yielded_count (lexemes_of text.now)))) }
     requires stop { (yielded : ℕ) × IsStop text.now yielded progress.stop }
     ensures { IsOverflow text.now lexer.old.yielded_count progress result }
 {
-    if let Some(ending) = end_at_stop(alloc, text, progress) {
+    if let Some(ending) = end_at_stop(text, progress) {
         return ending;
     }
-    match wanted_with(lexer, passed) {
+    match count_first_piece(text, progress.stop.is_front, lexer, passed) {
         Some(wanted) => Ending::Full { wanted },
         None => Ending::Memory {
             filled: progress.filled,
@@ -331,13 +347,11 @@ fn overflow(
 
 /// How lexing ends after all lexemes before a text's fault. The exception is of that fault.
 fn end_at_fault(
-    alloc: Global,
     text: &str,
     values: &mut [u8],
     progress: Progress,
     exception: &EvalException,
 ) -> Ending
-    requires fits { length text.now < 2 ^ 32 }
     requires within { progress.filled.values ≤ length values.old }
     requires stop { (yielded : ℕ) × IsStop text.now yielded progress.stop }
     requires thrown { (file : SourceFile) × IsFaultIn file (outcome text.now).fault (Some exception.now) }
@@ -347,50 +361,69 @@ fn end_at_fault(
     if !matches!(ending, Ending::Full { .. }) {
         return ending;
     }
-    end_at_stop(alloc, text, progress).unwrap_or(ending)
+    end_at_stop(text, progress).unwrap_or(ending)
+}
+
+/// Makes the offset where the text may be cut after the lexemes that its lexer has yielded the last
+/// stop, if there is one.
+#[inline(always)]
+fn stop_after(progress: &mut Progress, may_stop: bool, text: &str, lexer: &Lexer<'_>)
+    requires same { lexer.now.text ≡ text.now }
+    requires may { MayStop text.now lexer.now.yielded_count progress.old }
+    ensures filled { progress.new.filled ≡ progress.old.filled }
+    ensures stop { IsStop text.now lexer.now.yielded_count progress.new.stop }
+    ensures kind { progress.new.stop.is_front ≡ progress.old.stop.is_front }
+{
+    if !may_stop {
+        return;
+    }
+    if let Some(at) = cut_of(text, progress.stop.is_front, lexer) {
+        progress.set_stop(at);
+    }
 }
 
 /// Fills the buffers with the lexemes that a new lexer of a text yields, in order.
 ///
-/// It goes up to the end of the text or its fault, or up to a clean cut where they have no room for
-/// more.
+/// It goes up to the end of the text or its fault, or up to a stop where they have no room for more.
+/// The text may be the front of a longer one. Returns how that ended, and the last stop.
 pub fn fill(
-    alloc: Global,
     text: &str,
+    is_front: bool,
     lexer: &mut Lexer<'_>,
     lexemes: &mut [LexemeRecord],
     values: &mut [u8],
-) -> Ending
+) -> (Ending, Stop)
     requires fresh { lexer.old ≡ record { text = text.now; code_map = lexer.old.code_map; yielded_count = 0; has_ended = false; reads = 0 } }
     requires text { IsText text.now }
-    ensures { Ends text.now (record { lexemes = lexemes.old; values = values.old }) (record { lexemes = lexemes.new; values = values.new }) result }
+    ensures { EndsWithStop text.now is_front (record { lexemes = lexemes.old; values = values.old }) (record { lexemes = lexemes.new; values = values.new }) result }
 {
-    let mut progress = Progress::START;
+    let mut progress = Progress::new(is_front);
     loop {
         if let Some(plain) = lexer.next_plain() {
             if let Err(passed) = take_plain(lexemes, values, &mut progress, text, plain) {
-                return overflow(alloc, text, lexer, progress, passed);
+                return (overflow(text, lexer, progress, passed), progress.stop);
             }
+            stop_after(&mut progress, is_plain_newline(plain), text, lexer);
             continue;
         }
         match lexer.next() {
             Some(Ok(lexeme)) => {
                 if let Err(passed) = take_next(lexemes, values, &mut progress, lexeme) {
-                    return overflow(alloc, text, lexer, progress, passed);
+                    return (overflow(text, lexer, progress, passed), progress.stop);
                 }
+                stop_after(&mut progress, true, text, lexer);
             }
             Some(Err(OrMemory::Error(exception))) => {
-                return end_at_fault(alloc, text, values, progress, &exception);
+                let ending = end_at_fault(text, values, progress, &exception);
+                return (ending, progress.stop);
             }
             Some(Err(OrMemory::Memory)) => {
-                return Ending::Memory {
-                    filled: progress.filled,
-                };
+                let filled = progress.filled;
+                return (Ending::Memory { filled }, progress.stop);
             }
             None => {
-                return Ending::Whole {
-                    filled: progress.filled,
-                };
+                let filled = progress.filled;
+                return (Ending::Whole { filled }, progress.stop);
             }
         }
     }

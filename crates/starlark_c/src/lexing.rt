@@ -1,15 +1,26 @@
 //! Lexes bytes that may be no text into the caller's buffers.
 
-ghost use Rattle.std.specs.Prelude.{◌≡◌, ◌<◌, ◌^◌, [], IfSome, false, length};
-ghost use Rattle.starlark_c.specs.Endings.{Ends};
+ghost use Rattle.std.specs.Prelude.{◌≡◌, ◌<◌, ◌^◌, [], IfOk, IfSome, false, length, true};
+ghost use Rattle.starlark_c.specs.Endings.{Buffers, Ends, EndsFront};
+ghost use Rattle.starlark_c.specs.Inner.Filling.{EndsWithStop, has_stop};
+ghost use Rattle.starlark_grammar.specs.Words.{Text};
 
 use crate::endings::{Ending, Filled};
 use crate::filling::fill;
-use crate::pieces::empty_file;
+use crate::progress::Stop;
 use crate::records::LexemeRecord;
+use starlark_syntax::codemap::{CodeMap, CodeMapId};
 use starlark_syntax::dialect::Dialect;
 use starlark_syntax::lexer::Lexer;
-use std::alloc::Global;
+use std::alloc::{AllocError, Global};
+
+/// A code map of an empty text, for lexers of which only the bytes of a fault's span are used.
+pub fn empty_file(alloc: Global) -> Result<CodeMap, AllocError>
+    ensures { IfOk result (λ file. file ≡ record { id = 0; filename = []; source = [] }) }
+{
+    let name = String::new(alloc);
+    CodeMap::new(alloc, CodeMapId::EMPTY, name, String::new(alloc)).map_err(|_| AllocError)
+}
 
 /// A lexer of a text, with a code map of an empty text: only the bytes of a fault's span are used.
 ///
@@ -22,6 +33,35 @@ fn lexer_of(alloc: Global, text: &str) -> Option<Lexer<'_>>
     Lexer::new(alloc, text, &Dialect::Extended, file).ok()
 }
 
+/// Lexes bytes into buffers, if they are a text or the front of one. Returns how that ended, and the
+/// last stop.
+fn lex_with_stop(
+    alloc: Global,
+    bytes: &[u8],
+    is_front: bool,
+    lexemes: &mut [LexemeRecord],
+    values: &mut [u8],
+) -> (Ending, Stop)
+    ensures { EndsWithStop bytes.now is_front (record { lexemes = lexemes.old; values = values.old }) (record { lexemes = lexemes.new; values = values.new }) result }
+{
+    let none = Stop::none(is_front);
+    if bytes.len() > u32::MAX as usize {
+        return (Ending::TooLong, none);
+    }
+    let text = match str::from_utf8(bytes) {
+        Ok(text) => text,
+        Err(error) => {
+            let valid = error.valid_up_to();
+            return (Ending::NotUtf8 { valid }, none);
+        }
+    };
+    let Some(mut lexer) = lexer_of(alloc, text) else {
+        let filled = Filled::NOTHING;
+        return (Ending::Memory { filled }, none);
+    };
+    fill(text, is_front, &mut lexer, lexemes, values)
+}
+
 /// Lexes bytes into buffers, if they are a text.
 pub fn lex_into(
     alloc: Global,
@@ -31,21 +71,45 @@ pub fn lex_into(
 ) -> Ending
     ensures { Ends bytes.now (record { lexemes = lexemes.old; values = values.old }) (record { lexemes = lexemes.new; values = values.new }) result }
 {
-    if bytes.len() > u32::MAX as usize {
-        return Ending::TooLong;
+    lex_with_stop(alloc, bytes, false, lexemes, values).0
+}
+
+/// Whether the buffers have lexemes up to the last stop or further.
+fn is_past_stop(ending: Ending) -> bool
+    ensures { result ≡ has_stop ending }
+{
+    matches!(
+        ending,
+        Ending::Whole { .. } | Ending::Fault { .. } | Ending::Piece { .. }
+    )
+}
+
+/// How lexing the front of a longer text ends: at the last stop, if there is one, and else as lexing
+/// it as a text does.
+fn front_ending(ending: Ending, stop: Stop) -> Ending
+    ensures { (text : Text) (before after : Buffers) → EndsWithStop text true before after (ending, stop) → EndsFront text before after result }
+{
+    if stop.filled.lexemes == 0 {
+        return ending;
     }
-    let text = match str::from_utf8(bytes) {
-        Ok(text) => text,
-        Err(error) => {
-            return Ending::NotUtf8 {
-                valid: error.valid_up_to(),
-            };
-        }
-    };
-    match lexer_of(alloc, text) {
-        Some(mut lexer) => fill(alloc, text, &mut lexer, lexemes, values),
-        None => Ending::Memory {
-            filled: Filled::NOTHING,
-        },
+    if is_past_stop(ending) {
+        return Ending::Piece {
+            filled: stop.filled,
+            next: stop.at,
+        };
     }
+    ending
+}
+
+/// Lexes bytes into buffers up to the last stop, if they are the front of a text and there is one.
+pub fn lex_front(
+    alloc: Global,
+    bytes: &[u8],
+    lexemes: &mut [LexemeRecord],
+    values: &mut [u8],
+) -> Ending
+    ensures { EndsFront bytes.now (record { lexemes = lexemes.old; values = values.old }) (record { lexemes = lexemes.new; values = values.new }) result }
+{
+    let (ending, stop) = lex_with_stop(alloc, bytes, true, lexemes, values);
+    front_ending(ending, stop)
 }

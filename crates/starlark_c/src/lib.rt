@@ -5,7 +5,7 @@
 #![tactic(auto)]
 
 ghost use Rattle.std.specs.Prelude.{◌≡◌, length};
-ghost use Rattle.starlark_c.specs.Endings.{Ends};
+ghost use Rattle.starlark_c.specs.Endings.{Ends, EndsFront};
 ghost use Rattle.starlark_c.specs.Kinds.{NamesTokens, kind_name};
 ghost use Rattle.starlark_c.specs.Messages.{TellsErrors, fault_message};
 ghost use Rattle.starlark_c.specs.Outcomes.{outcome_record};
@@ -22,7 +22,6 @@ mod filling;
 mod kinds;
 mod lexing;
 mod outcomes;
-mod pieces;
 mod places;
 mod progress;
 mod records;
@@ -33,7 +32,7 @@ mod restarts;
 mod texts;
 
 use crate::kinds::name_of_kind;
-use crate::lexing::lex_into;
+use crate::lexing::{lex_front, lex_into};
 use crate::outcomes::{LexOutcome, outcome_of};
 use crate::places::{PlaceRecord, tell_place};
 use crate::records::LexemeRecord;
@@ -61,6 +60,27 @@ pub extern "C" fn starlark_lex(
     ensures status { result ≡ outcome.new.status }
 {
     *outcome = outcome_of(text.len(), lex_into(alloc, text, lexemes, values));
+    outcome.status
+}
+
+/// Lexes the front of a longer text into two buffers, up to the last offset in it where the lexer
+/// tells that the text may be cut.
+///
+/// With status `FULL` and `next` above 0 the buffers have the lexemes up to the clean cut `next`,
+/// which are the first of the whole text, whatever follows the front. With any other status there is
+/// no such offset that the buffers have room for, and all is as `starlark_lex` does with the front.
+#[unsafe(no_mangle)]
+pub extern "C" fn starlark_lex_front(
+    alloc: Global,
+    front: &[u8],
+    lexemes: &mut [LexemeRecord],
+    values: &mut [u8],
+    outcome: &mut LexOutcome,
+) -> u32
+    ensures lexed { (ending : Ending) × (outcome.new ≡ outcome_record (length front.now) ending) × EndsFront front.now (record { lexemes = lexemes.old; values = values.old }) (record { lexemes = lexemes.new; values = values.new }) ending }
+    ensures status { result ≡ outcome.new.status }
+{
+    *outcome = outcome_of(front.len(), lex_front(alloc, front, lexemes, values));
     outcome.status
 }
 

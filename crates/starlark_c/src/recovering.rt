@@ -19,7 +19,7 @@ ghost use Rattle.starlark_token.specs.TextItems.{Given, LexerItem, Refused};
 
 use crate::endings::Filled;
 use crate::filling::{error_of, put_bytes, put_lexeme, span_of};
-use crate::pieces::empty_file;
+use crate::lexing::empty_file;
 use crate::records::{LexemeRecord, bytes_of, bytes_of_fault, number_of_fault};
 use crate::recovered_endings::{Counts, RecoveredEnding};
 use crate::recovered_outcomes::FoundFault;

@@ -1,5 +1,6 @@
 mod ErrorRows
 pub mod LexerItems
+pub mod LexerCuts
 pub mod LexerReads
 pub mod LexerStates
 pub mod PlainLexemes

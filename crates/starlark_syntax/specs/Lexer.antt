@@ -1,5 +1,5 @@
 -- Lexers, as their users see them, and the items that they yield.
-use Rattle.std.specs.Prelude.{◌≡◌, ◌≤◌, IfSome, ℕ, ◌+◌, ◌-◌, ◌*◌, ◌||◌, if◌then◌else◌, Bool, true, false, length, Option, Some, None, Result, Ok, Err, ⊤}
+use Rattle.std.specs.Prelude.{◌≡◌, ◌<◌, ◌≤◌, IfSome, ℕ, ◌+◌, ◌-◌, ◌*◌, ◌||◌, if◌then◌else◌, Bool, true, false, length, take, Option, Some, None, Result, Ok, Err, ⊤}
 use Rattle.std.specs.Iterator.{Count, at_most}
 use Rattle.std.specs.List.{slice_get}
 use Rattle.std.specs.Str.{IsCharBoundary}
@@ -10,6 +10,7 @@ use Rattle.starlark_text.specs.declared.or_memory.OrMemory.TheVariants as refusa
 use Rattle.starlark_syntax.specs.declared.error.kinds.ErrorKind.{ErrorKind}
 pub use Rattle.starlark_syntax.specs.Exceptions.{IsException}
 use Rattle.starlark_grammar.specs.AfterFaults.{restart}
+use Rattle.starlark_grammar.specs.Cuts.{is_kept_cut, without_closing}
 use Rattle.starlark_grammar.specs.Reading.{outcome}
 use Rattle.starlark_grammar.specs.Tokens.{Fault, Spanned}
 use Rattle.starlark_grammar.specs.Words.{Text}
@@ -82,6 +83,12 @@ HasReadFor text None reads = (length text ≤ reads) × (reads ≤ most_reads te
 HasReadFor text (Some (Err refusal.Memory)) reads = ⊤
 HasReadFor text (Some (Err (refusal.Error exception))) reads = (reads ≤ most_reads text) × HasReadToFault text reads
 HasReadFor text (Some (Ok found)) reads = reads ≤ most_reads text
+
+-- byte `at` is a kept cut before the text's end, and `count` lexemes are before it
+pub record IsCutAfter (text : Text) (count at : ℕ) : Type 0 where
+  pub inside : at < length text
+  pub is_kept : is_kept_cut text at ≡ true
+  pub lexemes : length (without_closing (outcome (take at text)).lexemes) ≡ count
 
 -- what one call of a lexer returns, and the lexer after it; after an error a call returns `None`
 pub record IsNextOf (old : LexerView) (answer : Option (Result (ℕ × Token × ℕ) (OrMemory (Diagnosed ErrorKind)))) (new : LexerView) : Type 0 where

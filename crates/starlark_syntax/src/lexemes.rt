@@ -2,7 +2,7 @@
 
 ghost use Rattle.std.specs.Prelude.{◌≡◌, ◌≤◌, ◌+◌, ◌*◌, ◌^◌, ◌↔◌, ◌||◌, None, Some, length, true, false, IfOk, IfSome, IsErr};
 ghost use Rattle.std.specs.List.{slice_get};
-ghost use Rattle.starlark_syntax.specs.Lexer.{AnswersBetween, AnswersNext, AnswersWithin, HasReadFor, is_ended_by, most_reads, yielded_by};
+ghost use Rattle.starlark_syntax.specs.Lexer.{AnswersBetween, AnswersNext, AnswersWithin, HasReadFor, IsCutAfter, is_ended_by, most_reads, yielded_by};
 ghost use Rattle.starlark_syntax.specs.PlainLexemes.{IsPlainIn, passed_by, plain_view};
 ghost use Rattle.starlark_token.specs.TextItems.{Given, items};
 
@@ -113,6 +113,21 @@ impl<'a> Lexer<'a> {
             }
             FastPath::Undecided => None,
         }
+    }
+
+    /// Offset in bytes where the text may be cut, if the lexemes yielded so far are those before it.
+    ///
+    /// The text before the offset is a clean cut, and is lexed the same whatever follows. The offset is
+    /// before the end of the text. `None` where there is none, and after any error. No byte is read.
+    #[inline(always)]
+    pub fn cut(&self) -> Option<usize>
+        ensures kept { IfSome result (IsCutAfter self.now.text self.now.yielded_count) }
+        ensures going { IfSome result (λ at. self.now.has_ended ≡ false) }
+    {
+        if self.state.has_ended() {
+            return None;
+        }
+        self.state.cut()
     }
 
     /// Number of reads of bytes so far.

@@ -549,6 +549,14 @@ impl<'a> LexerState<'a> {
         self.reader.cut(self.text)
     }
 
+    /// Whether an error has ended the lexer.
+    #[inline(always)]
+    pub(crate) fn has_ended(&self) -> bool
+        ensures { result ≡ self.now.has_ended }
+    {
+        self.has_ended
+    }
+
     /// The text.
     #[inline(always)]
     pub(crate) fn text(&self) -> &'a str

@@ -1,18 +1,18 @@
 -- One more lexeme or fault in the caller's buffers.
-use Rattle.std.specs.Prelude.{◌≡◌, ◌<◌, ◌≤◌, ◌+◌, ◌-◌, ◌⊎◌, ◌&&◌, ◌==◌, if◌then◌else◌, ℕ, Bool, true, slice_get, List, [], ◌∷◌, ◌++◌, length, take, drop, Option, Some, None, Result, Ok, Err, ⊤}
-use Rattle.std.specs.Str.{IsCharBoundary}
-use Rattle.starlark_c.specs.Endings.{AreFirst, Buffers, IsPiece, capped, lexemes_of}
+use Rattle.std.specs.Prelude.{◌≡◌, ◌<◌, ◌≤◌, ◌+◌, ◌⊎◌, ◌||◌, ◌==◌, not, ℕ, Bool, true, false, List, [], ◌∷◌, ◌++◌, length, take, drop, Option, Some, None, Result, Ok, Err, ⊤}
+use Rattle.std.specs.Str.{byte}
+use Rattle.starlark_c.specs.Endings.{AreFirst, Buffers, Ends, capped, lexemes_of}
 use Rattle.starlark_c.specs.Records.{fault_bytes, fault_record, record_of, value_bytes, values}
 use Rattle.starlark_c.specs.declared.endings.Ending.{Ending}
 use Rattle.starlark_c.specs.declared.endings.Ending.TheVariants as ending
 use Rattle.starlark_c.specs.declared.endings.Filled.{Filled}
-use Rattle.starlark_c.specs.declared.progress.Passed.{Passed}
 use Rattle.starlark_c.specs.declared.progress.Progress.{Progress}
 use Rattle.starlark_c.specs.declared.progress.Stop.{Stop}
+use Rattle.starlark_grammar.specs.Margins.{is_blank}
 use Rattle.starlark_grammar.specs.Tokens as grammar
 use Rattle.starlark_grammar.specs.Words.{Text}
-use Rattle.starlark_syntax.specs.Inner.LexedTexts.{is_newline_view}
-use Rattle.starlark_token.specs.TokenViews.{TokenView, Whole}
+use Rattle.starlark_syntax.specs.Lexer.{IsCutAfter}
+use Rattle.starlark_token.specs.TokenViews.{TokenView}
 
 -- a list with some items in place of those from `at` on
 abbrev pub put : {A : Type 0} → ℕ → List A → List A → List A
@@ -53,52 +53,48 @@ EndsByFault fault filled before after (ending.Full wanted) =
     × (wanted ≡ wanted_by filled.lexemes (filled.values + length (fault_bytes fault.node)))
 EndsByFault fault filled before after end = ⊥
 
--- the text may be cut at a stop: after the last of some lexemes, which is a `Newline`
-pub record IsNewlineStop (text : Text) (yielded : ℕ) (stop : Stop) : Type 0 where
-  pub lexeme : grammar.Spanned TokenView
+-- what fills the buffers after some lexemes
+abbrev pub filled_by : List (grammar.Spanned TokenView) → Filled
+filled_by xs = record { lexemes = length xs; values = length (values xs) }
+
+-- A text whose first line begins with neither a blank nor a comment. Its first margin is empty, whatever follows.
+unfoldable pub is_without_margin : Text → Bool
+is_without_margin [] = false
+is_without_margin (b ∷ bs) = not (is_blank b || b == byte "#")
+
+-- the text may be cut after `at` bytes and `count` lexemes, and the front of one whatever follows it
+pub record IsCutIn (text : Text) (is_front : Bool) (count at : ℕ) : Type 0 where
+  pub cut : IsCutAfter text count at
+  pub stays : is_front ≡ true → is_without_margin (drop at text) ≡ true
+
+-- the text may be cut at a stop, after some of the lexemes yielded so far
+pub record IsStopIn (text : Text) (yielded : ℕ) (stop : Stop) : Type 0 where
   pub some : 0 < stop.filled.lexemes
   pub few : stop.filled.lexemes ≤ yielded
-  pub is : slice_get (lexemes_of text) (stop.filled.lexemes - 1) ≡ Some lexeme
-  pub newline : is_newline_view lexeme.node ≡ true
+  pub cut : IsCutIn text stop.is_front stop.filled.lexemes stop.at
   pub values : stop.filled.values ≡ length (values (take stop.filled.lexemes (lexemes_of text)))
-  pub boundary : IsCharBoundary text stop.at
 
 -- there is no stop yet, or the text may be cut at it
 abbrev pub IsStop : Text → (yielded : ℕ) → Stop → Type 0
-IsStop text yielded stop = (stop.filled.lexemes ≡ 0) ⊎ IsNewlineStop text yielded stop
+IsStop text yielded stop = (stop.filled.lexemes ≡ 0) ⊎ IsStopIn text yielded stop
 
--- how many blocks are open after a token, with so many open before it
-abbrev pub depth_after : ℕ → TokenView → ℕ
-depth_after depth (Whole grammar.Indent) = capped (depth + 1)
-depth_after depth (Whole grammar.Dedent) = depth - 1
-depth_after depth view = depth
+-- the lexemes yielded so far fill the buffers, and there may be a stop after them
+pub record MayStop (text : Text) (yielded : ℕ) (progress : Progress) : Type 0 where
+  pub some : 0 < yielded
+  pub few : yielded ≤ length (lexemes_of text)
+  pub filled : progress.filled ≡ filled_by (take yielded (lexemes_of text))
+  pub stop : IsStop text yielded progress.stop
 
--- whether the text may be cut after a token, with so many blocks open before it: after a `Newline` outside of all blocks
-abbrev pub ends_piece : ℕ → TokenView → Bool
-ends_piece depth view = is_newline_view view && depth == 0
-
--- the last offset where the text may be cut, after one more lexeme
-abbrev pub next_stop : Progress → grammar.Spanned TokenView → Filled → Stop
-next_stop old lexeme more = if ends_piece old.depth lexeme.node then record { at = lexeme.end; filled = more } else old.stop
-
--- how far lexing is after one more lexeme, with which this fills the buffers
-abbrev pub progress_after : Progress → grammar.Spanned TokenView → Filled → Progress
-progress_after old lexeme more = record { filled = more; depth = depth_after old.depth lexeme.node; stop = next_stop old lexeme more }
-
--- what is wanted with one more token, and what is so after it
-abbrev pub passed_by : Filled → ℕ → TokenView → Passed
-passed_by filled depth view = record {
-  wanted = wanted_by (filled.lexemes + 1) (filled.values + length (value_bytes view));
-  depth = depth_after depth view;
-  ends_piece = ends_piece depth view;
-}
+-- what is wanted with one more token
+abbrev pub wanted_with : Filled → TokenView → Filled
+wanted_with filled view = wanted_by (filled.lexemes + 1) (filled.values + length (value_bytes view))
 
 -- the result of putting the next lexeme: lexing went on, or nothing changed, and this is wanted with it
-abbrev pub PutsNext : grammar.Spanned TokenView → (old new : Progress) → Buffers → Buffers → Result ⊤ Passed → Type 0
+abbrev pub PutsNext : grammar.Spanned TokenView → (old new : Progress) → Buffers → Buffers → Result ⊤ Filled → Type 0
 PutsNext lexeme old new before after (Ok done) =
-    IsPut lexeme old.filled before after new.filled × (new ≡ progress_after old lexeme new.filled)
-PutsNext lexeme old new before after (Err passed) =
-    HasNoRoom lexeme old.filled before after × (new ≡ old) × (passed ≡ passed_by old.filled old.depth lexeme.node)
+    IsPut lexeme old.filled before after new.filled × (new.stop ≡ old.stop)
+PutsNext lexeme old new before after (Err wanted) =
+    HasNoRoom lexeme old.filled before after × (new ≡ old) × (wanted ≡ wanted_with old.filled lexeme.node)
 
 -- how much is wanted for the first `count` lexemes of a text and maybe more
 pub record IsWanted (text : Text) (count : ℕ) (wanted : Filled) : Type 0 where
@@ -112,7 +108,7 @@ pub record IsWanted (text : Text) (count : ℕ) (wanted : Filled) : Type 0 where
 -- how lexing ends at a stop, as there is no room for more: with the piece before it, or as memory ran out
 abbrev pub IsStopped : Text → Progress → Ending → Type 0
 IsStopped text progress (ending.Piece filled next) =
-    IsPiece text next progress.stop.filled.lexemes × (filled ≡ progress.stop.filled) × (0 < progress.stop.filled.lexemes)
+    (next ≡ progress.stop.at) × (filled ≡ progress.stop.filled) × (0 < progress.stop.filled.lexemes)
 IsStopped text progress (ending.Memory told) = told ≡ progress.filled
 IsStopped text progress end = ⊥
 
@@ -126,3 +122,21 @@ abbrev pub EndsAtFault : Text → grammar.Spanned grammar.Fault → Progress →
 EndsAtFault text fault progress before after (ending.Fault more told) = EndsByFault fault progress.filled before after (ending.Fault more told)
 EndsAtFault text fault progress before after (ending.Full wanted) = EndsByFault fault progress.filled before after (ending.Full wanted)
 EndsAtFault text fault progress before after end = IsStopped text progress end × (after ≡ before)
+
+-- whether the buffers have lexemes up to the last stop or further
+abbrev pub has_stop : Ending → Bool
+has_stop (ending.Whole filled) = true
+has_stop (ending.Fault filled fault) = true
+has_stop (ending.Piece filled next) = true
+has_stop end = false
+
+-- a piece has all lexemes before a stop
+abbrev pub IsFilledTo : Stop → Ending → Type 0
+IsFilledTo stop (ending.Piece filled next) = (filled ≡ stop.filled) × (0 < stop.filled.lexemes)
+IsFilledTo stop end = ⊤
+
+-- how lexing some bytes into buffers ends, and the last stop in them
+abbrev pub EndsWithStop : Text → (is_front : Bool) → Buffers → Buffers → Ending × Stop → Type 0
+EndsWithStop text is_front before after found =
+    Ends text before after found.0 × (yielded : ℕ) × (yielded ≤ length (lexemes_of text)) × IsStop text yielded found.1
+    × (found.1.is_front ≡ is_front) × IsFilledTo found.1 found.0

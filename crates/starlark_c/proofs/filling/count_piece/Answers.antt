@@ -1,6 +1,5 @@
 use Rattle.std.proofs.Common.{◌≡◌, ◌+◌, false, length, take, refl, ap, ◌∙◌, arith, inl, inr}
 use Rattle.starlark_c.specs.Endings.{all_values, lexemes_of}
-use Rattle.starlark_c.specs.declared.progress.Passed.{Passed}
 use Rattle.starlark_c.specs.Records.{values}
 use Rattle.starlark_c.proofs.Items.{next_fault, next_lexeme}
 use Rattle.starlark_c.proofs.Wanted.{all_bytes, more_values, wanted_fault, wanted_more}
@@ -8,8 +7,8 @@ use Rattle.starlark_syntax.specs.Lexer.{LexerView}
 use Rattle.starlark_token.specs.Lexemes.{lexeme_view}
 use Rattle.starlark_c.proofs.filling.count_piece.Goals as goal
 
-pub returns-then-passed : goal.returns-then-passed
-returns-then-passed c =
+pub returns-then-is_some : goal.returns-then-is_some
+returns-then-is_some c =
     let inv = c.loop-item.invariant in
     let text = c.args.lexer.now.text in
     let n = c.loop-item.lexer.yielded_count in
@@ -20,7 +19,7 @@ returns-then-passed c =
       first = inl (next.few, refl);
       more_lexemes = omega (arith, inv.later);
       more_bytes = omega (arith, inv.more, more_values text n (lexeme_view c.in-Ok.lexeme) next);
-      needs = wanted_more text n (lexeme_view c.in-Ok.lexeme) c.loop-item.passed.wanted c.pass_lexeme-passed.result.wanted next inv.wanted (ap (λ (p : Passed). p.wanted) c.pass_lexeme-passed.ensures);
+      needs = wanted_more text n (lexeme_view c.in-Ok.lexeme) c.loop-item.passed c.want_lexeme-passed.result next inv.wanted c.want_lexeme-passed.ensures;
     }
 
 pub loop-item-smaller : goal.loop-item-smaller
@@ -46,7 +45,7 @@ loop-item-preserved c =
       few = next.few;
       later = omega (arith, inv.later);
       more = omega (arith, inv.more, more_values text n (lexeme_view c.in-Ok.lexeme) next);
-      wanted = wanted_more text n (lexeme_view c.in-Ok.lexeme) c.loop-item.passed.wanted c.pass_lexeme-passed.result.wanted next inv.wanted (ap (λ (p : Passed). p.wanted) c.pass_lexeme-passed.ensures);
+      wanted = wanted_more text n (lexeme_view c.in-Ok.lexeme) c.loop-item.passed c.want_lexeme-passed.result next inv.wanted c.want_lexeme-passed.ensures;
     })
 
 pub returns-in-Err-Error : goal.returns-in-Err-Error
@@ -61,5 +60,5 @@ returns-in-Err-Error c =
       first = inr (refl, refl);
       more_lexemes = omega (arith, inv.later, last.all);
       more_bytes = omega (arith, inv.more, all_bytes text n last.fault last.all last.is);
-      needs = wanted_fault text n c.named_len.result last.fault c.loop-item.passed.wanted c.with.result last.all last.is inv.wanted (c.named_len.ensures c.loop-item.lexer.code_map last.fault last.thrown) c.with.ensures;
+      needs = wanted_fault text n c.named_len.result last.fault c.loop-item.passed c.with.result last.all last.is inv.wanted (c.named_len.ensures c.loop-item.lexer.code_map last.fault last.thrown) c.with.ensures;
     }

@@ -13,7 +13,7 @@ invariant-loop-item l = record {
   few : l.lexer.yielded_count ≤ length (lexemes_of l.fn.lexer.text);
   later : l.fn.lexer.yielded_count ≤ l.lexer.yielded_count;
   more : length (values (take l.fn.lexer.yielded_count (lexemes_of l.fn.lexer.text))) ≤ length (values (take l.lexer.yielded_count (lexemes_of l.fn.lexer.text)));
-  wanted : l.passed.wanted ≡ wanted_by l.lexer.yielded_count (length (values (take l.lexer.yielded_count (lexemes_of l.fn.lexer.text))));
+  wanted : l.passed ≡ wanted_by l.lexer.yielded_count (length (values (take l.lexer.yielded_count (lexemes_of l.fn.lexer.text))));
 }
 
 abbrev pub decreases-loop-item : goal.decreases-loop-item

@@ -1,0 +1,24 @@
+use Rattle.std.proofs.Common.{ap, arith, inl, length, subst, sym}
+use Rattle.starlark_c.specs.Endings.{IsText}
+use Rattle.starlark_c.specs.Inner.Filling.{EndsWithStop}
+use Rattle.starlark_c.specs.declared.progress.Stop.{Stop}
+use Rattle.starlark_c.proofs.Ends.{ends_memory}
+use Rattle.starlark_c.proofs.Filled.{hold_none, values_nil}
+use Rattle.starlark_grammar.specs.Words.{Text}
+use Rattle.starlark_c.proofs.lexing.lex_with_stop.Goals as goal
+
+pub returns-in_default : goal.returns-in_default
+returns-in_default c =
+    let is : IsText c.args.bytes.now = record { utf8 = c.in-Ok.ensures.cases.1; fits = omega (arith, c.if-bytes.false) } in (
+      ends_memory c.args.bytes.now _ _ 0 (record { lexemes = 0; values = 0 }) is (omega arith) (hold_none (record { lexemes = c.args.lexemes.now; values = c.args.values.now })) (ap (λ (t : Text). record { lexemes = 0; values = length t }) (sym values_nil)),
+      0,
+      omega arith,
+      inl (ap (λ (t : Stop). t.filled.lexemes) c.none-none.ensures),
+      ap (λ (t : Stop). t.is_front) c.none-none.ensures,
+      tt,
+    )
+
+pub returns : goal.returns
+returns c =
+    subst (λ (t : Text). EndsWithStop t c.args.is_front (record { lexemes = c.args.lexemes.now; values = c.args.values.now }) (record { lexemes = c.fill.new.lexemes; values = c.fill.new.values }) c.fill.result)
+    c.in-Ok.ensures.cases.0 c.fill.ensures
