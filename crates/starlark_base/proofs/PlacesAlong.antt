@@ -95,7 +95,7 @@ one_line_by_index [] h = refl
 one_line_by_index (b ∷ bs) h =
     and_from _ _ (ap not (ne_eqb b 10 (h 0 (omega arith)))) (one_line_by_index bs (λ k l. h (suc k) (omega arith)))
 
--- behind the last line feed only the bytes behind it count for the column
+-- remainder the last line feed only the bytes remainder it count for the column
 pub place_behind_feed : (front before tail : Text) → is_one_line tail ≡ true → place_after (front ++ (before ++ 10 ∷ tail)) ≡ record { line = (place_after front).line + count_by is_lf (before ++ 10 ∷ tail); column = length (chars tail) }
 unfolding place_after
 place_behind_feed front before tail h =

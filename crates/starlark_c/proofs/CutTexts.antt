@@ -102,7 +102,7 @@ piece_followed text rest at count cut empty =
     let inside : at ≤ length text = omega (arith, cut.inside) in
     let clean = (kept_parts text at cut.is_kept).1 in
     let same : take at (text ++ rest) ≡ take at text = take-append-le at text rest inside in
-    let behind : drop at (text ++ rest) ≡ drop at text ++ rest = drop-append-le at text rest inside in
-    let joins : Join (take at (text ++ rest)) (drop at (text ++ rest)) = rw (same, behind) (cuts_join (take at text) (drop at text ++ rest) clean (front_margin (drop at text) rest empty)) in
+    let remainder : drop at (text ++ rest) ≡ drop at text ++ rest = drop-append-le at text rest inside in
+    let joins : Join (take at (text ++ rest)) (drop at (text ++ rest)) = rw (same, remainder) (cuts_join (take at text) (drop at text ++ rest) clean (front_margin (drop at text) rest empty)) in
     let piece = piece_by (text ++ rest) at count (kept_some text at cut.is_kept) (omega (arith, inside, length-append text rest)) (rw same clean) (rw same cut.lexemes) joins in
     (piece, piece.lexemes ∙ ap (λ (t : Text). map shown_lexeme (without_closing (outcome t).lexemes)) same ∙ sym (piece_at text at count cut).lexemes)

@@ -50,13 +50,13 @@ pub put_more : {A : Type 0} (front items base now after : List A) (at : ℕ) →
 put_more front items base now after at here was is =
     let rest = drop (length front) base in
     let before : take at now ≡ front = ap (λ n. take n now) here ∙ ap (take (length front)) was ∙ take_at front rest (length front) refl in
-    let behind : drop (at + length items) now ≡ drop (length (front ++ items)) base =
+    let remainder : drop (at + length items) now ≡ drop (length (front ++ items)) base =
     ap (λ n. drop (n + length items) now) here
     ∙ ap (drop (length front + length items)) was
     ∙ drop-append-add front rest (length items)
     ∙ drop-drop (length items) (length front) base
     ∙ ap (λ n. drop n base) (sym (length-append front items)) in
-    is ∙ ap (λ xs. xs ++ (items ++ drop (at + length items) now)) before ∙ ap (λ xs. front ++ (items ++ xs)) behind ∙ sym (append_assoc front items (drop (length (front ++ items)) base))
+    is ∙ ap (λ xs. xs ++ (items ++ drop (at + length items) now)) before ∙ ap (λ xs. front ++ (items ++ xs)) remainder ∙ sym (append_assoc front items (drop (length (front ++ items)) base))
 
 -- such a list is as long as before
 pub same_length : {A : Type 0} (front base now : List A) → now ≡ front ++ drop (length front) base → length front ≤ length base → length now ≡ length base

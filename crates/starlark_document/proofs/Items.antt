@@ -10,7 +10,7 @@ use Rattle.starlark_grammar.specs.Reading.{outcome, read}
 use Rattle.starlark_grammar.specs.Tokens as grammar
 use Rattle.starlark_grammar.specs.Tokens.{Fault, Lexeme, Outcome, Spanned, Token, moved}
 use Rattle.starlark_grammar.specs.Words.{Text, language}
-use Rattle.starlark_grammar.proofs.Lists.{drop-behind, drop-sum}
+use Rattle.starlark_grammar.proofs.Lists.{drop-remainder, drop-sum}
 use Rattle.starlark_grammar.proofs.Joining.Laws.{ends_behind}
 use Rattle.starlark_grammar.proofs.Order.Inside.{fault_within}
 use Rattle.starlark_syntax.specs.Inner.Rests.{moved_item}
@@ -514,7 +514,7 @@ cut_empty front newline dedents more e is all undented plain = absurd (none_left
 
 -- the rest after a fault, as the outcomes are computed
 rest_is : (b : ℕ) (bs : Text) (fault : Spanned Fault) → drop (restart (b ∷ bs) fault - 1) bs ≡ drop (restart (b ∷ bs) fault) (b ∷ bs)
-rest_is b bs fault = sym (drop-behind (restart (b ∷ bs) fault) b bs (restart_later (b ∷ bs) fault (omega arith)))
+rest_is b bs fault = sym (drop-remainder (restart (b ∷ bs) fault) b bs (restart_later (b ∷ bs) fault (omega arith)))
 
 cut_from : (passed : ℕ) (text : Text) → CutsText (drop passed text)
 cut_from zero [] = cut_empty

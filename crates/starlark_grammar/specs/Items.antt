@@ -55,7 +55,7 @@ broken_by good [] = Stops (BadEscape good 1)
 broken_by good (b ∷ bs) = Stops (BadEscape (good + length (b ∷ bs)) (length (b ∷ bs)))
 
 abbrev pub broken : ℕ → Text → Found
-broken good behind = broken_by good (first_character behind)
+broken good remainder = broken_by good (first_character remainder)
 
 -- the number of a character: no surrogate, and not too great
 abbrev pub is_character : ℕ → Bool

@@ -56,7 +56,7 @@ pub record Margin : Type 0 where
   pub comments : List Lexeme
   pub at : ℕ
   pub blanks : Text
-  pub behind : Text
+  pub remainder : Text
 
 -- all of a text's comment-only lines from its front on
 abbrev pub comment_lines : Text → List Text
@@ -67,7 +67,7 @@ margin_from passed at line = record {
   comments = comments_from 0 passed;
   at = at;
   blanks = take (blanks_len line) line;
-  behind = drop (blanks_len line) line;
+  remainder = drop (blanks_len line) line;
 }
 
 -- The margin at the front of a text: whole comment-only lines, as many as stand there, and the blanks after them.

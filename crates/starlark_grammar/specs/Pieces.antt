@@ -59,7 +59,7 @@ fault begin node end = Fails (record { begin = begin; node = node; end = end })
 -- margin alone. A tab before content goes before a width that doesn't fit, and both lie from the line end on.
 unfoldable pub margin_step : ℕ → List Lexeme → List ℕ → Margin → Step
 margin_step len line_end levels margin =
-    if not (is_content margin.behind) then layout [] None
+    if not (is_content margin.remainder) then layout [] None
     else (if has_tab margin then fault 0 InvalidTab 0
     else (if fits (width_of margin) levels then layout (indentation levels margin) (Some (width_of margin))
     else fault 0 Indentation (len + margin_len margin)))
@@ -76,16 +76,16 @@ abbrev pub first_margin : Text → Step
 first_margin text = margin_step 0 [] [] (margin_of text)
 
 abbrev pub line_end : ℕ → List ℕ → Text → Step
-line_end len levels behind = margin_step len (record { begin = 0; node = Newline; end = len } ∷ []) levels (margin_of behind)
+line_end len levels remainder = margin_step len (record { begin = 0; node = Newline; end = len } ∷ []) levels (margin_of remainder)
 
 -- Literals
 
 -- the opening of a literal, by its opener and the text after that: with two more of its quotes it is triple
 abbrev pub opening_of : Bool → Quote → Text → Opening
-opening_of is_raw quote behind = record {
+opening_of is_raw quote remainder = record {
   is_raw = is_raw;
   quote = quote;
-  is_triple = starts_with nat_eq behind (quote_byte quote ∷ quote_byte quote ∷ []);
+  is_triple = starts_with nat_eq remainder (quote_byte quote ∷ quote_byte quote ∷ []);
 }
 
 abbrev pub more_quotes : Opening → ℕ
@@ -107,29 +107,29 @@ is_plain opening text = list_all (λ b. not (b == byte "\\" || b == byte "\r" ||
 -- An unfinished literal. In an expression of an f-string a text literal with a plain text after its opening, up to
 -- the text's end, has a fault of its own.
 abbrev pub unfinished : Mode → Kind → Opening → Text → Fault
-unfinished Outside kind opening behind = UnfinishedStringLiteral
-unfinished place OfText opening behind = if is_plain opening behind then UnfinishedFStringExpression else UnfinishedStringLiteral
-unfinished place kind opening behind = UnfinishedStringLiteral
+unfinished Outside kind opening remainder = UnfinishedStringLiteral
+unfinished place OfText opening remainder = if is_plain opening remainder then UnfinishedFStringExpression else UnfinishedStringLiteral
+unfinished place kind opening remainder = UnfinishedStringLiteral
 
 -- the step of a string or bytes literal, by the bytes of its opening, the text after that, and its body
 abbrev pub literal_by : Mode → Kind → Opening → ℕ → Text → Body → Stop → Step
-literal_by place kind opening len behind body Closing =
+literal_by place kind opening len remainder body Closing =
     token (len + body_len body + length (closing_quotes opening)) (literal_token kind (body_value body))
-literal_by place kind opening len behind body (BadEscape read last) =
-    escape_fault (len + body_len body) (drop 1 (take read (drop (body_len body) behind)))
-literal_by place kind opening len behind body Line = fault 0 (unfinished place kind opening behind) (len + body_len body)
-literal_by place kind opening len behind body stop = fault 0 (unfinished place kind opening behind) (len + length behind)
+literal_by place kind opening len remainder body (BadEscape read last) =
+    escape_fault (len + body_len body) (drop 1 (take read (drop (body_len body) remainder)))
+literal_by place kind opening len remainder body Line = fault 0 (unfinished place kind opening remainder) (len + body_len body)
+literal_by place kind opening len remainder body stop = fault 0 (unfinished place kind opening remainder) (len + length remainder)
 
 abbrev pub literal : Mode → Kind → Opening → ℕ → Text → Step
-literal place kind opening len behind = go (body_at (record { kind = kind; opening = opening }) behind)
+literal place kind opening len remainder = go (body_at (record { kind = kind; opening = opening }) remainder)
   where
     go : Body → Step
-    go body = literal_by place kind opening len behind body body.stop
+    go body = literal_by place kind opening len remainder body body.stop
 
 -- an opener, and the literal after it; of an f-string the opening alone
 abbrev pub opener : Mode → Kind → Opening → ℕ → Text → Step
-opener place OfFString opening len behind = token (len + more_quotes opening) (FStringStart opening)
-opener place kind opening len behind = literal place kind opening (len + more_quotes opening) (drop (more_quotes opening) behind)
+opener place OfFString opening len remainder = token (len + more_quotes opening) (FStringStart opening)
+opener place kind opening len remainder = literal place kind opening (len + more_quotes opening) (drop (more_quotes opening) remainder)
 
 -- Texts of f-strings
 
@@ -177,19 +177,19 @@ counts place is_balanced = false
 
 -- the step of a word, by the text after it
 abbrev pub word_step : Situation → Class → Text → Text → Step
-word_step s word.Skipped text behind = gap (length text)
-word_step s word.Comment text behind = token (length text) (Comment (drop 1 text))
-word_step s word.Tabs text behind = fault 0 InvalidTab 0
-word_step s word.LineEnd text behind = if counts s.place s.is_balanced then line_end (length text) s.levels behind else piece (length text) []
-word_step s (word.Opener kind is_raw quote) text behind = opener s.place kind (opening_of is_raw quote behind) (length text) behind
-word_step s word.Reserved text behind = fault 0 (ReservedKeyword text) (length text)
-word_step s word.Identifier text behind = token (length text) (Identifier text)
-word_step s word.Decimal text behind = if starts_zero text then fault 0 (StartsZero text) (length text) else token (length text) (Int (integer_of 10 text))
-word_step s word.Hexadecimal text behind = token (length text) (Int (integer_of 16 (drop 2 text)))
-word_step s word.Octal text behind = token (length text) (Int (integer_of 8 (drop 2 text)))
-word_step s word.Binary text behind = token (length text) (Int (integer_of 2 (drop 2 text)))
-word_step s word.Float text behind = token (length text) (Float text)
-word_step s (word.Fixed terminal) text behind = token (length text) (terminal_token s.place terminal)
+word_step s word.Skipped text remainder = gap (length text)
+word_step s word.Comment text remainder = token (length text) (Comment (drop 1 text))
+word_step s word.Tabs text remainder = fault 0 InvalidTab 0
+word_step s word.LineEnd text remainder = if counts s.place s.is_balanced then line_end (length text) s.levels remainder else piece (length text) []
+word_step s (word.Opener kind is_raw quote) text remainder = opener s.place kind (opening_of is_raw quote remainder) (length text) remainder
+word_step s word.Reserved text remainder = fault 0 (ReservedKeyword text) (length text)
+word_step s word.Identifier text remainder = token (length text) (Identifier text)
+word_step s word.Decimal text remainder = if starts_zero text then fault 0 (StartsZero text) (length text) else token (length text) (Int (integer_of 10 text))
+word_step s word.Hexadecimal text remainder = token (length text) (Int (integer_of 16 (drop 2 text)))
+word_step s word.Octal text remainder = token (length text) (Int (integer_of 8 (drop 2 text)))
+word_step s word.Binary text remainder = token (length text) (Int (integer_of 2 (drop 2 text)))
+word_step s word.Float text remainder = token (length text) (Float text)
+word_step s (word.Fixed terminal) text remainder = token (length text) (terminal_token s.place terminal)
 
 -- what stands where no word does: one character, which is a fault
 abbrev pub front_step : Situation → Text → Option (Class × ℕ) → Step

@@ -10,13 +10,13 @@ use crate::lf_search::before_lf_len;
 use crate::margins::{blanks_len, line_len};
 use crate::placed_token::PlacedToken;
 use starlark_token::tokens::Token;
-use starlark_words::reads::Reads;
+use starlark_words::reads::ReadCounter;
 use std::alloc::{AllocError, Global};
 
 /// Length in bytes of the first line's comment: without the LF, and without one CR before it.
 ///
 /// `feed` is the length of the line without its LF.
-fn comment_end(reads: &mut Reads, text: &[u8], feed: usize) -> usize
+fn comment_end(reads: &mut ReadCounter, text: &[u8], feed: usize) -> usize
     requires { feed ≡ prefix_len (λ b. not (grammar.is_lf b)) text.now }
     ensures value { result ≡ length (grammar.comment_part text.now) }
     ensures reads { reads.new ≡ more_reads reads.old 1 }
@@ -34,7 +34,7 @@ fn comment_end(reads: &mut Reads, text: &[u8], feed: usize) -> usize
 /// out.
 #[inline(always)]
 pub(crate) fn first_comment(
-    reads: &mut Reads,
+    reads: &mut ReadCounter,
     alloc: Global,
     text: &str,
     from: usize,

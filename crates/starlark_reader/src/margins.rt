@@ -7,7 +7,7 @@ ghost use Rattle.starlark_grammar.specs.Margins as grammar;
 ghost use Rattle.starlark_words.specs.Inner.Reads.{AreReads, more_reads};
 
 use crate::lf_search::before_lf_len;
-use starlark_words::reads::{Reads, uncounted_spaces_len};
+use starlark_words::reads::{ReadCounter, uncounted_spaces_len};
 
 /// The blanks at the start of a line: spaces, tabs and CR.
 #[derive(Clone, Copy)]
@@ -32,7 +32,7 @@ pub struct Margin {
 }
 
 /// Number of spaces, tabs and CR at the start of a text.
-pub(crate) fn blanks_len(reads: &mut Reads, text: &[u8]) -> usize
+pub(crate) fn blanks_len(reads: &mut ReadCounter, text: &[u8]) -> usize
     ensures value { result ≡ grammar.blanks_len text.now }
     ensures within { result ≤ length text.now }
     ensures reads { reads.new ≡ more_reads reads.old (result + 1) }
@@ -105,7 +105,7 @@ fn blanks_in_front(text: &[u8]) -> Blanks
 ///
 /// The byte after them counts twice, since the caller reads it again.
 #[inline(always)]
-fn blanks_of(reads: &mut Reads, text: &[u8]) -> Blanks
+fn blanks_of(reads: &mut ReadCounter, text: &[u8]) -> Blanks
     ensures value { IsBlanks (take (grammar.blanks_len text.now) text.now) result }
     ensures within { result.len ≤ length text.now }
     ensures reads { reads.new ≡ more_reads reads.old (result.len + 2) }
@@ -131,33 +131,33 @@ fn is_content(text: &[u8]) -> bool
 
 /// The margin at the start of a text.
 #[inline(always)]
-pub fn margin_of(reads: &mut Reads, text: &str) -> Margin
+pub fn margin_of(reads: &mut ReadCounter, text: &str) -> Margin
     ensures margin { IsMargin (grammar.margin_of text.now) result }
     ensures within { result.at + result.blanks.len ≤ length text.now }
     ensures reads { AreReads (result.at + result.blanks.len) (5 * result.at + result.blanks.len + 2) reads.old reads.new }
 {
     let bytes = text.as_bytes();
     let blanks = blanks_of(reads, bytes);
-    let behind = &bytes[blanks.len..];
-    if !begins_comment(behind) {
+    let remainder = &bytes[blanks.len..];
+    if !begins_comment(remainder) {
         return Margin {
             at: 0,
             blanks,
-            is_content: is_content(behind),
+            is_content: is_content(remainder),
         };
     }
-    let mut at = blanks.len + line_len(behind, before_lf_len(reads, behind));
+    let mut at = blanks.len + line_len(remainder, before_lf_len(reads, remainder));
     loop {
         let line = &bytes[at..];
         let blanks = blanks_of(reads, line);
-        let behind = &line[blanks.len..];
-        if !begins_comment(behind) {
+        let remainder = &line[blanks.len..];
+        if !begins_comment(remainder) {
             return Margin {
                 at,
                 blanks,
-                is_content: is_content(behind),
+                is_content: is_content(remainder),
             };
         }
-        at += blanks.len + line_len(behind, before_lf_len(reads, behind));
+        at += blanks.len + line_len(remainder, before_lf_len(reads, remainder));
     }
 }

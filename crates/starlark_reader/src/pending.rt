@@ -10,12 +10,12 @@ use crate::comments::first_comment;
 use crate::placed_token::PlacedToken;
 use crate::text_end::TextEnd;
 use starlark_token::tokens::Token;
-use starlark_words::reads::Reads;
+use starlark_words::reads::ReadCounter;
 use std::alloc::{AllocError, Global};
 
 /// The lexemes that are pending after the comments. Offsets count bytes.
 #[derive(Clone, Copy)]
-pub enum Behind {
+pub enum AfterComments {
     /// `count` `Dedent`s at one offset; none if `count` is 0.
     Dedents {
         at: usize,
@@ -44,17 +44,17 @@ pub struct Pending {
     /// End of those lines. There are none if it equals `from`.
     pub to: usize,
     /// The lexemes that are pending after the comments.
-    pub behind: Behind,
+    pub remainder: AfterComments,
     /// Whether no indent is open before the comments, and no lexeme after them was yielded yet.
     pub is_flat: bool,
 }
 
-impl Behind {
+impl AfterComments {
     /// No pending lexeme.
     pub const fn nothing() -> Self
         ensures { lexemes_after result ≡ [] }
     {
-        Behind::Dedents { at: 0, count: 0 }
+        AfterComments::Dedents { at: 0, count: 0 }
     }
 
     /// Takes the first pending lexeme; `None` if there is none.
@@ -63,17 +63,17 @@ impl Behind {
         ensures { IsFirstAfter self.old self.new result }
     {
         match *self {
-            Behind::Dedents { at, count } => {
+            AfterComments::Dedents { at, count } => {
                 let left = count.checked_sub(1)?;
-                *self = Behind::Dedents { at, count: left };
+                *self = AfterComments::Dedents { at, count: left };
                 Some((at, Token::Dedent, at))
             }
-            Behind::Indent { begin, end } => {
-                *self = Behind::nothing();
+            AfterComments::Indent { begin, end } => {
+                *self = AfterComments::nothing();
                 Some((begin, Token::Indent, end))
             }
-            Behind::TextEnd { begin, stop, end } => {
-                *self = Behind::nothing();
+            AfterComments::TextEnd { begin, stop, end } => {
+                *self = AfterComments::nothing();
                 Some((begin, stop.token(), end))
             }
         }
@@ -85,17 +85,17 @@ impl Pending {
     pub(crate) fn nothing() -> Self
         ensures { (text : Text) → (pending_lexemes text result ≡ []) × IsPending text result }
     {
-        Pending::only(Behind::nothing())
+        Pending::only(AfterComments::nothing())
     }
 
     /// Pending lexemes without comments before them.
-    pub(crate) fn only(behind: Behind) -> Self
-        ensures { (text : Text) → (pending_lexemes text result ≡ lexemes_after behind) × IsPending text result }
+    pub(crate) fn only(remainder: AfterComments) -> Self
+        ensures { (text : Text) → (pending_lexemes text result ≡ lexemes_after remainder) × IsPending text result }
     {
         Pending {
             from: 0,
             to: 0,
-            behind,
+            remainder,
             is_flat: false,
         }
     }
@@ -115,8 +115,8 @@ impl Pending {
     pub(crate) fn is_nothing(&self) -> bool
         ensures { result ≡ true → (text : Text) → pending_lexemes text self.now ≡ [] }
     {
-        match self.behind {
-            Behind::Dedents { count, .. } if count == 0 => self.from >= self.to,
+        match self.remainder {
+            AfterComments::Dedents { count, .. } if count == 0 => self.from >= self.to,
             _ => false,
         }
     }
@@ -133,7 +133,7 @@ impl Pending {
     #[inline(always)]
     pub(crate) fn next_comment(
         &mut self,
-        reads: &mut Reads,
+        reads: &mut ReadCounter,
         alloc: Global,
         text: &str,
     ) -> Result<PlacedToken, AllocError>
@@ -158,7 +158,7 @@ impl Pending {
         ensures place { (self.new.from ≡ self.old.from) × (self.new.to ≡ self.old.to) }
         ensures stays { result ≡ None → self.new ≡ self.old }
     {
-        let Some(first) = self.behind.next() else {
+        let Some(first) = self.remainder.next() else {
             return None;
         };
         self.is_flat = false;
@@ -169,7 +169,7 @@ impl Pending {
     /// `AllocError`.
     pub(crate) fn next(
         &mut self,
-        reads: &mut Reads,
+        reads: &mut ReadCounter,
         alloc: Global,
         text: &str,
     ) -> Result<Option<PlacedToken>, AllocError>

@@ -31,7 +31,7 @@ use crate::indent_stack::IndentStack;
 use crate::literal::{Opening, PlainText, Step, opening_of, plain_text, quotes_of};
 use crate::margins::margin_of;
 use crate::nesting::{LexerMode, Nesting};
-use crate::pending::{Behind, Pending};
+use crate::pending::{AfterComments, Pending};
 use crate::placed_token::PlacedToken;
 use crate::reading::code::{gap_len, is_code};
 use crate::reading::terminals::token_in;
@@ -42,7 +42,7 @@ use crate::widths::{margin_fault, take_margin};
 use starlark_token::lexeme_error::LexemeError;
 use starlark_token::tokens::Token;
 use starlark_words::plain_body_len;
-use starlark_words::reads::Reads;
+use starlark_words::reads::ReadCounter;
 use starlark_words::scanner::{
     LiteralKind, Quote, ShortWord, Terminal, TextOpener, Word, bytes_opener, comment_len,
     fstring_opener, short_word, text_opener, word_after,
@@ -91,7 +91,7 @@ pub struct Reader {
     before: Before,
     pending: Pending,
     stage: Stage,
-    reads: Reads,
+    reads: ReadCounter,
 }
 
 /// The next result of a text: a lexeme, its fault, or nothing more. Offsets count bytes.
@@ -130,7 +130,7 @@ impl Reader {
             before: Before::Other,
             pending: Pending::nothing(),
             stage: Stage::Begin,
-            reads: Reads::new(),
+            reads: ReadCounter::new(),
         }
     }
 
@@ -318,7 +318,7 @@ impl Reader {
         if chunk.is_empty() {
             return (between, stop.token(), end);
         }
-        self.pending = Pending::only(Behind::TextEnd {
+        self.pending = Pending::only(AfterComments::TextEnd {
             begin: between,
             stop,
             end,
@@ -451,7 +451,7 @@ impl Reader {
         ensures less { left_to_read text.now self.new self.new.stage < left_to_read text.now self.old Stage.Onward }
         ensures passed { IsPassedBy self.old.at self.old self.new × (self.new.stage ≡ Stage.Closed) }
     {
-        self.pending = Pending::only(Behind::Dedents {
+        self.pending = Pending::only(AfterComments::Dedents {
             at: self.at,
             count: self.levels.len(),
         });
@@ -562,7 +562,7 @@ impl Reader {
         ensures onward { left_to_read text.now self.new self.new.stage ≤ left_to_read text.now self.old self.old.stage }
         ensures code { IsAtCode text.now self.new }
         ensures stands { IfSome result (λ word. IsWordHere text.now self.new word) }
-        ensures looked { HasLooked (word_len result) ((5 * word_len result - 4) + 3) self.old self.new }
+        ensures lookahead { HasLooked (word_len result) ((5 * word_len result - 4) + 3) self.old self.new }
     {
         let gap = self.pass_spaces(text);
         word_after(&mut self.reads, gap, &text[self.at..])
@@ -578,7 +578,7 @@ impl Reader {
         ensures onward { left_to_read text.now self.new self.new.stage ≤ left_to_read text.now self.old self.old.stage }
         ensures code { IsAtCode text.now self.new }
         ensures bytes { result.now ≡ take 3 (drop self.new.at text.now) }
-        ensures looked { HasLookedHere 3 3 self.old self.new }
+        ensures lookahead { HasLookedHere 3 3 self.old self.new }
     {
         self.reads.front(text[self.at..].as_bytes(), 3)
     }
@@ -608,7 +608,7 @@ impl Reader {
         ensures onward { left_to_read text.now self.new self.new.stage ≤ left_to_read text.now self.old self.old.stage }
         ensures code { IsAtCode text.now self.new }
         ensures stands { IfSome result (λ opener. IsWordHere text.now self.new (record { class = class.Opener kind.Text opener.is_raw opener.quote; len = opener.len })) }
-        ensures looked { HasLookedHere 2 2 self.old self.new }
+        ensures lookahead { HasLookedHere 2 2 self.old self.new }
     {
         text_opener(&mut self.reads, &text[self.at..])
     }
@@ -660,7 +660,7 @@ impl Reader {
         ensures ahead { (lexemes : List (Spanned TokenView)) (fault : Option (Spanned Fault)) → IsAhead text.now self.old self.old.stage lexemes fault → IsAhead text.now self.new self.new.stage lexemes fault }
         ensures code { IsAtCode text.now self.new }
         ensures stands { IfSome result (λ len. IsWordHere text.now self.new (record { class = class.Comment; len = len })) }
-        ensures looked { IfSome result (λ len. HasLookedHere len (5 * len + 2) self.old self.new) }
+        ensures lookahead { IfSome result (λ len. HasLookedHere len (5 * len + 2) self.old self.new) }
         ensures none { result ≡ None → HasLookedHere 0 0 self.old self.new }
     {
         comment_len(&mut self.reads, front, &text[self.at..])
@@ -786,7 +786,7 @@ impl Reader {
         ensures ahead { (lexemes : List (Spanned TokenView)) (fault : Option (Spanned Fault)) → IsAhead text.now self.old self.old.stage lexemes fault → IsAhead text.now self.new self.new.stage lexemes fault }
         ensures stands { IsWordHere text.now self.new (record { class = class.Opener kind is_raw quote; len = len }) }
         ensures plain { IfOk result (λ body. IsPlainBody kind is_raw quote (drop len (drop self.new.at text.now)) body) }
-        ensures looked { IfOk result (λ body. HasLookedHere (body + 1) (2 * body + 3) self.old self.new) }
+        ensures lookahead { IfOk result (λ body. HasLookedHere (body + 1) (2 * body + 3) self.old self.new) }
         ensures other { IfErr result (λ run. (self.new.at + len + run ≤ next_line text.now self.new.at) × HasLookedHere 0 (2 * run + 3) self.old self.new) }
     {
         let rest = &text[self.at..];
@@ -837,10 +837,10 @@ impl Reader {
     {
         let begin = self.at;
         let rest = &text[begin..];
-        let behind = &rest[2..];
+        let remainder = &rest[2..];
         let len = 2 + body + 1;
         let mut value = Vec::new(self.alloc);
-        value.extend_from_slice(behind[..body].as_bytes())?;
+        value.extend_from_slice(remainder[..body].as_bytes())?;
         let token = Token::Bytes(value);
         self.pass_token(&token, len, text);
         Ok((begin, token, begin + len))
@@ -904,7 +904,7 @@ impl Reader {
         ensures code { IsAtCode text.now self.old → IsAtCode text.now self.new }
         ensures stands { IfOk result (λ found. IsPlainTextHere text.now self.new found) }
         ensures some { IfOk result (λ found. (0 < found.stop_len) × (found.stop_len ≤ 3)) }
-        ensures looked { IfOk result (λ found. HasLookedHere (found.len + 3) (2 * found.len + 4) self.old self.new) }
+        ensures lookahead { IfOk result (λ found. HasLookedHere (found.len + 3) (2 * found.len + 4) self.old self.new) }
         ensures other { IfErr result (λ run. (self.new.at + run ≤ next_line text.now self.new.at) × HasLookedHere 0 (2 * run + 4) self.old self.new) }
     {
         if !self.reads_on() {

@@ -26,7 +26,7 @@ use crate::literal::{Opening, Step, chunk_from, literal_piece, opening_of};
 use crate::nesting::LexerMode;
 use starlark_token::lexeme_error::LexemeError;
 use starlark_token::tokens::Token;
-use starlark_words::reads::Reads;
+use starlark_words::reads::ReadCounter;
 use starlark_words::scanner::{Class, LiteralKind, Quote, first_word};
 use std::alloc::{AllocError, Global};
 use terminals::terminal_token;
@@ -72,8 +72,8 @@ fn takes_bang(place: LexerMode, follows_gap: bool) -> bool
 /// The piece of a newline of `len` bytes.
 fn line_end(place: LexerMode, is_balanced: bool, len: usize) -> Piece
     ensures reads { (line reads : ℕ) → AreReadsAfter len 9 line 8 result reads reads }
-    ensures piece { (s : grammar.Situation) (front behind text : word.Text) → s.place ≡ mode_view place → s.is_balanced ≡ is_balanced → length front ≡ len → drop len text ≡ behind → IsCharBoundary text len →
-        IsPiece s.levels text (grammar.word_step s class.LineEnd front behind) result }
+    ensures piece { (s : grammar.Situation) (front remainder text : word.Text) → s.place ≡ mode_view place → s.is_balanced ≡ is_balanced → length front ≡ len → drop len text ≡ remainder → IsCharBoundary text len →
+        IsPiece s.levels text (grammar.word_step s class.LineEnd front remainder) result }
 {
     if line_end_counts(place, is_balanced) {
         Piece::LineEnd { len }
@@ -82,63 +82,69 @@ fn line_end(place: LexerMode, is_balanced: bool, len: usize) -> Piece
     }
 }
 
-/// The start of an f-string. Its opener has `len` bytes, and `behind` is the text after it.
-fn fstring(reads: &mut Reads, is_raw: bool, quote: Quote, len: usize, behind: &str) -> Piece
-    requires { len + length behind.now < 2 ^ 64 }
+/// The start of an f-string. Its opener has `len` bytes, and `remainder` is the text after it.
+fn fstring(
+    reads: &mut ReadCounter,
+    is_raw: bool,
+    quote: Quote,
+    len: usize,
+    remainder: &str,
+) -> Piece
+    requires { len + length remainder.now < 2 ^ 64 }
     ensures reads { AreReadsAfter len 9 0 8 result reads.old reads.new }
     ensures line_end { (text : word.Text) → IsLineEndOf text result }
     ensures piece { (s : grammar.Situation) (front text : word.Text) → length front ≡ len →
-        IsPiece s.levels text (grammar.word_step s (class.Opener kind.FString is_raw quote) front behind.now) result }
+        IsPiece s.levels text (grammar.word_step s (class.Opener kind.FString is_raw quote) front remainder.now) result }
 {
-    let opening = opening_of(reads, is_raw, quote, behind);
+    let opening = opening_of(reads, is_raw, quote, remainder);
     let len = if opening.is_triple { len + 2 } else { len };
     Piece::FString { opening, len }
 }
 
-/// A literal or the start of an f-string. Its opener has `len` bytes, before the text `behind`.
+/// A literal or the start of an f-string. Its opener has `len` bytes, before the text `remainder`.
 fn opener(
-    reads: &mut Reads,
+    reads: &mut ReadCounter,
     alloc: Global,
     place: LexerMode,
     kind: LiteralKind,
     is_raw: bool,
     quote: Quote,
     len: usize,
-    behind: &str,
+    remainder: &str,
 ) -> Result<Piece, AllocError>
-    requires { len + length behind.now < 2 ^ 64 }
+    requires { len + length remainder.now < 2 ^ 64 }
     ensures reads { IfOk result (λ piece. AreReadsAfter len 9 0 8 piece reads.old reads.new) }
     ensures line_end { IfOk result (λ piece. (text : word.Text) → IsLineEndOf text piece) }
     ensures piece { IfOk result (λ piece. (s : grammar.Situation) (front text : word.Text) → s.place ≡ mode_view place → length front ≡ len →
-        IsPiece s.levels text (grammar.word_step s (class.Opener kind is_raw quote) front behind.now) piece) }
+        IsPiece s.levels text (grammar.word_step s (class.Opener kind is_raw quote) front remainder.now) piece) }
 {
     match kind {
-        LiteralKind::FString => Ok(fstring(reads, is_raw, quote, len, behind)),
+        LiteralKind::FString => Ok(fstring(reads, is_raw, quote, len, remainder)),
         _ => {
             let outside = is_outside(place);
-            let step = literal_piece(reads, alloc, outside, kind, is_raw, quote, len, behind)?;
+            let step = literal_piece(reads, alloc, outside, kind, is_raw, quote, len, remainder)?;
             Ok(Piece::Lexed(step))
         }
     }
 }
 
-/// The piece of the word `front`, whose class is `class`. `behind` is the text after it.
+/// The piece of the word `front`, whose class is `class`. `remainder` is the text after it.
 fn word_piece(
-    reads: &mut Reads,
+    reads: &mut ReadCounter,
     alloc: Global,
     place: LexerMode,
     is_balanced: bool,
     class: Class,
     front: &str,
-    behind: &str,
+    remainder: &str,
 ) -> Result<Piece, AllocError>
     requires known { class_in language front.now ≡ Some class }
     requires some { 0 < length front.now }
-    requires fits { length front.now + length behind.now < 2 ^ 64 }
+    requires fits { length front.now + length remainder.now < 2 ^ 64 }
     ensures reads { IfOk result (λ piece. AreReadsAfter (length front.now) 9 (next_line front.now 0) 8 piece reads.old reads.new) }
     ensures line_end { IfOk result (IsLineEndOf front.now) }
-    ensures piece { IfOk result (λ piece. (s : grammar.Situation) (text : word.Text) → s.place ≡ mode_view place → s.is_balanced ≡ is_balanced → drop (length front.now) text ≡ behind.now → IsCharBoundary text (length front.now) →
-        IsPiece s.levels text (grammar.word_step s class front.now behind.now) piece) }
+    ensures piece { IfOk result (λ piece. (s : grammar.Situation) (text : word.Text) → s.place ≡ mode_view place → s.is_balanced ≡ is_balanced → drop (length front.now) text ≡ remainder.now → IsCharBoundary text (length front.now) →
+        IsPiece s.levels text (grammar.word_step s class front.now remainder.now) piece) }
 {
     let len = front.len();
     match class {
@@ -148,7 +154,7 @@ fn word_piece(
             kind,
             is_raw,
             quote,
-        } => opener(reads, alloc, place, kind, is_raw, quote, len, behind),
+        } => opener(reads, alloc, place, kind, is_raw, quote, len, remainder),
         Class::Comment => Ok(Piece::Lexed(words::comment(alloc, front)?)),
         Class::Tabs => Ok(Piece::Lexed(words::tabs())),
         Class::Reserved => Ok(Piece::Lexed(words::reserved(alloc, front)?)),
@@ -166,7 +172,7 @@ fn word_piece(
 }
 
 /// The fault of a text that begins with no word: its first character.
-fn invalid_input(reads: &mut Reads, alloc: Global, text: &str) -> Result<Step, AllocError>
+fn invalid_input(reads: &mut ReadCounter, alloc: Global, text: &str) -> Result<Step, AllocError>
     ensures reads { IfOk result (λ step. AreStepReads 0 1 0 0 step reads.old reads.new) }
     ensures fault { IfOk result (IsFaultAt 0 (length (first_character text.now))) }
     ensures step { IfOk result (IsStep (grammar.fault 0 (InvalidInput (first_character text.now)) (length (first_character text.now)))) }
@@ -202,7 +208,7 @@ pub(crate) fn bang_stands(place: LexerMode, follows_gap: bool, front: &[u8]) -> 
 
 /// The piece at the start of a text that begins with no word: a bang, or the fault there.
 fn wordless_piece(
-    reads: &mut Reads,
+    reads: &mut ReadCounter,
     alloc: Global,
     place: LexerMode,
     follows_gap: bool,
@@ -225,7 +231,7 @@ fn wordless_piece(
 
 /// The piece at the start of a text in code or in an f-string expression.
 fn code_piece(
-    reads: &mut Reads,
+    reads: &mut ReadCounter,
     alloc: Global,
     place: LexerMode,
     is_balanced: bool,
@@ -241,8 +247,16 @@ fn code_piece(
     match first_word(reads, text) {
         None => wordless_piece(reads, alloc, place, follows_gap, text),
         Some(word) => {
-            let (front, behind) = text.split_at(word.len);
-            word_piece(reads, alloc, place, is_balanced, word.class, front, behind)
+            let (front, remainder) = text.split_at(word.len);
+            word_piece(
+                reads,
+                alloc,
+                place,
+                is_balanced,
+                word.class,
+                front,
+                remainder,
+            )
         }
     }
 }
@@ -250,7 +264,7 @@ fn code_piece(
 /// The piece at the start of a text, in the lexer mode `place`. It depends on whether brackets are
 /// balanced, and whether a skipped piece is right before it.
 pub(crate) fn piece_at(
-    reads: &mut Reads,
+    reads: &mut ReadCounter,
     alloc: Global,
     place: LexerMode,
     is_balanced: bool,

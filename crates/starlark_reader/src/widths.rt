@@ -8,7 +8,7 @@ ghost use Rattle.starlark_grammar.specs.Margins as grammar;
 
 use crate::indent_stack::IndentStack;
 use crate::margins::Margin;
-use crate::pending::{Behind, Pending};
+use crate::pending::{AfterComments, Pending};
 use starlark_token::lexeme_error::LexemeError;
 use std::alloc::AllocError;
 
@@ -44,7 +44,7 @@ fn keeps_widths(levels: &IndentStack, margin: Margin) -> bool
 #[inline(always)]
 fn take_width(
     levels: &mut IndentStack,
-    behind: &mut Behind,
+    remainder: &mut AfterComments,
     begin: usize,
     margin: Margin,
 ) -> Result<bool, AllocError>
@@ -52,13 +52,13 @@ fn take_width(
     requires content { margin.is_content ≡ true }
     requires untabbed { margin.blanks.has_tab ≡ false }
     ensures { IfOk result (λ is_laid. (widths : List ℕ) (seen : grammar.Margin) → levels.old ≡ grammar.open_widths widths → IsMargin seen margin →
-        IsLaid is_laid begin seen widths levels.old levels.new behind.old behind.new) }
+        IsLaid is_laid begin seen widths levels.old levels.new remainder.old remainder.new) }
 {
     let at = begin + margin.at;
     let width = margin.blanks.width;
     if width > levels.greatest() {
         levels.open(width)?;
-        *behind = Behind::Indent {
+        *remainder = AfterComments::Indent {
             begin: at,
             end: at + margin.blanks.len,
         };
@@ -68,7 +68,7 @@ fn take_width(
     if levels.greatest_of(left) != width {
         return Ok(false);
     }
-    *behind = Behind::Dedents {
+    *remainder = AfterComments::Dedents {
         at,
         count: levels.len() - left,
     };
@@ -89,9 +89,9 @@ pub(crate) fn take_margin(
     margin: Margin,
 ) -> Result<bool, AllocError>
     requires fits { begin + margin.at + margin.blanks.len < 2 ^ 64 }
-    requires idle { lexemes_after pending.old.behind ≡ [] }
+    requires idle { lexemes_after pending.old.remainder ≡ [] }
     ensures laid { IfOk result (λ is_laid. (widths : List ℕ) (seen : grammar.Margin) → levels.old ≡ grammar.open_widths widths → IsMargin seen margin →
-        IsLaid is_laid begin seen widths levels.old levels.new pending.old.behind pending.new.behind) }
+        IsLaid is_laid begin seen widths levels.old levels.new pending.old.remainder pending.new.remainder) }
     ensures place { OnOk result (IsOfMargin begin margin.at levels.old pending.new) }
 {
     let is_flat = levels.len() == 0;
@@ -102,5 +102,5 @@ pub(crate) fn take_margin(
     if margin.blanks.has_tab {
         return Ok(false);
     }
-    take_width(levels, &mut pending.behind, begin, margin)
+    take_width(levels, &mut pending.remainder, begin, margin)
 }

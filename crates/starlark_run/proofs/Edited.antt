@@ -55,7 +55,7 @@ pub newest_more : (text : Text) (versions : List Version) (version : Version) �
 newest_more text [] version = refl
 newest_more text (v ∷ versions) version = newest_more (string_bytes v.text) versions version
 
--- the edits behind one that is taken, and behind one that is refused
+-- the edits remainder one that is taken, and remainder one that is refused
 after_taken : (at : ℕ) (text next : Text) (edit : Edit) (edits : List Edit) → text_after_one at text edit ≡ Ok next → text_after at text (edit ∷ edits) ≡ text_after (at + 1) next edits
 after_taken at text next edit edits is = rw is refl
 

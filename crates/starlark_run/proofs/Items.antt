@@ -83,7 +83,7 @@ fault_at (l ∷ ls) o (suc h) f e =
     let next : suc h + 1 ≡ suc (h + 1) = omega arith in
     (rest.0, ap (λ n. drop n (given l ∷ (map given ls ++ map Refused (option_to_list o)))) next ∙ rest.1)
 
--- a list with another element behind a place
+-- a list with another element remainder a place
 one_more : {A : Type 0} (xs : List A) (h : ℕ) (x : A) (more : List A) → drop h xs ≡ x ∷ more → (h + 1 ≤ length xs) × (drop (h + 1) xs ≡ more)
 one_more xs h x more e = (omega (arith, length-drop h xs, ap length e), drop-sum h 1 xs ∙ ap (drop 1) e)
 
@@ -114,7 +114,7 @@ next_refused text h fault is =
     let at = fault_at (outcome text).lexemes (outcome text).fault h fault is in
     (at.0, left_at (items text) h (Refused fault) is ∙ ap (λ more. Refused fault ∷ more) at.1 ∙ ap (λ f. map Refused (option_to_list f)) (sym at.0))
 
--- Where no item is left, behind lexemes alone, the text has no fault.
+-- Where no item is left, remainder lexemes alone, the text has no fault.
 pub none_left : (text : Text) (h : ℕ) → slice_get (items text) h ≡ None → h ≤ length (outcome text).lexemes → (drop h (items text) ≡ []) × ((outcome text).fault ≡ None)
 unfolding items
 none_left text h is few =
@@ -164,7 +164,7 @@ behind_given [] fs k is = rw is refl
 behind_given (l ∷ ls) fs zero is = cc
 behind_given (l ∷ ls) fs (suc k) is = behind_given ls fs k (omega (arith, is))
 
--- behind all lexemes of such a list stands the fault
+-- remainder all lexemes of such a list stands the fault
 pub listed_fault : (text : Text) (lexemes : List (ℕ × Token × ℕ)) (k : ℕ) → map lexeme_view lexemes ≡ map shown_lexeme (outcome text).lexemes → k ≡ length lexemes → drop k (items text) ≡ fault_items text
 unfolding items
 listed_fault text lexemes k same all =
@@ -186,7 +186,7 @@ all_left P [] (suc h) lexeme more all e = cc
 all_left P (l ∷ ls) zero lexeme more all e = let same : l ≡ lexeme = cc in subst P same all.0
 all_left P (l ∷ ls) (suc h) lexeme more all e = all_left P ls h lexeme more all.1 e
 
--- The place at the end of the next lexeme, and what is left behind it.
+-- The place at the end of the next lexeme, and what is left remainder it.
 pub next_order : (text : Text) (at h : ℕ) (found : ℕ × Token × ℕ) (to : ℕ) → InOrder text at (drop h (outcome text).lexemes) to → IsNextLexeme text h found → (at ≤ found.0) × (found.0 ≤ found.2) × InOrder text found.2 (drop (h + 1) (outcome text).lexemes) to
 next_order text at h found to order next =
     let begin : next.lexeme.begin ≡ found.0 = ap (λ (v : Spanned TokenView). v.begin) next.same in

@@ -67,7 +67,7 @@ module _ {W : Type 0} (calls : WriterCalls W) where
   unfolding Writes
   writes_nothing a waiting t sound = (rw append-nil (takes_none a waiting), sound)
 
-  -- what waits and the text behind it are the text of two steps: the second writes what waits and a front of that text
+  -- what waits and the text remainder it are the text of two steps: the second writes what waits and a front of that text
   takes_then : (ending : Ending) (a b c : Watch W) (x left rest : Text) → Takes calls Going a b x left → Takes calls ending b c left rest → Takes calls ending a c x rest
   takes_then ending a b c x left rest first next =
       (first.0 ++ next.0, went_trans calls ending a.device b.device c.device first.0 next.0 first.1 next.1, append_assoc first.0 next.0 rest ∙ ap (λ t. first.0 ++ t) next.2 ∙ first.2)
@@ -127,7 +127,7 @@ module _ {W : Type 0} (calls : WriterCalls W) where
   unfolding Writes
   writes_told T a b x waiting u t h = h
 
-  -- a step that gives up for want of memory behind others
+  -- a step that gives up for want of memory remainder others
   pub writes_given_up : {U : Type 0} (T : Type 0) (a b : Watch W) (x waiting end : Text) (u : U) → Writes {T = U} calls a b x waiting (Ok u) → Writes {T = T} calls a b x end (Err Memory)
   unfolding Writes
   writes_given_up T a b x waiting end u h = ((waiting, h.0), h.1)

@@ -13,7 +13,7 @@ use starlark_base::position::Position;
 use starlark_reader::margin_of;
 use starlark_syntax::error::{ErrorKind, ParserMessage};
 use starlark_syntax::lexer::LexemeError;
-use starlark_words::reads::Reads;
+use starlark_words::reads::ReadCounter;
 
 /// Where a fault is shown.
 #[derive(Clone, Copy)]
@@ -69,7 +69,7 @@ fn margin_line(text: &str, at: usize) -> usize
     ensures within { result ≤ length text.now }
 {
     let margin = at + line_end_len(&text.as_bytes()[at..]);
-    margin + margin_of(&mut Reads::new(), &text[margin..]).at
+    margin + margin_of(&mut ReadCounter::new(), &text[margin..]).at
 }
 
 /// Number of bytes before the first tab of a text, or all if it has none.

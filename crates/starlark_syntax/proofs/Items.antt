@@ -91,7 +91,7 @@ own_items_first text = by (outcome text).fault refl
     by None is = ([], faultless_items text is ∙ sym (append-nil (items text)))
     by (Some fault) is = (_, items_on text fault is)
 
--- an item of a list, and what is left behind it
+-- an item of a list, and what is left remainder it
 drop_at_item : {A : Type 0} (xs more : List A) (k : ℕ) (x : A) → slice_get xs k ≡ Some x → drop k (xs ++ more) ≡ x ∷ drop (k + 1) (xs ++ more)
 drop_at_item [] more zero x is = cc
 drop_at_item [] more (suc k) x is = cc
@@ -121,7 +121,7 @@ pub given_counts : (text : Text) (k : ℕ) (x : Spanned TokenView) → slice_get
 unfolding items
 given_counts text k x is = given_inside (outcome text).lexemes (outcome text).fault k x is
 
--- behind a fault that is left are the items of the rest
+-- remainder a fault that is left are the items of the rest
 refused_last : (lexemes : List Lexeme) (found : Option (Spanned Fault)) (k : ℕ) (fault : Spanned Fault) (more : List LexerItem) → slice_get (map given lexemes ++ map Refused (option_to_list found)) k ≡ Some (Refused fault)
     → (found ≡ Some fault) × (drop (k + 1) ((map given lexemes ++ map Refused (option_to_list found)) ++ more) ≡ more)
 refused_last [] None zero fault more is = cc

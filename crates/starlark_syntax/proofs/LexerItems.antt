@@ -91,9 +91,9 @@ fault_between text (Some fault) (suc h) edges = tt
 
 all_between : (text : Text) (ls : List Lexeme) (rest : List LexerItem) (h : ℕ) → AllByRecursion (AtBoundaries text) ls → ((k : ℕ) → IfSome (slice_get rest k) (ItemBetween text))
     → IfSome (slice_get (map given ls ++ rest) h) (ItemBetween text)
-all_between text [] rest h edges behind = behind h
-all_between text (l ∷ ls) rest zero edges behind = edges.0
-all_between text (l ∷ ls) rest (suc h) edges behind = all_between text ls rest h edges.1 behind
+all_between text [] rest h edges remainder = remainder h
+all_between text (l ∷ ls) rest zero edges remainder = edges.0
+all_between text (l ∷ ls) rest (suc h) edges remainder = all_between text ls rest h edges.1 remainder
 
 item_between : (text : Text) (h : ℕ) → IsUtf8 text → IfSome (slice_get (items text) h) (ItemBetween text)
 unfolding items

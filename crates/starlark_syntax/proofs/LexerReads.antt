@@ -22,54 +22,54 @@ use Rattle.starlark_reader.specs.Inner.Reads.{HasLookedHere, HasRead, HasReadAt,
 use Rattle.starlark_reader.specs.declared.reader.LineEnd.{LineEnd}
 use Rattle.starlark_reader.specs.declared.reader.LineEnd.TheVariants as line_end
 use Rattle.starlark_reader.specs.declared.reader.Reader.{Reader}
-use Rattle.starlark_syntax.specs.Inner.Looked.{GoesOn, HasSpared, IsFoundBehindMargin, IsFoundFurther, IsFoundFurtherInCode, IsFoundInCode, IsFoundOut, IsLooked, HasOpened, is_front, is_nothing, is_text_opener, looked_len}
-use Rattle.starlark_syntax.specs.declared.lexer_state.Looked.{Looked}
-use Rattle.starlark_syntax.specs.declared.lexer_state.Looked.TheVariants as looked
+use Rattle.starlark_syntax.specs.Inner.Looked.{GoesOn, HasSpared, IsFoundAfterMargin, IsFoundFurther, IsFoundFurtherInCode, IsFoundInCode, IsFoundOut, IsLooked, HasOpened, is_front, is_nothing, is_text_opener, looked_len}
+use Rattle.starlark_syntax.specs.declared.lexer_state.Lookahead.{Lookahead}
+use Rattle.starlark_syntax.specs.declared.lexer_state.Lookahead.TheVariants as lookahead
 
 -- whatever is still to come, what was read is paid for
-pub spared : (text : Text) (reader : Reader) (to : ℕ) (it : Looked) → IsLooked text reader to it → HasSpared text 0 reader to
-spared text reader to looked.Nothing is = is.2
-spared text reader to looked.Front is = (is.3.0, omega (arith, is.3.1), is.3.2)
-spared text reader to looked.All is = is
+pub spared : (text : Text) (reader : Reader) (to : ℕ) (it : Lookahead) → IsLooked text reader to it → HasSpared text 0 reader to
+spared text reader to lookahead.Nothing is = is.2
+spared text reader to lookahead.Front is = (is.3.0, omega (arith, is.3.1), is.3.2)
+spared text reader to lookahead.All is = is
 
-pub goes_on : (it : Looked) (has_ended : Bool) → has_ended ≡ false → GoesOn it has_ended
-goes_on looked.Nothing has_ended e = e
-goes_on looked.Front has_ended e = e
-goes_on looked.All has_ended e = tt
+pub goes_on : (it : Lookahead) (has_ended : Bool) → has_ended ≡ false → GoesOn it has_ended
+goes_on lookahead.Nothing has_ended e = e
+goes_on lookahead.Front has_ended e = e
+goes_on lookahead.All has_ended e = tt
 
 -- what each test tells
-pub nothing_looked : (text : Text) (reader : Reader) (to : ℕ) (has_ended : Bool) (it : Looked) → is_nothing it ≡ true → GoesOn it has_ended → (has_ended ≡ false → IsLooked text reader to it)
+pub nothing_looked : (text : Text) (reader : Reader) (to : ℕ) (has_ended : Bool) (it : Lookahead) → is_nothing it ≡ true → GoesOn it has_ended → (has_ended ≡ false → IsLooked text reader to it)
     → (has_ended ≡ false) × IsAtCode text reader × (to ≤ reader.at) × HasSpared text 0 reader to
-nothing_looked text reader to has_ended looked.Nothing quick goes is = (goes, (is goes).0, (is goes).1, (is goes).2)
-nothing_looked text reader to has_ended looked.Front quick goes is = cc
-nothing_looked text reader to has_ended looked.All quick goes is = cc
+nothing_looked text reader to has_ended lookahead.Nothing quick goes is = (goes, (is goes).0, (is goes).1, (is goes).2)
+nothing_looked text reader to has_ended lookahead.Front quick goes is = cc
+nothing_looked text reader to has_ended lookahead.All quick goes is = cc
 
-pub nothing_kept : (text : Text) (reader : Reader) (to beside : ℕ) (it : Looked) → is_nothing it ≡ true → IsAtCode text reader → to ≤ reader.at → beside ≤ 6 * to → HasRead text beside reader → IsLooked text reader to it
-nothing_kept text reader to beside looked.Nothing quick code behind paid has = (code, behind, (beside, omega (arith, paid), has))
-nothing_kept text reader to beside looked.Front quick code behind paid has = cc
-nothing_kept text reader to beside looked.All quick code behind paid has = cc
+pub nothing_kept : (text : Text) (reader : Reader) (to beside : ℕ) (it : Lookahead) → is_nothing it ≡ true → IsAtCode text reader → to ≤ reader.at → beside ≤ 6 * to → HasRead text beside reader → IsLooked text reader to it
+nothing_kept text reader to beside lookahead.Nothing quick code remainder paid has = (code, remainder, (beside, omega (arith, paid), has))
+nothing_kept text reader to beside lookahead.Front quick code remainder paid has = cc
+nothing_kept text reader to beside lookahead.All quick code remainder paid has = cc
 
-pub front_looked : (text : Text) (reader : Reader) (to : ℕ) (it : Looked) → is_front it ≡ true → IsLooked text reader to it → IsAtCode text reader × (to ≤ length text + 1) × ((class : Class) (len : ℕ) → language_front (drop reader.at text) ≡ Some (class, len) → 2 ≤ len → is_text_opener class ≡ false → to ≤ reader.at + len) × HasSpared text 3 reader to
-front_looked text reader to looked.Nothing quick is = cc
-front_looked text reader to looked.Front quick is = is
-front_looked text reader to looked.All quick is = cc
+pub front_looked : (text : Text) (reader : Reader) (to : ℕ) (it : Lookahead) → is_front it ≡ true → IsLooked text reader to it → IsAtCode text reader × (to ≤ length text + 1) × ((class : Class) (len : ℕ) → language_front (drop reader.at text) ≡ Some (class, len) → 2 ≤ len → is_text_opener class ≡ false → to ≤ reader.at + len) × HasSpared text 3 reader to
+front_looked text reader to lookahead.Nothing quick is = cc
+front_looked text reader to lookahead.Front quick is = is
+front_looked text reader to lookahead.All quick is = cc
 
-pub front_is : (text : Text) (reader : Reader) (to : ℕ) (it : Looked) → it ≡ looked.Front → IsLooked text reader to it → IsAtCode text reader × (to ≤ length text + 1) × ((class : Class) (len : ℕ) → language_front (drop reader.at text) ≡ Some (class, len) → 2 ≤ len → is_text_opener class ≡ false → to ≤ reader.at + len) × HasSpared text 3 reader to
+pub front_is : (text : Text) (reader : Reader) (to : ℕ) (it : Lookahead) → it ≡ lookahead.Front → IsLooked text reader to it → IsAtCode text reader × (to ≤ length text + 1) × ((class : Class) (len : ℕ) → language_front (drop reader.at text) ≡ Some (class, len) → 2 ≤ len → is_text_opener class ≡ false → to ≤ reader.at + len) × HasSpared text 3 reader to
 front_is text reader to it front is = front_looked text reader to it (ap is_front front) is
 
 -- what a look at a word has cost is paid for by the bytes that were looked at
-pub record IsLookedLen (is_text : Bool) (len looked : ℕ) : Type 0 where
-  pub least : len ≤ looked
-  pub most : looked ≤ len + 1
-  pub paid : 5 * len + 2 ≤ 6 * looked
-  pub text : is_text ≡ true → looked ≡ len + 1
-  pub other : is_text ≡ false → 2 ≤ len → looked ≡ len
+pub record IsLookedLen (is_text : Bool) (len lookahead : ℕ) : Type 0 where
+  pub least : len ≤ lookahead
+  pub most : lookahead ≤ len + 1
+  pub paid : 5 * len + 2 ≤ 6 * lookahead
+  pub text : is_text ≡ true → lookahead ≡ len + 1
+  pub other : is_text ≡ false → 2 ≤ len → lookahead ≡ len
 
-pub look_paid : (is_text : Bool) (len looked : ℕ) → 1 ≤ len → looked ≡ looked_len is_text len → IsLookedLen is_text len looked
-look_paid true len looked some is = record { least = omega (arith, is); most = omega (arith, is); paid = omega (arith, is); text = λ h. is; other = λ h two. cc }
-look_paid false len looked some is = by (len == 1) refl is
+pub look_paid : (is_text : Bool) (len lookahead : ℕ) → 1 ≤ len → lookahead ≡ looked_len is_text len → IsLookedLen is_text len lookahead
+look_paid true len lookahead some is = record { least = omega (arith, is); most = omega (arith, is); paid = omega (arith, is); text = λ h. is; other = λ h two. cc }
+look_paid false len lookahead some is = by (len == 1) refl is
   where
-    by : (one : Bool) → (len == 1) ≡ one → looked ≡ (if one then len + 1 else len) → IsLookedLen false len looked
+    by : (one : Bool) → (len == 1) ≡ one → lookahead ≡ (if one then len + 1 else len) → IsLookedLen false len lookahead
     by true e is = let same : len ≡ 1 = eqb-true len 1 e in record { least = omega (arith, is); most = omega (arith, is); paid = omega (arith, is, same); text = λ h. cc; other = λ h two. absurd (omega (arith, two, same)) }
     by false e is =
         let several : 2 ≤ len = more len some e in
@@ -90,31 +90,31 @@ pub word_opened : (text : Text) (reader : Reader) (class : Class) (len to beside
 word_opened text reader class len to beside front is paid has =
     (λ other n again. let same = same_word (drop reader.at text) class other len n front again in omega (arith, is, same.1), (beside, paid, has))
 
--- what is found out behind a lexeme
-pub found_out : (text : Text) (reader : Reader) (to beside : ℕ) (it : Looked) → IsFoundOut reader to it → IsPending text reader.pending → beside ≤ 6 * to → HasRead text beside reader → IsLooked text reader to it
-found_out text reader to beside looked.Nothing is pending paid has = (is.1 text pending, is.0, (beside, omega (arith, paid), has))
-found_out text reader to beside looked.Front is pending paid has = absurd is
-found_out text reader to beside looked.All is pending paid has = (beside, omega (arith, paid), has)
+-- what is found out remainder a lexeme
+pub found_out : (text : Text) (reader : Reader) (to beside : ℕ) (it : Lookahead) → IsFoundOut reader to it → IsPending text reader.pending → beside ≤ 6 * to → HasRead text beside reader → IsLooked text reader to it
+found_out text reader to beside lookahead.Nothing is pending paid has = (is.1 text pending, is.0, (beside, omega (arith, paid), has))
+found_out text reader to beside lookahead.Front is pending paid has = absurd is
+found_out text reader to beside lookahead.All is pending paid has = (beside, omega (arith, paid), has)
 
-pub found_in_code : (text : Text) (reader : Reader) (to beside : ℕ) (it : Looked) → IsFoundInCode reader it → (is_in_code : IsFoundInCode reader looked.Nothing → IsAtCode text reader) → to ≤ reader.at → beside ≤ 6 * to → HasRead text beside reader → IsLooked text reader to it
-found_in_code text reader to beside looked.Nothing is code behind paid has = (code is, behind, (beside, omega (arith, paid), has))
-found_in_code text reader to beside looked.Front is code behind paid has = absurd is
-found_in_code text reader to beside looked.All is code behind paid has = (beside, omega (arith, paid), has)
+pub found_in_code : (text : Text) (reader : Reader) (to beside : ℕ) (it : Lookahead) → IsFoundInCode reader it → (is_in_code : IsFoundInCode reader lookahead.Nothing → IsAtCode text reader) → to ≤ reader.at → beside ≤ 6 * to → HasRead text beside reader → IsLooked text reader to it
+found_in_code text reader to beside lookahead.Nothing is code remainder paid has = (code is, remainder, (beside, omega (arith, paid), has))
+found_in_code text reader to beside lookahead.Front is code remainder paid has = absurd is
+found_in_code text reader to beside lookahead.All is code remainder paid has = (beside, omega (arith, paid), has)
 
-pub found_further : (text : Text) (reader : Reader) (to beside : ℕ) (it : Looked) → IsFoundFurther reader to it → IsAtCode text reader → beside ≤ 6 * to → HasRead text beside reader → IsLooked text reader to it
-found_further text reader to beside looked.Nothing is code paid has = (code, is, (beside, omega (arith, paid), has))
-found_further text reader to beside looked.Front is code paid has = absurd is
-found_further text reader to beside looked.All is code paid has = (beside, omega (arith, paid), has)
+pub found_further : (text : Text) (reader : Reader) (to beside : ℕ) (it : Lookahead) → IsFoundFurther reader to it → IsAtCode text reader → beside ≤ 6 * to → HasRead text beside reader → IsLooked text reader to it
+found_further text reader to beside lookahead.Nothing is code paid has = (code, is, (beside, omega (arith, paid), has))
+found_further text reader to beside lookahead.Front is code paid has = absurd is
+found_further text reader to beside lookahead.All is code paid has = (beside, omega (arith, paid), has)
 
-pub found_further_in_code : (text : Text) (reader : Reader) (to beside : ℕ) (it : Looked) → IsFoundFurtherInCode reader to it → (IsInCode reader → IsAtCode text reader) → beside ≤ 6 * to → HasRead text beside reader → IsLooked text reader to it
-found_further_in_code text reader to beside looked.Nothing is code paid has = (code is.1, is.0, (beside, omega (arith, paid), has))
-found_further_in_code text reader to beside looked.Front is code paid has = absurd is
-found_further_in_code text reader to beside looked.All is code paid has = (beside, omega (arith, paid), has)
+pub found_further_in_code : (text : Text) (reader : Reader) (to beside : ℕ) (it : Lookahead) → IsFoundFurtherInCode reader to it → (IsInCode reader → IsAtCode text reader) → beside ≤ 6 * to → HasRead text beside reader → IsLooked text reader to it
+found_further_in_code text reader to beside lookahead.Nothing is code paid has = (code is.1, is.0, (beside, omega (arith, paid), has))
+found_further_in_code text reader to beside lookahead.Front is code paid has = absurd is
+found_further_in_code text reader to beside lookahead.All is code paid has = (beside, omega (arith, paid), has)
 
-pub found_behind_margin : (text : Text) (reader : Reader) (to beside : ℕ) (it : Looked) → IsFoundBehindMargin reader to it → (reader.stage ≡ stages.Onward) × IsInCode reader → IsPending text reader.pending → beside ≤ 6 * to → HasRead text beside reader → IsLooked text reader to it
-found_behind_margin text reader to beside looked.Nothing is code pending paid has = (record { stage = code.0; idle = is.1 text pending; code = code.1 }, is.0, (beside, omega (arith, paid), has))
-found_behind_margin text reader to beside looked.Front is code pending paid has = absurd is
-found_behind_margin text reader to beside looked.All is code pending paid has = (beside, omega (arith, paid), has)
+pub found_behind_margin : (text : Text) (reader : Reader) (to beside : ℕ) (it : Lookahead) → IsFoundAfterMargin reader to it → (reader.stage ≡ stages.Onward) × IsInCode reader → IsPending text reader.pending → beside ≤ 6 * to → HasRead text beside reader → IsLooked text reader to it
+found_behind_margin text reader to beside lookahead.Nothing is code pending paid has = (record { stage = code.0; idle = is.1 text pending; code = code.1 }, is.0, (beside, omega (arith, paid), has))
+found_behind_margin text reader to beside lookahead.Front is code pending paid has = absurd is
+found_behind_margin text reader to beside lookahead.All is code pending paid has = (beside, omega (arith, paid), has)
 
 -- a line end that counts isn't passed
 pub newline_counts : (it : LineEnd) → it ≡ line_end.Newline → it ≡ line_end.Passed → ⊥
@@ -175,15 +175,15 @@ text_opener_len text is_raw quote len front =
     (word_some text it len (sym front), omega (arith, leb-true (length (take len text)) 2 fits, word_len text it len (sym front)))
 
 -- a plain literal, of which the opener and the body were looked at
-pub plain_reads : (text : Text) (beside least most len body : ℕ) (old mid behind new : Reader) → old.stage ≡ stages.Onward → HasRead text beside old → HasLookedHere least most old mid → (2 ≤ least) × (most ≤ 3)
-    → HasLookedHere (body + 1) (2 * body + 3) mid behind → (1 ≤ len) × (len ≤ 2) → IsPassedBy (behind.at + (len + body + 1)) behind new × (new.stage ≡ stages.Onward) → HasRead text beside new
-plain_reads text beside least most len body old mid behind new onward has opened few looked short passed =
+pub plain_reads : (text : Text) (beside least most len body : ℕ) (old mid remainder new : Reader) → old.stage ≡ stages.Onward → HasRead text beside old → HasLookedHere least most old mid → (2 ≤ least) × (most ≤ 3)
+    → HasLookedHere (body + 1) (2 * body + 3) mid remainder → (1 ≤ len) × (len ≤ 2) → IsPassedBy (remainder.at + (len + body + 1)) remainder new × (new.stage ≡ stages.Onward) → HasRead text beside new
+plain_reads text beside least most len body old mid remainder new onward has opened few lookahead short passed =
     let on : HasReadAt text beside old stages.Onward = subst (HasReadAt text beside old) onward has in
     subst (HasReadAt text beside new) (sym passed.1)
-    (omega (arith, few.0, short.1, opened.0, opened.3.0, looked.0, looked.3.0, on.0, passed.0.0, passed.0.1), omega (arith, few.1, short.0, opened.0, opened.2, opened.3.1, looked.0, looked.2, looked.3.1, on.1, passed.0.0, passed.0.1, passed.0.2))
+    (omega (arith, few.0, short.1, opened.0, opened.3.0, lookahead.0, lookahead.3.0, on.0, passed.0.0, passed.0.1), omega (arith, few.1, short.0, opened.0, opened.2, opened.3.1, lookahead.0, lookahead.2, lookahead.3.1, on.1, passed.0.0, passed.0.1, passed.0.2))
 
 -- more reads of other bytes, where they are within the bound
-pub looked_reads : (text : Text) (old new : Reader) (to : ℕ) (it : Looked) → new ≡ record old { reads = new.reads } → ((beside : ℕ) → HasRead text beside old → HasRead text beside new) → IsLooked text old to it → IsLooked text new to it
+pub looked_reads : (text : Text) (old new : Reader) (to : ℕ) (it : Lookahead) → new ≡ record old { reads = new.reads } → ((beside : ℕ) → HasRead text beside old → HasRead text beside new) → IsLooked text old to it → IsLooked text new to it
 looked_reads text old new to it same more = go it
   where
     code : IsAtCode text old → IsAtCode text new
@@ -192,7 +192,7 @@ looked_reads text old new to it same more = go it
     at : new.at ≡ old.at
     at = ap (λ (reader : Reader). reader.at) same
 
-    go : (it : Looked) → IsLooked text old to it → IsLooked text new to it
-    go looked.Nothing is = (code is.0, omega (arith, is.1, at), (is.2.0, is.2.1, more is.2.0 is.2.2))
-    go looked.Front is = (code is.0, is.1, rw at is.2, (is.3.0, is.3.1, more is.3.0 is.3.2))
-    go looked.All is = (is.0, is.1, more is.0 is.2)
+    go : (it : Lookahead) → IsLooked text old to it → IsLooked text new to it
+    go lookahead.Nothing is = (code is.0, omega (arith, is.1, at), (is.2.0, is.2.1, more is.2.0 is.2.2))
+    go lookahead.Front is = (code is.0, is.1, rw at is.2, (is.3.0, is.3.1, more is.3.0 is.3.2))
+    go lookahead.All is = (is.0, is.1, more is.0 is.2)

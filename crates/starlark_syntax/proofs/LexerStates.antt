@@ -30,7 +30,7 @@ abbrev pub IsGoingOn : LexerState → LexerState → Type 0
 IsGoingOn first now =
     (now.text ≡ first.text) × (now.code_map ≡ first.code_map) × (now.yielded_count ≡ first.yielded_count) × (now.has_ended ≡ first.has_ended)
     × (now.has_ended ≡ false → IsAhead now.text.now now.reader now.reader.stage (left_in now) (outcome now.text.now).fault)
-    × GoesOn now.looked now.has_ended × (now.has_ended ≡ false → IsLooked now.text.now now.reader now.looked_to now.looked) × IsInReach now.text.now now.looked_to
+    × GoesOn now.lookahead now.has_ended × (now.has_ended ≡ false → IsLooked now.text.now now.reader now.looked_to now.lookahead) × IsInReach now.text.now now.looked_to
     × (now.has_ended ≡ true → now ≡ first)
 
 pub lexing_on : (first now : LexerState) → IsLexing first → IsGoingOn first now → IsLexing now
@@ -77,7 +77,7 @@ read_at text reader to beside left near paid stages.Closed is has = omega (arith
 pub lexing_read : (state : LexerState) → IsLexing state → state.has_ended ≡ false → state.reader.reads ≤ most_reads state.text.now
 lexing_read state lexing going =
     let ahead = (lexing.1 going).1 in
-    let paid = spared state.text.now state.reader state.looked_to state.looked (lexing.3 going) in
+    let paid = spared state.text.now state.reader state.looked_to state.lookahead (lexing.3 going) in
     read_at state.text.now state.reader state.looked_to paid.0 ahead.left lexing.4.inside (omega (arith, paid.1)) state.reader.stage ahead.is_left paid.2
 
 -- so it is after each call that doesn't run out of memory

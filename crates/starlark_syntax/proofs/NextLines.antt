@@ -47,7 +47,7 @@ next_line_boundary text at utf8 inside = by (cases_lt (prefix_len is_other (drop
         let same : next_line text at ≡ length text = omega (arith, whole, len) in
         rw same (end_boundary text)
 
--- behind a line end is a character boundary
+-- remainder a line end is a character boundary
 pub after_line_end : (text rest : Text) (at n : ℕ) → IsUtf8 text → IsCharBoundary text at → rest ≡ drop at text → n ≤ length rest → (0 < n → get_or rest (n - 1) 0 ≡ 10) → IsCharBoundary text (at + n)
 after_line_end text rest at n utf8 boundary is inside feed = by (cases_lt 0 n)
   where

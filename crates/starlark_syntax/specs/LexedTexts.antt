@@ -49,4 +49,4 @@ pub record IsReadFrom (old : LexedView) (edited : Text) (from : ℕ) (lexed : Le
   pub kept : ℕ
   pub more : List (grammar.Spanned TokenView)
   pub lexemes : lexed.lexemes ≡ take kept old.lexemes ++ more
-  pub behind : AllByRecursion (λ (lexeme : grammar.Spanned TokenView). at ≤ lexeme.begin) more
+  pub later : AllByRecursion (λ (lexeme : grammar.Spanned TokenView). at ≤ lexeme.begin) more

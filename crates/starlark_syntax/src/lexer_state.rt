@@ -10,7 +10,7 @@ ghost use Rattle.starlark_reader.specs.Inner.Reader.{IsReached, IsStateAfter, ha
 ghost use Rattle.starlark_syntax.specs.Inner.LexerStates.{HasAnswered, HasPassed, HasTaken, IsBegun, IsLexing, is_out_of_memory, left_in, passed_count, plain_string, view_of};
 ghost use Rattle.starlark_syntax.specs.Lexer.{is_ended_by, most_reads, yielded_by};
 ghost use Rattle.starlark_syntax.specs.PlainLexemes.{IsPlainIn};
-ghost use Rattle.starlark_syntax.specs.Inner.Looked.{HasOpened, IsFoundBehindMargin, IsFoundFurther, IsFoundFurtherInCode, IsFoundInCode, IsFoundOut, is_front, is_nothing, is_text_opener, looked_len};
+ghost use Rattle.starlark_syntax.specs.Inner.Looked.{HasOpened, IsFoundAfterMargin, IsFoundFurther, IsFoundFurtherInCode, IsFoundInCode, IsFoundOut, is_front, is_nothing, is_text_opener, looked_len};
 
 use crate::eval_exception::EvalException;
 use crate::fault_exception::exception;
@@ -38,13 +38,13 @@ pub struct LexerState<'a> {
     reader: Reader,
     yielded_count: usize,
     has_ended: bool,
-    looked: Looked,
+    lookahead: Lookahead,
     looked_to: usize,
 }
 
 /// How much lookahead the fast path has spent at the current offset.
 #[derive(Clone, Copy)]
-enum Looked {
+enum Lookahead {
     /// None. The lexer is in code, and no token is pending.
     Nothing,
     /// The first two bytes, which don't determine the lexeme, or open a text literal.
@@ -55,49 +55,49 @@ enum Looked {
 
 /// Lookahead state after an operator of one byte: only the bracket depth can have changed it.
 #[inline(always)]
-fn looked_in_code(reader: &Reader) -> Looked
+fn looked_in_code(reader: &Reader) -> Lookahead
     ensures { IsFoundInCode reader.now result }
 {
     if reader.is_in_code() {
-        Looked::Nothing
+        Lookahead::Nothing
     } else {
-        Looked::All
+        Lookahead::All
     }
 }
 
 /// Lookahead state after a lexeme that leaves the lexer in code.
 #[inline(always)]
-fn looked_further(reader: &Reader, looked_to: usize) -> Looked
+fn looked_further(reader: &Reader, looked_to: usize) -> Lookahead
     ensures { IsFoundFurther reader.now looked_to result }
 {
     if looked_to <= reader.at() {
-        Looked::Nothing
+        Lookahead::Nothing
     } else {
-        Looked::All
+        Lookahead::All
     }
 }
 
 /// Lookahead state after an operator that the fast path took after more lookahead.
 #[inline(always)]
-fn looked_further_in_code(reader: &Reader, looked_to: usize) -> Looked
+fn looked_further_in_code(reader: &Reader, looked_to: usize) -> Lookahead
     ensures { IsFoundFurtherInCode reader.now looked_to result }
 {
     if looked_to <= reader.at() && reader.is_in_code() {
-        Looked::Nothing
+        Lookahead::Nothing
     } else {
-        Looked::All
+        Lookahead::All
     }
 }
 
 /// Lookahead state after a `Newline`: its margin may leave tokens or comments pending.
 #[inline(always)]
-fn looked_behind_margin(reader: &Reader, looked_to: usize) -> Looked
-    ensures { IsFoundBehindMargin reader.now looked_to result }
+fn looked_after_margin(reader: &Reader, looked_to: usize) -> Lookahead
+    ensures { IsFoundAfterMargin reader.now looked_to result }
 {
     if looked_to <= reader.at() && reader.is_idle() {
-        Looked::Nothing
+        Lookahead::Nothing
     } else {
-        Looked::All
+        Lookahead::All
     }
 }
 
@@ -115,13 +115,13 @@ pub enum FastPath {
     Undecided,
 }
 
-impl Looked {
+impl Lookahead {
     /// Whether no lookahead was spent.
     #[inline(always)]
     fn is_nothing(self) -> bool
         ensures { result ≡ is_nothing self }
     {
-        matches!(self, Looked::Nothing)
+        matches!(self, Lookahead::Nothing)
     }
 
     /// Whether the lookahead was the first two bytes.
@@ -129,7 +129,7 @@ impl Looked {
     fn is_front(self) -> bool
         ensures { result ≡ is_front self }
     {
-        matches!(self, Looked::Front)
+        matches!(self, Lookahead::Front)
     }
 }
 
@@ -159,13 +159,13 @@ fn looked_len(is_text: bool, len: usize) -> usize
 
 /// Lookahead state after any lexeme. Below `looked_to` it is spent.
 #[inline(always)]
-fn looked_behind(reader: &Reader, looked_to: usize) -> Looked
+fn looked_after(reader: &Reader, looked_to: usize) -> Lookahead
     ensures { IsFoundOut reader.now looked_to result }
 {
     if looked_to <= reader.at() && reader.is_at_code() {
-        Looked::Nothing
+        Lookahead::Nothing
     } else {
-        Looked::All
+        Lookahead::All
     }
 }
 
@@ -183,7 +183,7 @@ impl<'a> LexerState<'a> {
             reader: Reader::new(alloc),
             yielded_count: 0,
             has_ended: false,
-            looked: Looked::All,
+            lookahead: Lookahead::All,
             looked_to: 0,
         }
     }
@@ -211,12 +211,12 @@ impl<'a> LexerState<'a> {
         match self.reader.next(self.text) {
             Ok(Next::Lexeme(lexeme)) => {
                 self.yielded_count += 1;
-                self.looked = looked_behind(&self.reader, self.looked_to);
+                self.lookahead = looked_after(&self.reader, self.looked_to);
                 Some(Ok(lexeme))
             }
             Ok(Next::Fault { begin, fault, end }) => {
                 self.has_ended = true;
-                self.looked = Looked::All;
+                self.lookahead = Lookahead::All;
                 match exception(self.alloc, begin, fault, end, &self.code_map) {
                     Ok(exception) => {
                         self.yielded_count += 1;
@@ -226,12 +226,12 @@ impl<'a> LexerState<'a> {
                 }
             }
             Ok(Next::Nothing) => {
-                self.looked = Looked::All;
+                self.lookahead = Lookahead::All;
                 None
             }
             Err(_) => {
                 self.has_ended = true;
-                self.looked = Looked::All;
+                self.lookahead = Lookahead::All;
                 Some(Err(OrMemory::Memory))
             }
         }
@@ -251,19 +251,19 @@ impl<'a> LexerState<'a> {
             return match self.reader.next_comment(self.text) {
                 Ok(lexeme) => {
                     self.yielded_count += 1;
-                    self.looked = looked_behind(&self.reader, self.looked_to);
+                    self.lookahead = looked_after(&self.reader, self.looked_to);
                     Some(Ok(lexeme))
                 }
                 Err(_) => {
                     self.has_ended = true;
-                    self.looked = Looked::All;
+                    self.lookahead = Lookahead::All;
                     Some(Err(OrMemory::Memory))
                 }
             };
         }
         if let Some(lexeme) = self.reader.next_mark() {
             self.yielded_count += 1;
-            self.looked = looked_behind(&self.reader, self.looked_to);
+            self.lookahead = looked_after(&self.reader, self.looked_to);
             return Some(Ok(lexeme));
         }
         if self.reader.at() < self.looked_to || !self.reader.reads_on() {
@@ -273,19 +273,19 @@ impl<'a> LexerState<'a> {
             Ok(found) => found,
             Err(run) => {
                 self.looked_to = self.reader.at() + run + 1;
-                self.looked = Looked::All;
+                self.lookahead = Lookahead::All;
                 return self.next_of_reader();
             }
         };
         match self.reader.take_text(found, self.text) {
             Ok(lexeme) => {
                 self.yielded_count += 1;
-                self.looked = looked_behind(&self.reader, self.looked_to);
+                self.lookahead = looked_after(&self.reader, self.looked_to);
                 Some(Ok(lexeme))
             }
             Err(_) => {
                 self.has_ended = true;
-                self.looked = Looked::All;
+                self.lookahead = Lookahead::All;
                 Some(Err(OrMemory::Memory))
             }
         }
@@ -303,7 +303,7 @@ impl<'a> LexerState<'a> {
         ensures lexing { IsLexing self.new }
         ensures after { view_of self.new ≡ record (view_of self.old) { yielded_count = self.old.yielded_count + yielded_by result; has_ended = is_ended_by result; reads = self.new.reader.reads } }
     {
-        if !self.looked.is_front() {
+        if !self.lookahead.is_front() {
             return self.next_waiting();
         }
         let front = self.reader.front(self.text);
@@ -311,19 +311,19 @@ impl<'a> LexerState<'a> {
             Some(ShortWord::Symbol(terminal)) => {
                 self.yielded_count += 1;
                 let lexeme = self.reader.take_terminal(terminal, 2, self.text);
-                self.looked = looked_further_in_code(&self.reader, self.looked_to);
+                self.lookahead = looked_further_in_code(&self.reader, self.looked_to);
                 return Some(Ok(lexeme));
             }
             Some(ShortWord::Digit(digit)) => {
                 self.yielded_count += 1;
                 let lexeme = self.reader.take_digit(digit, self.text);
-                self.looked = looked_further(&self.reader, self.looked_to);
+                self.lookahead = looked_further(&self.reader, self.looked_to);
                 return Some(Ok(lexeme));
             }
             None => {}
         }
         if let Some(quote) = self.reader.fstring_opener(front, self.text) {
-            self.looked = Looked::All;
+            self.lookahead = Lookahead::All;
             return match self.reader.take_fstring(quote, self.text) {
                 Ok(lexeme) => {
                     self.yielded_count += 1;
@@ -341,19 +341,19 @@ impl<'a> LexerState<'a> {
                 Ok(body) => body,
                 Err(run) => {
                     self.looked_to = self.reader.at() + 2 + run + 1;
-                    self.looked = Looked::All;
+                    self.lookahead = Lookahead::All;
                     return self.next_of_reader();
                 }
             };
             return match self.reader.take_plain_bytes(quote, body, self.text) {
                 Ok(lexeme) => {
                     self.yielded_count += 1;
-                    self.looked = looked_further(&self.reader, self.looked_to);
+                    self.lookahead = looked_further(&self.reader, self.looked_to);
                     Some(Ok(lexeme))
                 }
                 Err(_) => {
                     self.has_ended = true;
-                    self.looked = Looked::All;
+                    self.lookahead = Lookahead::All;
                     Some(Err(OrMemory::Memory))
                 }
             };
@@ -361,22 +361,22 @@ impl<'a> LexerState<'a> {
         if self.reader.bang_stands(front, self.text) {
             self.yielded_count += 1;
             let lexeme = self.reader.take_bang(self.text);
-            self.looked = looked_further(&self.reader, self.looked_to);
+            self.lookahead = looked_further(&self.reader, self.looked_to);
             return Some(Ok(lexeme));
         }
         let Some(len) = self.reader.comment_len(front, self.text) else {
-            self.looked = Looked::All;
+            self.lookahead = Lookahead::All;
             return self.next_of_reader();
         };
         match self.reader.take_comment(len, self.text) {
             Ok(lexeme) => {
                 self.yielded_count += 1;
-                self.looked = looked_further(&self.reader, self.looked_to);
+                self.lookahead = looked_further(&self.reader, self.looked_to);
                 Some(Ok(lexeme))
             }
             Err(_) => {
                 self.has_ended = true;
-                self.looked = Looked::All;
+                self.lookahead = Lookahead::All;
                 Some(Err(OrMemory::Memory))
             }
         }
@@ -389,7 +389,7 @@ impl<'a> LexerState<'a> {
     fn pass_string(&mut self) -> usize
         requires lexing { IsLexing self.old }
         requires going { self.old.has_ended ≡ false }
-        requires front { self.old.looked ≡ Looked.Front }
+        requires front { self.old.lookahead ≡ Lookahead.Front }
         requires opened { HasOpened self.old.text.now self.old.reader self.old.looked_to }
         ensures passed { 0 < result → HasPassed self.old (FastPath.Passed (plain_string self.old.reader.at result self.new.reader.at)) self.new }
         ensures lexing { IsLexing self.new }
@@ -397,7 +397,7 @@ impl<'a> LexerState<'a> {
         ensures none { result ≡ 0 → view_of self.new ≡ record (view_of self.old) { reads = self.new.reader.reads } }
     {
         let Some(TextOpener { is_raw, quote, len }) = self.reader.text_opener(self.text) else {
-            self.looked = Looked::All;
+            self.lookahead = Lookahead::All;
             return 0;
         };
         let kind = LiteralKind::Text;
@@ -408,14 +408,14 @@ impl<'a> LexerState<'a> {
             Ok(body) => body,
             Err(run) => {
                 self.looked_to = self.reader.at() + len + 1 + run;
-                self.looked = Looked::All;
+                self.lookahead = Lookahead::All;
                 return 0;
             }
         };
         self.reader
             .pass_plain_text(is_raw, quote, len, body, self.text);
         self.yielded_count += 1;
-        self.looked = looked_further(&self.reader, self.looked_to);
+        self.lookahead = looked_further(&self.reader, self.looked_to);
         len
     }
 
@@ -429,10 +429,10 @@ impl<'a> LexerState<'a> {
         ensures lexing { IsLexing self.new }
         ensures after { view_of self.new ≡ record (view_of self.old) { yielded_count = self.old.yielded_count + passed_count result; has_ended = self.old.has_ended || is_out_of_memory result; reads = self.new.reader.reads } }
     {
-        while self.looked.is_nothing() {
+        while self.lookahead.is_nothing() {
             let Some(Word { class, len }) = self.reader.common_word(self.text) else {
                 self.looked_to = self.reader.at() + 1;
-                self.looked = Looked::Front;
+                self.lookahead = Lookahead::Front;
                 return FastPath::Undecided;
             };
             let begin = self.reader.at();
@@ -445,31 +445,31 @@ impl<'a> LexerState<'a> {
                 Class::Fixed(terminal) => {
                     self.yielded_count += 1;
                     let lexeme = self.reader.take_terminal(terminal, len, self.text);
-                    self.looked = looked_in_code(&self.reader);
+                    self.lookahead = looked_in_code(&self.reader);
                     return FastPath::Symbol(terminal, lexeme);
                 }
                 Class::LineEnd => match self.reader.take_line_end(len, self.text) {
                     Ok(LineEnd::Passed) => {}
                     Ok(LineEnd::Newline) => {
                         self.yielded_count += 1;
-                        self.looked = looked_behind_margin(&self.reader, self.looked_to);
+                        self.lookahead = looked_after_margin(&self.reader, self.looked_to);
                         let kind = PlainKind::Newline;
                         return FastPath::Passed(PlainLexeme::of_kind(kind, begin, begin + len));
                     }
                     Ok(LineEnd::Fault) => {
-                        self.looked = Looked::All;
+                        self.lookahead = Lookahead::All;
                         return FastPath::Undecided;
                     }
                     Err(_) => {
                         self.has_ended = true;
-                        self.looked = Looked::All;
+                        self.lookahead = Lookahead::All;
                         return FastPath::OutOfMemory;
                     }
                 },
                 _ => {
                     let is_text = is_text_opener(class);
                     self.looked_to = begin + looked_len(is_text, len);
-                    self.looked = Looked::Front;
+                    self.lookahead = Lookahead::Front;
                     if !is_text {
                         return FastPath::Undecided;
                     }
@@ -497,7 +497,7 @@ impl<'a> LexerState<'a> {
             Err(_) => {
                 self.yielded_count -= 1;
                 self.has_ended = true;
-                self.looked = Looked::All;
+                self.lookahead = Lookahead::All;
                 Some(Err(OrMemory::Memory))
             }
         }

@@ -18,7 +18,7 @@ use starlark_base::codemap::{CodeMap, FileSpan, Pos, Span};
 use starlark_base::diagnostic::WithDiagnostic;
 use starlark_base::dialect::Dialect;
 use starlark_token::lexeme_error::LexemeError;
-use starlark_words::reads::Reads;
+use starlark_words::reads::ReadCounter;
 use std::alloc::{AllocError, Global};
 
 /// A fault that was passed: its exception, and the lexer that goes on after it.
@@ -105,7 +105,7 @@ pub(crate) fn pass<'a>(
 {
     let place = place_of(&exception);
     let code_map = file_of(&exception)?;
-    let mut reads = Reads::new();
+    let mut reads = ReadCounter::new();
     let from = begin + counted_restart(&mut reads, &text[begin..], place);
     let Ok(rest) = Lexer::new(alloc, &text[from..], &Dialect::Standard, code_map.dupe()?) else {
         unreachable!()

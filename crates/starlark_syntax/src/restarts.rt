@@ -12,7 +12,7 @@ ghost use Rattle.starlark_syntax.specs.Restarts.{IsPlaceOf};
 ghost use Rattle.starlark_words.specs.Inner.Reads.{AreReads, more_reads};
 
 use starlark_reader::margin_of;
-use starlark_words::reads::Reads;
+use starlark_words::reads::ReadCounter;
 
 /// The place of a fault in a text, in bytes, and whether it is the fault of a tab.
 #[derive(Clone, Copy)]
@@ -27,7 +27,7 @@ pub struct FaultPlace {
 
 /// Number of bytes before the first LF of a text, or all if it has none. The byte after them is
 /// read, too.
-fn before_lf_len(reads: &mut Reads, text: &[u8]) -> usize
+fn before_lf_len(reads: &mut ReadCounter, text: &[u8]) -> usize
     ensures value { result ≡ prefix_len (λ b. not (is_lf b)) text.now }
     ensures within { result ≤ length text.now }
     ensures reads { reads.new ≡ more_reads reads.old (result + 1) }
@@ -38,7 +38,7 @@ fn before_lf_len(reads: &mut Reads, text: &[u8]) -> usize
 }
 
 /// The start of the line after the one that holds byte `at`, or the end of the text.
-fn next_line(reads: &mut Reads, text: &str, at: usize) -> usize
+fn next_line(reads: &mut ReadCounter, text: &str, at: usize) -> usize
     requires { at ≤ length text.now }
     ensures value { result ≡ spec.next_line text.now at }
     ensures boundary { IsCharBoundary text.now result }
@@ -49,7 +49,7 @@ fn next_line(reads: &mut Reads, text: &str, at: usize) -> usize
 }
 
 /// Number of bytes of the line end at the front of a text; 0 if there is none.
-fn line_end_len(reads: &mut Reads, text: &[u8]) -> usize
+fn line_end_len(reads: &mut ReadCounter, text: &[u8]) -> usize
     ensures value { result ≡ spec.line_end_len text.now }
     ensures within { result ≤ length text.now }
     ensures feed { 0 < result → slice_index text.now (result - 1) ≡ 10 }
@@ -64,7 +64,7 @@ fn line_end_len(reads: &mut Reads, text: &[u8]) -> usize
 }
 
 /// The start of the last line of the margin that begins at byte `at`.
-fn margin_line(reads: &mut Reads, text: &str, at: usize) -> usize
+fn margin_line(reads: &mut ReadCounter, text: &str, at: usize) -> usize
     requires { IsCharBoundary text.now at }
     ensures value { result ≡ spec.margin_line text.now at }
     ensures within { result ≤ length text.now }
@@ -77,7 +77,7 @@ fn margin_line(reads: &mut Reads, text: &str, at: usize) -> usize
 /// The start of the line of a tab whose fault begins at byte `at`, or `at` if the tab is in code.
 ///
 /// The fault of a tab in a margin is at the line end before the margin, or at the text's start.
-fn tab_line(reads: &mut Reads, text: &str, at: usize) -> usize
+fn tab_line(reads: &mut ReadCounter, text: &str, at: usize) -> usize
     requires { IsCharBoundary text.now at }
     ensures value { (fault : Spanned Fault) → fault.begin ≡ at → is_tab fault.node ≡ true →
         result ≡ (if spec.is_margin_tab text.now fault then spec.margin_line text.now (at + spec.line_end_len (drop at text.now)) else at) }
@@ -93,7 +93,7 @@ fn tab_line(reads: &mut Reads, text: &str, at: usize) -> usize
 }
 
 /// An offset in the line where a fault stopped the reading of a text.
-fn stopped_at(reads: &mut Reads, text: &str, place: FaultPlace) -> usize
+fn stopped_at(reads: &mut ReadCounter, text: &str, place: FaultPlace) -> usize
     requires boundary { IsCharBoundary text.now place.begin }
     requires order { place.begin ≤ place.end }
     requires within { place.end ≤ length text.now }
@@ -111,7 +111,7 @@ fn stopped_at(reads: &mut Reads, text: &str, place: FaultPlace) -> usize
 
 /// Offset where lexing begins again after a fault of a text, as `restart` returns it. The reads of
 /// bytes that this takes are counted.
-pub(crate) fn counted_restart(reads: &mut Reads, text: &str, place: FaultPlace) -> usize
+pub(crate) fn counted_restart(reads: &mut ReadCounter, text: &str, place: FaultPlace) -> usize
     requires boundary { IsCharBoundary text.now place.begin }
     requires order { place.begin ≤ place.end }
     requires within { place.end ≤ length text.now }
@@ -134,5 +134,5 @@ pub fn restart(text: &str, place: FaultPlace) -> usize
     ensures value { (fault : Spanned Fault) → IsPlaceOf fault place → result ≡ spec.restart text.now fault }
     ensures boundary { IsCharBoundary text.now result }
 {
-    counted_restart(&mut Reads::new(), text, place)
+    counted_restart(&mut ReadCounter::new(), text, place)
 }

@@ -113,7 +113,7 @@ after_nth s u n (Some c) utf8 ran =
     let last = ran.1.2 in
     (ran.0, ran.2, walk_push (chars_rest s) ran.0 (chars_rest t) (chars_rest u) c steps last.0)
 
--- the place behind the character that `nth` gave
+-- the place remainder the character that `nth` gave
 pub from_walk : (text front rest : List ℕ) (c n : ℕ) → IsUtf8 text → length front + 1 ≡ n → IsWalk text (front ++ c ∷ []) rest → IsFrom text n rest
 from_walk text front rest c n utf8 count walk =
     let long : length (front ++ c ∷ []) ≡ n = length-append front (c ∷ []) ∙ count in
@@ -166,9 +166,9 @@ cut_none text index past = let outside : nat_le index (char_count text) ≡ fals
 pub cut_boundary : (text rest : List ℕ) (index : ℕ) → IsUtf8 text → IsFrom text index rest → IsCharBoundary text (length text - length rest)
 cut_boundary text rest index utf8 from = subst (IsCharBoundary text) (sym (from_length text rest index utf8 from)) (place_boundary text index utf8)
 
-behind : (front rest : List ℕ) (c : ℕ) → slice_get ((front ++ c ∷ []) ++ rest) (length front) ≡ Some c
-behind [] rest c = refl
-behind (b ∷ front) rest c = behind front rest c
+remainder : (front rest : List ℕ) (c : ℕ) → slice_get ((front ++ c ∷ []) ++ rest) (length front) ≡ Some c
+remainder [] rest c = refl
+remainder (b ∷ front) rest c = remainder front rest c
 
 -- `nth` of the character at an index
 pub nth_is : (text : List ℕ) (s u : Chars) (n : ℕ) (r : Option ℕ) → chars_rest s ≡ text → IsUtf8 text → SkipsThenYields chars_steps s n r u → r ≡ slice_get (chars text) n
@@ -178,4 +178,4 @@ nth_is text s u n None same utf8 ran =
     sym (slice_get_past (chars text) n past)
 nth_is text s u n (Some c) same utf8 ran =
     let after = after_nth s u n (Some c) (subst IsUtf8 (sym same) utf8) ran in
-    sym (ap (λ t. slice_get (chars t) n) (sym same) ∙ ap (λ cs. slice_get cs n) after.2.characters ∙ ap (slice_get ((after.0 ++ c ∷ []) ++ chars (chars_rest u))) (sym after.1) ∙ behind after.0 (chars (chars_rest u)) c)
+    sym (ap (λ t. slice_get (chars t) n) (sym same) ∙ ap (λ cs. slice_get cs n) after.2.characters ∙ ap (slice_get ((after.0 ++ c ∷ []) ++ chars (chars_rest u))) (sym after.1) ∙ remainder after.0 (chars (chars_rest u)) c)

@@ -164,11 +164,11 @@ ending_ok (b ∷ text) suffix e = go (is_close b) refl (b == 33) refl
   where
     bang : (c : ℕ) (more : Text) (s r close : Bool) → c == 115 ≡ s → c == 114 ≡ r → is_close c ≡ close → converted (c ∷ more) ≡ Ok suffix → (rest : Text) × (33 ∷ c ∷ more ≡ suffix_text suffix ++ 125 ∷ rest)
     bang c more true r close f g h found =
-        let behind = closed_ok bang_s suffix more (rw f at found) in
-        (behind.0, ap (λ d. 33 ∷ d ∷ more) (eqb-true c 115 f) ∙ ap (λ t. 33 ∷ 115 ∷ t) behind.2 ∙ ap (λ t. suffix_text t ++ 125 ∷ behind.0) behind.1)
+        let remainder = closed_ok bang_s suffix more (rw f at found) in
+        (remainder.0, ap (λ d. 33 ∷ d ∷ more) (eqb-true c 115 f) ∙ ap (λ t. 33 ∷ 115 ∷ t) remainder.2 ∙ ap (λ t. suffix_text t ++ 125 ∷ remainder.0) remainder.1)
     bang c more false true close f g h found =
-        let behind = closed_ok bang_r suffix more (rw (f, g) at found) in
-        (behind.0, ap (λ d. 33 ∷ d ∷ more) (eqb-true c 114 g) ∙ ap (λ t. 33 ∷ 114 ∷ t) behind.2 ∙ ap (λ t. suffix_text t ++ 125 ∷ behind.0) behind.1)
+        let remainder = closed_ok bang_r suffix more (rw (f, g) at found) in
+        (remainder.0, ap (λ d. 33 ∷ d ∷ more) (eqb-true c 114 g) ∙ ap (λ t. 33 ∷ 114 ∷ t) remainder.2 ∙ ap (λ t. suffix_text t ++ 125 ∷ remainder.0) remainder.1)
     bang c more false false true f g h found = let no = rw (f, g, h) at found in cc
     bang c more false false false f g h found = let no = rw (f, g, h) at found in cc
 
@@ -183,11 +183,11 @@ ending_ok (b ∷ text) suffix e = go (is_close b) refl (b == 33) refl
         (text, ap (λ c. c ∷ text) (eqb-true b 125 f) ∙ ap (λ t. suffix_text t ++ 125 ∷ text) same)
     go false f true g =
         let found : converted text ≡ Ok suffix = rw (f, g) at e in
-        let behind = after text found in
-        (behind.0, ap (λ c. c ∷ text) (eqb-true b 33 g) ∙ behind.1)
+        let remainder = after text found in
+        (remainder.0, ap (λ c. c ∷ text) (eqb-true b 33 g) ∙ remainder.1)
     go false f false g = let no = rw (f, g) at e in cc
 
--- the faults behind a name
+-- the faults remainder a name
 abbrev pub EndingFault : FormatErrorKind → Text → Type 0
 EndingFault StandaloneClose text = ⊥
 EndingFault UnmatchedOpen text = Unit {0}
@@ -232,7 +232,7 @@ ending_fault (b ∷ text) kind e = go (is_close b) refl (b == 33) refl
         subst (λ (c : ℕ). EndingFault kind (c ∷ text)) (sym (eqb-true b 33 g)) (after text found)
     go false f false g = let unmatched = rw (f, g) at e in unmatched_is kind (b ∷ text) cc
 
--- the rest behind a piece
+-- the rest remainder a piece
 rest_behind : (piece : Piece) (text rest : Text) → text ≡ written piece ++ rest → rest ≡ drop (length (written piece)) text
 rest_behind piece text rest joins = sym (ap (drop (length (written piece))) joins ∙ drop_at (written piece) rest (length (written piece)) refl)
 
@@ -243,11 +243,11 @@ stands_so piece text rest stands = subst (StandsAt piece text) (rest_behind piec
 capture_stands : (rest : Text) (suffix : Suffix) → ending (drop (name_width rest) rest) ≡ Ok suffix → (more : Text) × StandsAt (capture (take (name_width rest) rest) suffix) (123 ∷ rest) more
 capture_stands rest suffix found =
     let width = name_width rest in
-    let behind = ending_ok (drop width rest) suffix found in (
-      behind.0,
+    let remainder = ending_ok (drop width rest) suffix found in (
+      remainder.0,
       record {
         good = run_passes ends_name rest;
-        joins = ap (λ t. 123 ∷ t) (sym (take-append-drop width rest) ∙ ap (λ t. take width rest ++ t) behind.1) ∙ sym (capture_joins (take width rest) suffix behind.0);
+        joins = ap (λ t. 123 ∷ t) (sym (take-append-drop width rest) ∙ ap (λ t. take width rest ++ t) remainder.1) ∙ sym (capture_joins (take width rest) suffix remainder.0);
         longest = tt;
       },
     )

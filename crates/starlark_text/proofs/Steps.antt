@@ -9,7 +9,7 @@ use Rattle.std.specs.declared.str.Chars.{Chars}
 use Rattle.starlark_text.specs.Cursors.{EndsAt}
 use lib.Utf8.{encode}
 
--- a character that begins at a place ends behind it
+-- a character that begins at a place ends remainder it
 pub ends_behind : (text rest : List ℕ) (at c : ℕ) → drop at text ≡ encode c ++ rest → EndsAt text (at + len_utf8 c) c
 ends_behind text rest at c first =
     let begin : at + len_utf8 c - len_utf8 c ≡ at = omega arith in
@@ -27,8 +27,8 @@ boundary_before text at c utf8 scalar boundary ends =
     let back : at - len_utf8 c + len_utf8 c ≡ at = omega arith in
     let from = at - len_utf8 c in
     let front : take (len_utf8 c) (drop from text) ≡ encode c = ap (λ n. take n (drop from text)) (sym width) ∙ ends in
-    let behind : drop (len_utf8 c) (drop from text) ≡ drop at text = drop-drop (len_utf8 c) from text ∙ ap (λ n. drop n text) back in
-    let whole : encode c ++ drop at text ≡ drop from text = ap (λ t. t ++ drop at text) (sym front) ∙ ap (λ t. take (len_utf8 c) (drop from text) ++ t) (sym behind) ∙ take-append-drop (len_utf8 c) (drop from text) in
+    let remainder : drop (len_utf8 c) (drop from text) ≡ drop at text = drop-drop (len_utf8 c) from text ∙ ap (λ n. drop n text) back in
+    let whole : encode c ++ drop at text ≡ drop from text = ap (λ t. t ++ drop at text) (sym front) ∙ ap (λ t. take (len_utf8 c) (drop from text) ++ t) (sym remainder) ∙ take-append-drop (len_utf8 c) (drop from text) in
     let more = IsUtf8-append (encode c) (drop at text) (IsUtf8-encode c scalar) (IsUtf8-drop text at utf8 boundary) in
     IsCharBoundary-from_drop text from (omega arith) (subst IsUtf8 whole more)
 

@@ -118,7 +118,7 @@ plain_boundary text n width = subst (IsCharBoundary text) (sym width) (go (cases
         let whole : length text ≡ plain_width text = omega (arith, prefix_len-le-length (λ b. not (is_brace b)) text) in
         subst (IsCharBoundary text) whole (IsCharBoundary-end text)
 
--- a text may be cut behind a piece
+-- a text may be cut remainder a piece
 closing_boundary : (text front rest : Text) (b : ℕ) → IsUtf8 text → text ≡ front ++ b ∷ rest → b < 128 → IsCharBoundary text (length front + 1)
 closing_boundary text front rest b utf8 joins ascii =
     let byte : get_or text (length front) 0 ≡ b = ap (λ t. get_or t (length front) 0) joins ∙ get_or_at front b rest 0 (length front) refl in

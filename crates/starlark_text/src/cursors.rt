@@ -66,7 +66,7 @@ impl<'a> CursorBytes<'a> {
 pub(crate) fn char_from(text: &str, at: usize) -> Option<char>
     requires { IsCharBoundary text.now at }
     ensures answer { result ≡ slice_get (chars (drop at text.now)) 0 }
-    ensures behind { IfSome result (λ c. IsCharBoundary text.now (at + len_utf8 c)) }
+    ensures remainder { IfSome result (λ c. IsCharBoundary text.now (at + len_utf8 c)) }
     ensures before { IfSome result (λ c. EndsAt text.now (at + len_utf8 c) c) }
 {
     text[at..].chars().next()

@@ -17,8 +17,8 @@ ReadsBy front text [] rest = text ≡ rest
 ReadsBy front text (word ∷ words) rest = (more : Text) × (text ≡ word.1 ++ more) × (front text ≡ Some (word.0, length word.1)) × ReadsBy front more words rest
 
 -- … by the longest front of the language
-abbrev pub Reads : Text → List (Class × Text) → Text → Type 0
-Reads = ReadsBy language_front
+abbrev pub ReadCounter : Text → List (Class × Text) → Text → Type 0
+ReadCounter = ReadsBy language_front
 
 abbrev pub skipped : Text → Class × Text
 skipped piece = (Skipped, piece)
@@ -26,8 +26,8 @@ skipped piece = (Skipped, piece)
 -- The words of a text are skipped pieces, one identifier, and skipped pieces.
 pub record IsOneIdentifierBy (front : FrontOf) (text name : Text) : Type 0 where
   pub before : List Text
-  pub behind : List Text
-  pub words : ReadsBy front text (map skipped before ++ (Identifier, name) ∷ map skipped behind) []
+  pub remainder : List Text
+  pub words : ReadsBy front text (map skipped before ++ (Identifier, name) ∷ map skipped remainder) []
 
 -- … by the longest front of the language
 abbrev pub IsOneIdentifier : Text → Text → Type 0
@@ -39,7 +39,7 @@ IdentifiersStay = (text name : Text) → IsOneIdentifier text name ↔ IsOneIden
 
 -- skipped pieces and what is left after them
 abbrev pub IsAfterSkipped : Text → Text → Type 0
-IsAfterSkipped text rest = (pieces : List Text) × Reads text (map skipped pieces) rest
+IsAfterSkipped text rest = (pieces : List Text) × ReadCounter text (map skipped pieces) rest
 
 -- the length of a front, if it is skipped, and if it is an identifier
 abbrev pub if_skipped : Option (Class × ℕ) → Option ℕ

@@ -9,7 +9,7 @@ ghost use Rattle.starlark_words.specs.Inner.Reads.{AreReads};
 use super::escapes::simple_escape;
 use super::items::{Found, Literal, Stop, Value, found_at};
 use super::runs::first_run;
-use crate::reads::Reads;
+use crate::reads::ReadCounter;
 use starlark_grammar::class::LiteralKind;
 use std::alloc::{AllocError, Global};
 
@@ -167,7 +167,7 @@ pub struct Body {
 ///
 /// `AllocError` where memory for the value runs out.
 pub fn read_body(
-    reads: &mut Reads,
+    reads: &mut ReadCounter,
     alloc: Global,
     literal: Literal,
     text: &str,

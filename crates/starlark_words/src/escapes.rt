@@ -12,7 +12,7 @@ ghost use Rattle.starlark_words.specs.Inner.Reads.{AreReads, more_reads};
 ghost use Rattle.starlark_grammar.specs.Words.{Text, is_octal_digit};
 
 use super::items::{Found, Item, Literal, Stop, Value, after_first, part};
-use crate::reads::Reads;
+use crate::reads::ReadCounter;
 use starlark_grammar::class::LiteralKind;
 
 /// A bad escape of `len` bytes, read as a whole. Its last character has one byte.
@@ -26,14 +26,14 @@ fn ended<'a>(len: usize) -> Found<'a>
 
 /// A bad escape that is broken off after `good` bytes: the character after them is the last one
 /// read.
-fn broken<'a>(reads: &mut Reads, good: usize, behind: &str) -> Found<'a>
+fn broken<'a>(reads: &mut ReadCounter, good: usize, remainder: &str) -> Found<'a>
     requires { good ≤ 10 }
-    ensures value { found_view result ≡ grammar.broken good behind.now }
+    ensures value { found_view result ≡ grammar.broken good remainder.now }
     ensures text { IsText result }
     ensures reads { AreReads (found_len result - good) (found_len result - good) reads.old reads.new }
     ensures len { good ≤ found_len result }
 {
-    let last = reads.character_len(behind);
+    let last = reads.character_len(remainder);
     if last == 0 {
         Found::Stops(Stop::BadEscape { len: good, last: 1 })
     } else {
@@ -115,7 +115,7 @@ fn digits(bytes: &[u8], radix: u32) -> (usize, u32)
 
 /// Number of digits of a radix at the start of a text, at most `wanted`, and their value.
 #[inline(always)]
-fn first_digits(reads: &mut Reads, text: &[u8], radix: u32, wanted: usize) -> (usize, u32)
+fn first_digits(reads: &mut ReadCounter, text: &[u8], radix: u32, wanted: usize) -> (usize, u32)
     requires low { 2 ≤ radix }
     requires high { radix ≤ 16 }
     requires few { wanted ≤ 8 }
@@ -130,7 +130,7 @@ fn first_digits(reads: &mut Reads, text: &[u8], radix: u32, wanted: usize) -> (u
 
 /// Number of hexadecimal digits at the start of a text, at most `wanted`, and their value.
 #[inline(always)]
-fn hexadecimal_digits(reads: &mut Reads, text: &[u8], wanted: usize) -> (usize, u32)
+fn hexadecimal_digits(reads: &mut ReadCounter, text: &[u8], wanted: usize) -> (usize, u32)
     requires { wanted ≤ 8 }
     ensures len { result.0 ≡ prefix_len is_ascii_hexdigit (take wanted text.now) }
     ensures number { result.1 ≡ digits_value 16 (take result.0 text.now) }
@@ -148,7 +148,7 @@ fn is_octal_digit(byte: u8) -> bool
 
 /// The escape of exactly `wanted` hexadecimal digits. `text` begins after its letter `x`, `u` or
 /// `U`.
-fn hexadecimal<'a>(reads: &mut Reads, wanted: usize, is_byte: bool, text: &str) -> Found<'a>
+fn hexadecimal<'a>(reads: &mut ReadCounter, wanted: usize, is_byte: bool, text: &str) -> Found<'a>
     requires least { 1 ≤ wanted }
     requires most { wanted ≤ 8 }
     ensures value { found_view result ≡ grammar.hexadecimal wanted is_byte text.now }
@@ -163,7 +163,7 @@ fn hexadecimal<'a>(reads: &mut Reads, wanted: usize, is_byte: bool, text: &str) 
 }
 
 /// The escape of one to three octal digits. `text` begins with them.
-fn octal<'a>(reads: &mut Reads, is_byte: bool, text: &str) -> Found<'a>
+fn octal<'a>(reads: &mut ReadCounter, is_byte: bool, text: &str) -> Found<'a>
     requires { is_octal_digit (get_or text.now 0 0) ≡ true }
     ensures value { found_view result ≡ grammar.octal is_byte text.now }
     ensures text { is_byte ≡ false → IsText result }
@@ -173,15 +173,15 @@ fn octal<'a>(reads: &mut Reads, is_byte: bool, text: &str) -> Found<'a>
     numbered(1 + len, is_byte, number)
 }
 
-/// The escape of a CR LF, which is empty; a bad one if no LF follows. `behind` begins after the CR.
-fn escaped_newline<'a>(reads: &mut Reads, behind: &str) -> Found<'a>
-    ensures value { found_view result ≡ grammar.escaped_newline behind.now }
+/// The escape of a CR LF, which is empty; a bad one if no LF follows. `remainder` begins after the CR.
+fn escaped_newline<'a>(reads: &mut ReadCounter, remainder: &str) -> Found<'a>
+    ensures value { found_view result ≡ grammar.escaped_newline remainder.now }
     ensures text { IsText result }
     ensures reads { AreReads (found_len result - 2) (found_len result) reads.old reads.new }
 {
-    match reads.at(behind.as_bytes(), 0) {
+    match reads.at(remainder.as_bytes(), 0) {
         Some(b'\n') => part(3, ""),
-        _ => broken(reads, 2, behind),
+        _ => broken(reads, 2, remainder),
     }
 }
 
@@ -210,7 +210,7 @@ fn simple_value(byte: u8) -> Option<char>
 /// The escape of one character `first`. `text` begins with its backslash.
 ///
 /// If the character has no meaning there, the value is the backslash and the character, unchanged.
-fn simple<'a>(reads: &mut Reads, first: u8, text: &'a str) -> Found<'a>
+fn simple<'a>(reads: &mut ReadCounter, first: u8, text: &'a str) -> Found<'a>
     requires { text.now ≡ 92 ∷ first ∷ drop 2 text.now }
     ensures value { found_view result ≡ grammar.simple (lookup (nat_eq first) grammar.simple_escapes) (characters.first_character (drop 1 text.now)) }
     ensures text { IsText result }
@@ -247,26 +247,26 @@ fn is_of_bytes(kind: LiteralKind) -> bool
 }
 
 /// The escape at the start of a text, which begins with its backslash: an item, or a bad escape.
-pub(crate) fn escape<'a>(reads: &mut Reads, kind: LiteralKind, text: &'a str) -> Found<'a>
+pub(crate) fn escape<'a>(reads: &mut ReadCounter, kind: LiteralKind, text: &'a str) -> Found<'a>
     requires { text.now ≡ 92 ∷ drop 1 text.now }
     ensures value { found_view result ≡ grammar.escape kind (drop 1 text.now) }
     ensures text { grammar.is_of_bytes kind ≡ false → IsText result }
     ensures reads { AreReads (found_len result - 2) (found_len result + 2) reads.old reads.new }
 {
-    let behind = after_first(text);
-    let Some(first) = reads.at(behind.as_bytes(), 0) else {
-        return broken(reads, 1, behind);
+    let remainder = after_first(text);
+    let Some(first) = reads.at(remainder.as_bytes(), 0) else {
+        return broken(reads, 1, remainder);
     };
     let is_byte = is_of_bytes(kind);
     if is_octal_digit(first) {
-        return octal(reads, is_byte, behind);
+        return octal(reads, is_byte, remainder);
     }
     match first {
         b'\n' => part(2, ""),
-        b'\r' => escaped_newline(reads, after_first(behind)),
-        b'x' => hexadecimal(reads, 2, is_byte, after_first(behind)),
-        b'u' => hexadecimal(reads, 4, false, after_first(behind)),
-        b'U' => hexadecimal(reads, 8, false, after_first(behind)),
+        b'\r' => escaped_newline(reads, after_first(remainder)),
+        b'x' => hexadecimal(reads, 2, is_byte, after_first(remainder)),
+        b'u' => hexadecimal(reads, 4, false, after_first(remainder)),
+        b'U' => hexadecimal(reads, 8, false, after_first(remainder)),
         _ => simple(reads, first, text),
     }
 }

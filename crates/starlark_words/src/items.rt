@@ -10,7 +10,7 @@ ghost use Rattle.starlark_words.specs.Inner.Reads.{AreReads, more_reads};
 ghost use Rattle.starlark_grammar.specs.declared.class.LiteralKind.TheVariants.{FString as OfFString};
 
 use super::escapes::escape;
-use crate::reads::Reads;
+use crate::reads::ReadCounter;
 use starlark_grammar::class::{LiteralKind, Opening, Quote};
 
 /// The kind and the opening of a literal, by which its body is read.
@@ -133,7 +133,7 @@ pub(crate) fn after_first(text: &str) -> &str
 }
 
 /// The first character of a text, as text; empty if the text is.
-pub(crate) fn first_character<'a>(reads: &mut Reads, text: &'a str) -> &'a str
+pub(crate) fn first_character<'a>(reads: &mut ReadCounter, text: &'a str) -> &'a str
     ensures value { result.now ≡ characters.first_character text.now }
     ensures reads { reads.new ≡ more_reads reads.old (length result.now) }
 {
@@ -141,27 +141,27 @@ pub(crate) fn first_character<'a>(reads: &mut Reads, text: &'a str) -> &'a str
 }
 
 /// The item of a backslash in a raw literal, with the character after it; `Ended` if there is none.
-fn raw_pair<'a>(reads: &mut Reads, literal: Literal, text: &'a str) -> Found<'a>
+fn raw_pair<'a>(reads: &mut ReadCounter, literal: Literal, text: &'a str) -> Found<'a>
     requires { text.now ≡ 92 ∷ drop 1 text.now }
     ensures value { found_view result ≡ grammar.raw_pair literal.kind literal.opening.quote (drop 1 text.now) }
     ensures text { IsText result }
     ensures reads { AreReads (found_len result) (found_len result + 1) reads.old reads.new }
 {
-    let behind = after_first(text);
-    let Some(first) = reads.at(behind.as_bytes(), 0) else {
+    let remainder = after_first(text);
+    let Some(first) = reads.at(remainder.as_bytes(), 0) else {
         return Found::Stops(Stop::Ended);
     };
-    let character = reads.character_len(behind);
+    let character = reads.character_len(remainder);
     let len = 1 + character;
     if drops_backslash(literal.kind, literal.opening.quote, first) {
-        part(len, &behind[..character])
+        part(len, &remainder[..character])
     } else {
         part(len, &text[..len])
     }
 }
 
 /// The item of a doubled brace in an f-string, or the stop at a single one.
-fn brace<'a>(reads: &mut Reads, first: u8, text: &'a str) -> Found<'a>
+fn brace<'a>(reads: &mut ReadCounter, first: u8, text: &'a str) -> Found<'a>
     requires brace { grammar.is_brace OfFString first ≡ true }
     requires begins { text.now ≡ first ∷ drop 1 text.now }
     ensures value { found_view result ≡ grammar.brace first (drop 1 text.now) }
@@ -199,7 +199,7 @@ pub(crate) fn ends_line(opening: Opening, byte: u8) -> bool
 /// The item or stop at the start of the rest of a body. `front` is its first three bytes, read
 /// already.
 pub(crate) fn found_at<'a>(
-    reads: &mut Reads,
+    reads: &mut ReadCounter,
     literal: Literal,
     front: &[u8],
     text: &'a str,

@@ -6,7 +6,7 @@ ghost use Rattle.starlark_words.specs.Inner.Reads.{AreReads, more_reads};
 ghost use Rattle.starlark_words.specs.Inner.Lines.{is_in_front};
 
 use crate::lanes::{LANES, lowest_bit};
-use crate::reads::Reads;
+use crate::reads::ReadCounter;
 use std::simd::prelude::*;
 
 /// Bytes of a line that are read one by one before the first SIMD step.
@@ -14,7 +14,7 @@ const ALONE: usize = 5;
 
 /// Number of bytes before the first LF or `other` byte, or all of them, one byte at a time.
 #[inline(always)]
-fn short_front_len(reads: &mut Reads, text: &[u8], other: u8) -> usize
+fn short_front_len(reads: &mut ReadCounter, text: &[u8], other: u8) -> usize
     ensures value { result ≡ prefix_len (is_in_front other) text.now }
     ensures within { result ≤ length text.now }
     ensures reads { reads.new ≡ more_reads reads.old (result + 1) }
@@ -29,7 +29,7 @@ fn short_front_len(reads: &mut Reads, text: &[u8], other: u8) -> usize
 
 /// Number of bytes before the first LF or `other` byte among the 16 bytes from `at` on; 16 if none.
 #[inline(always)]
-fn lanes_front_len(reads: &mut Reads, text: &[u8], at: usize, other: u8) -> usize
+fn lanes_front_len(reads: &mut ReadCounter, text: &[u8], at: usize, other: u8) -> usize
     requires { at + 16 ≤ length text.now }
     ensures value { result ≡ prefix_len (is_in_front other) (take 16 (drop at text.now)) }
     ensures reads { reads.new ≡ more_reads reads.old 16 }
@@ -44,7 +44,7 @@ fn lanes_front_len(reads: &mut Reads, text: &[u8], at: usize, other: u8) -> usiz
 ///
 /// It reads five bytes one by one, and then 16 at a time.
 #[inline(always)]
-pub fn front_len(reads: &mut Reads, text: &[u8], other: u8) -> usize
+pub fn front_len(reads: &mut ReadCounter, text: &[u8], other: u8) -> usize
     ensures value { result ≡ prefix_len (is_in_front other) text.now }
     ensures within { result ≤ length text.now }
     ensures reads { AreReads (result + 1) (5 * (result - 1) + 2) reads.old reads.new }

@@ -6,7 +6,7 @@ ghost use Rattle.starlark_grammar.specs.Words as grammar;
 ghost use Rattle.starlark_words.specs.Inner.Reads.{AreReads};
 
 use crate::lanes::{LANES, lowest_bit};
-use crate::reads::Reads;
+use crate::reads::ReadCounter;
 use std::simd::prelude::*;
 
 // `x` marks each byte that a name can have.
@@ -68,7 +68,7 @@ fn lanes_name_len(text: &[u8]) -> usize
 /// It reads four bytes one by one, and then 16 by SIMD: the processor can't predict the length of a
 /// longer name.
 #[inline(always)]
-fn name_len(reads: &mut Reads, text: &[u8]) -> usize
+fn name_len(reads: &mut ReadCounter, text: &[u8]) -> usize
     ensures value { result ≡ prefix_len grammar.is_in_name text.now }
     ensures within { result ≤ length text.now }
     ensures reads { AreReads (result + 1) (5 * result + 1) reads.old reads.new }
@@ -95,10 +95,10 @@ fn name_len(reads: &mut Reads, text: &[u8]) -> usize
 
 /// Number of letters, digits and `_` at the start of a text, and the byte after them.
 #[inline(always)]
-pub(crate) fn name_run(reads: &mut Reads, text: &[u8]) -> (usize, Option<u8>)
+pub(crate) fn name_run(reads: &mut ReadCounter, text: &[u8]) -> (usize, Option<u8>)
     ensures value { result.0 ≡ prefix_len grammar.is_in_name text.now }
     ensures within { result.0 ≤ length text.now }
-    ensures behind { result.1 ≡ slice_get text.now result.0 }
+    ensures remainder { result.1 ≡ slice_get text.now result.0 }
     ensures reads { AreReads (result.0 + 1) (5 * result.0 + 1) reads.old reads.new }
 {
     let len = name_len(reads, text);

@@ -6,7 +6,7 @@ ghost use Rattle.starlark_grammar.specs.Front.{language_front};
 ghost use Rattle.starlark_words.specs.OneIdentifier as spec;
 ghost use Rattle.starlark_grammar.specs.Words.{Text};
 
-use crate::reads::Reads;
+use crate::reads::ReadCounter;
 use crate::scanner::{Class, Word, first_word};
 use std::alloc::{AllocError, Global};
 
@@ -15,7 +15,7 @@ fn skipped_len(text: &str) -> Option<usize>
     ensures value { result ≡ spec.if_skipped (language_front text.now) }
     ensures cut { IfSome result (λ len. spec.IsCut text.now len) }
 {
-    match first_word(&mut Reads::new(), text) {
+    match first_word(&mut ReadCounter::new(), text) {
         Some(
             Word {
                 class: Class::Skipped,
@@ -31,7 +31,7 @@ fn identifier_len(text: &str) -> Option<usize>
     ensures value { result ≡ spec.if_identifier (language_front text.now) }
     ensures cut { IfSome result (λ len. spec.IsCut text.now len) }
 {
-    match first_word(&mut Reads::new(), text) {
+    match first_word(&mut ReadCounter::new(), text) {
         Some(
             Word {
                 class: Class::Identifier,

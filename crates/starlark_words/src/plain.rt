@@ -10,12 +10,12 @@ ghost use Rattle.starlark_grammar.specs.Inner.Openings.{opening_view};
 
 use super::items::{Literal, Stop, closes, is_quote};
 use super::runs::first_run;
-use crate::reads::Reads;
+use crate::reads::ReadCounter;
 use starlark_grammar::class::{LiteralKind, Opening, Quote};
 
 /// Whether the byte at an offset of a text is the given quote.
 #[inline(always)]
-fn is_quote_at(reads: &mut Reads, quote: Quote, text: &[u8], at: usize) -> bool
+fn is_quote_at(reads: &mut ReadCounter, quote: Quote, text: &[u8], at: usize) -> bool
     ensures value { result ≡ (get_or text.now at 0 == quote_byte quote) }
     ensures reads { reads.new ≡ more_reads reads.old 1 }
 {
@@ -30,7 +30,7 @@ fn is_quote_at(reads: &mut Reads, quote: Quote, text: &[u8], at: usize) -> bool
 /// `text` begins after the opener. The error is the length of the first run, for any other literal:
 /// one with escapes or three quotes, or one that isn't closed. The run is in the first line.
 pub fn plain_body_len(
-    reads: &mut Reads,
+    reads: &mut ReadCounter,
     kind: LiteralKind,
     is_raw: bool,
     quote: Quote,
@@ -83,7 +83,7 @@ fn stop_by(opening: Opening, front: &[u8]) -> Option<Stop>
 /// doubled braces, an LF, or a fault.
 #[inline(always)]
 pub fn plain_chunk_len(
-    reads: &mut Reads,
+    reads: &mut ReadCounter,
     opening: Opening,
     text: &str,
 ) -> Result<(usize, Stop), usize>

@@ -38,22 +38,22 @@ fn first_character_len(text: &str) -> usize
 /// bound the reads. A `_len` call returns the length of the longest run at the start of a text; the
 /// byte that ends the run is read too. In a contract it is the count.
 #[derive(Drop)]
-pub struct Reads {
+pub struct ReadCounter {
     count: u64,
 }
 
-impl Model for Reads {
+impl Model for ReadCounter {
     ghost Value = { ℕ };
 
     ghost view = { λ reads. reads.count };
 }
 
-impl Reads {
+impl ReadCounter {
     /// A counter at 0.
     pub fn new() -> Self
         ensures { result ≡ 0 }
     {
-        Reads { count: 0 }
+        ReadCounter { count: 0 }
     }
 
     /// Number of reads so far. A byte that was read twice counts twice.

@@ -9,7 +9,7 @@ ghost use Rattle.starlark_words.specs.Inner.Runs.{is_end, is_special};
 
 use super::items::Literal;
 use crate::lanes::lowest_bit;
-use crate::reads::Reads;
+use crate::reads::ReadCounter;
 use starlark_grammar::class::{LiteralKind, Quote};
 use std::simd::prelude::*;
 
@@ -60,7 +60,7 @@ impl Ends {
 
 /// Length of the run at the start of the 16 bytes from `at` on; 16 if it fills them.
 #[inline(always)]
-pub(crate) fn lanes_run_len(reads: &mut Reads, ends: Ends, bytes: &[u8], at: usize) -> usize
+pub(crate) fn lanes_run_len(reads: &mut ReadCounter, ends: Ends, bytes: &[u8], at: usize) -> usize
     requires { at + 16 ≤ length bytes.now }
     ensures value { result ≡ prefix_len (λ b. not (is_end ends b)) (take 16 (drop at bytes.now)) }
     ensures reads { reads.new ≡ more_reads reads.old 16 }

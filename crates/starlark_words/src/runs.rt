@@ -11,7 +11,7 @@ ghost use Rattle.starlark_words.specs.Inner.Runs.{is_in_run, is_special};
 use super::items::{Literal, ends_line, is_brace, is_quote};
 use super::run_lanes::{Ends, lanes_run_len};
 use crate::lanes::LANES;
-use crate::reads::Reads;
+use crate::reads::ReadCounter;
 
 // `.` marks each byte that is in a run of every literal.
 static ORDINARY: [u8; 256] = *b"\
@@ -53,7 +53,7 @@ fn is_in_run(literal: Literal, byte: u8) -> bool
 
 /// Length of the run at the start of some bytes, one byte at a time.
 #[inline(always)]
-fn short_run_len(reads: &mut Reads, literal: Literal, bytes: &[u8]) -> usize
+fn short_run_len(reads: &mut ReadCounter, literal: Literal, bytes: &[u8]) -> usize
     ensures value { result ≡ prefix_len (is_in_run (literal_view literal)) bytes.now }
     ensures within { result ≤ length bytes.now }
     ensures reads { reads.new ≡ more_reads reads.old (result + 1) }
@@ -68,7 +68,7 @@ fn short_run_len(reads: &mut Reads, literal: Literal, bytes: &[u8]) -> usize
 
 /// Length of the run at the start of some bytes, by SIMD with a scalar tail.
 #[inline(never)]
-fn long_run_len(reads: &mut Reads, literal: Literal, bytes: &[u8]) -> usize
+fn long_run_len(reads: &mut ReadCounter, literal: Literal, bytes: &[u8]) -> usize
     ensures value { result ≡ prefix_len (is_in_run (literal_view literal)) bytes.now }
     ensures within { result ≤ length bytes.now }
     ensures reads { AreReads result (result + 16) reads.old reads.new }
@@ -87,7 +87,7 @@ fn long_run_len(reads: &mut Reads, literal: Literal, bytes: &[u8]) -> usize
 
 /// Length of the run at the start of fewer than 16 bytes, which only the end of a text has.
 #[inline(never)]
-fn last_run_len(reads: &mut Reads, literal: Literal, bytes: &[u8]) -> usize
+fn last_run_len(reads: &mut ReadCounter, literal: Literal, bytes: &[u8]) -> usize
     ensures value { result ≡ prefix_len (is_in_run (literal_view literal)) bytes.now }
     ensures reads { reads.new ≡ more_reads reads.old (result + 1) }
 {
@@ -97,7 +97,7 @@ fn last_run_len(reads: &mut Reads, literal: Literal, bytes: &[u8]) -> usize
 /// Length of the run at the start of some bytes. It reads 16 bytes one by one, and then 16 at a
 /// time.
 #[inline(always)]
-fn run_len(reads: &mut Reads, literal: Literal, bytes: &[u8]) -> usize
+fn run_len(reads: &mut ReadCounter, literal: Literal, bytes: &[u8]) -> usize
     ensures value { result ≡ prefix_len (is_in_run (literal_view literal)) bytes.now }
     ensures reads { AreReads result (2 * result + 1) reads.old reads.new }
 {
@@ -113,7 +113,7 @@ fn run_len(reads: &mut Reads, literal: Literal, bytes: &[u8]) -> usize
 
 /// The run at the start of the rest of a body. It may be empty.
 #[inline(always)]
-pub(crate) fn first_run<'a>(reads: &mut Reads, literal: Literal, text: &'a str) -> &'a str
+pub(crate) fn first_run<'a>(reads: &mut ReadCounter, literal: Literal, text: &'a str) -> &'a str
     ensures value { result.now ≡ take (prefix_len (is_in_run (literal_view literal)) text.now) text.now }
     ensures boundary { IsCharBoundary text.now (length result.now) }
     ensures reads { AreReads (length result.now) (2 * length result.now + 1) reads.old reads.new }

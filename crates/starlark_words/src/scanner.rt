@@ -19,7 +19,7 @@ mod openers;
 mod word;
 
 use crate::lines::front_len;
-use crate::reads::{Reads, uncounted_spaces_len};
+use crate::reads::{ReadCounter, uncounted_spaces_len};
 use first::is_name_start;
 pub use starlark_grammar::class::{Class, LiteralKind, Quote, Terminal};
 pub use word::{ShortWord, TextOpener, Word};
@@ -89,7 +89,7 @@ pub fn gap_len(text: &str) -> usize
 
 /// The longest word at the front of a text if its first two bytes determine it.
 #[inline(always)]
-fn word_by_front(reads: &mut Reads, front: &[u8], text: &str) -> Option<Word>
+fn word_by_front(reads: &mut ReadCounter, front: &[u8], text: &str) -> Option<Word>
     requires { front.now ≡ take 2 text.now }
     ensures word { IfSome result (λ word. Some (word_view word) ≡ language_front text.now) }
     ensures bang { IfSome result (λ word. is_bang text.now ≡ false) }
@@ -117,7 +117,7 @@ fn word_by_front(reads: &mut Reads, front: &[u8], text: &str) -> Option<Word>
 /// The longest word at the front of a text if its first two bytes determine it: a name, a symbol of
 /// one byte, an LF, or the quote of a text literal. `None` for any other front.
 #[inline(always)]
-pub(crate) fn common_word(reads: &mut Reads, text: &str) -> Option<Word>
+pub(crate) fn common_word(reads: &mut ReadCounter, text: &str) -> Option<Word>
     ensures word { IfSome result (λ word. Some (word_view word) ≡ language_front text.now) }
     ensures bang { IfSome result (λ word. is_bang text.now ≡ false) }
     ensures none { result ≡ None → grammar.begins grammar.is_name_start text.now ≡ false }
@@ -131,7 +131,7 @@ pub(crate) fn common_word(reads: &mut Reads, text: &str) -> Option<Word>
 /// The longest word after `gap` spaces if its first two bytes determine it. Counts the reads of the
 /// spaces and of these two bytes.
 #[inline(always)]
-pub fn word_after(reads: &mut Reads, gap: usize, text: &str) -> Option<Word>
+pub fn word_after(reads: &mut ReadCounter, gap: usize, text: &str) -> Option<Word>
     requires { gap < 2 ^ 32 }
     ensures word { IfSome result (λ word. Some (word_view word) ≡ language_front text.now) }
     ensures bang { IfSome result (λ word. is_bang text.now ≡ false) }
@@ -162,7 +162,7 @@ pub fn short_word(front: &[u8], text: &str) -> Option<ShortWord>
 
 /// The longest word at the front of a text if its first two bytes open a text literal.
 #[inline(always)]
-pub fn text_opener(reads: &mut Reads, text: &str) -> Option<TextOpener>
+pub fn text_opener(reads: &mut ReadCounter, text: &str) -> Option<TextOpener>
     ensures word { IfSome result (λ opener. Some (opener_view opener) ≡ language_front text.now) }
     ensures bang { IfSome result (λ opener. is_bang text.now ≡ false) }
     ensures reads { reads.new ≡ more_reads reads.old 2 }
@@ -196,7 +196,7 @@ pub fn bytes_opener(front: &[u8], text: &str) -> Option<Quote>
 /// Length of the comment at the start of a text; `None` if something else is there. `front` is the
 /// text's first three bytes.
 #[inline(always)]
-pub fn comment_len(reads: &mut Reads, front: &[u8], text: &str) -> Option<usize>
+pub fn comment_len(reads: &mut ReadCounter, front: &[u8], text: &str) -> Option<usize>
     requires { front.now ≡ take 3 text.now }
     ensures word { IfSome result (λ len. Some (class.Comment, len) ≡ language_front text.now) }
     ensures bang { IfSome result (λ len. is_bang text.now ≡ false) }
@@ -212,7 +212,7 @@ pub fn comment_len(reads: &mut Reads, front: &[u8], text: &str) -> Option<usize>
 /// The longest word at the front of a text that doesn't begin with a letter or `_`; `None` if there
 /// is
 /// none. The caller has counted the reads of the first two bytes.
-pub(crate) fn unnamed_word(reads: &mut Reads, text: &str) -> Option<Word>
+pub(crate) fn unnamed_word(reads: &mut ReadCounter, text: &str) -> Option<Word>
     requires { grammar.begins grammar.is_name_start text.now ≡ false }
     ensures word { option_map word_view result ≡ language_front text.now }
     ensures bang { IfSome result (λ word. is_bang text.now ≡ false) }
@@ -235,7 +235,7 @@ pub(crate) fn unnamed_word(reads: &mut Reads, text: &str) -> Option<Word>
 }
 
 /// The longest word at the front of a text; `None` if there is none.
-pub fn first_word(reads: &mut Reads, text: &str) -> Option<Word>
+pub fn first_word(reads: &mut ReadCounter, text: &str) -> Option<Word>
     ensures word { option_map word_view result ≡ language_front text.now }
     ensures bang { IfSome result (λ word. is_bang text.now ≡ false) }
     ensures reads { AreReads (word_len result) (5 * word_len result + 3) reads.old reads.new }

@@ -130,7 +130,7 @@ layout_balances widths len before margin more width end quiet_margin few total b
 margin_step_balances : (widths : List ℕ) (len : ℕ) (before : List Lexeme) (margin : Margin) → EndIsQuiet len before → MarginIsQuiet margin → StepBalances widths (margin_step len before (open_widths widths) margin)
 unfolding margin_step indentation
 margin_step_balances widths len before margin end quiet_margin =
-    either (StepBalances widths) (not (is_content margin.behind)) _ _
+    either (StepBalances widths) (not (is_content margin.remainder)) _ _
     (let same : levels_len (widths ++ []) ≡ levels_len widths = ap (λ ws. levels_len ws) (append-nil widths) in layout_balances widths len before margin [] None end quiet_margin (omega arith) (omega (arith, same)) (omega arith) (omega arith))
     (either (StepBalances widths) (has_tab margin) _ _ tt
     (fitting (fits (width_of margin) (open_widths widths)) refl (nat_lt 0 (width_of margin) && is_widest (width_of margin) (open_widths widths)) refl))
@@ -167,27 +167,27 @@ margin_step_balances widths len before margin end quiet_margin =
 
 -- Literals and words
 
-literal_by_balances : (widths : List ℕ) (place : Mode) (kind : Kind) (opening : Opening) (len : ℕ) (behind : Text) (body : Body) (stop : Stop) → 1 ≤ len → StepBalances widths (literal_by place kind opening len behind body stop)
-literal_by_balances widths place OfText opening len behind body Closing some = token_quiet widths _ (literal_token OfText (body_value body)) (omega arith) refl refl
-literal_by_balances widths place OfBytes opening len behind body Closing some = token_quiet widths _ (literal_token OfBytes (body_value body)) (omega arith) refl refl
-literal_by_balances widths place OfFString opening len behind body Closing some = token_quiet widths _ (literal_token OfFString (body_value body)) (omega arith) refl refl
-literal_by_balances widths place kind opening len behind body (BadEscape read last) some = go (len + body_len body) (drop 1 (take read (drop (body_len body) behind)))
+literal_by_balances : (widths : List ℕ) (place : Mode) (kind : Kind) (opening : Opening) (len : ℕ) (remainder : Text) (body : Body) (stop : Stop) → 1 ≤ len → StepBalances widths (literal_by place kind opening len remainder body stop)
+literal_by_balances widths place OfText opening len remainder body Closing some = token_quiet widths _ (literal_token OfText (body_value body)) (omega arith) refl refl
+literal_by_balances widths place OfBytes opening len remainder body Closing some = token_quiet widths _ (literal_token OfBytes (body_value body)) (omega arith) refl refl
+literal_by_balances widths place OfFString opening len remainder body Closing some = token_quiet widths _ (literal_token OfFString (body_value body)) (omega arith) refl refl
+literal_by_balances widths place kind opening len remainder body (BadEscape read last) some = go (len + body_len body) (drop 1 (take read (drop (body_len body) remainder)))
   where
     go : (begin : ℕ) (text : Text) → StepBalances widths (escape_fault begin text)
     go begin [] = tt
     go begin (b ∷ bs) = tt
-literal_by_balances widths place kind opening len behind body Line some = tt
-literal_by_balances widths place kind opening len behind body Ended some = tt
-literal_by_balances widths place kind opening len behind body OpeningBrace some = tt
-literal_by_balances widths place kind opening len behind body ClosingBrace some = tt
+literal_by_balances widths place kind opening len remainder body Line some = tt
+literal_by_balances widths place kind opening len remainder body Ended some = tt
+literal_by_balances widths place kind opening len remainder body OpeningBrace some = tt
+literal_by_balances widths place kind opening len remainder body ClosingBrace some = tt
 
-literal_balances : (widths : List ℕ) (place : Mode) (kind : Kind) (opening : Opening) (len : ℕ) (behind : Text) → 1 ≤ len → StepBalances widths (literal place kind opening len behind)
-literal_balances widths place kind opening len behind some = literal_by_balances widths place kind opening len behind (body_at (record { kind = kind; opening = opening }) behind) _ some
+literal_balances : (widths : List ℕ) (place : Mode) (kind : Kind) (opening : Opening) (len : ℕ) (remainder : Text) → 1 ≤ len → StepBalances widths (literal place kind opening len remainder)
+literal_balances widths place kind opening len remainder some = literal_by_balances widths place kind opening len remainder (body_at (record { kind = kind; opening = opening }) remainder) _ some
 
-opener_balances : (widths : List ℕ) (place : Mode) (kind : Kind) (opening : Opening) (len : ℕ) (behind : Text) → 1 ≤ len → StepBalances widths (opener place kind opening len behind)
-opener_balances widths place OfFString opening len behind some = token_quiet widths _ (FStringStart opening) (omega arith) refl refl
-opener_balances widths place OfText opening len behind some = literal_balances widths place OfText opening (len + more_quotes opening) (drop (more_quotes opening) behind) (omega arith)
-opener_balances widths place OfBytes opening len behind some = literal_balances widths place OfBytes opening (len + more_quotes opening) (drop (more_quotes opening) behind) (omega arith)
+opener_balances : (widths : List ℕ) (place : Mode) (kind : Kind) (opening : Opening) (len : ℕ) (remainder : Text) → 1 ≤ len → StepBalances widths (opener place kind opening len remainder)
+opener_balances widths place OfFString opening len remainder some = token_quiet widths _ (FStringStart opening) (omega arith) refl refl
+opener_balances widths place OfText opening len remainder some = literal_balances widths place OfText opening (len + more_quotes opening) (drop (more_quotes opening) remainder) (omega arith)
+opener_balances widths place OfBytes opening len remainder some = literal_balances widths place OfBytes opening (len + more_quotes opening) (drop (more_quotes opening) remainder) (omega arith)
 
 terminal_quiet : (place : Mode) (terminal : Terminal) → (is_dedent (terminal_token place terminal) ≡ false) × (is_indent (terminal_token place terminal) ≡ false)
 terminal_quiet AtTop word.ClosingCurly = (refl, refl)
@@ -196,23 +196,23 @@ terminal_quiet place terminal = (refl, refl)
 end_quiet : (len : ℕ) → 1 ≤ len → EndIsQuiet len (record { begin = 0; node = Newline; end = len } ∷ [])
 end_quiet len some = record { none = refl; neither = refl; inside = some }
 
-word_step_balances : (widths : List ℕ) (s : Situation) (class : Class) (front behind : Text) → s.levels ≡ open_widths widths → 1 ≤ length front → StepBalances widths (word_step s class front behind)
-word_step_balances widths s word.Skipped front behind e some = quiet widths (length front) [] Gap refl refl (omega arith)
-word_step_balances widths s word.Comment front behind e some = token_quiet widths (length front) _ some refl refl
-word_step_balances widths s word.Tabs front behind e some = tt
-word_step_balances widths s word.LineEnd front behind e some =
+word_step_balances : (widths : List ℕ) (s : Situation) (class : Class) (front remainder : Text) → s.levels ≡ open_widths widths → 1 ≤ length front → StepBalances widths (word_step s class front remainder)
+word_step_balances widths s word.Skipped front remainder e some = quiet widths (length front) [] Gap refl refl (omega arith)
+word_step_balances widths s word.Comment front remainder e some = token_quiet widths (length front) _ some refl refl
+word_step_balances widths s word.Tabs front remainder e some = tt
+word_step_balances widths s word.LineEnd front remainder e some =
     either (StepBalances widths) (counts s.place s.is_balanced) _ _
-    (subst (λ (levels : List ℕ). StepBalances widths (line_end (length front) levels behind)) (sym e) (margin_step_balances widths (length front) (record { begin = 0; node = Newline; end = length front } ∷ []) (margin_of behind) (end_quiet (length front) some) (margin_quiet behind)))
+    (subst (λ (levels : List ℕ). StepBalances widths (line_end (length front) levels remainder)) (sym e) (margin_step_balances widths (length front) (record { begin = 0; node = Newline; end = length front } ∷ []) (margin_of remainder) (end_quiet (length front) some) (margin_quiet remainder)))
     (quiet widths (length front) [] Other refl refl (omega arith))
-word_step_balances widths s (word.Opener kind is_raw quote) front behind e some = opener_balances widths s.place kind (opening_of is_raw quote behind) (length front) behind some
-word_step_balances widths s word.Reserved front behind e some = tt
-word_step_balances widths s word.Identifier front behind e some = token_quiet widths (length front) _ some refl refl
-word_step_balances widths s word.Decimal front behind e some = either (StepBalances widths) (starts_zero front) _ _ tt (token_quiet widths (length front) _ some refl refl)
-word_step_balances widths s word.Hexadecimal front behind e some = token_quiet widths (length front) _ some refl refl
-word_step_balances widths s word.Octal front behind e some = token_quiet widths (length front) _ some refl refl
-word_step_balances widths s word.Binary front behind e some = token_quiet widths (length front) _ some refl refl
-word_step_balances widths s word.Float front behind e some = token_quiet widths (length front) _ some refl refl
-word_step_balances widths s (word.Fixed terminal) front behind e some = let both = terminal_quiet s.place terminal in token_quiet widths (length front) (terminal_token s.place terminal) some both.0 both.1
+word_step_balances widths s (word.Opener kind is_raw quote) front remainder e some = opener_balances widths s.place kind (opening_of is_raw quote remainder) (length front) remainder some
+word_step_balances widths s word.Reserved front remainder e some = tt
+word_step_balances widths s word.Identifier front remainder e some = token_quiet widths (length front) _ some refl refl
+word_step_balances widths s word.Decimal front remainder e some = either (StepBalances widths) (starts_zero front) _ _ tt (token_quiet widths (length front) _ some refl refl)
+word_step_balances widths s word.Hexadecimal front remainder e some = token_quiet widths (length front) _ some refl refl
+word_step_balances widths s word.Octal front remainder e some = token_quiet widths (length front) _ some refl refl
+word_step_balances widths s word.Binary front remainder e some = token_quiet widths (length front) _ some refl refl
+word_step_balances widths s word.Float front remainder e some = token_quiet widths (length front) _ some refl refl
+word_step_balances widths s (word.Fixed terminal) front remainder e some = let both = terminal_quiet s.place terminal in token_quiet widths (length front) (terminal_token s.place terminal) some both.0 both.1
 
 -- Texts of f-strings
 

@@ -37,10 +37,10 @@ follows_behind levels more xs ys few total h n = go (cases_lt n (length xs))
         let m : ℕ = n - length xs in
         let whole : length xs + m ≡ n = omega (arith, rest) in
         let same : take n (xs ++ ys) ≡ xs ++ take m ys = ap (λ k. take k (xs ++ ys)) (sym whole) ∙ take-append-add xs ys m in
-        let behind = h m in
+        let remainder = h m in
         let all_dedents = dedents-append xs (take m ys) in
         let all_indents = indents-append xs (take m ys) in
-        subst (λ (ls : List Lexeme). dedents ls ≤ indents ls + levels) (sym same) (omega (arith, behind, all_dedents, all_indents, few, total))
+        subst (λ (ls : List Lexeme). dedents ls ≤ indents ls + levels) (sym same) (omega (arith, remainder, all_dedents, all_indents, few, total))
 
 starts_after : (history : History) (piece : Piece) → is_nothing piece.sort ≡ false → StartsSo (after history piece).before (after history piece).widths
 unfolding after
@@ -127,7 +127,7 @@ none_open : levels_len [] ≡ 0
 unfolding open_widths
 none_open = refl
 
--- The laws, by what stands behind the longest reading.
+-- The laws, by what stands remainder the longest reading.
 abbrev pub OutcomeBalances : Text → Outcome → Type 0
 OutcomeBalances text found =
     ((n : ℕ) → dedents (take n found.lexemes) ≤ indents (take n found.lexemes))

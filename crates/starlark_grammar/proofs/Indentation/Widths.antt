@@ -17,7 +17,7 @@ bit b = cond b 1 0
 abbrev pub newest : ℕ → List ℕ
 newest width = if nat_lt 0 width then width ∷ [] else []
 
--- Behind one more content line the open widths are those that are less than its width, and its own.
+-- AfterComments one more content line the open widths are those that are less than its width, and its own.
 pub open-push : (widths : List ℕ) (width : ℕ) → open_widths (widths ++ width ∷ []) ≡ filter (λ w. nat_lt w width) (open_widths widths) ++ newest width
 unfolding open_widths
 open-push [] width = go (nat_lt 0 width)

@@ -15,7 +15,7 @@ use Rattle.starlark_grammar.specs.TextLaws.{CutsJoin}
 use Rattle.starlark_grammar.proofs.Lists.{drop-sum}
 use Rattle.starlark_grammar.proofs.Reading.Readings.{longest_onward, read_from_is, read_is, reading_fits, ends_at_end, started, piece_fits, outcome_only}
 use Rattle.starlark_grammar.proofs.Joining.Followed.{ends_line, ends_line_of}
-use Rattle.starlark_grammar.proofs.Joining.Settled.{Settled, settled, behind, widths_settled, all_behind, longest_behind}
+use Rattle.starlark_grammar.proofs.Joining.Settled.{Settled, settled, remainder, widths_settled, all_behind, longest_behind}
 use Rattle.starlark_grammar.proofs.Joining.Joined.{Joined, join_reading, moved_both, all_moved, map_both}
 
 -- Lists of pieces
@@ -43,7 +43,7 @@ pub past_both : (history : History) (one other : List Piece) → after_all histo
 past_both history [] other = refl
 past_both history (piece ∷ one) other = past_both (after history piece) one other
 
--- a reading, and a longest one behind it
+-- a reading, and a longest one remainder it
 pub longest_both : (table : Table) (history : History) (text : Text) (one other : List Piece) (last : Step) → IsReading table history text one → IsLongestReading table (after_all history one) (drop (pieces_len one) text) other last → IsLongestReading table history text (one ++ other) last
 longest_both table history text [] other last reads longest = longest
 longest_both table history text (piece ∷ one) other last reads longest =
@@ -59,7 +59,7 @@ map_replicate : (n k : ℕ) (x : Lexeme) → map (moved n) (replicate k x) ≡ r
 map_replicate n zero x = refl
 map_replicate n (suc k) x = ap (λ ls. moved n x ∷ ls) (map_replicate n k x)
 
-closing_later : (n at : ℕ) (earlier history : History) → Settled earlier → closing (n + at) (behind earlier history) ≡ map (moved n) (closing at history)
+closing_later : (n at : ℕ) (earlier history : History) → Settled earlier → closing (n + at) (remainder earlier history) ≡ map (moved n) (closing at history)
 closing_later n at earlier history h =
     ap (λ (ws : List ℕ). record { begin = n + at; node = Newline; end = n + at } ∷ replicate (length ws) (record { begin = n + at; node = Dedent; end = n + at })) (widths_settled earlier.widths history.widths h.no_width)
     ∙ ap (λ ls. record { begin = n + at; node = Newline; end = n + at } ∷ ls) (sym (map_replicate n (length (open_widths history.widths)) (record { begin = at; node = Dedent; end = at })))
@@ -73,7 +73,7 @@ pub record Cut (text : Text) (pieces : List Piece) : Type 0 where
   pub is_settled : Settled (after_all nothing pieces)
   pub lexemes : (outcome text).lexemes ≡ lexemes_along 0 pieces ++ record { begin = length text; node = Newline; end = length text } ∷ []
 
--- behind a text without fault and without open widths only a `Newline` comes
+-- remainder a text without fault and without open widths only a `Newline` comes
 closed : (text : Text) (pieces : List Piece) (last : Step) → last ≡ Ends → pieces_len pieces ≡ length text → open_widths (after_all nothing pieces).widths ≡ []
     → (outcome_of text pieces last).lexemes ≡ lexemes_along 0 pieces ++ record { begin = length text; node = Newline; end = length text } ∷ []
 closed text pieces last e reach none =
@@ -182,7 +182,7 @@ module _ (text more : Text) (first : Piece) (pieces : List Piece) (here : Cut te
       ∙ ap (λ ls. ls ++ map (moved (length text)) (lexemes_along (0 + first.len) there.pieces)) (sym (all_moved (length text) 0 (0 + length text) first.lexemes (omega arith)))
       ∙ sym (map_both (moved (length text)) (map (moved 0) first.lexemes) (lexemes_along (0 + first.len) there.pieces)))
 
-  pub past : after_all nothing (both.pieces' ++ there.pieces) ≡ behind (after_all nothing pieces) (after_all nothing (first ∷ there.pieces))
+  pub past : after_all nothing (both.pieces' ++ there.pieces) ≡ remainder (after_all nothing pieces) (after_all nothing (first ∷ there.pieces))
   past = past_both nothing both.pieces' there.pieces ∙ ap (λ (h : History). after_all h there.pieces) both.past ∙ all_behind (after_all nothing pieces) (after nothing first) there.pieces
 
   cut_lexemes : (other : List Lexeme) → lexemes_along 0 pieces ++ map (moved (length text)) other ≡ joined (length text) (outcome text).lexemes other

@@ -83,7 +83,7 @@ same_followed len (Stops OpeningBrace) = refl
 same_followed len (Stops ClosingBrace) = refl
 same_followed len (Stops (BadEscape read last)) = tt
 
-broken_followed : (len good : ℕ) (behind : Text) (other : Found) → FoundFollowed len (broken good behind) other
+broken_followed : (len good : ℕ) (remainder : Text) (other : Found) → FoundFollowed len (broken good remainder) other
 broken_followed len good [] other = tt
 broken_followed len good (b ∷ bs) other = tt
 
@@ -243,8 +243,8 @@ body_from_followed literal zero (b ∷ bs) more h closed =
         let inside = closed_inside literal (item.len - 1) bs closed in
         let some = fits.0 in
         let found : other ≡ Goes item = follows (omega arith) in
-        let behind = rest (item.len - 1) (ends_line_rest b bs (omega arith) h) closed in
-        ap (λ (found : Found). body_onward found again) found ∙ ap (λ (rest : Body). record { items = item ∷ rest.items; stop = rest.stop }) behind
+        let remainder = rest (item.len - 1) (ends_line_rest b bs (omega arith) h) closed in
+        ap (λ (found : Found). body_onward found again) found ∙ ap (λ (rest : Body). record { items = item ∷ rest.items; stop = rest.stop }) remainder
 
 -- A body that is closed stays.
 pub body_followed : (literal : Literal) (text more : Text) → ends_line text ≡ true → is_closed (body_at literal text).stop ≡ true → body_at literal (text ++ more) ≡ body_at literal text

@@ -1,4 +1,4 @@
--- Margins of a text of whole lines, and what more text behind it makes of them.
+-- Margins of a text of whole lines, and what more text remainder it makes of them.
 use Rattle.std.proofs.Common.{◌≡◌, ℕ, zero, suc, ◌+◌, ◌<◌, Bool, true, false, cond, List, [], ◌∷◌, ◌++◌, length, take, drop, refl, ap, ◌∙◌, sym, arith, map, one-add, append-nil}
 use Rattle.std.specs.Prelude.{if◌then◌else◌, sum_by, take_while}
 use Rattle.std.specs.List.{list_all, onto_first}
@@ -128,25 +128,25 @@ comments_both at (line ∷ xs) ys =
     let next : at + length line + lines_sum xs ≡ at + lines_sum (line ∷ xs) = omega (arith, sum_by-cons (λ (line : Text). length line) line xs) in
     ap (λ ls. comment_of at line ∷ ls) (comments_both (at + length line) xs ys ∙ ap (λ n. comments_from (at + length line) xs ++ comments_from n ys) next)
 
--- a margin behind so many bytes of comment-only lines
+-- a margin remainder so many bytes of comment-only lines
 abbrev pub margin_behind : ℕ → List Lexeme → Margin → Margin
-margin_behind len comments margin = record { comments = comments ++ map (moved len) margin.comments; at = len + margin.at; blanks = margin.blanks; behind = margin.behind }
+margin_behind len comments margin = record { comments = comments ++ map (moved len) margin.comments; at = len + margin.at; blanks = margin.blanks; remainder = margin.remainder }
 
--- How the margin of a text of whole lines goes on with more text behind it.
+-- How the margin of a text of whole lines goes on with more text remainder it.
 pub data Followed (text more : Text) : Type 0 where
-  Whole : margin_of text ≡ record { comments = (margin_of text).comments; at = length text; blanks = []; behind = [] } → margin_of (text ++ more) ≡ margin_behind (length text) (margin_of text).comments (margin_of more) → Followed text more
-  Within : 0 < length (margin_of text).behind → margin_len (margin_of text) < length text → margin_of (text ++ more) ≡ record { comments = (margin_of text).comments; at = (margin_of text).at; blanks = (margin_of text).blanks; behind = (margin_of text).behind ++ more } → Followed text more
+  Whole : margin_of text ≡ record { comments = (margin_of text).comments; at = length text; blanks = []; remainder = [] } → margin_of (text ++ more) ≡ margin_behind (length text) (margin_of text).comments (margin_of more) → Followed text more
+  Within : 0 < length (margin_of text).remainder → margin_len (margin_of text) < length text → margin_of (text ++ more) ≡ record { comments = (margin_of text).comments; at = (margin_of text).at; blanks = (margin_of text).blanks; remainder = (margin_of text).remainder ++ more } → Followed text more
 
 from_followed : (passed : List Text) (at b : ℕ) (bs more : Text) → has_whole_lines (b ∷ bs) ≡ true
-    → margin_from passed at ((b ∷ bs) ++ more) ≡ record { comments = (margin_from passed at (b ∷ bs)).comments; at = at; blanks = (margin_from passed at (b ∷ bs)).blanks; behind = (margin_from passed at (b ∷ bs)).behind ++ more }
+    → margin_from passed at ((b ∷ bs) ++ more) ≡ record { comments = (margin_from passed at (b ∷ bs)).comments; at = at; blanks = (margin_from passed at (b ∷ bs)).blanks; remainder = (margin_from passed at (b ∷ bs)).remainder ++ more }
 from_followed passed at b bs more ends =
     let less = blanks_less b bs ends in
     let taken : take (blanks_len (b ∷ bs)) ((b ∷ bs) ++ more) ≡ take (blanks_len (b ∷ bs)) (b ∷ bs) = take-append-le (blanks_len (b ∷ bs)) (b ∷ bs) more (omega (arith, less)) in
     let left : drop (blanks_len (b ∷ bs)) ((b ∷ bs) ++ more) ≡ drop (blanks_len (b ∷ bs)) (b ∷ bs) ++ more = drop-append-le (blanks_len (b ∷ bs)) (b ∷ bs) more (omega (arith, less)) in
-    ap (λ n. record { comments = comments_from 0 passed; at = at; blanks = take n ((b ∷ bs) ++ more); behind = drop n ((b ∷ bs) ++ more) }) (blanks_followed b bs more ends)
+    ap (λ n. record { comments = comments_from 0 passed; at = at; blanks = take n ((b ∷ bs) ++ more); remainder = drop n ((b ∷ bs) ++ more) }) (blanks_followed b bs more ends)
     ∙ parts taken left
   where
-    parts : {blanks behind blanks' behind' : Text} → blanks ≡ blanks' → behind ≡ behind' → ◌≡◌ {A = Margin} (record { comments = comments_from 0 passed; at = at; blanks = blanks; behind = behind }) (record { comments = comments_from 0 passed; at = at; blanks = blanks'; behind = behind' })
+    parts : {blanks remainder blanks' remainder' : Text} → blanks ≡ blanks' → remainder ≡ remainder' → ◌≡◌ {A = Margin} (record { comments = comments_from 0 passed; at = at; blanks = blanks; remainder = remainder }) (record { comments = comments_from 0 passed; at = at; blanks = blanks'; remainder = remainder' })
     parts e f = rw (e, f) refl
 
 module _ (text more : Text) (whole : has_whole_lines text ≡ true) where
@@ -182,7 +182,7 @@ module _ (text more : Text) (whole : has_whole_lines text ≡ true) where
       Within rest.0 (omega (arith, rest.1, inside, length-drop at text)) (rw (there, left) rest.2)
     where
       go : (rest : Text) (passed : List Text) (at : ℕ) → has_whole_lines rest ≡ true → 0 < length rest
-          → (0 < length (margin_from passed at rest).behind) × (length (margin_from passed at rest).blanks < length rest) × (margin_from passed at (rest ++ more) ≡ record { comments = (margin_from passed at rest).comments; at = at; blanks = (margin_from passed at rest).blanks; behind = (margin_from passed at rest).behind ++ more })
+          → (0 < length (margin_from passed at rest).remainder) × (length (margin_from passed at rest).blanks < length rest) × (margin_from passed at (rest ++ more) ≡ record { comments = (margin_from passed at rest).comments; at = at; blanks = (margin_from passed at rest).blanks; remainder = (margin_from passed at rest).remainder ++ more })
       go [] passed at ends some = absurd (omega (arith, some))
       go (b ∷ bs) passed at ends some = let less = blanks_less b bs ends in (omega (arith, less, length-drop (blanks_len (b ∷ bs)) (b ∷ bs)), omega (arith, less, length-take (blanks_len (b ∷ bs)) (b ∷ bs)), from_followed passed at b bs more ends)
 

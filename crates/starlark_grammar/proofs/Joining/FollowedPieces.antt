@@ -49,27 +49,27 @@ escape_fails : (begin : ℕ) (text : Text) (piece : Piece) → escape_fault begi
 escape_fails begin [] piece e = cc
 escape_fails begin (b ∷ bs) piece e = cc
 
-literal_by_followed : (place : Mode) (kind : Kind) (opening : Opening) (len : ℕ) (behind other : Text) (body : Body) (stop : Stop) (piece : Piece) → literal_by place kind opening len behind body stop ≡ Stands piece → (is_closed stop ≡ true) × (literal_by place kind opening len other body stop ≡ Stands piece)
-literal_by_followed place kind opening len behind other body Closing piece e = (refl, e)
-literal_by_followed place kind opening len behind other body OpeningBrace piece e = cc
-literal_by_followed place kind opening len behind other body ClosingBrace piece e = cc
-literal_by_followed place kind opening len behind other body (BadEscape read last) piece e = absurd (escape_fails _ _ piece e)
-literal_by_followed place kind opening len behind other body Line piece e = cc
-literal_by_followed place kind opening len behind other body Ended piece e = cc
+literal_by_followed : (place : Mode) (kind : Kind) (opening : Opening) (len : ℕ) (remainder other : Text) (body : Body) (stop : Stop) (piece : Piece) → literal_by place kind opening len remainder body stop ≡ Stands piece → (is_closed stop ≡ true) × (literal_by place kind opening len other body stop ≡ Stands piece)
+literal_by_followed place kind opening len remainder other body Closing piece e = (refl, e)
+literal_by_followed place kind opening len remainder other body OpeningBrace piece e = cc
+literal_by_followed place kind opening len remainder other body ClosingBrace piece e = cc
+literal_by_followed place kind opening len remainder other body (BadEscape read last) piece e = absurd (escape_fails _ _ piece e)
+literal_by_followed place kind opening len remainder other body Line piece e = cc
+literal_by_followed place kind opening len remainder other body Ended piece e = cc
 
-pub literal_followed : (place : Mode) (kind : Kind) (opening : Opening) (len : ℕ) (behind more : Text) (piece : Piece) → ends_line behind ≡ true → literal place kind opening len behind ≡ Stands piece → literal place kind opening len (behind ++ more) ≡ Stands piece
-literal_followed place kind opening len behind more piece h e =
-    let stands = literal_by_followed place kind opening len behind (behind ++ more) (body_at (record { kind = kind; opening = opening }) behind) _ piece e in
-    ap (λ (body : Body). literal_by place kind opening len (behind ++ more) body body.stop) (body_followed (record { kind = kind; opening = opening }) behind more h stands.0) ∙ stands.1
+pub literal_followed : (place : Mode) (kind : Kind) (opening : Opening) (len : ℕ) (remainder more : Text) (piece : Piece) → ends_line remainder ≡ true → literal place kind opening len remainder ≡ Stands piece → literal place kind opening len (remainder ++ more) ≡ Stands piece
+literal_followed place kind opening len remainder more piece h e =
+    let stands = literal_by_followed place kind opening len remainder (remainder ++ more) (body_at (record { kind = kind; opening = opening }) remainder) _ piece e in
+    ap (λ (body : Body). literal_by place kind opening len (remainder ++ more) body body.stop) (body_followed (record { kind = kind; opening = opening }) remainder more h stands.0) ∙ stands.1
 
-literal_behind : (place : Mode) (kind : Kind) (opening : Opening) (len quotes : ℕ) (behind more : Text) (piece : Piece) → ends_line behind ≡ true → quotes < length behind → literal place kind opening len (drop quotes behind) ≡ Stands piece → literal place kind opening len (drop quotes (behind ++ more)) ≡ Stands piece
-literal_behind place kind opening len quotes behind more piece h inside e =
-    subst (λ (t : Text). literal place kind opening len t ≡ Stands piece) (sym (drop-append-le quotes behind more (omega arith))) (literal_followed place kind opening len (drop quotes behind) more piece (ends_line_drop quotes behind inside h) e)
+literal_behind : (place : Mode) (kind : Kind) (opening : Opening) (len quotes : ℕ) (remainder more : Text) (piece : Piece) → ends_line remainder ≡ true → quotes < length remainder → literal place kind opening len (drop quotes remainder) ≡ Stands piece → literal place kind opening len (drop quotes (remainder ++ more)) ≡ Stands piece
+literal_behind place kind opening len quotes remainder more piece h inside e =
+    subst (λ (t : Text). literal place kind opening len t ≡ Stands piece) (sym (drop-append-le quotes remainder more (omega arith))) (literal_followed place kind opening len (drop quotes remainder) more piece (ends_line_drop quotes remainder inside h) e)
 
-opener_followed : (place : Mode) (kind : Kind) (opening : Opening) (len : ℕ) (behind more : Text) (piece : Piece) → ends_line behind ≡ true → more_quotes opening < length behind → opener place kind opening len behind ≡ Stands piece → opener place kind opening len (behind ++ more) ≡ Stands piece
-opener_followed place OfFString opening len behind more piece h inside e = e
-opener_followed place OfText opening len behind more piece h inside e = literal_behind place OfText opening (len + more_quotes opening) (more_quotes opening) behind more piece h inside e
-opener_followed place OfBytes opening len behind more piece h inside e = literal_behind place OfBytes opening (len + more_quotes opening) (more_quotes opening) behind more piece h inside e
+opener_followed : (place : Mode) (kind : Kind) (opening : Opening) (len : ℕ) (remainder more : Text) (piece : Piece) → ends_line remainder ≡ true → more_quotes opening < length remainder → opener place kind opening len remainder ≡ Stands piece → opener place kind opening len (remainder ++ more) ≡ Stands piece
+opener_followed place OfFString opening len remainder more piece h inside e = e
+opener_followed place OfText opening len remainder more piece h inside e = literal_behind place OfText opening (len + more_quotes opening) (more_quotes opening) remainder more piece h inside e
+opener_followed place OfBytes opening len remainder more piece h inside e = literal_behind place OfBytes opening (len + more_quotes opening) (more_quotes opening) remainder more piece h inside e
 
 pub quotes_in_line : (quote : Quote) → in_line (quote_byte quote ∷ quote_byte quote ∷ []) ≡ true
 quotes_in_line SingleQuote = refl
@@ -79,16 +79,16 @@ some_inside : (text : Text) → ends_line text ≡ true → 0 < length text
 some_inside [] h = cc
 some_inside (b ∷ bs) h = omega arith
 
-pub opening_inside : (is_raw : Bool) (quote : Quote) (behind : Text) → ends_line behind ≡ true → more_quotes (opening_of is_raw quote behind) < length behind
-opening_inside is_raw quote behind h = go (starts_with nat_eq behind (quote_byte quote ∷ quote_byte quote ∷ [])) (starts_inside behind (quote_byte quote ∷ quote_byte quote ∷ []) h (quotes_in_line quote))
+pub opening_inside : (is_raw : Bool) (quote : Quote) (remainder : Text) → ends_line remainder ≡ true → more_quotes (opening_of is_raw quote remainder) < length remainder
+opening_inside is_raw quote remainder h = go (starts_with nat_eq remainder (quote_byte quote ∷ quote_byte quote ∷ [])) (starts_inside remainder (quote_byte quote ∷ quote_byte quote ∷ []) h (quotes_in_line quote))
   where
-    go : (starts : Bool) → (starts ≡ true → 2 < length behind) → (if starts then 2 else 0) < length behind
+    go : (starts : Bool) → (starts ≡ true → 2 < length remainder) → (if starts then 2 else 0) < length remainder
     go true inside = inside refl
-    go false inside = some_inside behind h
+    go false inside = some_inside remainder h
 
-pub opening_followed : (is_raw : Bool) (quote : Quote) (behind more : Text) → ends_line behind ≡ true → opening_of is_raw quote (behind ++ more) ≡ opening_of is_raw quote behind
-opening_followed is_raw quote behind more h =
-    ap (λ (triple : Bool). let opening : Opening = record { is_raw = is_raw; quote = quote; is_triple = triple } in opening) (starts_followed behind (quote_byte quote ∷ quote_byte quote ∷ []) more h (quotes_in_line quote))
+pub opening_followed : (is_raw : Bool) (quote : Quote) (remainder more : Text) → ends_line remainder ≡ true → opening_of is_raw quote (remainder ++ more) ≡ opening_of is_raw quote remainder
+opening_followed is_raw quote remainder more h =
+    ap (λ (triple : Bool). let opening : Opening = record { is_raw = is_raw; quote = quote; is_triple = triple } in opening) (starts_followed remainder (quote_byte quote ∷ quote_byte quote ∷ []) more h (quotes_in_line quote))
 
 -- Words
 
@@ -117,37 +117,37 @@ pub record CountedLineEnd (s : Situation) (text more : Text) (one other : Step) 
 
 -- What a word that isn't a counted line end comes to stays.
 abbrev WordFollowed : Situation → Class → Text → Text → Text → Piece → Type 0
-WordFollowed s class front behind more piece =
-    (word_step s class front (behind ++ more) ≡ Stands piece)
-    ⊎ ((class ≡ word.LineEnd) × (counts s.place s.is_balanced ≡ true) × (word_step s class front behind ≡ line_end (length front) s.levels behind)
-    × (word_step s class front (behind ++ more) ≡ line_end (length front) s.levels (behind ++ more)))
+WordFollowed s class front remainder more piece =
+    (word_step s class front (remainder ++ more) ≡ Stands piece)
+    ⊎ ((class ≡ word.LineEnd) × (counts s.place s.is_balanced ≡ true) × (word_step s class front remainder ≡ line_end (length front) s.levels remainder)
+    × (word_step s class front (remainder ++ more) ≡ line_end (length front) s.levels (remainder ++ more)))
 
-word_followed : (s : Situation) (class : Class) (front behind more : Text) (piece : Piece) → (in_line front ≡ true → ends_line behind ≡ true) → line_fits class front ≡ true → word_step s class front behind ≡ Stands piece → WordFollowed s class front behind more piece
-word_followed s word.Skipped front behind more piece ends fits e = inl e
-word_followed s word.Comment front behind more piece ends fits e = inl e
-word_followed s word.Tabs front behind more piece ends fits e = inl e
-word_followed s word.LineEnd front behind more piece ends fits e = go (counts s.place s.is_balanced) refl e
+word_followed : (s : Situation) (class : Class) (front remainder more : Text) (piece : Piece) → (in_line front ≡ true → ends_line remainder ≡ true) → line_fits class front ≡ true → word_step s class front remainder ≡ Stands piece → WordFollowed s class front remainder more piece
+word_followed s word.Skipped front remainder more piece ends fits e = inl e
+word_followed s word.Comment front remainder more piece ends fits e = inl e
+word_followed s word.Tabs front remainder more piece ends fits e = inl e
+word_followed s word.LineEnd front remainder more piece ends fits e = go (counts s.place s.is_balanced) refl e
   where
     step : Bool → Text → Step
-    step counted behind = if counted then line_end (length front) s.levels behind else Stands (record { len = length front; lexemes = []; width = None; sort = Other })
+    step counted remainder = if counted then line_end (length front) s.levels remainder else Stands (record { len = length front; lexemes = []; width = None; sort = Other })
 
-    go : (counted : Bool) → counts s.place s.is_balanced ≡ counted → step counted behind ≡ Stands piece
-        → (step counted (behind ++ more) ≡ Stands piece)
-        ⊎ ((word.LineEnd ≡ word.LineEnd) × (counts s.place s.is_balanced ≡ true) × (step counted behind ≡ line_end (length front) s.levels behind) × (step counted (behind ++ more) ≡ line_end (length front) s.levels (behind ++ more)))
+    go : (counted : Bool) → counts s.place s.is_balanced ≡ counted → step counted remainder ≡ Stands piece
+        → (step counted (remainder ++ more) ≡ Stands piece)
+        ⊎ ((word.LineEnd ≡ word.LineEnd) × (counts s.place s.is_balanced ≡ true) × (step counted remainder ≡ line_end (length front) s.levels remainder) × (step counted (remainder ++ more) ≡ line_end (length front) s.levels (remainder ++ more)))
     go true f e = inr (refl, f, refl, refl)
     go false f e = inl e
-word_followed s (word.Opener kind is_raw quote) front behind more piece ends fits e =
+word_followed s (word.Opener kind is_raw quote) front remainder more piece ends fits e =
     let h = ends fits in
-    inl (ap (λ (opening : Opening). opener s.place kind opening (length front) (behind ++ more)) (opening_followed is_raw quote behind more h)
-    ∙ opener_followed s.place kind (opening_of is_raw quote behind) (length front) behind more piece h (opening_inside is_raw quote behind h) e)
-word_followed s word.Reserved front behind more piece ends fits e = inl e
-word_followed s word.Identifier front behind more piece ends fits e = inl e
-word_followed s word.Decimal front behind more piece ends fits e = inl e
-word_followed s word.Hexadecimal front behind more piece ends fits e = inl e
-word_followed s word.Octal front behind more piece ends fits e = inl e
-word_followed s word.Binary front behind more piece ends fits e = inl e
-word_followed s word.Float front behind more piece ends fits e = inl e
-word_followed s (word.Fixed terminal) front behind more piece ends fits e = inl e
+    inl (ap (λ (opening : Opening). opener s.place kind opening (length front) (remainder ++ more)) (opening_followed is_raw quote remainder more h)
+    ∙ opener_followed s.place kind (opening_of is_raw quote remainder) (length front) remainder more piece h (opening_inside is_raw quote remainder h) e)
+word_followed s word.Reserved front remainder more piece ends fits e = inl e
+word_followed s word.Identifier front remainder more piece ends fits e = inl e
+word_followed s word.Decimal front remainder more piece ends fits e = inl e
+word_followed s word.Hexadecimal front remainder more piece ends fits e = inl e
+word_followed s word.Octal front remainder more piece ends fits e = inl e
+word_followed s word.Binary front remainder more piece ends fits e = inl e
+word_followed s word.Float front remainder more piece ends fits e = inl e
+word_followed s (word.Fixed terminal) front remainder more piece ends fits e = inl e
 
 -- what a longest word at the front comes to
 front_followed : (s : Situation) (text more : Text) (found : Option (Class × ℕ)) (piece : Piece) → ends_line text ≡ true → longest_front (class_in language) text ≡ found → front_step s text found ≡ Stands piece
@@ -235,10 +235,10 @@ step_followed s text more piece some h e = before s.before some e
     before Gap some e = at s.place e
     before Other some e = at s.place e
 
--- A margin that stands leaves layout behind, …
+-- A margin that stands leaves layout remainder, …
 pub margin_layout : (len : ℕ) (before : List Lexeme) (levels : List ℕ) (margin : Margin) (piece : Piece) → margin_step len before levels margin ≡ Stands piece → piece.sort ≡ Layout
 unfolding margin_step
-margin_layout len before levels margin piece e = go (not (is_content margin.behind)) (has_tab margin) (fits (width_of margin) levels) _ _ _ _ refl refl e
+margin_layout len before levels margin piece e = go (not (is_content margin.remainder)) (has_tab margin) (fits (width_of margin) levels) _ _ _ _ refl refl e
   where
     stands : (one other : Piece) → Stands one ≡ Stands other → one.sort ≡ Layout → other.sort ≡ Layout
     stands one other e h = let same : one ≡ other = cc in subst (λ (p : Piece). p.sort ≡ Layout) same h
@@ -259,7 +259,7 @@ other_followed s text more piece some h sort e = go (step_followed s text more p
         let layout : piece.sort ≡ Layout = margin_layout counted.len _ s.levels (margin_of (drop counted.len text)) piece (sym counted.here ∙ e) in
         let wrong : true ≡ false = sym (ap is_layout layout) ∙ sort in cc
 
--- The same of what stands behind a history that isn't empty.
+-- The same of what stands remainder a history that isn't empty.
 pub next_followed : (history : History) (text more : Text) (piece : Piece) → is_nothing history.before ≡ false → ends_line text ≡ true → next_step language history text ≡ Stands piece
     → (next_step language history (text ++ more) ≡ Stands piece) ⊎ CountedLineEnd (situation history) text more (next_step language history text) (next_step language history (text ++ more))
 unfolding next_step situation

@@ -24,7 +24,7 @@ use Rattle.starlark_grammar.proofs.Reading.Steps.{is_nothing}
 use Rattle.starlark_grammar.proofs.Joining.Followed.{ends_line, ends_line_drop, longest_followed}
 use Rattle.starlark_grammar.proofs.Joining.FollowedPieces.{CountedLineEnd, step_followed}
 use Rattle.starlark_grammar.proofs.Joining.FollowedMargins.{whole_behind, Followed, Whole, Within, margin_behind, followed, has_whole_lines}
-use Rattle.starlark_grammar.proofs.Joining.Settled.{Settled, behind, onto_append}
+use Rattle.starlark_grammar.proofs.Joining.Settled.{Settled, remainder, onto_append}
 
 -- Margins and line ends
 
@@ -38,11 +38,11 @@ content_followed [] more some = absurd (omega (arith, some))
 content_followed (b ∷ bs) more some = refl
 
 -- where the margin ends inside of the text
-pub step_within : (len : ℕ) (lexemes : List Lexeme) (levels : List ℕ) (text more : Text) → 0 < length (margin_of text).behind
-    → margin_of (text ++ more) ≡ record { comments = (margin_of text).comments; at = (margin_of text).at; blanks = (margin_of text).blanks; behind = (margin_of text).behind ++ more }
+pub step_within : (len : ℕ) (lexemes : List Lexeme) (levels : List ℕ) (text more : Text) → 0 < length (margin_of text).remainder
+    → margin_of (text ++ more) ≡ record { comments = (margin_of text).comments; at = (margin_of text).at; blanks = (margin_of text).blanks; remainder = (margin_of text).remainder ++ more }
     → margin_step len lexemes levels (margin_of (text ++ more)) ≡ margin_step len lexemes levels (margin_of text)
 unfolding margin_step indentation
-step_within len lexemes levels text more some e = rw (e, content_followed (margin_of text).behind more some) refl
+step_within len lexemes levels text more some e = rw (e, content_followed (margin_of text).remainder more some) refl
 
 pub moved_both : {A : Type 0} (a b c : ℕ) (x : Rattle.starlark_grammar.specs.Tokens.Spanned A) → a + b ≡ c → moved a (moved b x) ≡ moved c x
 moved_both a b c x e =
@@ -77,12 +77,12 @@ indentation_behind n comments margin = go (nat_lt 0 (width_of margin))
     go true = ap indents end
     go false = refl
 
--- A margin without fault, and the same behind a line end and more comment-only lines.
+-- A margin without fault, and the same remainder a line end and more comment-only lines.
 step_behind : (len : ℕ) (lexemes : List Lexeme) (n : ℕ) (comments : List Lexeme) (margin : Margin) (first : Piece) → margin_step 0 [] [] margin ≡ Stands first
     → margin_step len lexemes [] (margin_behind n comments margin) ≡ Stands (joined_piece (len + n) (lexemes ++ map (moved len) comments) first)
 unfolding margin_step
 step_behind len lexemes n comments margin first e =
-    go (not (is_content margin.behind)) (has_tab margin) (fits (width_of margin) []) refl e
+    go (not (is_content margin.remainder)) (has_tab margin) (fits (width_of margin) []) refl e
   where
     laid : List Lexeme → Option ℕ → Piece
     laid indents width = record { len = 0 + margin_len margin; lexemes = map (moved 0) (margin.comments ++ indents); width = width; sort = Layout }
@@ -122,21 +122,21 @@ plain_escape : (begin : ℕ) (text : Text) → NoLayout (escape_fault begin text
 plain_escape begin [] = tt
 plain_escape begin (b ∷ bs) = tt
 
-plain_literal : (place : Mode) (kind : Kind) (opening : Opening) (len : ℕ) (behind : Text) (body : Body) (stop : Stop) → NoLayout (literal_by place kind opening len behind body stop)
-plain_literal place kind opening len behind body Closing = refl
-plain_literal place kind opening len behind body (BadEscape read last) = plain_escape _ _
-plain_literal place kind opening len behind body Line = tt
-plain_literal place kind opening len behind body Ended = tt
-plain_literal place kind opening len behind body OpeningBrace = tt
-plain_literal place kind opening len behind body ClosingBrace = tt
+plain_literal : (place : Mode) (kind : Kind) (opening : Opening) (len : ℕ) (remainder : Text) (body : Body) (stop : Stop) → NoLayout (literal_by place kind opening len remainder body stop)
+plain_literal place kind opening len remainder body Closing = refl
+plain_literal place kind opening len remainder body (BadEscape read last) = plain_escape _ _
+plain_literal place kind opening len remainder body Line = tt
+plain_literal place kind opening len remainder body Ended = tt
+plain_literal place kind opening len remainder body OpeningBrace = tt
+plain_literal place kind opening len remainder body ClosingBrace = tt
 
-plain_body : (place : Mode) (kind : Kind) (opening : Opening) (len : ℕ) (behind : Text) (body : Body) → NoLayout (literal_by place kind opening len behind body body.stop)
-plain_body place kind opening len behind body = plain_literal place kind opening len behind body body.stop
+plain_body : (place : Mode) (kind : Kind) (opening : Opening) (len : ℕ) (remainder : Text) (body : Body) → NoLayout (literal_by place kind opening len remainder body body.stop)
+plain_body place kind opening len remainder body = plain_literal place kind opening len remainder body body.stop
 
-plain_opener : (place : Mode) (kind : Kind) (opening : Opening) (len : ℕ) (behind : Text) → NoLayout (opener place kind opening len behind)
-plain_opener place OfFString opening len behind = refl
-plain_opener place OfText opening len behind = plain_body place OfText opening (len + more_quotes opening) (drop (more_quotes opening) behind) (body_at (record { kind = OfText; opening = opening }) (drop (more_quotes opening) behind))
-plain_opener place OfBytes opening len behind = plain_body place OfBytes opening (len + more_quotes opening) (drop (more_quotes opening) behind) (body_at (record { kind = OfBytes; opening = opening }) (drop (more_quotes opening) behind))
+plain_opener : (place : Mode) (kind : Kind) (opening : Opening) (len : ℕ) (remainder : Text) → NoLayout (opener place kind opening len remainder)
+plain_opener place OfFString opening len remainder = refl
+plain_opener place OfText opening len remainder = plain_body place OfText opening (len + more_quotes opening) (drop (more_quotes opening) remainder) (body_at (record { kind = OfText; opening = opening }) (drop (more_quotes opening) remainder))
+plain_opener place OfBytes opening len remainder = plain_body place OfBytes opening (len + more_quotes opening) (drop (more_quotes opening) remainder) (body_at (record { kind = OfBytes; opening = opening }) (drop (more_quotes opening) remainder))
 
 plain_chunk : (opening : Opening) (text : Text) → NoLayout (chunk opening text)
 unfolding chunk
@@ -248,7 +248,7 @@ counted_step s b bs len started counted front = before_is s.before started ∙ a
 -- how long the piece of a margin is
 pub margin_step_len : (len : ℕ) (lexemes : List Lexeme) (levels : List ℕ) (margin : Margin) (piece : Piece) → margin_step len lexemes levels margin ≡ Stands piece → piece.len ≡ len + margin_len margin
 unfolding margin_step
-margin_step_len len lexemes levels margin piece e = go (not (is_content margin.behind)) (has_tab margin) (fits (width_of margin) levels) (indentation levels margin) e
+margin_step_len len lexemes levels margin piece e = go (not (is_content margin.remainder)) (has_tab margin) (fits (width_of margin) levels) (indentation levels margin) e
   where
     made : List Lexeme → Option ℕ → Piece
     made indents width = record { len = len + margin_len margin; lexemes = lexemes ++ map (moved len) (margin.comments ++ indents); width = width; sort = Layout }
@@ -263,11 +263,11 @@ margin_step_len len lexemes levels margin piece e = go (not (is_content margin.b
     go false false true indents e = stands (made indents (Some (width_of margin))) e
     go false false false indents e = cc
 
-pub blank_step : (len : ℕ) (lexemes : List Lexeme) (levels : List ℕ) (comments : List Lexeme) (at : ℕ) → margin_step len lexemes levels (record { comments = comments; at = at; blanks = []; behind = [] }) ≡ Stands (record { len = len + (at + 0); lexemes = lexemes ++ map (moved len) (comments ++ []); width = None; sort = Layout })
+pub blank_step : (len : ℕ) (lexemes : List Lexeme) (levels : List ℕ) (comments : List Lexeme) (at : ℕ) → margin_step len lexemes levels (record { comments = comments; at = at; blanks = []; remainder = [] }) ≡ Stands (record { len = len + (at + 0); lexemes = lexemes ++ map (moved len) (comments ++ []); width = None; sort = Layout })
 unfolding margin_step
 blank_step len lexemes levels comments at = refl
 
--- The last margin of a text of whole lines, with a text behind it whose first margin stands.
+-- The last margin of a text of whole lines, with a text remainder it whose first margin stands.
 joined_margin : (len : ℕ) (lexemes : List Lexeme) (text more : Text) (piece first : Piece) → has_whole_lines text ≡ true → margin_step len lexemes [] (margin_of text) ≡ Stands piece → piece.len ≡ len + length text → first_margin more ≡ Stands first
     → (margin_step len lexemes [] (margin_of (text ++ more)) ≡ Stands (joined_piece (len + length text) piece.lexemes first)) × (piece.width ≡ None)
 joined_margin len lexemes text more piece first whole stands reach begins = go (followed text more whole)
@@ -275,7 +275,7 @@ joined_margin len lexemes text more piece first whole stands reach begins = go (
     last : Piece
     last = record { len = len + (length text + 0); lexemes = lexemes ++ map (moved len) ((margin_of text).comments ++ []); width = None; sort = Layout }
 
-    last_step : margin_of text ≡ record { comments = (margin_of text).comments; at = length text; blanks = []; behind = [] } → margin_step len lexemes [] (margin_of text) ≡ Stands last
+    last_step : margin_of text ≡ record { comments = (margin_of text).comments; at = length text; blanks = []; remainder = [] } → margin_step len lexemes [] (margin_of text) ≡ Stands last
     last_step e = ap (margin_step len lexemes []) e ∙ blank_step len lexemes [] (margin_of text).comments (length text)
 
     go : Followed text more → (margin_step len lexemes [] (margin_of (text ++ more)) ≡ Stands (joined_piece (len + length text) piece.lexemes first)) × (piece.width ≡ None)
@@ -357,13 +357,13 @@ pub next_stays : (history : History) (text more : Text) (piece : Piece) → ends
 unfolding next_step situation
 next_stays history text more piece ends less stands = stands_followed (situation history) text more piece ends less stands
 
--- The reading of a settled text with a text behind it whose first margin stands.
+-- The reading of a settled text with a text remainder it whose first margin stands.
 pub record Joined (history settled : History) (text more : Text) (pieces : List Piece) (first : Piece) : Type 0 where
   pub pieces' : List Piece
   pub some : ¬ (pieces' ≡ [])
   pub reads : IsReading language history (text ++ more) pieces'
   pub len : pieces_len pieces' ≡ length text + first.len
-  pub past : after_all history pieces' ≡ behind settled (after nothing first)
+  pub past : after_all history pieces' ≡ remainder settled (after nothing first)
   pub lexemes : (at : ℕ) → lexemes_along at pieces' ≡ lexemes_along at pieces ++ map (moved (at + length text)) first.lexemes
 
 onto_both : (tokens : List Token) (one other : List Lexeme) → tokens_onto tokens (one ++ other) ≡ tokens_onto (tokens_onto tokens one) other
@@ -432,9 +432,9 @@ join_last history text more piece first ends stands reach settled begins =
     no_cons : (p : Piece) (ps : List Piece) → p ∷ ps ≡ [] → ⊥
     no_cons p ps e = cc
 
--- a piece behind which another stands ends before the text does
+-- a piece remainder which another stands ends before the text does
 pub inside : (history : History) (text : Text) (piece next : Piece) → next_step language history text ≡ Stands piece → next_step language (after history piece) (drop piece.len text) ≡ Stands next → piece.len < length text
-inside history text piece next stands behind = go (drop piece.len text) refl behind
+inside history text piece next stands remainder = go (drop piece.len text) refl remainder
   where
     go : (rest : Text) → drop piece.len text ≡ rest → next_step language (after history piece) rest ≡ Stands next → piece.len < length text
     go [] e f = absurd (none_next language (after history piece) next (started history piece (piece_fits language history text piece stands).sort) f)
@@ -443,7 +443,7 @@ inside history text piece next stands behind = go (drop piece.len text) refl beh
 total_at : (at n : ℕ) (text : Text) → n < length text → at + n + length (drop n text) ≡ at + length text
 total_at at n text less = omega (arith, length-drop n text)
 
--- Of a settled text all pieces but the last stay, and the last goes on with the first margin of the text behind.
+-- Of a settled text all pieces but the last stay, and the last goes on with the first margin of the text remainder.
 pub join_reading : (history : History) (text more : Text) (pieces : List Piece) (first : Piece) → ends_line text ≡ true → ¬ (pieces ≡ []) → IsReading language history text pieces → pieces_len pieces ≡ length text → Settled (after_all history pieces) → first_margin more ≡ Stands first
     → Joined history (after_all history pieces) text more pieces first
 join_reading history text more [] first ends some reads reach settled begins = absurd (some refl)

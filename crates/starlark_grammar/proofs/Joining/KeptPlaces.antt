@@ -17,7 +17,7 @@ use Rattle.starlark_grammar.proofs.Joining.CleanCuts.{along_both, pieces_both}
 use Rattle.starlark_grammar.proofs.Joining.Followed.{ends_line_of}
 use Rattle.starlark_grammar.proofs.Joining.FollowedMargins.{lines_followed, lines_sum, while_all, whole_behind}
 use Rattle.starlark_grammar.proofs.Joining.Joined.{whole_from_ends}
-use Rattle.starlark_grammar.proofs.Joining.LaidCuts.{Behind, First, IsFlat, IsLaid, LaysOut, clean_laid, MarginAt, comments_count, first_laid, laid_lexemes, line_count, line_laid, line_of, split_last}
+use Rattle.starlark_grammar.proofs.Joining.LaidCuts.{AfterComments, First, IsFlat, IsLaid, LaysOut, clean_laid, MarginAt, comments_count, first_laid, laid_lexemes, line_count, line_laid, line_of, split_last}
 use Rattle.starlark_grammar.proofs.Joining.LineCuts.{next_reads, reads_more}
 
 -- The margin of a cut
@@ -53,12 +53,12 @@ unfolding margin_step
 margin_least n line levels text piece stands =
     let least : HasAtLeast (length line + length (margin_of text).comments) piece =
     subst (Each (HasAtLeast (length line + length (margin_of text).comments)) (λ fault. ⊤)) stands
-    (either (Each (HasAtLeast (length line + length (margin_of text).comments)) (λ fault. ⊤)) (not (is_content (margin_of text).behind)) _ _ (at_least n line (margin_of text).comments [])
+    (either (Each (HasAtLeast (length line + length (margin_of text).comments)) (λ fault. ⊤)) (not (is_content (margin_of text).remainder)) _ _ (at_least n line (margin_of text).comments [])
     (either (Each (HasAtLeast (length line + length (margin_of text).comments)) (λ fault. ⊤)) (has_tab (margin_of text)) _ _ tt
     (either (Each (HasAtLeast (length line + length (margin_of text).comments)) (λ fault. ⊤)) (fits (width_of (margin_of text)) levels) _ _ (at_least n line (margin_of text).comments (indentation levels (margin_of text))) tt))) in
     omega (arith, least, margin_count text)
 
--- A place behind so many comment-only lines of a margin, which begins behind some pieces and a line end of so many bytes, with
+-- A place remainder so many comment-only lines of a margin, which begins remainder some pieces and a line end of so many bytes, with
 -- the lexemes of the pieces and one or none of the line end before it.
 pub record HasPassed (text : Text) (at : ℕ) (pieces : List Piece) (n line : ℕ) : Type 0 where
   pub passed : ℕ
@@ -89,7 +89,7 @@ module _ (text : Text) (at : ℕ) (laid : IsLaid text at) where
   all_lines : length (lines lines_before) ≤ length (comment_lines margin_text)
   all_lines = omega (arith, ap length front_lines, length-append (lines lines_before) (take_while is_comment_only (lines (drop at text))))
 
-  -- it lies behind so many of its margin's comment-only lines
+  -- it lies remainder so many of its margin's comment-only lines
   laid_behind : HasPassed text at laid.pieces laid.n (line_count laid.margin)
   laid_behind =
       let front : take (length (lines lines_before)) (comment_lines margin_text) ≡ lines lines_before =
@@ -103,7 +103,7 @@ module _ (text : Text) (at : ℕ) (laid : IsLaid text at) where
 
   lays : (margin : MarginAt text laid.pieces laid.n) → (line : List Lexeme) × (length line ≡ line_count margin) × LaysOut (after_all nothing laid.pieces) (drop (pieces_len laid.pieces) text) laid.n line
   lays (First none zero_len) = ([], refl, subst (λ (ps : List Piece). LaysOut (after_all nothing ps) (drop (pieces_len ps) text) laid.n []) (sym none) (subst (λ k. LaysOut nothing text k []) (sym zero_len) (first_laid text)))
-  lays (Behind begun counted found) = (line_of laid.n, refl, line_laid (after_all nothing laid.pieces) (drop (pieces_len laid.pieces) text) laid.n begun counted found)
+  lays (AfterComments begun counted found) = (line_of laid.n, refl, line_laid (after_all nothing laid.pieces) (drop (pieces_len laid.pieces) text) laid.n begun counted found)
 
   -- its margin gives all lexemes between
   pub laid_least : (piece : Piece) → next_step language (after_all nothing laid.pieces) (drop (pieces_len laid.pieces) text) ≡ Stands piece → line_count laid.margin + length (lines lines_before) ≤ length piece.lexemes
@@ -128,7 +128,7 @@ module _ (text : Text) (at : ℕ) (laid : IsLaid text at) where
           let begins : pieces_len laid.pieces ≡ 0 = ap pieces_len none in
           let len : 0 < length lines_before = omega (arith, zero_len, begins, laid.some, length-take-le at text laid.inside, length-drop laid.n (drop (pieces_len laid.pieces) (take at text)), length-drop (pieces_len laid.pieces) (take at text)) in
           omega (arith, some_lines lines_before len)
-      go (Behind begun counted found) = omega arith
+      go (AfterComments begun counted found) = omega arith
 
 -- Which piece it is
 
@@ -141,7 +141,7 @@ last_same (x ∷ one) (y ∷ other) p q e =
     let rest : one ++ p ∷ [] ≡ other ++ q ∷ [] = cc in
     rw (first, last_same one other p q rest) refl
 
--- pieces and one more, where others and one more go on behind them
+-- pieces and one more, where others and one more go on remainder them
 no_more : (one other more : List Piece) (p q : Piece) → one ++ p ∷ [] ≡ (other ++ q ∷ []) ++ more → (one ≡ other) ⊎ (length (lexemes_along 0 other) + length q.lexemes ≤ length (lexemes_along 0 one))
 no_more one other [] p q e = inl (last_same one other p q (e ∙ append-nil (other ++ q ∷ [])))
 no_more one other (x ∷ more) p q e =
@@ -178,10 +178,10 @@ laid_in text at laid pieces piece reach reads stands more few =
     by_less (inr beyond) = absurd (omega (arith, beyond, more, laid_lexemes text at laid, laid_least text at laid margin.0 margin.1))
 
     go : Begins (laid.pieces ++ margin.0 ∷ []) (pieces ++ piece ∷ []) ⊎ Begins (pieces ++ piece ∷ []) (laid.pieces ++ margin.0 ∷ []) → laid.pieces ≡ pieces
-    go (inl behind) = by_less (no_more pieces laid.pieces behind.0 piece margin.0 behind.1)
-    go (inr behind) = by_more (no_more laid.pieces pieces behind.0 margin.0 piece behind.1)
+    go (inl remainder) = by_less (no_more pieces laid.pieces remainder.0 piece margin.0 remainder.1)
+    go (inr remainder) = by_more (no_more laid.pieces pieces remainder.0 margin.0 piece remainder.1)
 
--- A place in the margin behind some pieces, before which nothing is open.
+-- A place in the margin remainder some pieces, before which nothing is open.
 pub record IsInMargin (text : Text) (at : ℕ) (pieces : List Piece) : Type 0 where
   pub n : ℕ
   pub margin : MarginAt text pieces n

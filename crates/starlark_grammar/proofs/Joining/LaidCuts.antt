@@ -1,4 +1,4 @@
--- Where a text may be cut inside of its layout: behind a line end that counts and whole comment-only lines behind it.
+-- Where a text may be cut inside of its layout: remainder a line end that counts and whole comment-only lines remainder it.
 use Rattle.std.proofs.Common.{◌≡◌, ℕ, ◌+◌, ◌≤◌, ◌<◌, Bool, true, false, List, [], ◌∷◌, ◌++◌, length, take, drop, map, refl, ap, ◌∙◌, sym, subst, Option, Some, None, arith, append-nil, length-append}
 use Rattle.std.proofs.Common.{drop_of_length-le, eq-eqb}
 use Rattle.std.proofs.Math.Seq.{drop-length}
@@ -29,7 +29,7 @@ use Rattle.starlark_grammar.proofs.Joining.Joined.{next_stays, blank_step, count
 use Rattle.starlark_grammar.proofs.Joining.Settled.{Settled, outside_none}
 use Rattle.starlark_grammar.proofs.Joining.ShortenedPieces.{next_shortened}
 
--- the pieces of a text up to a place are those of each front that ends with an LF behind them
+-- the pieces of a text up to a place are those of each front that ends with an LF remainder them
 pub reading_shortened : (history : History) (text more : Text) (pieces : List Piece) → ends_line text ≡ true → IsReading language history (text ++ more) pieces → pieces_len pieces < length text → IsReading language history text pieces
 reading_shortened history text more [] h reads inside = tt
 reading_shortened history text more (piece ∷ pieces) h reads inside =
@@ -41,7 +41,7 @@ reading_shortened history text more (piece ∷ pieces) h reads inside =
     )
 
 -- the margin of a text that is comment-only lines
-pub comments_margin : (text : Text) → list_all is_comment_only (lines text) ≡ true → margin_of text ≡ record { comments = comments_from 0 (lines text); at = length text; blanks = []; behind = [] }
+pub comments_margin : (text : Text) → list_all is_comment_only (lines text) ≡ true → margin_of text ≡ record { comments = comments_from 0 (lines text); at = length text; blanks = []; remainder = [] }
 unfolding margin_of
 comments_margin text h =
     let here : comment_lines text ≡ lines text = ap (take_while is_comment_only) (sym (append-nil (lines text))) ∙ while_all is_comment_only (lines text) [] h ∙ append-nil (lines text) in
@@ -63,7 +63,7 @@ unfolding open_fstring
 comments_flat n at [] tokens h = h
 comments_flat n at (line ∷ ls) tokens h = comments_flat n (at + length line) ls _ (ap (option_map _) h.0, h.1)
 
--- A margin stands at a place, behind so many bytes: a line end that counts, or nothing at the text's begin.
+-- A margin stands at a place, remainder so many bytes: a line end that counts, or nothing at the text's begin.
 pub record LaysOut (history : History) (rest : Text) (n : ℕ) (line : List Lexeme) : Type 0 where
   pub inside : n ≤ length rest
   pub step : next_step language history rest ≡ margin_step n line (open_widths history.widths) (margin_of (drop n rest))
@@ -90,7 +90,7 @@ line_laid history (b ∷ bs) n started counted front =
 
 -- the piece of a margin that is comment-only lines
 abbrev pub comments_piece : ℕ → List Lexeme → Text → Piece
-comments_piece n line behind = record { len = n + (length behind + 0); lexemes = line ++ map (moved n) (comments_from 0 (lines behind) ++ []); width = None; sort = Layout }
+comments_piece n line remainder = record { len = n + (length remainder + 0); lexemes = line ++ map (moved n) (comments_from 0 (lines remainder) ++ []); width = None; sort = Layout }
 
 comments_stand : (history : History) (rest : Text) (n : ℕ) (line : List Lexeme) → LaysOut history rest n line → list_all is_comment_only (lines (drop n rest)) ≡ true → next_step language history rest ≡ Stands (comments_piece n line (drop n rest))
 comments_stand history rest n line laid h =
@@ -100,13 +100,13 @@ onto_both : (tokens : List Token) (xs ys : List Lexeme) → tokens_onto tokens (
 onto_both tokens [] ys = refl
 onto_both tokens (x ∷ xs) ys = onto_both (x.node ∷ tokens) xs ys
 
-flat_behind : (history : History) (rest behind : Text) (n : ℕ) (line : List Lexeme) → LaysOut history rest n line → IsFlat history → IsFlat (after history (comments_piece n line behind))
+flat_behind : (history : History) (rest remainder : Text) (n : ℕ) (line : List Lexeme) → LaysOut history rest n line → IsFlat history → IsFlat (after history (comments_piece n line remainder))
 unfolding after is_balanced
-flat_behind history rest behind n line laid flat =
-    let whole : map (moved n) (comments_from 0 (lines behind) ++ []) ≡ map (moved n) (comments_from 0 (lines behind)) = ap (map (moved n)) (append-nil (comments_from 0 (lines behind))) in
-    let both : tokens_onto history.tokens (line ++ map (moved n) (comments_from 0 (lines behind) ++ [])) ≡ tokens_onto (tokens_onto history.tokens line) (map (moved n) (comments_from 0 (lines behind))) =
-    ap (λ ls. tokens_onto history.tokens (line ++ ls)) whole ∙ onto_both history.tokens line (map (moved n) (comments_from 0 (lines behind))) in
-    let now = comments_flat n 0 (lines behind) (tokens_onto history.tokens line) (laid.quiet history.tokens (flat.none_open, eqb-true _ _ flat.balanced)) in
+flat_behind history rest remainder n line laid flat =
+    let whole : map (moved n) (comments_from 0 (lines remainder) ++ []) ≡ map (moved n) (comments_from 0 (lines remainder)) = ap (map (moved n)) (append-nil (comments_from 0 (lines remainder))) in
+    let both : tokens_onto history.tokens (line ++ map (moved n) (comments_from 0 (lines remainder) ++ [])) ≡ tokens_onto (tokens_onto history.tokens line) (map (moved n) (comments_from 0 (lines remainder))) =
+    ap (λ ls. tokens_onto history.tokens (line ++ ls)) whole ∙ onto_both history.tokens line (map (moved n) (comments_from 0 (lines remainder))) in
+    let now = comments_flat n 0 (lines remainder) (tokens_onto history.tokens line) (laid.quiet history.tokens (flat.none_open, eqb-true _ _ flat.balanced)) in
     record {
       none_open = ap (open_fstring 0) both ∙ now.0;
       balanced = ap (λ (ts : List Token). count_by is_any_opening ts == count_by is_any_closing ts) both ∙ eq-eqb _ _ now.1;
@@ -126,7 +126,7 @@ pub comments_count : (at : ℕ) (ls : List Text) → length (comments_from at ls
 comments_count at [] = refl
 comments_count at (line ∷ ls) = omega (arith, comments_count (at + length line) ls)
 
--- Where nothing is open and only comment-only lines stand behind the last line end, these are a text's last piece, …
+-- Where nothing is open and only comment-only lines stand remainder the last line end, these are a text's last piece, …
 module _ (text : Text) (pieces : List Piece) (n : ℕ) (line : List Lexeme) (ends : ends_with nat_eq text (codes "\n") ≡ true) (reads : IsReading language nothing text pieces) (flat : IsFlat (after_all nothing pieces))
     (laid : LaysOut (after_all nothing pieces) (drop (pieces_len pieces) text) n line) (h : list_all is_comment_only (lines (drop n (drop (pieces_len pieces) text))) ≡ true) where
   abbrev before_lines : History
@@ -236,13 +236,13 @@ ends_line_end history rest last ends begun laid reach stands =
       balanced = subst (λ (m : Mode). counts m (is_balanced history.tokens) ≡ true) place end.counted;
     }
 
--- A margin begins somewhere in a text: at its begin, or behind a line end of so many bytes that counts.
+-- A margin begins somewhere in a text: at its begin, or remainder a line end of so many bytes that counts.
 pub data MarginAt (text : Text) (pieces : List Piece) (n : ℕ) : Type 0 where
   First : pieces ≡ [] → n ≡ 0 → MarginAt text pieces n
-  Behind : is_nothing (after_all nothing pieces).before ≡ false → counts (mode_after (after_all nothing pieces).tokens) (is_balanced (after_all nothing pieces).tokens) ≡ true
+  AfterComments : is_nothing (after_all nothing pieces).before ≡ false → counts (mode_after (after_all nothing pieces).tokens) (is_balanced (after_all nothing pieces).tokens) ≡ true
       → longest_front (class_in language) (drop (pieces_len pieces) text) ≡ Some (word.LineEnd, n) → MarginAt text pieces n
 
--- A place behind whole comment-only lines of a margin, before which no width is open.
+-- A place remainder whole comment-only lines of a margin, before which no width is open.
 pub record IsLaid (text : Text) (at : ℕ) : Type 0 where
   pub pieces : List Piece
   pub n : ℕ
@@ -258,7 +258,7 @@ pub record IsLaid (text : Text) (at : ℕ) : Type 0 where
 -- how many lexemes its line end is
 abbrev pub line_count : {text : Text} {pieces : List Piece} {n : ℕ} → MarginAt text pieces n → ℕ
 line_count (First none zero_len) = 0
-line_count (Behind begun counted found) = 1
+line_count (AfterComments begun counted found) = 1
 
 -- The text in front of such a place, as it is read.
 record Front (text : Text) (at : ℕ) (laid : IsLaid text at) : Type 0 where
@@ -275,13 +275,13 @@ front_of text at laid =
     front : Text
     front = take at text
 
-    behind : Text
-    behind = drop at text
+    remainder : Text
+    remainder = drop at text
 
     pieces : List Piece
     pieces = laid.pieces
 
-    whole : front ++ behind ≡ text
+    whole : front ++ remainder ≡ text
     whole = take-append-drop at text
 
     len : length front ≡ at
@@ -294,15 +294,15 @@ front_of text at laid =
     before = omega (arith, len, laid.some)
 
     reads : IsReading language nothing front pieces
-    reads = reading_shortened nothing front behind pieces ends (subst (λ (t : Text). IsReading language nothing t pieces) (sym whole) laid.reads) before
+    reads = reading_shortened nothing front remainder pieces ends (subst (λ (t : Text). IsReading language nothing t pieces) (sym whole) laid.reads) before
 
-    left : drop (pieces_len pieces) text ≡ drop (pieces_len pieces) front ++ behind
-    left = ap (drop (pieces_len pieces)) (sym whole) ∙ drop-append-le (pieces_len pieces) front behind (omega (arith, before))
+    left : drop (pieces_len pieces) text ≡ drop (pieces_len pieces) front ++ remainder
+    left = ap (drop (pieces_len pieces)) (sym whole) ∙ drop-append-le (pieces_len pieces) front remainder (omega (arith, before))
 
     go : (margin : MarginAt text pieces laid.n) → (line : List Lexeme) × (length line ≡ line_count margin) × LaysOut (after_all nothing pieces) (drop (pieces_len pieces) front) laid.n line
     go (First none zero_len) = ([], refl, subst (λ (ps : List Piece). LaysOut (after_all nothing ps) (drop (pieces_len ps) front) laid.n []) (sym none) (subst (λ k. LaysOut nothing front k []) (sym zero_len) (first_laid front)))
-    go (Behind begun counted found) =
-        let again = sym (longest_followed (drop (pieces_len pieces) front) behind (ends_line_drop (pieces_len pieces) front before ends)) ∙ ap (longest_front (class_in language)) (sym left) ∙ found in
+    go (AfterComments begun counted found) =
+        let again = sym (longest_followed (drop (pieces_len pieces) front) remainder (ends_line_drop (pieces_len pieces) front before ends)) ∙ ap (longest_front (class_in language)) (sym left) ∙ found in
         (line_of laid.n, refl, line_laid (after_all nothing pieces) (drop (pieces_len pieces) front) laid.n begun counted again)
 
 -- There the text in front is a clean cut, …
@@ -354,7 +354,7 @@ pub ends_some : (text : Text) → ends_line text ≡ true → 0 < length text
 ends_some [] h = cc
 ends_some (b ∷ bs) h = omega arith
 
--- by the pieces of the front: a margin at the text's begin, or one behind other pieces
+-- by the pieces of the front: a margin at the text's begin, or one remainder other pieces
 laid_by : (text : Text) (at : ℕ) (init : List Piece) (last : Piece) → at ≤ length text → ends_with nat_eq (take at text) (codes "\n") ≡ true → IsReading language nothing (take at text) init
     → next_step language (after_all nothing init) (drop (pieces_len init) (take at text)) ≡ Stands last → Settled (after (after_all nothing init) last) → pieces_len init + last.len ≡ at → IsLaid text at
 unfolding after open_fstring is_balanced open_widths
@@ -393,7 +393,7 @@ laid_by text at (piece ∷ pieces) last inside ends reads stands end total =
       pieces = piece ∷ pieces;
       n = here.n;
       reads = subst (λ (t : Text). IsReading language nothing t (piece ∷ pieces)) whole (reading_stays nothing front (drop at text) (piece ∷ pieces) line reads before);
-      margin = Behind begun here.counted (ap (longest_front (class_in language)) left ∙ longest_followed (drop reached front) (drop at text) (ends_line_drop reached front before line) ∙ here.front);
+      margin = AfterComments begun here.counted (ap (longest_front (class_in language)) left ∙ longest_followed (drop reached front) (drop at text) (ends_line_drop reached front before line) ∙ here.front);
       flat = record { none_open = here.none_open; balanced = here.balanced; no_width = sym (ap (λ (width : Option ℕ). open_widths (history.widths ++ option_to_list width)) here.width ∙ ap open_widths (append-nil history.widths)) ∙ end.no_width };
       order = omega (arith, here.inside, len, before, length-drop reached front);
       inside = inside;
@@ -409,10 +409,10 @@ clean_laid text at inside h = laid_by text at parts.0 last inside (clean_ends fr
     front : Text
     front = take at text
 
-    behind : Text
-    behind = drop at text
+    remainder : Text
+    remainder = drop at text
 
-    whole : front ++ behind ≡ text
+    whole : front ++ remainder ≡ text
     whole = take-append-drop at text
 
     len : length front ≡ at

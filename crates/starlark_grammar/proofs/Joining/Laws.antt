@@ -14,7 +14,7 @@ use Rattle.starlark_grammar.specs.Reading.{History, nothing, after_all, situatio
 use Rattle.starlark_grammar.specs.Cuts.{is_layout, is_outside, is_settled, is_faultless, is_clean_cut, is_clean_cut_in, is_kept_cut, without_closing}
 use Rattle.starlark_grammar.specs.TextLaws.{LaterFaultsJoin, FailsLater, FaultsJoin, CutsOfJoined, TabsAfterCuts, KeptCutsKeep, HasFirstMargin}
 use Rattle.starlark_grammar.proofs.Reading.Readings.{one_longest, longest_onward, read_is}
-use Rattle.starlark_grammar.proofs.Joining.Settled.{Settled, behind, situation_behind, map_none}
+use Rattle.starlark_grammar.proofs.Joining.Settled.{Settled, remainder, situation_behind, map_none}
 use Rattle.starlark_grammar.proofs.Joining.CleanCuts.{cut, begun, longest, past, cuts_join}
 use Rattle.starlark_grammar.proofs.Joining.Tabs.{tab, HasTab, tab_of, margin_tab, first_step, first_margin_is, tab_longest, outcome_by, behind_tab}
 
@@ -61,7 +61,7 @@ clean_by text pieces last longest =
     ap (λ (ps : List Piece). is_faultless (read language text).last && is_settled (after_all nothing ps) && ends_with nat_eq text (codes "\n")) same.0
     ∙ ap (λ (step : Step). is_faultless step && is_settled (after_all nothing pieces) && ends_with nat_eq text (codes "\n")) same.1
 
-settled_behind : (earlier history : History) → Settled earlier → is_settled (behind earlier history) ≡ is_settled history
+settled_behind : (earlier history : History) → Settled earlier → is_settled (remainder earlier history) ≡ is_settled history
 unfolding is_settled situation
 settled_behind earlier history h =
     ap (λ (s : Situation). is_layout s.before && is_outside s.place && s.is_balanced && length s.levels == 0) (situation_behind earlier history h)

@@ -1,4 +1,4 @@
--- Line ends and comment-only lines, and cuts behind them.
+-- Line ends and comment-only lines, and cuts remainder them.
 use Rattle.std.proofs.Common.{◌≡◌, ℕ, ◌+◌, ◌-◌, ◌≤◌, ◌<◌, Bool, true, false, List, [], ◌∷◌, ◌++◌, length, take, drop, map, refl, ap, ◌∙◌, sym, subst, Some, arith, append-nil, le-leb, length-append, inl, inr, ◌⊎◌}
 use Rattle.std.specs.Prelude.{if◌then◌else◌, codes, nat_eq, nat_le, not, ◌&&◌}
 use Rattle.std.specs.List.{ends_with, list_all, onto_first}
@@ -127,7 +127,7 @@ module _ (line : Text) (comment : is_comment_only line ≡ true) (one : is_line 
       go [] some reads = absurd (some refl)
       go (piece ∷ pieces) some reads = (piece, reads.0)
 
-  -- and behind a clean cut
+  -- and remainder a clean cut
   pub line_behind : (first : Text) → is_clean_cut first ≡ true → (is_clean_cut (first ++ line) ≡ true) × (length (without_closing (outcome (first ++ line)).lexemes) ≡ length (without_closing (outcome first).lexemes) + 1)
   line_behind first clean =
       let whole : (outcome (first ++ line)).lexemes ≡ without_closing (outcome first).lexemes ++ map (moved (length first)) (outcome line).lexemes = ap (λ (o : Outcome). o.lexemes) (cuts_join first line clean line_margin) in
@@ -168,7 +168,7 @@ reads_more history text [] piece reads stands = (stands, tt)
 reads_more history text (first ∷ pieces) piece reads stands =
     (reads.0, reads_more (after history first) (drop first.len text) pieces piece reads.1 (ap (next_step language (after_all (after history first) pieces)) (sym (drop_first first pieces text)) ∙ stands))
 
--- the piece behind some
+-- the piece remainder some
 pub next_reads : (history : History) (text : Text) (front : List Piece) (piece : Piece) (more : List Piece) → IsReading language history text (front ++ piece ∷ more) → next_step language (after_all history front) (drop (pieces_len front) text) ≡ Stands piece
 next_reads history text [] piece more reads = reads.0
 next_reads history text (first ∷ front) piece more reads =

@@ -1,4 +1,4 @@
--- Items and bodies of literals that stand in a text stand in it too where it ends sooner, with an LF behind them.
+-- Items and bodies of literals that stand in a text stand in it too where it ends sooner, with an LF remainder them.
 use Rattle.std.proofs.Common.{◌≡◌, ℕ, zero, suc, ◌+◌, ◌-◌, ◌<◌, Bool, true, false, cond, [], ◌∷◌, ◌++◌, length, take, drop, refl, ap, ◌∙◌, sym, subst, Option, Some, None, arith, length-append}
 use Rattle.std.specs.Prelude.{◌&&◌, ◌==◌, if◌then◌else◌, nat_eq, nat_lt, encode_utf8, not}
 use Rattle.std.specs.Char.{is_ascii_hexdigit}
@@ -28,7 +28,7 @@ same_shortened : (len : ℕ) (found : Found) → FoundShortened len found found
 same_shortened len (Goes item) = λ inside. refl
 same_shortened len (Stops stop) = λ closed. refl
 
-broken_shortened : (len good : ℕ) (behind : Text) (other : Found) → FoundShortened len (broken good behind) other
+broken_shortened : (len good : ℕ) (remainder : Text) (other : Found) → FoundShortened len (broken good remainder) other
 broken_shortened len good [] other = λ closed. cc
 broken_shortened len good (b ∷ bs) other = λ closed. cc
 
@@ -115,7 +115,7 @@ raw_pair_shortened kind quote [] more some = absurd (omega (arith, some))
 raw_pair_shortened kind quote (b ∷ bs) more some = λ inside.
     ap (λ (character : Text). goes (1 + length character) (if drops_backslash kind quote b then character else byte "\\" ∷ character)) (character_shortened (b ∷ bs) more (omega (arith, inside)))
 
--- behind a byte that is no LF a text that ends with one goes on
+-- remainder a byte that is no LF a text that ends with one goes on
 goes_on : (b : ℕ) (bs : Text) → ends_line (b ∷ bs) ≡ true → (b ≡ 10 → ⊥) → 0 < length bs
 goes_on b [] h other = absurd (other (eqb-true b 10 h))
 goes_on b (c ∷ cs) h other = omega arith
@@ -173,8 +173,8 @@ body_from_shortened literal zero (b ∷ bs) more h closed inside =
         let total = sum_by-cons (λ (item : Item). item.len) item (whole (item.len - 1)).items in
         let some = fits.0 in
         let found : other ≡ Goes item = shortened (omega (arith, inside, total)) in
-        let behind = rest (item.len - 1) (ends_line_rest b bs (omega (arith, inside, total, some)) h) closed (omega (arith, inside, total, some)) in
-        ap (λ (found : Found). body_onward found (λ passed. body_from literal passed bs)) found ∙ ap (λ (rest : Body). record { items = item ∷ rest.items; stop = rest.stop }) behind
+        let remainder = rest (item.len - 1) (ends_line_rest b bs (omega (arith, inside, total, some)) h) closed (omega (arith, inside, total, some)) in
+        ap (λ (found : Found). body_onward found (λ passed. body_from literal passed bs)) found ∙ ap (λ (rest : Body). record { items = item ∷ rest.items; stop = rest.stop }) remainder
 
 -- A closed body that ends before the front does.
 pub body_shortened : (literal : Literal) (text more : Text) → ends_line text ≡ true → is_closed (body_at literal (text ++ more)).stop ≡ true → body_len (body_at literal (text ++ more)) < length text → body_at literal text ≡ body_at literal (text ++ more)

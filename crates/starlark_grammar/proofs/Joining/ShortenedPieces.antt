@@ -1,4 +1,4 @@
--- A piece that stands in a text stands in it too where the text ends sooner, with an LF behind the piece.
+-- A piece that stands in a text stands in it too where the text ends sooner, with an LF remainder the piece.
 use Rattle.std.proofs.Common.{◌≡◌, ℕ, ◌+◌, ◌≤◌, ◌<◌, Bool, true, false, List, [], ◌∷◌, ◌++◌, length, take, drop, refl, ap, ◌∙◌, sym, subst, Option, Some, None, arith}
 use Rattle.std.specs.Prelude.{◌&&◌, if◌then◌else◌}
 use Rattle.std.proofs.lemmas.List.{length-take-le, length-drop, take-append-le, drop-append-le}
@@ -53,34 +53,34 @@ escape_fails : (begin : ℕ) (text : Text) (piece : Piece) → escape_fault begi
 escape_fails begin [] piece e = cc
 escape_fails begin (b ∷ bs) piece e = cc
 
-literal_by_shortened : (place : Mode) (kind : Kind) (opening : Opening) (len : ℕ) (behind other : Text) (body : Body) (stop : Stop) (piece : Piece) → literal_by place kind opening len behind body stop ≡ Stands piece
+literal_by_shortened : (place : Mode) (kind : Kind) (opening : Opening) (len : ℕ) (remainder other : Text) (body : Body) (stop : Stop) (piece : Piece) → literal_by place kind opening len remainder body stop ≡ Stands piece
     → (is_closed stop ≡ true) × (len + body_len body ≤ piece.len) × (literal_by place kind opening len other body stop ≡ Stands piece)
-literal_by_shortened place kind opening len behind other body Closing piece e = let total : len + body_len body + length (closing_quotes opening) ≡ piece.len = ap len_of e in (refl, omega (arith, total), e)
+literal_by_shortened place kind opening len remainder other body Closing piece e = let total : len + body_len body + length (closing_quotes opening) ≡ piece.len = ap len_of e in (refl, omega (arith, total), e)
   where
     len_of : Step → ℕ
     len_of (Stands piece) = piece.len
     len_of step = 0
-literal_by_shortened place kind opening len behind other body OpeningBrace piece e = cc
-literal_by_shortened place kind opening len behind other body ClosingBrace piece e = cc
-literal_by_shortened place kind opening len behind other body (BadEscape read last) piece e = absurd (escape_fails _ _ piece e)
-literal_by_shortened place kind opening len behind other body Line piece e = cc
-literal_by_shortened place kind opening len behind other body Ended piece e = cc
+literal_by_shortened place kind opening len remainder other body OpeningBrace piece e = cc
+literal_by_shortened place kind opening len remainder other body ClosingBrace piece e = cc
+literal_by_shortened place kind opening len remainder other body (BadEscape read last) piece e = absurd (escape_fails _ _ piece e)
+literal_by_shortened place kind opening len remainder other body Line piece e = cc
+literal_by_shortened place kind opening len remainder other body Ended piece e = cc
 
-literal_shortened : (place : Mode) (kind : Kind) (opening : Opening) (len : ℕ) (behind more : Text) (piece : Piece) → ends_line behind ≡ true → literal place kind opening len (behind ++ more) ≡ Stands piece → piece.len < len + length behind → literal place kind opening len behind ≡ Stands piece
-literal_shortened place kind opening len behind more piece h e inside =
-    let stands = literal_by_shortened place kind opening len (behind ++ more) behind (body_at (record { kind = kind; opening = opening }) (behind ++ more)) _ piece e in
-    ap (λ (body : Body). literal_by place kind opening len behind body body.stop) (body_shortened (record { kind = kind; opening = opening }) behind more h stands.0 (omega (arith, stands.1, inside))) ∙ stands.2
+literal_shortened : (place : Mode) (kind : Kind) (opening : Opening) (len : ℕ) (remainder more : Text) (piece : Piece) → ends_line remainder ≡ true → literal place kind opening len (remainder ++ more) ≡ Stands piece → piece.len < len + length remainder → literal place kind opening len remainder ≡ Stands piece
+literal_shortened place kind opening len remainder more piece h e inside =
+    let stands = literal_by_shortened place kind opening len (remainder ++ more) remainder (body_at (record { kind = kind; opening = opening }) (remainder ++ more)) _ piece e in
+    ap (λ (body : Body). literal_by place kind opening len remainder body body.stop) (body_shortened (record { kind = kind; opening = opening }) remainder more h stands.0 (omega (arith, stands.1, inside))) ∙ stands.2
 
-literal_behind : (place : Mode) (kind : Kind) (opening : Opening) (len quotes : ℕ) (behind more : Text) (piece : Piece) → ends_line behind ≡ true → quotes < length behind → literal place kind opening (len + quotes) (drop quotes (behind ++ more)) ≡ Stands piece
-    → piece.len < len + length behind → literal place kind opening (len + quotes) (drop quotes behind) ≡ Stands piece
-literal_behind place kind opening len quotes behind more piece h some e inside =
-    literal_shortened place kind opening (len + quotes) (drop quotes behind) more piece (ends_line_drop quotes behind some h)
-    (subst (λ (t : Text). literal place kind opening (len + quotes) t ≡ Stands piece) (drop-append-le quotes behind more (omega (arith, some))) e) (omega (arith, inside, some, length-drop quotes behind))
+literal_behind : (place : Mode) (kind : Kind) (opening : Opening) (len quotes : ℕ) (remainder more : Text) (piece : Piece) → ends_line remainder ≡ true → quotes < length remainder → literal place kind opening (len + quotes) (drop quotes (remainder ++ more)) ≡ Stands piece
+    → piece.len < len + length remainder → literal place kind opening (len + quotes) (drop quotes remainder) ≡ Stands piece
+literal_behind place kind opening len quotes remainder more piece h some e inside =
+    literal_shortened place kind opening (len + quotes) (drop quotes remainder) more piece (ends_line_drop quotes remainder some h)
+    (subst (λ (t : Text). literal place kind opening (len + quotes) t ≡ Stands piece) (drop-append-le quotes remainder more (omega (arith, some))) e) (omega (arith, inside, some, length-drop quotes remainder))
 
-opener_shortened : (place : Mode) (kind : Kind) (opening : Opening) (len : ℕ) (behind more : Text) (piece : Piece) → ends_line behind ≡ true → more_quotes opening < length behind → opener place kind opening len (behind ++ more) ≡ Stands piece → piece.len < len + length behind → opener place kind opening len behind ≡ Stands piece
-opener_shortened place OfFString opening len behind more piece h some e inside = e
-opener_shortened place OfText opening len behind more piece h some e inside = literal_behind place OfText opening len (more_quotes opening) behind more piece h some e inside
-opener_shortened place OfBytes opening len behind more piece h some e inside = literal_behind place OfBytes opening len (more_quotes opening) behind more piece h some e inside
+opener_shortened : (place : Mode) (kind : Kind) (opening : Opening) (len : ℕ) (remainder more : Text) (piece : Piece) → ends_line remainder ≡ true → more_quotes opening < length remainder → opener place kind opening len (remainder ++ more) ≡ Stands piece → piece.len < len + length remainder → opener place kind opening len remainder ≡ Stands piece
+opener_shortened place OfFString opening len remainder more piece h some e inside = e
+opener_shortened place OfText opening len remainder more piece h some e inside = literal_behind place OfText opening len (more_quotes opening) remainder more piece h some e inside
+opener_shortened place OfBytes opening len remainder more piece h some e inside = literal_behind place OfBytes opening len (more_quotes opening) remainder more piece h some e inside
 
 -- Margins
 
@@ -97,31 +97,31 @@ margin_shortened len lexemes levels text more piece whole stands less = go (foll
 
 -- Words
 
-word_shortened : (s : Situation) (class : Class) (front behind more : Text) (piece : Piece) → (in_line front ≡ true → ends_line behind ≡ true) → has_whole_lines behind ≡ true → line_fits class front ≡ true → word_step s class front (behind ++ more) ≡ Stands piece → piece.len < length front + length behind
-    → word_step s class front behind ≡ Stands piece
-word_shortened s word.Skipped front behind more piece ends whole fits e inside = e
-word_shortened s word.Comment front behind more piece ends whole fits e inside = e
-word_shortened s word.Tabs front behind more piece ends whole fits e inside = e
-word_shortened s word.LineEnd front behind more piece ends whole fits e inside = go (counts s.place s.is_balanced) e
+word_shortened : (s : Situation) (class : Class) (front remainder more : Text) (piece : Piece) → (in_line front ≡ true → ends_line remainder ≡ true) → has_whole_lines remainder ≡ true → line_fits class front ≡ true → word_step s class front (remainder ++ more) ≡ Stands piece → piece.len < length front + length remainder
+    → word_step s class front remainder ≡ Stands piece
+word_shortened s word.Skipped front remainder more piece ends whole fits e inside = e
+word_shortened s word.Comment front remainder more piece ends whole fits e inside = e
+word_shortened s word.Tabs front remainder more piece ends whole fits e inside = e
+word_shortened s word.LineEnd front remainder more piece ends whole fits e inside = go (counts s.place s.is_balanced) e
   where
     step : Bool → Text → Step
-    step counted behind = if counted then line_end (length front) s.levels behind else Stands (record { len = length front; lexemes = []; width = None; sort = Other })
+    step counted remainder = if counted then line_end (length front) s.levels remainder else Stands (record { len = length front; lexemes = []; width = None; sort = Other })
 
-    go : (counted : Bool) → step counted (behind ++ more) ≡ Stands piece → step counted behind ≡ Stands piece
-    go true e = margin_shortened (length front) (record { begin = 0; node = Newline; end = length front } ∷ []) s.levels behind more piece whole e inside
+    go : (counted : Bool) → step counted (remainder ++ more) ≡ Stands piece → step counted remainder ≡ Stands piece
+    go true e = margin_shortened (length front) (record { begin = 0; node = Newline; end = length front } ∷ []) s.levels remainder more piece whole e inside
     go false e = e
-word_shortened s (word.Opener kind is_raw quote) front behind more piece ends whole fits e inside =
+word_shortened s (word.Opener kind is_raw quote) front remainder more piece ends whole fits e inside =
     let h = ends fits in
-    opener_shortened s.place kind (opening_of is_raw quote behind) (length front) behind more piece h (opening_inside is_raw quote behind h)
-    (sym (ap (λ (opening : Opening). opener s.place kind opening (length front) (behind ++ more)) (opening_followed is_raw quote behind more h)) ∙ e) inside
-word_shortened s word.Reserved front behind more piece ends whole fits e inside = e
-word_shortened s word.Identifier front behind more piece ends whole fits e inside = e
-word_shortened s word.Decimal front behind more piece ends whole fits e inside = e
-word_shortened s word.Hexadecimal front behind more piece ends whole fits e inside = e
-word_shortened s word.Octal front behind more piece ends whole fits e inside = e
-word_shortened s word.Binary front behind more piece ends whole fits e inside = e
-word_shortened s word.Float front behind more piece ends whole fits e inside = e
-word_shortened s (word.Fixed terminal) front behind more piece ends whole fits e inside = e
+    opener_shortened s.place kind (opening_of is_raw quote remainder) (length front) remainder more piece h (opening_inside is_raw quote remainder h)
+    (sym (ap (λ (opening : Opening). opener s.place kind opening (length front) (remainder ++ more)) (opening_followed is_raw quote remainder more h)) ∙ e) inside
+word_shortened s word.Reserved front remainder more piece ends whole fits e inside = e
+word_shortened s word.Identifier front remainder more piece ends whole fits e inside = e
+word_shortened s word.Decimal front remainder more piece ends whole fits e inside = e
+word_shortened s word.Hexadecimal front remainder more piece ends whole fits e inside = e
+word_shortened s word.Octal front remainder more piece ends whole fits e inside = e
+word_shortened s word.Binary front remainder more piece ends whole fits e inside = e
+word_shortened s word.Float front remainder more piece ends whole fits e inside = e
+word_shortened s (word.Fixed terminal) front remainder more piece ends whole fits e inside = e
 
 front_shortened : (s : Situation) (text more : Text) (found : Option (Class × ℕ)) (piece : Piece) → ends_line text ≡ true → longest_front (class_in language) text ≡ found → front_step s (text ++ more) found ≡ Stands piece → piece.len < length text → front_step s text found ≡ Stands piece
 front_shortened s text more None piece h found e inside = cc

@@ -1,4 +1,4 @@
--- What a clean cut and a text behind it come to where a tab stands in that text's first margin.
+-- What a clean cut and a text remainder it come to where a tab stands in that text's first margin.
 use Rattle.std.proofs.Common.{◌≡◌, ℕ, ◌+◌, ◌≤◌, ◌<◌, Bool, true, false, not, List, [], ◌∷◌, ◌++◌, length, take, drop, map, refl, ap, ◌∙◌, sym, subst, Some, None, arith, append-nil, ◌⊎◌, inl, inr}
 use Rattle.std.specs.Prelude.{◌||◌, ◌==◌, if◌then◌else◌}
 use Rattle.std.specs.List.{list_all}
@@ -31,7 +31,7 @@ tab = record { begin = 0; node = InvalidTab; end = 0 }
 
 -- content with a tab before it
 pub record HasTab (margin : Margin) : Type 0 where
-  pub content : is_content margin.behind ≡ true
+  pub content : is_content margin.remainder ≡ true
   pub is : has_tab margin ≡ true
 
 pub margin_tab : (len : ℕ) (lexemes : List Lexeme) (levels : List ℕ) (margin : Margin) → HasTab margin → margin_step len lexemes levels margin ≡ Fails tab
@@ -50,9 +50,9 @@ any_fits width = go (width == 0)
 -- the fault of a first margin is a tab's
 pub tab_of : (margin : Margin) (found : Spanned Fault) → margin_step 0 [] [] margin ≡ Fails found → HasTab margin
 unfolding margin_step
-tab_of margin found e = go (is_content margin.behind) (has_tab margin) (fits (width_of margin) []) _ _ _ refl refl (any_fits (width_of margin)) e
+tab_of margin found e = go (is_content margin.remainder) (has_tab margin) (fits (width_of margin) []) _ _ _ refl refl (any_fits (width_of margin)) e
   where
-    go : (content is fitting : Bool) (one other : Piece) (misfit : Spanned Fault) → is_content margin.behind ≡ content → has_tab margin ≡ is → fitting ≡ true
+    go : (content is fitting : Bool) (one other : Piece) (misfit : Spanned Fault) → is_content margin.remainder ≡ content → has_tab margin ≡ is → fitting ≡ true
         → (if not content then Stands one else (if is then Fails tab else (if fitting then Stands other else Fails misfit))) ≡ Fails found → HasTab margin
     go false is fitting one other misfit c t f e = cc
     go true true fitting one other misfit c t f e = record { content = c; is = t }
@@ -61,7 +61,7 @@ tab_of margin found e = go (is_content margin.behind) (has_tab margin) (fits (wi
 
 pub never_ends : (margin : Margin) → margin_step 0 [] [] margin ≡ Ends → ⊥
 unfolding margin_step
-never_ends margin e = go (not (is_content margin.behind)) (has_tab margin) (fits (width_of margin) []) _ _ _ _ e
+never_ends margin e = go (not (is_content margin.remainder)) (has_tab margin) (fits (width_of margin) []) _ _ _ _ e
   where
     go : (blank is fitting : Bool) (one other : Piece) (wrong misfit : Spanned Fault)
         → (if blank then Stands one else (if is then Fails wrong else (if fitting then Stands other else Fails misfit))) ≡ Ends → ⊥
@@ -114,13 +114,13 @@ none_found (lexeme ∷ lexemes) h =
     rw (none_found lexemes parts.1, not_true (is_newline lexeme.node) parts.0) refl
 
 -- the last is found
-last_found : (before : List Lexeme) (lexeme : Lexeme) (behind : List Lexeme) → is_newline lexeme.node ≡ true → no_newline behind ≡ true → before_newline (before ++ lexeme ∷ behind) ≡ Some (before, lexeme.begin)
-last_found [] lexeme behind is none = rw (none_found behind none, is) refl
-last_found (first ∷ before) lexeme behind is none = rw (last_found before lexeme behind is none) refl
+last_found : (before : List Lexeme) (lexeme : Lexeme) (remainder : List Lexeme) → is_newline lexeme.node ≡ true → no_newline remainder ≡ true → before_newline (before ++ lexeme ∷ remainder) ≡ Some (before, lexeme.begin)
+last_found [] lexeme remainder is none = rw (none_found remainder none, is) refl
+last_found (first ∷ before) lexeme remainder is none = rw (last_found before lexeme remainder is none) refl
 
 -- The last piece
 
--- the last margin of a text of whole lines, with a tab in the margin behind it
+-- the last margin of a text of whole lines, with a tab in the margin remainder it
 record TabMargin (len : ℕ) (lexemes : List Lexeme) (levels : List ℕ) (text more : Text) (piece : Piece) : Type 0 where
   fails : margin_step len lexemes levels (margin_of (text ++ more)) ≡ Fails tab
   found : piece.lexemes ≡ lexemes ++ map (moved len) (margin_of text).comments
@@ -144,14 +144,14 @@ tab_margin len lexemes levels text more piece whole stands reach has = go (follo
         }
     go (Within some less f) = absurd (omega (arith, less, reach, margin_step_len len lexemes levels (margin_of text) piece stands))
 
--- a line end and comments behind it
+-- a line end and comments remainder it
 record LineEnds (piece : Piece) : Type 0 where
   len : ℕ
   comments : List Lexeme
   lexemes : piece.lexemes ≡ record { begin = 0; node = Newline; end = len } ∷ comments
   none : no_newline comments ≡ true
 
--- a line end that counts, at the end of a text, with a tab behind it
+-- a line end that counts, at the end of a text, with a tab remainder it
 line_tabbed : (s : Situation) (text more : Text) (piece : Piece) → is_nothing s.before ≡ false → ends_line text ≡ true → is_layout piece.sort ≡ true → piece.len ≡ length text → step_at language s text ≡ Stands piece → HasTab (margin_of more)
     → (step_at language s (text ++ more) ≡ Fails tab) × LineEnds piece
 line_tabbed s text more piece later ends laid reach stands has = counted (counted_end s text piece laid later stands) text refl
@@ -182,7 +182,7 @@ line_tabbed s text more piece later ends laid reach stands has = counted (counte
 
 -- Readings
 
--- the reading of a settled text with a tab behind it: all but the last piece, which is a line end
+-- the reading of a settled text with a tab remainder it: all but the last piece, which is a line end
 record Tabbed (history : History) (text more : Text) (pieces : List Piece) : Type 0 where
   front : List Piece
   last : Piece
@@ -238,7 +238,7 @@ tabbed_reading history text more (piece ∷ next ∷ pieces) later ends some rea
 
 -- Outcomes
 
--- The reading of a clean cut and a tab behind it, and what that comes to.
+-- The reading of a clean cut and a tab remainder it, and what that comes to.
 pub record BehindTab (text more : Text) : Type 0 where
   pub front : List Piece
   pub longest : IsLongestReading language nothing (text ++ more) front (Fails tab)
@@ -294,12 +294,12 @@ module _ (text more : Text) (has : HasTab (margin_of more)) where
       let longest = tab_longest (text ++ more) (first ∷ rest.front) (stands, subst (λ (t : Text). IsReading language (after nothing first) t rest.front) (sym left) rest.reads) (ap (next_step language (after_all (after nothing first) rest.front)) gone ∙ rest.fails) in
       let place : ℕ = 0 + pieces_len (first ∷ rest.front) in
       let line : Lexeme = record { begin = 0 + pieces_len (first ∷ rest.front) + 0; node = Newline; end = 0 + pieces_len (first ∷ rest.front) + rest.line.len } in
-      let behind : List Lexeme = map (moved (0 + pieces_len (first ∷ rest.front))) rest.line.comments in
+      let remainder : List Lexeme = map (moved (0 + pieces_len (first ∷ rest.front))) rest.line.comments in
       let last : lexemes_along (0 + pieces_len (first ∷ rest.front)) (rest.last ∷ []) ≡ record { begin = 0 + pieces_len (first ∷ rest.front) + 0; node = Newline; end = 0 + pieces_len (first ∷ rest.front) + rest.line.len } ∷ map (moved (0 + pieces_len (first ∷ rest.front))) rest.line.comments =
       append-nil (map (moved (0 + pieces_len (first ∷ rest.front))) rest.last.lexemes) ∙ ap (map (moved (0 + pieces_len (first ∷ rest.front)))) rest.line.lexemes in
       let same : without_closing (outcome text).lexemes ≡ lexemes_along 0 (first ∷ rest.front) ++ (record { begin = 0 + pieces_len (first ∷ rest.front) + 0; node = Newline; end = 0 + pieces_len (first ∷ rest.front) + rest.line.len } ∷ map (moved (0 + pieces_len (first ∷ rest.front))) rest.line.comments) =
       kept (first ∷ pieces) here ∙ ap (λ ps. lexemes_along 0 (first ∷ ps)) rest.split ∙ along_both 0 (first ∷ rest.front) (rest.last ∷ []) ∙ ap (λ ls. lexemes_along 0 (first ∷ rest.front) ++ ls) last in
-      let found = last_found (lexemes_along 0 (first ∷ rest.front)) line behind refl (none_moved (0 + pieces_len (first ∷ rest.front)) rest.line.comments rest.line.none) in
+      let found = last_found (lexemes_along 0 (first ∷ rest.front)) line remainder refl (none_moved (0 + pieces_len (first ∷ rest.front)) rest.line.comments rest.line.none) in
       let at : 0 + pieces_len (first ∷ rest.front) + 0 ≡ pieces_len (first ∷ rest.front) + 0 = omega arith in
       record {
         front = first ∷ rest.front;

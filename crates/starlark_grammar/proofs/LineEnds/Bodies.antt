@@ -20,7 +20,7 @@ use Rattle.starlark_grammar.specs.Items.{Literal, Item, Stop, Line, OpeningBrace
 use Rattle.starlark_grammar.specs.Characters.{first_character}
 use Rattle.starlark_grammar.specs.Margins.{is_lf}
 use Rattle.starlark_grammar.specs.LineEnds.{holds_escaped_newline}
-use Rattle.starlark_grammar.proofs.Lists.{drop-sum, drop-behind}
+use Rattle.starlark_grammar.proofs.Lists.{drop-sum, drop-remainder}
 use Rattle.starlark_grammar.proofs.Lines.{in_line}
 use Rattle.starlark_grammar.proofs.Literals.Bodies.{FoundFits, found_fits}
 use Rattle.starlark_grammar.proofs.Order.Edges.{starts_split, digits_run, hex_plain, octal_plain}
@@ -114,7 +114,7 @@ rest_crlf (suc n) (b ∷ bs) h =
       apart = rest.apart;
     }
 
--- behind ASCII bytes
+-- remainder ASCII bytes
 pub apart_plain : (n : ℕ) (text : Text) → is_plain (take n text) ≡ true → apart 0 text ≡ true → apart 0 (drop n text) ≡ true
 apart_plain zero text h k = k
 apart_plain (suc n) [] h k = refl
@@ -139,7 +139,7 @@ same_stop text stop = λ closed. refl
 same_item : (text : Text) (len : ℕ) (value : Text) (other : Found) → drop len (crlf text) ≡ crlf (drop len text) → apart 0 (drop len text) ≡ true → other ≡ goes len value → FoundCrlf text (goes len value) other
 same_item text len value other left more e = (record { len = len; value = value }, e, refl, left, more)
 
-broken_crlf : (text : Text) (good : ℕ) (behind : Text) (other : Found) → FoundCrlf text (broken good behind) other
+broken_crlf : (text : Text) (good : ℕ) (remainder : Text) (other : Found) → FoundCrlf text (broken good remainder) other
 broken_crlf text good [] other = λ closed. cc
 broken_crlf text good (b ∷ bs) other = λ closed. cc
 
@@ -170,7 +170,7 @@ hex_line b h = grind (arith, nat_tests)
 octal_line : (b : ℕ) → is_octal_digit b ≡ true → is_in_line b ≡ true
 octal_line b h = grind (arith, nat_tests)
 
--- digits behind a backslash and a letter
+-- digits remainder a backslash and a letter
 hexadecimal_crlf : (x wanted : ℕ) (is_byte : Bool) (bs : Text) → is_lf x ≡ false → apart 0 bs ≡ true → FoundCrlf (92 ∷ x ∷ bs) (hexadecimal wanted is_byte bs) (hexadecimal wanted is_byte (crlf bs))
 hexadecimal_crlf x wanted is_byte bs plain more = go (prefix_len is_ascii_hexdigit (take wanted bs)) refl
   where
@@ -218,7 +218,7 @@ octal_crlf is_byte bs more = go (prefix_len is_octal_digit (take 3 bs)) refl
         let same : octal is_byte (crlf bs) ≡ by n (crlf bs) = ap (λ k. by k (crlf bs)) (run_crlf is_octal_digit 3 bs refl refl ∙ e) in
         numbered_crlf (92 ∷ bs) (1 + n) is_byte (digits_value 8 (take n bs)) _ left rest (same ∙ ap (λ (t : Text). numbered (1 + n) is_byte (digits_value 8 t)) front.0)
 
--- a character behind so many bytes
+-- a character remainder so many bytes
 character_crlf : (b : ℕ) (bs : Text) → is_lf b ≡ false → apart 0 (b ∷ bs) ≡ true
     → (first_character (b ∷ crlf bs) ≡ first_character (b ∷ bs)) × (drop (length (first_character (b ∷ bs))) (b ∷ crlf bs) ≡ crlf (drop (length (first_character (b ∷ bs))) (b ∷ bs))) × (apart 0 (drop (length (first_character (b ∷ bs))) (b ∷ bs)) ≡ true)
 character_crlf b bs plain h = let rest = rest_crlf (continuation_len b) bs h in (ap (λ (t : Text). b ∷ t) rest.same, rest.left, rest.apart)
@@ -310,15 +310,15 @@ brace_crlf kind b (c ∷ cs) h k more = go (is_lf c) refl
     stop : Stop
     stop = if b == byte "{" then OpeningBrace else ClosingBrace
 
-    behind : apart 0 (c ∷ cs) ≡ true
-    behind = subst (λ n. apart n (c ∷ cs) ≡ true) (low_byte b (low kind h).0) more
+    remainder : apart 0 (c ∷ cs) ≡ true
+    remainder = subst (λ n. apart n (c ∷ cs) ≡ true) (low_byte b (low kind h).0) more
 
     go : (lf_search : Bool) → is_lf c ≡ lf_search → FoundCrlf (b ∷ c ∷ cs) (brace b (c ∷ cs)) (brace b (if lf_search then 13 ∷ 10 ∷ crlf cs else c ∷ crlf cs))
     go true e =
         let other : (b == c) ≡ false = ap (λ n. b == n) (eqb-true c 10 e) ∙ (low kind h).1 in
         rw (other, (low kind h).2) (λ closed. refl)
     go false e = both (FoundCrlf (b ∷ c ∷ cs)) (b == c) _ _ _ _
-        (λ same. same_item (b ∷ c ∷ cs) 2 (b ∷ []) _ (drop_two (low kind h).1 e) (subst (λ n. apart n cs ≡ true) (low_byte c (omega (arith, (low kind h).0, eqb-true b c same))) behind) refl)
+        (λ same. same_item (b ∷ c ∷ cs) 2 (b ∷ []) _ (drop_two (low kind h).1 e) (subst (λ n. apart n cs ≡ true) (low_byte c (omega (arith, (low kind h).0, eqb-true b c same))) remainder) refl)
         (λ differs. λ closed. refl)
       where
         drop_two : is_lf b ≡ false → is_lf c ≡ false → drop 2 (crlf (b ∷ c ∷ cs)) ≡ crlf (drop 2 (b ∷ c ∷ cs))
@@ -384,7 +384,7 @@ found_raw literal cs raw = (if drops_backslash literal.kind literal.opening.quot
 
 -- Bodies
 
--- the body behind an item
+-- the body remainder an item
 from_is : (literal : Literal) (passed : ℕ) (text : Text) → body_from literal passed text ≡ body_at literal (drop passed text)
 unfolding body_from body_at
 from_is literal zero text = refl
@@ -401,12 +401,12 @@ unrolled literal b bs = refl
 body_item : (literal : Literal) (b : ℕ) (bs : Text) (item : Item) → found_at literal (b ∷ bs) ≡ Goes item → 1 ≤ item.len → body_at literal (b ∷ bs) ≡ with_item item (body_at literal (drop item.len (b ∷ bs)))
 body_item literal b bs item e some =
     unrolled literal b bs ∙ ap (λ (found : Found). body_onward found (λ passed. body_from literal passed bs)) e
-    ∙ ap (with_item item) (from_is literal (item.len - 1) bs ∙ ap (body_at literal) (sym (drop-behind item.len b bs some)))
+    ∙ ap (with_item item) (from_is literal (item.len - 1) bs ∙ ap (body_at literal) (sym (drop-remainder item.len b bs some)))
 
 some_item : (literal : Literal) (text : Text) (item : Item) → found_at literal text ≡ Goes item → 1 ≤ item.len
 some_item literal text item e = (subst (FoundFits literal.opening text) e (found_fits literal text)).0
 
--- A body that is closed has the same stop and value in the form, and the form of what is left behind it.
+-- A body that is closed has the same stop and value in the form, and the form of what is left remainder it.
 pub record BodyCrlf (literal : Literal) (text : Text) (body : Body) : Type 0 where
   pub stop : (body_at literal (crlf text)).stop ≡ body.stop
   pub value : body_value (body_at literal (crlf text)) ≡ body_value body
@@ -494,13 +494,13 @@ body_from_crlf literal zero (b ∷ bs) h more raw closed = by (is_lf b) refl (λ
     Again : Type 0
     Again = (passed : ℕ) → apart 0 (drop passed bs) ≡ true → RawApart literal (drop passed bs) (body_from literal passed bs) → is_closed (body_from literal passed bs).stop ≡ true → BodyCrlf literal (drop passed bs) (body_from literal passed bs)
 
-    -- what is left behind an item
-    behind : (item : Item) → 1 ≤ item.len → RawApart literal (b ∷ bs) (with_item item (body_from literal (item.len - 1) bs)) → RawApart literal (drop (item.len - 1) bs) (body_from literal (item.len - 1) bs)
-    behind item some none is_raw =
+    -- what is left remainder an item
+    remainder : (item : Item) → 1 ≤ item.len → RawApart literal (b ∷ bs) (with_item item (body_from literal (item.len - 1) bs)) → RawApart literal (drop (item.len - 1) bs) (body_from literal (item.len - 1) bs)
+    remainder item some none is_raw =
         let all = none is_raw in
         let total : take (body_len (with_item item (body_from literal (item.len - 1) bs))) (b ∷ bs) ≡ take (item.len + body_len (body_from literal (item.len - 1) bs)) (b ∷ bs) = ap (λ n. take n (b ∷ bs)) (item_total item (body_from literal (item.len - 1) bs)) in
         let dropped : drop item.len (take (item.len + body_len (body_from literal (item.len - 1) bs)) (b ∷ bs)) ≡ take (body_len (body_from literal (item.len - 1) bs)) (drop (item.len - 1) bs) =
-        drop-take item.len (body_len (body_from literal (item.len - 1) bs)) (b ∷ bs) ∙ ap (take (body_len (body_from literal (item.len - 1) bs))) (drop-behind item.len b bs some) in
+        drop-take item.len (body_len (body_from literal (item.len - 1) bs)) (b ∷ bs) ∙ ap (take (body_len (body_from literal (item.len - 1) bs))) (drop-remainder item.len b bs some) in
         subst (λ (t : Text). holds_escaped_newline t ≡ false) (ap (drop item.len) total ∙ dropped) (holds_drop item.len (take (body_len (with_item item (body_from literal (item.len - 1) bs))) (b ∷ bs)) all)
 
     feed : (b : ℕ) → b ≡ 10 → apart 0 (b ∷ bs) ≡ true → RawApart literal (b ∷ bs) (body_onward (found_at literal (b ∷ bs)) rest) → is_closed (body_onward (found_at literal (b ∷ bs)) rest).stop ≡ true → Again
@@ -544,13 +544,13 @@ body_from_crlf literal zero (b ∷ bs) h more raw closed = by (is_lf b) refl (λ
             }
         go (Goes item) f other raw closed =
             let some = some_item literal (b ∷ bs) item f in
-            let left : drop item.len (b ∷ bs) ≡ drop (item.len - 1) bs = drop-behind item.len b bs some in
+            let left : drop item.len (b ∷ bs) ≡ drop (item.len - 1) bs = drop-remainder item.len b bs some in
             let form : Item = other.0 in
             let some_form = some_item literal (b ∷ crlf bs) other.0 other.1 in
             let whole : body_at literal (crlf (b ∷ bs)) ≡ with_item other.0 (body_at literal (drop other.0.len (crlf (b ∷ bs)))) =
             subst (λ (t : Text). body_at literal t ≡ with_item other.0 (body_at literal (drop other.0.len t))) (sym (form_other b bs e)) (body_item literal b (crlf bs) other.0 other.1 some_form) in
             item_onward literal (b ∷ bs) item other.0 (body_from literal (item.len - 1) bs) whole other.2 other.3
-            (subst (λ (t : Text). BodyCrlf literal t (body_from literal (item.len - 1) bs)) (sym left) (again (item.len - 1) (subst (λ (t : Text). apart 0 t ≡ true) left other.4) (behind item some raw) closed))
+            (subst (λ (t : Text). BodyCrlf literal t (body_from literal (item.len - 1) bs)) (sym left) (again (item.len - 1) (subst (λ (t : Text). apart 0 t ≡ true) left other.4) (remainder item some raw) closed))
 
 pub body_crlf : (literal : Literal) (text : Text) → no_return text ≡ true → apart 0 text ≡ true → RawApart literal text (body_at literal text) → is_closed (body_at literal text).stop ≡ true → BodyCrlf literal text (body_at literal text)
 unfolding body_at

@@ -193,7 +193,7 @@ while_no_return (l ∷ ls) h = by (is_comment_only l) (while_no_return ls parts.
     by true more = rw one-add (rw (parts.0) more)
     by false more = refl
 
--- what is left behind comment-only lines
+-- what is left remainder comment-only lines
 
 abbrev flat : List Text → Text
 flat [] = []
@@ -238,10 +238,10 @@ behind_comments text =
 
 -- Margins
 
--- How the form of a text goes on behind a margin: by the form of what is left, or from an LF on, whose CR is one of the blanks.
+-- How the form of a text goes on remainder a margin: by the form of what is left, or from an LF on, whose CR is one of the blanks.
 pub data Left (text other : Text) (content : Bool) : Type 0 where
   Whole : other ≡ crlf text → Left text other content
-  Behind : (rest : Text) → text ≡ 10 ∷ rest → other ≡ 10 ∷ crlf rest → content ≡ false → Left text other content
+  AfterComments : (rest : Text) → text ≡ 10 ∷ rest → other ≡ 10 ∷ crlf rest → content ≡ false → Left text other content
 
 margin_drop : (passed : List Text) (at : ℕ) (text rest : Text) → drop at text ≡ rest → drop (margin_len (margin_from passed at rest)) text ≡ drop (blanks_len rest) rest
 margin_drop passed at text rest e =
@@ -262,9 +262,9 @@ margin_form text =
 -- a margin and that of the form
 record MarginCrlf (text : Text) (margin form : Margin) : Type 0 where
   comments : nodes form.comments ≡ nodes margin.comments
-  content : is_content form.behind ≡ is_content margin.behind
-  blanks : is_content margin.behind ≡ true → form.blanks ≡ margin.blanks
-  left : Left (drop (margin_len margin) text) (drop (margin_len form) (crlf text)) (is_content margin.behind)
+  content : is_content form.remainder ≡ is_content margin.remainder
+  blanks : is_content margin.remainder ≡ true → form.blanks ≡ margin.blanks
+  left : Left (drop (margin_len margin) text) (drop (margin_len form) (crlf text)) (is_content margin.remainder)
 
 from_crlf : (text rest : Text) (passed : List Text) → no_return text ≡ true → drop (lines_sum passed) text ≡ rest → drop (lines_sum (map crlf passed)) (crlf text) ≡ crlf rest → list_all (λ (line : Text). no_return line) passed ≡ true → list_all is_comment_only passed ≡ true
     → MarginCrlf text (margin_from passed (lines_sum passed) rest) (margin_from (map crlf passed) (lines_sum (map crlf passed)) (crlf rest))
@@ -289,7 +289,7 @@ from_crlf text rest passed h here there plain only = by (blanks_crlf rest)
           comments = comments_nodes 0 0 passed plain only;
           content = ap is_content form ∙ sym none;
           blanks = λ some. let wrong : true ≡ false = sym some ∙ none in cc;
-          left = Behind more (dropped ∙ blank) (dropped_form ∙ form) none;
+          left = AfterComments more (dropped ∙ blank) (dropped_form ∙ form) none;
         }
 
 margin_crlf : (text : Text) → no_return text ≡ true → MarginCrlf text (margin_of text) (margin_of (crlf text))
@@ -352,15 +352,15 @@ pub record MarginStands (len : ℕ) (before : List Lexeme) (levels : List ℕ) (
   pub stands : margin_step len before levels (margin_of (crlf text)) ≡ Stands form
   pub like : PieceCrlf piece form
   pub sort : piece.sort ≡ Layout
-  pub outside : is_content (margin_of text).behind ≡ false → neutral piece.lexemes ≡ true
+  pub outside : is_content (margin_of text).remainder ≡ false → neutral piece.lexemes ≡ true
   pub len_is : piece.len ≡ at + margin_len (margin_of text)
   pub form_len : form.len ≡ len + margin_len (margin_of (crlf text))
-  pub left : Left (drop (margin_len (margin_of text)) text) (drop (margin_len (margin_of (crlf text))) (crlf text)) (is_content (margin_of text).behind)
+  pub left : Left (drop (margin_len (margin_of text)) text) (drop (margin_len (margin_of (crlf text))) (crlf text)) (is_content (margin_of text).remainder)
 
 pub margin_stands : (at len : ℕ) (line before : List Lexeme) (levels : List ℕ) (text : Text) (piece : Piece) → no_return text ≡ true → nodes before ≡ nodes line → margin_step at line levels (margin_of text) ≡ Stands piece → neutral line ≡ true → MarginStands len before levels text at piece
 unfolding margin_step
 margin_stands at len line before levels text piece h same stands calm =
-    go (is_content (margin_of text).behind) refl (has_tab (margin_of text)) refl (fits (width_of (margin_of text)) levels) refl stands
+    go (is_content (margin_of text).remainder) refl (has_tab (margin_of text)) refl (fits (width_of (margin_of text)) levels) refl stands
   where
     both : MarginCrlf text (margin_of text) (margin_of (crlf text))
     both = margin_crlf text h
@@ -380,7 +380,7 @@ margin_stands at len line before levels text piece h same stands calm =
         ∙ sym (nodes_both (margin_of text).comments one) ∙ sym (nodes_moved at ((margin_of text).comments ++ one)))
         ∙ sym (nodes_both line (map (moved at) ((margin_of text).comments ++ one)))
 
-    made : (one other : List Lexeme) (width : Option ℕ) → nodes other ≡ nodes one → Stands (here one width) ≡ Stands piece → margin_step len before levels (margin_of (crlf text)) ≡ Stands (there other width) → (is_content (margin_of text).behind ≡ false → one ≡ []) → MarginStands len before levels text at piece
+    made : (one other : List Lexeme) (width : Option ℕ) → nodes other ≡ nodes one → Stands (here one width) ≡ Stands piece → margin_step len before levels (margin_of (crlf text)) ≡ Stands (there other width) → (is_content (margin_of text).remainder ≡ false → one ≡ []) → MarginStands len before levels text at piece
     made one other width e f g none =
         let piece_is : here one width ≡ piece = cc in
         subst (MarginStands len before levels text at) piece_is (record {
@@ -395,7 +395,7 @@ margin_stands at len line before levels text piece h same stands calm =
           left = both.left;
         })
 
-    go : (content : Bool) → is_content (margin_of text).behind ≡ content → (tab : Bool) → has_tab (margin_of text) ≡ tab → (fitting : Bool) → fits (width_of (margin_of text)) levels ≡ fitting
+    go : (content : Bool) → is_content (margin_of text).remainder ≡ content → (tab : Bool) → has_tab (margin_of text) ≡ tab → (fitting : Bool) → fits (width_of (margin_of text)) levels ≡ fitting
         → (if not content then Stands (here [] None) else (if tab then Fails (record { begin = 0; node = InvalidTab; end = 0 }) else (if fitting then Stands (here (indentation levels (margin_of text)) (Some (width_of (margin_of text)))) else Fails (record { begin = 0; node = Indentation; end = at + margin_len (margin_of text) })))) ≡ Stands piece
         → MarginStands len before levels text at piece
     go false c tab t fitting f e = made [] [] None refl e (rw (both.content, c) refl) (λ blank. refl)

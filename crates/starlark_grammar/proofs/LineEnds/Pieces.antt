@@ -29,9 +29,9 @@ use Rattle.starlark_grammar.proofs.Joining.FollowedPieces.{quotes_in_line}
 use Rattle.starlark_grammar.proofs.Joining.Joined.{outside}
 use Rattle.starlark_grammar.proofs.LineEnds.Texts.{crlf, no_return, no_return_drop, crlf_line, starts_crlf, behind_crlf}
 use Rattle.starlark_grammar.proofs.LineEnds.Bodies.{apart, apart_plain, BodyCrlf, RawApart, holds_drop, body_crlf}
-use Rattle.starlark_grammar.proofs.LineEnds.Margins.{nodes, nodes_both, neutral, Left, Whole, Behind, PieceCrlf, margin_stands}
+use Rattle.starlark_grammar.proofs.LineEnds.Margins.{nodes, nodes_both, neutral, Left, Whole, AfterComments, PieceCrlf, margin_stands}
 
--- How the form of a text goes on behind a piece: by the form of what is left, or from an LF on, behind a line end that counts.
+-- How the form of a text goes on remainder a piece: by the form of what is left, or from an LF on, remainder a line end that counts.
 pub data LeftAt (place : Mode) (piece : Piece) (text other : Text) : Type 0 where
   AtWhole : other ≡ crlf text → LeftAt place piece text other
   AtFeed : (rest : Text) → text ≡ 10 ∷ rest → other ≡ 10 ∷ crlf rest → place ≡ Outside → neutral piece.lexemes ≡ true → piece.sort ≡ Layout → LeftAt place piece text other
@@ -47,13 +47,13 @@ pub alike : (piece : Piece) → PieceCrlf piece piece
 alike piece = record { same = refl; width = refl; sort = refl }
 
 -- a piece that is a word in a line
-lone_word : (place : Mode) (front behind : Text) (one other : Step) (piece : Piece) → in_line front ≡ true → one ≡ Stands piece → other ≡ one → piece.len ≡ length front → StandsCrlf place (front ++ behind) (crlf front ++ crlf behind) other piece
-lone_word place front behind one other piece line e same len = record {
+lone_word : (place : Mode) (front remainder : Text) (one other : Step) (piece : Piece) → in_line front ≡ true → one ≡ Stands piece → other ≡ one → piece.len ≡ length front → StandsCrlf place (front ++ remainder) (crlf front ++ crlf remainder) other piece
+lone_word place front remainder one other piece line e same len = record {
   form = piece;
   stands = same ∙ e;
   like = alike piece;
-  left = AtWhole (ap (λ n. drop n (crlf front ++ crlf behind)) len ∙ ap (λ (t : Text). drop (length front) (t ++ crlf behind)) (crlf_line front line) ∙ drop-append_seam front (crlf behind)
-      ∙ ap crlf (sym (ap (λ n. drop n (front ++ behind)) len ∙ drop-append_seam front behind)));
+  left = AtWhole (ap (λ n. drop n (crlf front ++ crlf remainder)) len ∙ ap (λ (t : Text). drop (length front) (t ++ crlf remainder)) (crlf_line front line) ∙ drop-append_seam front (crlf remainder)
+      ∙ ap crlf (sym (ap (λ n. drop n (front ++ remainder)) len ∙ drop-append_seam front remainder)));
 }
 
 token_len : (len : ℕ) (node : Token) (piece : Piece) → token len node ≡ Stands piece → piece.len ≡ len
@@ -64,14 +64,14 @@ plain_len : (len : ℕ) (sort : Before) (piece : Piece) → Stands (record { len
 plain_len len sort piece e = cc
 
 -- a piece that gives nothing
-empty_word : (place : Mode) (front made behind : Text) (sort : Before) (piece : Piece) → Stands (record { len = length front; lexemes = []; width = None; sort = sort }) ≡ Stands piece
-    → StandsCrlf place (front ++ behind) (made ++ crlf behind) (Stands (record { len = length made; lexemes = []; width = None; sort = sort })) piece
-empty_word place front made behind sort piece e =
-    subst (StandsCrlf place (front ++ behind) (made ++ crlf behind) (Stands (record { len = length made; lexemes = []; width = None; sort = sort }))) (plain_len (length front) sort piece e) (record {
+empty_word : (place : Mode) (front made remainder : Text) (sort : Before) (piece : Piece) → Stands (record { len = length front; lexemes = []; width = None; sort = sort }) ≡ Stands piece
+    → StandsCrlf place (front ++ remainder) (made ++ crlf remainder) (Stands (record { len = length made; lexemes = []; width = None; sort = sort })) piece
+empty_word place front made remainder sort piece e =
+    subst (StandsCrlf place (front ++ remainder) (made ++ crlf remainder) (Stands (record { len = length made; lexemes = []; width = None; sort = sort }))) (plain_len (length front) sort piece e) (record {
       form = record { len = length made; lexemes = []; width = None; sort = sort };
       stands = refl;
       like = record { same = refl; width = refl; sort = refl };
-      left = AtWhole (drop-append_seam made (crlf behind) ∙ ap crlf (sym (drop-append_seam front behind)));
+      left = AtWhole (drop-append_seam made (crlf remainder) ∙ ap crlf (sym (drop-append_seam front remainder)));
     })
 
 -- Literals
@@ -97,7 +97,7 @@ holds_front (b ∷ one) other h = by (b == byte "\\") (starts_with nat_eq one (c
 take_more : (n m : ℕ) (text : Text) → (rest : Text) × (take (n + m) text ≡ take n text ++ rest)
 take_more n m text = (take m (drop n text), take-add n m text)
 
--- what closes a body, and the form of what is left behind it
+-- what closes a body, and the form of what is left remainder it
 closed_left : (opening : Opening) (text other : Text) (len form : ℕ) → drop form other ≡ crlf (drop len text) → starts_with nat_eq (drop len text) (closing_quotes opening) ≡ true
     → drop (form + length (closing_quotes opening)) other ≡ crlf (drop (len + length (closing_quotes opening)) text)
 closed_left opening text other len form left starts =
@@ -122,14 +122,14 @@ escape_fails begin [] piece e = cc
 escape_fails begin (b ∷ bs) piece e = cc
 
 -- a literal that stands is closed
-literal_closed : (place : Mode) (kind : Kind) (opening : Opening) (len : ℕ) (behind : Text) (body : Body) (stop : Stop) (piece : Piece) → literal_by place kind opening len behind body stop ≡ Stands piece
+literal_closed : (place : Mode) (kind : Kind) (opening : Opening) (len : ℕ) (remainder : Text) (body : Body) (stop : Stop) (piece : Piece) → literal_by place kind opening len remainder body stop ≡ Stands piece
     → (stop ≡ Closing) × (token (len + body_len body + length (closing_quotes opening)) (literal_token kind (body_value body)) ≡ Stands piece)
-literal_closed place kind opening len behind body Closing piece e = (refl, e)
-literal_closed place kind opening len behind body (BadEscape read last) piece e = absurd (escape_fails _ _ piece e)
-literal_closed place kind opening len behind body Line piece e = cc
-literal_closed place kind opening len behind body Ended piece e = cc
-literal_closed place kind opening len behind body OpeningBrace piece e = cc
-literal_closed place kind opening len behind body ClosingBrace piece e = cc
+literal_closed place kind opening len remainder body Closing piece e = (refl, e)
+literal_closed place kind opening len remainder body (BadEscape read last) piece e = absurd (escape_fails _ _ piece e)
+literal_closed place kind opening len remainder body Line piece e = cc
+literal_closed place kind opening len remainder body Ended piece e = cc
+literal_closed place kind opening len remainder body OpeningBrace piece e = cc
+literal_closed place kind opening len remainder body ClosingBrace piece e = cc
 
 -- the token of a length, and the same of another
 token_like : (len other : ℕ) (node : Token) (piece : Piece) → token len node ≡ Stands piece → PieceCrlf piece (record { len = other; lexemes = record { begin = 0; node = node; end = other } ∷ []; width = None; sort = Other })
@@ -176,24 +176,24 @@ literal_crlf place kind opening len form text whole other piece h more here ther
 two_quotes : (quote : Quote) → Text
 two_quotes quote = quote_byte quote ∷ quote_byte quote ∷ []
 
-opening_crlf : (is_raw : Bool) (quote : Quote) (behind : Text) → opening_of is_raw quote (crlf behind) ≡ opening_of is_raw quote behind
-opening_crlf is_raw quote behind =
-    ap (λ (triple : Bool). let opening : Opening = record { is_raw = is_raw; quote = quote; is_triple = triple } in opening) (starts_crlf behind (quote_byte quote ∷ quote_byte quote ∷ []) (quotes_in_line quote))
+opening_crlf : (is_raw : Bool) (quote : Quote) (remainder : Text) → opening_of is_raw quote (crlf remainder) ≡ opening_of is_raw quote remainder
+opening_crlf is_raw quote remainder =
+    ap (λ (triple : Bool). let opening : Opening = record { is_raw = is_raw; quote = quote; is_triple = triple } in opening) (starts_crlf remainder (quote_byte quote ∷ quote_byte quote ∷ []) (quotes_in_line quote))
 
--- behind the quotes of an opening
-quotes_left : (is_raw : Bool) (quote : Quote) (behind : Text) → apart 0 behind ≡ true
-    → (drop (more_quotes (opening_of is_raw quote behind)) (crlf behind) ≡ crlf (drop (more_quotes (opening_of is_raw quote behind)) behind)) × (apart 0 (drop (more_quotes (opening_of is_raw quote behind)) behind) ≡ true)
-quotes_left is_raw quote behind more = by (starts_with nat_eq behind (quote_byte quote ∷ quote_byte quote ∷ [])) refl
+-- remainder the quotes of an opening
+quotes_left : (is_raw : Bool) (quote : Quote) (remainder : Text) → apart 0 remainder ≡ true
+    → (drop (more_quotes (opening_of is_raw quote remainder)) (crlf remainder) ≡ crlf (drop (more_quotes (opening_of is_raw quote remainder)) remainder)) × (apart 0 (drop (more_quotes (opening_of is_raw quote remainder)) remainder) ≡ true)
+quotes_left is_raw quote remainder more = by (starts_with nat_eq remainder (quote_byte quote ∷ quote_byte quote ∷ [])) refl
   where
-    plain : (quote : Quote) → is_plain (take 2 (quote_byte quote ∷ quote_byte quote ∷ drop 2 behind)) ≡ true
+    plain : (quote : Quote) → is_plain (take 2 (quote_byte quote ∷ quote_byte quote ∷ drop 2 remainder)) ≡ true
     plain SingleQuote = refl
     plain DoubleQuote = refl
 
-    by : (starts : Bool) → starts_with nat_eq behind (quote_byte quote ∷ quote_byte quote ∷ []) ≡ starts
-        → (drop (if starts then 2 else 0) (crlf behind) ≡ crlf (drop (if starts then 2 else 0) behind)) × (apart 0 (drop (if starts then 2 else 0) behind) ≡ true)
+    by : (starts : Bool) → starts_with nat_eq remainder (quote_byte quote ∷ quote_byte quote ∷ []) ≡ starts
+        → (drop (if starts then 2 else 0) (crlf remainder) ≡ crlf (drop (if starts then 2 else 0) remainder)) × (apart 0 (drop (if starts then 2 else 0) remainder) ≡ true)
     by true e = (
-      behind_crlf behind (quote_byte quote ∷ quote_byte quote ∷ []) (quotes_in_line quote) e,
-      apart_plain 2 behind (subst (λ (t : Text). is_plain (take 2 t) ≡ true) (sym (starts_split behind (quote_byte quote ∷ quote_byte quote ∷ []) e)) (plain quote)) more,
+      behind_crlf remainder (quote_byte quote ∷ quote_byte quote ∷ []) (quotes_in_line quote) e,
+      apart_plain 2 remainder (subst (λ (t : Text). is_plain (take 2 t) ≡ true) (sym (starts_split remainder (quote_byte quote ∷ quote_byte quote ∷ []) e)) (plain quote)) more,
     )
     by false e = (refl, more)
 
@@ -202,50 +202,50 @@ abbrev pub is_raw_kind : Kind → Bool → Bool
 is_raw_kind OfFString is_raw = false
 is_raw_kind kind is_raw = is_raw
 
-module _ (place : Mode) (is_raw : Bool) (quote : Quote) (front behind : Text) (piece : Piece) (line : in_line front ≡ true) (h : no_return behind ≡ true) (more : apart 0 behind ≡ true) where
+module _ (place : Mode) (is_raw : Bool) (quote : Quote) (front remainder : Text) (piece : Piece) (line : in_line front ≡ true) (h : no_return remainder ≡ true) (more : apart 0 remainder ≡ true) where
   opening : Opening
-  opening = opening_of is_raw quote behind
+  opening = opening_of is_raw quote remainder
 
   size : crlf front ≡ front
   size = crlf_line front line
 
-  same_opening : opening_of is_raw quote (crlf behind) ≡ opening_of is_raw quote behind
-  same_opening = opening_crlf is_raw quote behind
+  same_opening : opening_of is_raw quote (crlf remainder) ≡ opening_of is_raw quote remainder
+  same_opening = opening_crlf is_raw quote remainder
 
-  here : drop (length front + more_quotes (opening_of is_raw quote behind)) (front ++ behind) ≡ drop (more_quotes (opening_of is_raw quote behind)) behind
-  here = drop-append-add front behind (more_quotes (opening_of is_raw quote behind))
+  here : drop (length front + more_quotes (opening_of is_raw quote remainder)) (front ++ remainder) ≡ drop (more_quotes (opening_of is_raw quote remainder)) remainder
+  here = drop-append-add front remainder (more_quotes (opening_of is_raw quote remainder))
 
-  there : drop (length front + more_quotes (opening_of is_raw quote behind)) (crlf front ++ crlf behind) ≡ crlf (drop (more_quotes (opening_of is_raw quote behind)) behind)
-  there = ap (λ (t : Text). drop (length front + more_quotes (opening_of is_raw quote behind)) (t ++ crlf behind)) (crlf_line front line) ∙ drop-append-add front (crlf behind) (more_quotes (opening_of is_raw quote behind)) ∙ (quotes_left is_raw quote behind more).0
+  there : drop (length front + more_quotes (opening_of is_raw quote remainder)) (crlf front ++ crlf remainder) ≡ crlf (drop (more_quotes (opening_of is_raw quote remainder)) remainder)
+  there = ap (λ (t : Text). drop (length front + more_quotes (opening_of is_raw quote remainder)) (t ++ crlf remainder)) (crlf_line front line) ∙ drop-append-add front (crlf remainder) (more_quotes (opening_of is_raw quote remainder)) ∙ (quotes_left is_raw quote remainder more).0
 
-  fstring_crlf : token (length front + more_quotes (opening_of is_raw quote behind)) (FStringStart (opening_of is_raw quote behind)) ≡ Stands piece
-      → StandsCrlf place (front ++ behind) (crlf front ++ crlf behind) (token (length (crlf front) + more_quotes (opening_of is_raw quote (crlf behind))) (FStringStart (opening_of is_raw quote (crlf behind)))) piece
+  fstring_crlf : token (length front + more_quotes (opening_of is_raw quote remainder)) (FStringStart (opening_of is_raw quote remainder)) ≡ Stands piece
+      → StandsCrlf place (front ++ remainder) (crlf front ++ crlf remainder) (token (length (crlf front) + more_quotes (opening_of is_raw quote (crlf remainder))) (FStringStart (opening_of is_raw quote (crlf remainder)))) piece
   fstring_crlf e =
-      let len = token_len (length front + more_quotes (opening_of is_raw quote behind)) (FStringStart (opening_of is_raw quote behind)) piece e in
+      let len = token_len (length front + more_quotes (opening_of is_raw quote remainder)) (FStringStart (opening_of is_raw quote remainder)) piece e in
       record {
         form = piece;
-        stands = ap (λ (t : Text). token (length t + more_quotes (opening_of is_raw quote (crlf behind))) (FStringStart (opening_of is_raw quote (crlf behind)))) (crlf_line front line)
-            ∙ ap (λ (o : Opening). token (length front + more_quotes o) (FStringStart o)) (opening_crlf is_raw quote behind) ∙ e;
+        stands = ap (λ (t : Text). token (length t + more_quotes (opening_of is_raw quote (crlf remainder))) (FStringStart (opening_of is_raw quote (crlf remainder)))) (crlf_line front line)
+            ∙ ap (λ (o : Opening). token (length front + more_quotes o) (FStringStart o)) (opening_crlf is_raw quote remainder) ∙ e;
         like = alike piece;
-        left = AtWhole (ap (λ n. drop n (crlf front ++ crlf behind)) len ∙ there ∙ ap crlf (sym (ap (λ n. drop n (front ++ behind)) len ∙ here)));
+        left = AtWhole (ap (λ n. drop n (crlf front ++ crlf remainder)) len ∙ there ∙ ap crlf (sym (ap (λ n. drop n (front ++ remainder)) len ∙ here)));
       }
 
-  text_crlf : (kind : Kind) → (is_raw ≡ true → holds_escaped_newline (take piece.len (front ++ behind)) ≡ false)
-      → literal place kind (opening_of is_raw quote behind) (length front + more_quotes (opening_of is_raw quote behind)) (drop (more_quotes (opening_of is_raw quote behind)) behind) ≡ Stands piece
-      → StandsCrlf place (front ++ behind) (crlf front ++ crlf behind) (literal place kind (opening_of is_raw quote (crlf behind)) (length (crlf front) + more_quotes (opening_of is_raw quote (crlf behind))) (drop (more_quotes (opening_of is_raw quote (crlf behind))) (crlf behind))) piece
+  text_crlf : (kind : Kind) → (is_raw ≡ true → holds_escaped_newline (take piece.len (front ++ remainder)) ≡ false)
+      → literal place kind (opening_of is_raw quote remainder) (length front + more_quotes (opening_of is_raw quote remainder)) (drop (more_quotes (opening_of is_raw quote remainder)) remainder) ≡ Stands piece
+      → StandsCrlf place (front ++ remainder) (crlf front ++ crlf remainder) (literal place kind (opening_of is_raw quote (crlf remainder)) (length (crlf front) + more_quotes (opening_of is_raw quote (crlf remainder))) (drop (more_quotes (opening_of is_raw quote (crlf remainder))) (crlf remainder))) piece
   text_crlf kind raw e =
-      let quotes = more_quotes (opening_of is_raw quote behind) in
-      let found = literal_crlf place kind (opening_of is_raw quote behind) (length front + more_quotes (opening_of is_raw quote behind)) (length front + more_quotes (opening_of is_raw quote behind)) (drop (more_quotes (opening_of is_raw quote behind)) behind) (front ++ behind) (crlf front ++ crlf behind) piece
-      (no_return_drop (more_quotes (opening_of is_raw quote behind)) behind h) (quotes_left is_raw quote behind more).1 here there raw e in
-      let step : literal place kind (opening_of is_raw quote (crlf behind)) (length (crlf front) + more_quotes (opening_of is_raw quote (crlf behind))) (drop (more_quotes (opening_of is_raw quote (crlf behind))) (crlf behind))
-      ≡ literal place kind (opening_of is_raw quote behind) (length front + more_quotes (opening_of is_raw quote behind)) (crlf (drop (more_quotes (opening_of is_raw quote behind)) behind)) =
-      ap (λ (t : Text). literal place kind (opening_of is_raw quote (crlf behind)) (length t + more_quotes (opening_of is_raw quote (crlf behind))) (drop (more_quotes (opening_of is_raw quote (crlf behind))) (crlf behind))) (crlf_line front line)
-      ∙ ap (λ (o : Opening). literal place kind o (length front + more_quotes o) (drop (more_quotes o) (crlf behind))) (opening_crlf is_raw quote behind)
-      ∙ ap (literal place kind (opening_of is_raw quote behind) (length front + more_quotes (opening_of is_raw quote behind))) (quotes_left is_raw quote behind more).0 in
+      let quotes = more_quotes (opening_of is_raw quote remainder) in
+      let found = literal_crlf place kind (opening_of is_raw quote remainder) (length front + more_quotes (opening_of is_raw quote remainder)) (length front + more_quotes (opening_of is_raw quote remainder)) (drop (more_quotes (opening_of is_raw quote remainder)) remainder) (front ++ remainder) (crlf front ++ crlf remainder) piece
+      (no_return_drop (more_quotes (opening_of is_raw quote remainder)) remainder h) (quotes_left is_raw quote remainder more).1 here there raw e in
+      let step : literal place kind (opening_of is_raw quote (crlf remainder)) (length (crlf front) + more_quotes (opening_of is_raw quote (crlf remainder))) (drop (more_quotes (opening_of is_raw quote (crlf remainder))) (crlf remainder))
+      ≡ literal place kind (opening_of is_raw quote remainder) (length front + more_quotes (opening_of is_raw quote remainder)) (crlf (drop (more_quotes (opening_of is_raw quote remainder)) remainder)) =
+      ap (λ (t : Text). literal place kind (opening_of is_raw quote (crlf remainder)) (length t + more_quotes (opening_of is_raw quote (crlf remainder))) (drop (more_quotes (opening_of is_raw quote (crlf remainder))) (crlf remainder))) (crlf_line front line)
+      ∙ ap (λ (o : Opening). literal place kind o (length front + more_quotes o) (drop (more_quotes o) (crlf remainder))) (opening_crlf is_raw quote remainder)
+      ∙ ap (literal place kind (opening_of is_raw quote remainder) (length front + more_quotes (opening_of is_raw quote remainder))) (quotes_left is_raw quote remainder more).0 in
       record { form = found.form; stands = step ∙ found.stands; like = found.like; left = found.left }
 
-  opener_crlf : (kind : Kind) → (is_raw_kind kind is_raw ≡ true → holds_escaped_newline (take piece.len (front ++ behind)) ≡ false) → opener place kind (opening_of is_raw quote behind) (length front) behind ≡ Stands piece
-      → StandsCrlf place (front ++ behind) (crlf front ++ crlf behind) (opener place kind (opening_of is_raw quote (crlf behind)) (length (crlf front)) (crlf behind)) piece
+  opener_crlf : (kind : Kind) → (is_raw_kind kind is_raw ≡ true → holds_escaped_newline (take piece.len (front ++ remainder)) ≡ false) → opener place kind (opening_of is_raw quote remainder) (length front) remainder ≡ Stands piece
+      → StandsCrlf place (front ++ remainder) (crlf front ++ crlf remainder) (opener place kind (opening_of is_raw quote (crlf remainder)) (length (crlf front)) (crlf remainder)) piece
   opener_crlf OfFString raw e = fstring_crlf e
   opener_crlf OfText raw e = text_crlf OfText raw e
   opener_crlf OfBytes raw e = text_crlf OfBytes raw e
@@ -260,49 +260,49 @@ decimal_len : (front : Text) (zero_first : Bool) (piece : Piece) → (if zero_fi
 decimal_len front true piece e = cc
 decimal_len front false piece e = token_len (length front) (Int (integer_of 10 front)) piece e
 
-pub line_end_crlf : (s : Situation) (front made behind : Text) (piece : Piece) → no_return behind ≡ true → word_step s word.LineEnd front behind ≡ Stands piece
-    → StandsCrlf s.place (front ++ behind) (made ++ crlf behind) (word_step s word.LineEnd made (crlf behind)) piece
-line_end_crlf s front made behind piece h e = by (counts s.place s.is_balanced) refl e
+pub line_end_crlf : (s : Situation) (front made remainder : Text) (piece : Piece) → no_return remainder ≡ true → word_step s word.LineEnd front remainder ≡ Stands piece
+    → StandsCrlf s.place (front ++ remainder) (made ++ crlf remainder) (word_step s word.LineEnd made (crlf remainder)) piece
+line_end_crlf s front made remainder piece h e = by (counts s.place s.is_balanced) refl e
   where
     line : ℕ → List Lexeme
     line len = record { begin = 0; node = Newline; end = len } ∷ []
 
     by : (counted : Bool) → counts s.place s.is_balanced ≡ counted
-        → (if counted then margin_step (length front) (line (length front)) s.levels (margin_of behind) else Stands (record { len = length front; lexemes = []; width = None; sort = Other })) ≡ Stands piece
-        → StandsCrlf s.place (front ++ behind) (made ++ crlf behind) (if counted then margin_step (length made) (line (length made)) s.levels (margin_of (crlf behind)) else Stands (record { len = length made; lexemes = []; width = None; sort = Other })) piece
-    by false f e = empty_word s.place front made behind Other piece e
+        → (if counted then margin_step (length front) (line (length front)) s.levels (margin_of remainder) else Stands (record { len = length front; lexemes = []; width = None; sort = Other })) ≡ Stands piece
+        → StandsCrlf s.place (front ++ remainder) (made ++ crlf remainder) (if counted then margin_step (length made) (line (length made)) s.levels (margin_of (crlf remainder)) else Stands (record { len = length made; lexemes = []; width = None; sort = Other })) piece
+    by false f e = empty_word s.place front made remainder Other piece e
     by true f e =
-        let found = margin_stands (length front) (length made) (line (length front)) (line (length made)) s.levels behind piece h refl e refl in
-        let here : drop piece.len (front ++ behind) ≡ drop (margin_len (margin_of behind)) behind = ap (λ n. drop n (front ++ behind)) found.len_is ∙ drop-append-add front behind (margin_len (margin_of behind)) in
-        let there : drop found.form.len (made ++ crlf behind) ≡ drop (margin_len (margin_of (crlf behind))) (crlf behind) = ap (λ n. drop n (made ++ crlf behind)) found.form_len ∙ drop-append-add made (crlf behind) (margin_len (margin_of (crlf behind))) in
+        let found = margin_stands (length front) (length made) (line (length front)) (line (length made)) s.levels remainder piece h refl e refl in
+        let here : drop piece.len (front ++ remainder) ≡ drop (margin_len (margin_of remainder)) remainder = ap (λ n. drop n (front ++ remainder)) found.len_is ∙ drop-append-add front remainder (margin_len (margin_of remainder)) in
+        let there : drop found.form.len (made ++ crlf remainder) ≡ drop (margin_len (margin_of (crlf remainder))) (crlf remainder) = ap (λ n. drop n (made ++ crlf remainder)) found.form_len ∙ drop-append-add made (crlf remainder) (margin_len (margin_of (crlf remainder))) in
         record {
           form = found.form;
           stands = found.stands;
           like = found.like;
-          left = subst (λ (t : Text). LeftAt s.place piece t (drop found.form.len (made ++ crlf behind))) (sym here) (subst (LeftAt s.place piece (drop (margin_len (margin_of behind)) behind)) (sym there)
+          left = subst (λ (t : Text). LeftAt s.place piece t (drop found.form.len (made ++ crlf remainder))) (sym here) (subst (LeftAt s.place piece (drop (margin_len (margin_of remainder)) remainder)) (sym there)
               (at (outside s.place s.is_balanced f) found.sort found.outside found.left));
         }
       where
         at : {text other : Text} {content : Bool} → s.place ≡ Outside → piece.sort ≡ Layout → (content ≡ false → neutral piece.lexemes ≡ true) → Left text other content → LeftAt s.place piece text other
         at place sort calm (Whole e) = AtWhole e
-        at place sort calm (Behind rest e f none) = AtFeed rest e f place (calm none) sort
+        at place sort calm (AfterComments rest e f none) = AtFeed rest e f place (calm none) sort
 
-pub word_crlf : (s : Situation) (class : Class) (front behind : Text) (piece : Piece) → line_fits class front ≡ true → no_return behind ≡ true → apart 0 behind ≡ true → (is_raw_class class ≡ true → holds_escaped_newline (take piece.len (front ++ behind)) ≡ false)
-    → word_step s class front behind ≡ Stands piece → StandsCrlf s.place (front ++ behind) (crlf front ++ crlf behind) (word_step s class (crlf front) (crlf behind)) piece
-word_crlf s word.Skipped front behind piece fits h more raw e = empty_word s.place front (crlf front) behind Gap piece e
-word_crlf s word.LineEnd front behind piece fits h more raw e = line_end_crlf s front (crlf front) behind piece h e
-word_crlf s word.Tabs front behind piece fits h more raw e = cc
-word_crlf s word.Reserved front behind piece fits h more raw e = cc
-word_crlf s (word.Opener kind is_raw quote) front behind piece fits h more raw e = opener_crlf s.place is_raw quote front behind piece fits h more kind raw e
-word_crlf s word.Decimal front behind piece fits h more raw e =
-    lone_word s.place front behind _ _ piece fits e (ap (λ (t : Text). word_step s word.Decimal t behind) (crlf_line front fits)) (decimal_len front (starts_zero front) piece e)
-word_crlf s word.Comment front behind piece fits h more raw e = lone_word s.place front behind _ _ piece fits e (ap (λ (t : Text). word_step s word.Comment t behind) (crlf_line front fits)) (token_len (length front) _ piece e)
-word_crlf s word.Identifier front behind piece fits h more raw e = lone_word s.place front behind _ _ piece fits e (ap (λ (t : Text). word_step s word.Identifier t behind) (crlf_line front fits)) (token_len (length front) _ piece e)
-word_crlf s word.Hexadecimal front behind piece fits h more raw e = lone_word s.place front behind _ _ piece fits e (ap (λ (t : Text). word_step s word.Hexadecimal t behind) (crlf_line front fits)) (token_len (length front) _ piece e)
-word_crlf s word.Octal front behind piece fits h more raw e = lone_word s.place front behind _ _ piece fits e (ap (λ (t : Text). word_step s word.Octal t behind) (crlf_line front fits)) (token_len (length front) _ piece e)
-word_crlf s word.Binary front behind piece fits h more raw e = lone_word s.place front behind _ _ piece fits e (ap (λ (t : Text). word_step s word.Binary t behind) (crlf_line front fits)) (token_len (length front) _ piece e)
-word_crlf s word.Float front behind piece fits h more raw e = lone_word s.place front behind _ _ piece fits e (ap (λ (t : Text). word_step s word.Float t behind) (crlf_line front fits)) (token_len (length front) _ piece e)
-word_crlf s (word.Fixed terminal) front behind piece fits h more raw e = lone_word s.place front behind _ _ piece fits e (ap (λ (t : Text). word_step s (word.Fixed terminal) t behind) (crlf_line front fits)) (token_len (length front) _ piece e)
+pub word_crlf : (s : Situation) (class : Class) (front remainder : Text) (piece : Piece) → line_fits class front ≡ true → no_return remainder ≡ true → apart 0 remainder ≡ true → (is_raw_class class ≡ true → holds_escaped_newline (take piece.len (front ++ remainder)) ≡ false)
+    → word_step s class front remainder ≡ Stands piece → StandsCrlf s.place (front ++ remainder) (crlf front ++ crlf remainder) (word_step s class (crlf front) (crlf remainder)) piece
+word_crlf s word.Skipped front remainder piece fits h more raw e = empty_word s.place front (crlf front) remainder Gap piece e
+word_crlf s word.LineEnd front remainder piece fits h more raw e = line_end_crlf s front (crlf front) remainder piece h e
+word_crlf s word.Tabs front remainder piece fits h more raw e = cc
+word_crlf s word.Reserved front remainder piece fits h more raw e = cc
+word_crlf s (word.Opener kind is_raw quote) front remainder piece fits h more raw e = opener_crlf s.place is_raw quote front remainder piece fits h more kind raw e
+word_crlf s word.Decimal front remainder piece fits h more raw e =
+    lone_word s.place front remainder _ _ piece fits e (ap (λ (t : Text). word_step s word.Decimal t remainder) (crlf_line front fits)) (decimal_len front (starts_zero front) piece e)
+word_crlf s word.Comment front remainder piece fits h more raw e = lone_word s.place front remainder _ _ piece fits e (ap (λ (t : Text). word_step s word.Comment t remainder) (crlf_line front fits)) (token_len (length front) _ piece e)
+word_crlf s word.Identifier front remainder piece fits h more raw e = lone_word s.place front remainder _ _ piece fits e (ap (λ (t : Text). word_step s word.Identifier t remainder) (crlf_line front fits)) (token_len (length front) _ piece e)
+word_crlf s word.Hexadecimal front remainder piece fits h more raw e = lone_word s.place front remainder _ _ piece fits e (ap (λ (t : Text). word_step s word.Hexadecimal t remainder) (crlf_line front fits)) (token_len (length front) _ piece e)
+word_crlf s word.Octal front remainder piece fits h more raw e = lone_word s.place front remainder _ _ piece fits e (ap (λ (t : Text). word_step s word.Octal t remainder) (crlf_line front fits)) (token_len (length front) _ piece e)
+word_crlf s word.Binary front remainder piece fits h more raw e = lone_word s.place front remainder _ _ piece fits e (ap (λ (t : Text). word_step s word.Binary t remainder) (crlf_line front fits)) (token_len (length front) _ piece e)
+word_crlf s word.Float front remainder piece fits h more raw e = lone_word s.place front remainder _ _ piece fits e (ap (λ (t : Text). word_step s word.Float t remainder) (crlf_line front fits)) (token_len (length front) _ piece e)
+word_crlf s (word.Fixed terminal) front remainder piece fits h more raw e = lone_word s.place front remainder _ _ piece fits e (ap (λ (t : Text). word_step s (word.Fixed terminal) t remainder) (crlf_line front fits)) (token_len (length front) _ piece e)
 
 -- Texts of f-strings
 

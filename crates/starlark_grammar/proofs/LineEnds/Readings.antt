@@ -31,7 +31,7 @@ use Rattle.starlark_grammar.proofs.Joining.Tabs.{first_step, never_ends, outcome
 use Rattle.starlark_grammar.proofs.LineEnds.Texts.{crlf, crlf_is, crlf_both, no_return, no_return_of, no_return_drop}
 use Rattle.starlark_grammar.proofs.LineEnds.Fronts.{front_crlf}
 use Rattle.starlark_grammar.proofs.LineEnds.Bodies.{apart, utf8_apart, form_other}
-use Rattle.starlark_grammar.proofs.LineEnds.Margins.{nodes, nodes_both, nodes_moved, is_neutral, neutral, Left, Whole, Behind, PieceCrlf, margin_stands, replicate_nodes}
+use Rattle.starlark_grammar.proofs.LineEnds.Margins.{nodes, nodes_both, nodes_moved, is_neutral, neutral, Left, Whole, AfterComments, PieceCrlf, margin_stands, replicate_nodes}
 use Rattle.starlark_grammar.proofs.LineEnds.Pieces.{LeftAt, AtWhole, AtFeed, StandsCrlf, alike, is_raw_class, line_end_crlf, word_crlf, chunk_crlf}
 
 -- Code
@@ -142,7 +142,7 @@ code_stands s (b ∷ bs) piece h utf8 raw e = subst (λ (step : Step). StandsCrl
           left = found.left;
         }
 
--- What stands behind some history, in the form.
+-- What stands remainder some history, in the form.
 next_stands : (history : History) (text : Text) (piece : Piece) → is_nothing history.before ≡ false → no_return text ≡ true → IsUtf8 text → (is_raw_in (situation history).place text ≡ true → holds_escaped_newline (take piece.len text) ≡ false)
     → next_step language history text ≡ Stands piece → StandsCrlf (situation history).place text (crlf text) (next_step language history (crlf text)) piece
 unfolding next_step situation step_at language_front
@@ -164,7 +164,7 @@ next_stands history text piece later h utf8 raw e = before history.before later 
     before Gap k e = at (mode_after history.tokens) refl raw e
     before Other k e = at (mode_after history.tokens) refl raw e
 
--- from an LF on, behind a line end that counts
+-- from an LF on, remainder a line end that counts
 line_feed : class_in language (10 ∷ []) ≡ Some word.LineEnd
 unfolding class_in language openers line_ends symbols names patterns
 line_feed = refl
@@ -182,7 +182,7 @@ feed_step history rest laid out =
 
 -- Readings
 
--- What is left of the form, where so much of the text is left behind some history.
+-- What is left of the form, where so much of the text is left remainder some history.
 data Standing (history : History) (text other : Text) : Type 0 where
   AtForm : other ≡ crlf text → Standing history text other
   AtLine : (rest : Text) → text ≡ 10 ∷ rest → other ≡ 10 ∷ crlf rest → history.before ≡ Layout → mode_after history.tokens ≡ Outside → Standing history text other
@@ -337,7 +337,7 @@ first_crlf text piece h e =
   where
     at : {one other : Text} {content : Bool} → piece.sort ≡ Layout → (content ≡ false → neutral piece.lexemes ≡ true) → Left one other content → LeftAt (situation nothing).place piece one other
     at sort calm (Whole e) = AtWhole e
-    at sort calm (Behind rest e f none) = AtFeed rest e f nothing_outside (calm none) sort
+    at sort calm (AfterComments rest e f none) = AtFeed rest e f nothing_outside (calm none) sort
 
 whole_crlf : (text : Text) (pieces : List Piece) → no_return text ≡ true → IsUtf8 text → ¬ (pieces ≡ []) → IsReading language nothing text pieces → no_raw_newline nothing text pieces ≡ true → pieces_len pieces ≡ length text → ReadingCrlf nothing (crlf text) pieces
 whole_crlf text [] h utf8 some reads raw reach = absurd (some refl)

@@ -9,7 +9,7 @@ use Rattle.std.specs.List.{prefix_len, starts_with}
 use Rattle.std.specs.Map.{lookup}
 use Rattle.std.specs.Str.{byte, continuation_len}
 use Rattle.std.specs.Str.Parse.{digits_value}
-use Rattle.starlark_grammar.proofs.Lists.{take_fits, drop-sum, drop-behind}
+use Rattle.starlark_grammar.proofs.Lists.{take_fits, drop-sum, drop-remainder}
 use Rattle.starlark_grammar.specs.Words.{Text, Quote, Kind, is_octal_digit}
 use Rattle.starlark_grammar.specs.Tokens.{Opening}
 use Rattle.starlark_grammar.specs.Items.{Literal, Item, Stop, Closing, Line, Ended, OpeningBrace, ClosingBrace, BadEscape, Found, Goes, Stops, goes, closing_quotes, broken, is_character, numbered, hexadecimal, octal, escaped_newline, simple_escapes, simple, is_of_bytes, escape, raw_pair, brace, is_brace, found_at, Body, body_len, body_onward, body_from, body_at}
@@ -33,7 +33,7 @@ abbrev pub FoundFits : Opening → Text → Found → Type 0
 FoundFits opening text (Goes item) = (1 ≤ item.len) × (item.len ≤ length text)
 FoundFits opening text (Stops stop) = StopFits opening text stop
 
-broken_fits : (opening : Opening) (good : ℕ) (behind text : Text) → 1 ≤ good → good + length behind ≤ length text → FoundFits opening text (broken good behind)
+broken_fits : (opening : Opening) (good : ℕ) (remainder text : Text) → 1 ≤ good → good + length remainder ≤ length text → FoundFits opening text (broken good remainder)
 broken_fits opening good [] text some inside = (omega arith, some, omega arith)
 broken_fits opening good (b ∷ bs) text some inside =
     let fits = character_fits (b ∷ bs) in (omega arith, omega arith, omega (arith, fits))
@@ -119,13 +119,13 @@ found_fits literal (b ∷ bs) =
 abbrev pub BodyFits : Literal → Text → Body → Type 0
 BodyFits literal text body = (body_len body ≤ length text) × StopFits literal.opening (drop (body_len body) text) body.stop
 
--- an item, and the body behind it
+-- an item, and the body remainder it
 onward_fits : (literal : Literal) (item : Item) (b : ℕ) (bs : Text) (rest : Body) → 1 ≤ item.len → item.len ≤ length (b ∷ bs) → BodyFits literal (drop (item.len - 1) bs) rest → BodyFits literal (b ∷ bs) (record { items = item ∷ rest.items; stop = rest.stop })
 onward_fits literal item b bs rest some inside fits =
     let total : body_len (record { items = item ∷ rest.items; stop = rest.stop }) ≡ item.len + body_len rest = sum_by-cons (λ (item : Item). item.len) item rest.items in
     let first = fits.0 in
     let left : drop (body_len (record { items = item ∷ rest.items; stop = rest.stop })) (b ∷ bs) ≡ drop (body_len rest) (drop (item.len - 1) bs) =
-    ap (λ n. drop n (b ∷ bs)) total ∙ drop-sum item.len (body_len rest) (b ∷ bs) ∙ ap (drop (body_len rest)) (drop-behind item.len b bs some) in
+    ap (λ n. drop n (b ∷ bs)) total ∙ drop-sum item.len (body_len rest) (b ∷ bs) ∙ ap (drop (body_len rest)) (drop-remainder item.len b bs some) in
     (omega (arith, total, length-drop (item.len - 1) bs), subst (λ (t : Text). StopFits literal.opening t rest.stop) (sym left) fits.1)
 
 body_from_fits : (literal : Literal) (passed : ℕ) (text : Text) → BodyFits literal (drop passed text) (body_from literal passed text)

@@ -32,7 +32,7 @@ EscapeIs (Goes item) = 2 ≤ item.len
 EscapeIs (Stops (BadEscape read last)) = ⊤
 EscapeIs (Stops stop) = ⊥
 
-broken_is : (good : ℕ) (behind : Text) → EscapeIs (broken good behind)
+broken_is : (good : ℕ) (remainder : Text) → EscapeIs (broken good remainder)
 broken_is good [] = tt
 broken_is good (b ∷ bs) = tt
 

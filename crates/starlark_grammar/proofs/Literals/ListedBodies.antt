@@ -11,7 +11,7 @@ use Rattle.starlark_grammar.specs.Items.{Literal, Item, Stop, Closing, Line, End
 use Rattle.starlark_grammar.specs.Literals.{ItemAt, ItemsAt, items_len, itself, is_itself, holds_closing, quotes_before_last, IsGoodBody, StopsAt, IsUnclosedBody, IsBadBody, IsBodyBy, IsBody}
 use Rattle.starlark_grammar.specs.Laws.{BodyIs, BodyIsOne, BodyIsBad, GoodOrBad, GoodLiteralIsToken, BadLiteralIsFault, ChunkIsBody}
 use Rattle.starlark_grammar.specs.Pieces.{literal_by, chunk, chunk_by}
-use Rattle.starlark_grammar.proofs.Lists.{drop-sum, drop-behind}
+use Rattle.starlark_grammar.proofs.Lists.{drop-sum, drop-remainder}
 use Rattle.starlark_grammar.proofs.Literals.Bodies.{found_fits, FoundFits}
 use Rattle.starlark_grammar.proofs.Literals.Forms.{item_found, FoundIs, item_found_is, item_found_from, one_item, stops_found, quote_found, feed_found, itself_front}
 
@@ -59,9 +59,9 @@ items_behind : (item : Item) (items : List Item) (text : Text) → drop (items_l
 items_behind item items text = ap (λ n. drop n text) (sum_by-cons (λ (i : Item). i.len) item items) ∙ drop-sum item.len (items_len items) text
 
 items_append : (literal : Literal) (text : Text) (items more : List Item) → ItemsAt literal text items → ItemsAt literal (drop (items_len items) text) more → ItemsAt literal text (items ++ more)
-items_append literal text [] more stand behind = behind
-items_append literal text (item ∷ items) more stand behind =
-    (stand.0, items_append literal (drop item.len text) items more stand.1 (subst (λ (t : Text). ItemsAt literal t more) (items_behind item items text) behind))
+items_append literal text [] more stand remainder = remainder
+items_append literal text (item ∷ items) more stand remainder =
+    (stand.0, items_append literal (drop item.len text) items more stand.1 (subst (λ (t : Text). ItemsAt literal t more) (items_behind item items text) remainder))
 
 -- a text whose first item is one byte that denotes itself
 itself_text : (literal : Literal) (text : Text) (item : Item) (b : ℕ) → ItemAt literal text item → is_itself b item ≡ true → text ≡ b ∷ drop item.len text
@@ -244,11 +244,11 @@ Enough literal text items more = (count literal.opening ≤ 1 + length more) ⊎
 passed : (literal : Literal) (text : Text) (items more : List Item) → ItemsAt literal text (items ++ more) → Enough literal text items more
     → holds_closing literal.opening (items ++ more) ≡ false → (literal.opening.is_triple ≡ false → list_any (is_itself (byte "\n")) items ≡ false) → AllPass literal text items
 passed literal text [] more stand enough none no_feed = tt
-passed literal text (item ∷ items) more stand enough none no_feed = ((no_quotes (begins (count literal.opening) (quote_byte literal.opening.quote) text) refl, no_end text stand.0 literal.opening.is_triple refl), passed literal (drop item.len text) items more stand.1 (behind enough) (or_parts _ _ none).1 (λ one. (or_parts _ _ (no_feed one)).1))
+passed literal text (item ∷ items) more stand enough none no_feed = ((no_quotes (begins (count literal.opening) (quote_byte literal.opening.quote) text) refl, no_end text stand.0 literal.opening.is_triple refl), passed literal (drop item.len text) items more stand.1 (remainder enough) (or_parts _ _ none).1 (λ one. (or_parts _ _ (no_feed one)).1))
   where
-    behind : Enough literal text (item ∷ items) more → Enough literal (drop item.len text) items more
-    behind (inl few) = inl few
-    behind (inr none) = inr (subst (λ (t : Text). begins 1 (quote_byte literal.opening.quote) t ≡ false) (items_behind item (items ++ more) text) none)
+    remainder : Enough literal text (item ∷ items) more → Enough literal (drop item.len text) items more
+    remainder (inl few) = inl few
+    remainder (inr none) = inr (subst (λ (t : Text). begins 1 (quote_byte literal.opening.quote) t ≡ false) (items_behind item (items ++ more) text) none)
 
     far : Enough literal text (item ∷ items) more → (count literal.opening ≤ length (item ∷ (items ++ more))) ⊎ (begins 1 (quote_byte literal.opening.quote) (drop (items_len (item ∷ (items ++ more))) text) ≡ false)
     far (inl few) = inl (omega (arith, few, length-append items more))
@@ -386,7 +386,7 @@ body_item literal [] item e = cc
 body_item literal (b ∷ bs) item e =
     let fits : FoundFits literal.opening (b ∷ bs) (Goes item) = subst (FoundFits literal.opening (b ∷ bs)) e (found_fits literal (b ∷ bs)) in
     ap (λ (found : Found). body_onward found (λ n. body_from literal n bs)) e
-    ∙ ap (λ (body : Body). record { items = item ∷ body.items; stop = body.stop }) (body_passed literal (item.len - 1) bs ∙ ap (body_at literal) (sym (drop-behind item.len b bs fits.0)))
+    ∙ ap (λ (body : Body). record { items = item ∷ body.items; stop = body.stop }) (body_passed literal (item.len - 1) bs ∙ ap (body_at literal) (sym (drop-remainder item.len b bs fits.0)))
 
 body_stop : (literal : Literal) (text : Text) (stop : Stop) → found_at literal text ≡ Stops stop → body_at literal text ≡ record { items = []; stop = stop }
 unfolding body_from body_at found_at
@@ -424,7 +424,7 @@ scanned_from literal zero (b ∷ bs) = go (found_at literal (b ∷ bs)) refl (fo
     go : (found : Found) → found_at literal (b ∷ bs) ≡ found → FoundFits literal.opening (b ∷ bs) found → ((n : ℕ) → IsScanned literal (drop n bs) (body_from literal n bs)) → IsScanned literal (b ∷ bs) (body_onward found (λ n. body_from literal n bs))
     go (Stops stop) e fits more = record { listed = tt; pass = tt; found = e }
     go (Goes item) e fits more = scanned_item literal (b ∷ bs) item (body_from literal (item.len - 1) bs) e
-        (subst (λ (t : Text). IsScanned literal t (body_from literal (item.len - 1) bs)) (sym (drop-behind item.len b bs fits.0)) (more (item.len - 1)))
+        (subst (λ (t : Text). IsScanned literal t (body_from literal (item.len - 1) bs)) (sym (drop-remainder item.len b bs fits.0)) (more (item.len - 1)))
 
 scanned : (literal : Literal) (text : Text) → IsScanned literal text (body_at literal text)
 unfolding body_at
@@ -556,8 +556,8 @@ longest literal stop text [] (item ∷ more) stand stops also none = absurd (go 
         never (ap (is_itself (byte "\n")) same) (or_parts _ _ (none is.0)).0
 longest literal stop text (item ∷ items) (other ∷ more) stand stops also none =
     let same : other ≡ item = one_item literal text other item also.0 stand.0 in
-    let behind : ItemsAt literal (drop item.len text) more = subst (λ (i : Item). ItemsAt literal (drop i.len text) more) same also.1 in
-    let less : length more ≤ length items = longest literal stop (drop item.len text) items more stand.1 (subst (λ (t : Text). StopsAt literal t stop) (items_behind item items text) stops) behind (λ one. (or_parts (is_itself (byte "\n") other) (list_any (is_itself (byte "\n")) more) (none one)).1) in
+    let remainder : ItemsAt literal (drop item.len text) more = subst (λ (i : Item). ItemsAt literal (drop i.len text) more) same also.1 in
+    let less : length more ≤ length items = longest literal stop (drop item.len text) items more stand.1 (subst (λ (t : Text). StopsAt literal t stop) (items_behind item items text) stops) remainder (λ one. (or_parts (is_itself (byte "\n") other) (list_any (is_itself (byte "\n")) more) (none one)).1) in
     omega (arith, less)
 
 pub body_is_bad : BodyIsBad
@@ -590,10 +590,10 @@ good_or_bad literal text = go (body_at literal text).items (body_at literal text
     go items (BadEscape read last) e is = bad items (BadEscape read last) e (λ no. cc)
 
 pub good_literal : GoodLiteralIsToken
-good_literal place kind opening len behind items is = ap (λ (body : Body). literal_by place kind opening len behind body body.stop) (good_one (record { kind = kind; opening = opening }) behind items is)
+good_literal place kind opening len remainder items is = ap (λ (body : Body). literal_by place kind opening len remainder body body.stop) (good_one (record { kind = kind; opening = opening }) remainder items is)
 
 pub bad_literal : BadLiteralIsFault
-bad_literal place kind opening len behind items stop is = ap (λ (body : Body). literal_by place kind opening len behind body body.stop) (unclosed_one (record { kind = kind; opening = opening }) behind items stop is.unclosed)
+bad_literal place kind opening len remainder items stop is = ap (λ (body : Body). literal_by place kind opening len remainder body body.stop) (unclosed_one (record { kind = kind; opening = opening }) remainder items stop is.unclosed)
 
 pub chunk_body : ChunkIsBody
 unfolding chunk

@@ -14,7 +14,7 @@ use Rattle.starlark_grammar.specs.Words.{Text, Quote, Kind, is_octal_digit}
 use Rattle.starlark_grammar.specs.Items.{Literal, Item, Stop, Found, Goes, Stops, goes, closing_quotes, broken, is_character, numbered, hexadecimal, escaped_newline, simple_escapes, simple, is_of_bytes, escape, drops_backslash, raw_pair, brace, is_brace, found_at, Body, body_len, body_value, body_onward, body_from, body_at, OpeningBrace, ClosingBrace}
 use Rattle.starlark_grammar.specs.Characters.{first_character}
 use Rattle.starlark_grammar.specs.Gaps.{is_gap_byte, IsGap}
-use Rattle.starlark_grammar.proofs.Lists.{drop-behind}
+use Rattle.starlark_grammar.proofs.Lists.{drop-remainder}
 use Rattle.starlark_grammar.proofs.Literals.Bodies.{FoundFits, found_fits}
 use Rattle.starlark_grammar.proofs.Order.Gaps.{gap_none, gap_join, gap_shift, word_gap}
 use Rattle.starlark_grammar.proofs.Choices.{either, when}
@@ -27,7 +27,7 @@ Silent text (Stops stop) = ⊤
 loud : (text : Text) (len b : ℕ) (bs : Text) → Silent text (goes len (b ∷ bs))
 loud text len b bs e = cc
 
-broken_silent : (text : Text) (good : ℕ) (behind : Text) → Silent text (broken good behind)
+broken_silent : (text : Text) (good : ℕ) (remainder : Text) → Silent text (broken good remainder)
 broken_silent text good [] = tt
 broken_silent text good (b ∷ bs) = tt
 
@@ -45,11 +45,11 @@ numbered_silent : (text : Text) (len : ℕ) (is_byte : Bool) (n : ℕ) → Silen
 numbered_silent text len true n = either (Silent text) (nat_lt n 256) _ _ (loud text len n []) (broken_silent text len [])
 numbered_silent text len false n = either (Silent text) (is_character n) _ _ (encode_loud text len n) (broken_silent text len [])
 
-hexadecimal_silent : (text : Text) (wanted : ℕ) (is_byte : Bool) (behind : Text) → Silent text (hexadecimal wanted is_byte behind)
-hexadecimal_silent text wanted is_byte behind = go (prefix_len is_ascii_hexdigit (take wanted behind))
+hexadecimal_silent : (text : Text) (wanted : ℕ) (is_byte : Bool) (remainder : Text) → Silent text (hexadecimal wanted is_byte remainder)
+hexadecimal_silent text wanted is_byte remainder = go (prefix_len is_ascii_hexdigit (take wanted remainder))
   where
-    go : (n : ℕ) → Silent text (if n == wanted then numbered (2 + n) is_byte (digits_value 16 (take n behind)) else broken (2 + n) (drop n behind))
-    go n = either (Silent text) (n == wanted) _ _ (numbered_silent text (2 + n) is_byte (digits_value 16 (take n behind))) (broken_silent text (2 + n) (drop n behind))
+    go : (n : ℕ) → Silent text (if n == wanted then numbered (2 + n) is_byte (digits_value 16 (take n remainder)) else broken (2 + n) (drop n remainder))
+    go n = either (Silent text) (n == wanted) _ _ (numbered_silent text (2 + n) is_byte (digits_value 16 (take n remainder))) (broken_silent text (2 + n) (drop n remainder))
 
 simple_silent : (text : Text) (value : Option ℕ) (character : Text) → Silent text (simple value character)
 simple_silent text (Some value) character = loud text 2 value []
@@ -123,9 +123,9 @@ body_silent literal zero (b ∷ bs) e = go (found_at literal (b ∷ bs)) (found_
         let rest : Body = body_from literal (item.len - 1) bs in
         let none = no_front item.value (body_value rest) e in
         let total : item.len + body_len rest ≡ body_len (record { items = item ∷ rest.items; stop = rest.stop }) = sym (sum_by-cons (λ (item : Item). item.len) item rest.items) in
-        let left : drop (item.len - 1) bs ≡ drop item.len (b ∷ bs) = sym (drop-behind item.len b bs fits.0) in
-        let behind : IsGap (drop item.len (b ∷ bs)) 0 (body_len rest) = subst (λ (t : Text). IsGap t 0 (body_len rest)) left (more (item.len - 1) none.1) in
-        gap_join (b ∷ bs) 0 item.len _ (silent none.0) (gap_shift item.len (b ∷ bs) 0 (body_len rest) item.len _ (omega arith) (sym total) behind)
+        let left : drop (item.len - 1) bs ≡ drop item.len (b ∷ bs) = sym (drop-remainder item.len b bs fits.0) in
+        let remainder : IsGap (drop item.len (b ∷ bs)) 0 (body_len rest) = subst (λ (t : Text). IsGap t 0 (body_len rest)) left (more (item.len - 1) none.1) in
+        gap_join (b ∷ bs) 0 item.len _ (silent none.0) (gap_shift item.len (b ∷ bs) 0 (body_len rest) item.len _ (omega arith) (sym total) remainder)
 
 pub silent_gap : (literal : Literal) (text : Text) → body_value (body_at literal text) ≡ [] → IsGap text 0 (body_len (body_at literal text))
 unfolding body_at

@@ -77,13 +77,13 @@ comments_edges whole at text [] utf8 e f here = (tt, subst (IsCharBoundary whole
     same : at ≡ at + lines_sum []
     same = omega arith
 comments_edges whole at text (line ∷ more) utf8 e f here =
-    go (is_comment_only line) refl (λ some. comments_edges whole (at + length line) split.rest more utf8 behind split.left (line_edge whole at text line more utf8 e split some))
+    go (is_comment_only line) refl (λ some. comments_edges whole (at + length line) split.rest more utf8 remainder split.left (line_edge whole at text line more utf8 e split some))
   where
     split : Split text line more
     split = first_line text line more f
 
-    behind : drop (at + length line) whole ≡ split.rest
-    behind = drop-sum at (length line) whole ∙ ap (drop (length line)) (e ∙ split.whole) ∙ drop-append_seam line split.rest
+    remainder : drop (at + length line) whole ≡ split.rest
+    remainder = drop-sum at (length line) whole ∙ ap (drop (length line)) (e ∙ split.whole) ∙ drop-append_seam line split.rest
 
     begin : is_comment_only line ≡ true → blanks_len line ≤ length line → IsCharBoundary whole (at + blanks_len line)
     begin k inside =

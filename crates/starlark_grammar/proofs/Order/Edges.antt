@@ -19,7 +19,7 @@ use Rattle.starlark_grammar.specs.Tokens.{Opening, Lexeme, moved}
 use Rattle.starlark_grammar.specs.Items.{Literal, Item, Stop, Closing, Line, Ended, OpeningBrace, ClosingBrace, BadEscape, Found, Goes, Stops, closing_quotes, quote_byte, broken, numbered, is_character, hexadecimal, octal, escaped_newline, simple, simple_escapes, escape, raw_pair, brace, found_at, Body, body_len, body_onward, body_from, body_at, is_brace, is_of_bytes}
 use Rattle.starlark_grammar.specs.Characters.{first_character}
 use Rattle.starlark_grammar.specs.Laws.{AtBoundaries}
-use Rattle.starlark_grammar.proofs.Lists.{drop-sum, drop-behind}
+use Rattle.starlark_grammar.proofs.Lists.{drop-sum, drop-remainder}
 use Rattle.starlark_grammar.proofs.Literals.Bodies.{FoundFits, found_fits}
 use Rattle.starlark_grammar.proofs.Words.Bytes.{is_plain}
 use Rattle.starlark_grammar.proofs.Choices.{either, when}
@@ -29,7 +29,7 @@ plain_ascii [] h i = omega arith
 plain_ascii (b ∷ bs) h zero = let parts = and_parts (is_ascii b) (is_plain bs) h in ltb-true b 128 parts.0
 plain_ascii (b ∷ bs) h (suc i) = let parts = and_parts (is_ascii b) (is_plain bs) h in plain_ascii bs parts.1 i
 
--- behind a front of ASCII
+-- remainder a front of ASCII
 pub behind_plain : (text front rest : Text) → IsUtf8 text → text ≡ front ++ rest → is_plain front ≡ true → IsCharBoundary text (length front)
 behind_plain text front rest utf8 e plain =
     let taken : take (length front) text ≡ front = ap (take (length front)) e ∙ take-append_seam front rest in
@@ -46,7 +46,7 @@ before_byte text at b rest e small =
     zero_more : at ≡ at + 0
     zero_more = omega arith
 
--- a boundary of what is left behind one is a boundary
+-- a boundary of what is left remainder one is a boundary
 pub boundary_shift : (text : Text) (at n : ℕ) → IsCharBoundary text at → IsCharBoundary (drop at text) n → IsCharBoundary text (at + n)
 boundary_shift text at n here more = IsCharBoundary-from_rest text at n here.0 more
 
@@ -91,7 +91,7 @@ encoded c rest small = go (cases_lt c 128) (cases_lt c 2048) (cases_lt c 65536)
     go (inr h) (inr k) (inl m) = rw (le-ltb c 128 h, le-ltb c 2048 k, lt-ltb c 65536 m) (lead (224 + c / 4096) _ rest (three (224 + c / 4096) (omega arith) (omega (arith, m))))
     go (inr h) (inr k) (inr m) = rw (le-ltb c 128 h, le-ltb c 2048 k, le-ltb c 65536 m) (lead (240 + c / 262144) _ rest (four (240 + c / 262144) (omega arith)))
 
--- behind the first character
+-- remainder the first character
 pub character_edge : (text : Text) → IsUtf8 text → IsCharBoundary text (length (first_character text))
 character_edge text utf8 = go utf8.0 utf8.1.0 utf8.1.1
   where
@@ -137,7 +137,7 @@ take_less (suc n) zero text h = absurd (omega (arith, h))
 take_less (suc n) (suc m) [] h = refl
 take_less (suc n) (suc m) (b ∷ bs) h = ap (λ (t : Text). b ∷ t) (take_less n m bs (omega (arith, h)))
 
--- so many bytes of ASCII of an escape, and the character behind them
+-- so many bytes of ASCII of an escape, and the character remainder them
 abbrev Good : Text → ℕ → Type 0
 Good tail good = (1 ≤ good) × (good ≤ suc (length tail)) × (is_plain (take good (92 ∷ tail)) ≡ true)
 
@@ -148,7 +148,7 @@ broken_end opening tail good h =
     let less : is_plain (take (good - 1) (92 ∷ tail)) ≡ true = subst (λ (t : Text). is_plain t ≡ true) (take_less (good - 1) good (92 ∷ tail) (omega arith)) (plain_take (good - 1) (take good (92 ∷ tail)) h.2) in
     (tail, refl, λ utf8. (plain_end (92 ∷ tail) good utf8 inside h.2, plain_end (92 ∷ tail) (good - 1) utf8 (omega (arith, inside)) less))
 
-broken_at : (opening : Opening) (tail : Text) (good : ℕ) (behind : Text) → Good tail good → drop good (92 ∷ tail) ≡ behind → FoundAt opening (92 ∷ tail) (broken good behind)
+broken_at : (opening : Opening) (tail : Text) (good : ℕ) (remainder : Text) → Good tail good → drop good (92 ∷ tail) ≡ remainder → FoundAt opening (92 ∷ tail) (broken good remainder)
 broken_at opening tail good [] h e = broken_end opening tail good h
 broken_at opening tail good (b ∷ bs) h e = (tail, refl, λ utf8. (last utf8, subst (IsCharBoundary (92 ∷ tail)) first (here utf8)))
   where
@@ -208,7 +208,7 @@ octal_at opening is_byte bs =
     let plain : is_plain (take (1 + n) (92 ∷ bs)) ≡ true = subst (λ k. is_plain (take k (92 ∷ bs)) ≡ true) (sym one) run.1 in
     numbered_at opening bs (1 + n) is_byte (digits_value 8 (take n bs)) (omega arith, omega (arith, inside), plain)
 
-escaped_feed_at : (opening : Opening) (behind : Text) → FoundAt opening (92 ∷ 13 ∷ behind) (escaped_newline behind)
+escaped_feed_at : (opening : Opening) (remainder : Text) → FoundAt opening (92 ∷ 13 ∷ remainder) (escaped_newline remainder)
 escaped_feed_at opening [] = broken_at opening (13 ∷ []) 2 [] (omega arith, omega arith, refl) refl
 escaped_feed_at opening (b ∷ bs) = either (FoundAt opening (92 ∷ 13 ∷ b ∷ bs)) (b == byte "\n") _ _ tt (broken_at opening (13 ∷ b ∷ bs) 2 (b ∷ bs) (omega arith, omega arith, refl) refl)
 
@@ -279,7 +279,7 @@ body_stop literal zero (b ∷ bs) = go (found_at literal (b ∷ bs)) (found_stop
         let rest : Body = body_from literal (item.len - 1) bs in
         let total : body_len (record { items = item ∷ rest.items; stop = rest.stop }) ≡ item.len + body_len rest = sum_by-cons (λ (item : Item). item.len) item rest.items in
         let left : drop (body_len rest) (drop (item.len - 1) bs) ≡ drop (body_len (record { items = item ∷ rest.items; stop = rest.stop })) (b ∷ bs) =
-        sym (ap (λ n. drop n (b ∷ bs)) total ∙ drop-sum item.len (body_len rest) (b ∷ bs) ∙ ap (drop (body_len rest)) (drop-behind item.len b bs fits.0)) in
+        sym (ap (λ n. drop n (b ∷ bs)) total ∙ drop-sum item.len (body_len rest) (b ∷ bs) ∙ ap (drop (body_len rest)) (drop-remainder item.len b bs fits.0)) in
         subst (λ (t : Text). StopAt literal.opening t rest.stop) left (more (item.len - 1))
 
 pub stop_at : (literal : Literal) (text : Text) → StopAt literal.opening (drop (body_len (body_at literal text)) text) (body_at literal text).stop
@@ -295,7 +295,7 @@ quotes_plain opening = go opening.is_triple opening.quote
     go false SingleQuote = refl
     go false DoubleQuote = refl
 
--- before closing quotes, and behind them
+-- before closing quotes, and remainder them
 pub closing_edges : (opening : Opening) (text : Text) (at : ℕ) → IsUtf8 text → drop at text ≡ closing_quotes opening ++ drop (length (closing_quotes opening)) (drop at text) → IsCharBoundary text at × IsCharBoundary text (at + length (closing_quotes opening))
 closing_edges opening text at utf8 e =
     let before : IsCharBoundary text at = first (closing_quotes opening) refl e in

@@ -36,7 +36,7 @@ is_line [] = true
 is_line (b ∷ []) = true
 is_line (b ∷ c ∷ bs) = not (is_lf b) && is_line (c ∷ bs)
 
--- the first of a text's lines and what is left behind it
+-- the first of a text's lines and what is left remainder it
 pub record Split (text line : Text) (more : List Text) : Type 0 where
   pub rest : Text
   pub whole : text ≡ line ++ rest
@@ -135,18 +135,18 @@ comment_spans (b ∷ bs) h = go (is_blank b) refl (is_lf b) refl h (comment_span
     go false e false f h more = subst (λ (t : Text). 0 < length t) (sym (part_more b bs f)) (last (before_feed bs) (not_return h))
 
 -- a byte in front, and what its part leaves
-tail_more : (b : ℕ) (t behind : Text) (n : ℕ) → IsGap behind (length (without_return t)) n → IsGap (b ∷ behind) (length (without_return (b ∷ t))) (suc n)
-tail_more b [] behind n gap = go (b == byte "\r") refl
+tail_more : (b : ℕ) (t remainder : Text) (n : ℕ) → IsGap remainder (length (without_return t)) n → IsGap (b ∷ remainder) (length (without_return (b ∷ t))) (suc n)
+tail_more b [] remainder n gap = go (b == byte "\r") refl
   where
     blank : (b == byte "\r") ≡ true → is_blank b ≡ true
     blank h = grind (arith, nat_tests)
 
-    go : (return : Bool) → (b == byte "\r") ≡ return → IsGap (b ∷ behind) (length (if return then [] else b ∷ [])) (suc n)
-    go true e = gap_first b behind n (blank_gap b behind (blank e)) gap
-    go false e = gap_cons b behind 0 n gap
-tail_more b (c ∷ cs) behind n gap = gap_cons b behind (length (without_return (c ∷ cs))) n gap
+    go : (return : Bool) → (b == byte "\r") ≡ return → IsGap (b ∷ remainder) (length (if return then [] else b ∷ [])) (suc n)
+    go true e = gap_first b remainder n (blank_gap b remainder (blank e)) gap
+    go false e = gap_cons b remainder 0 n gap
+tail_more b (c ∷ cs) remainder n gap = gap_cons b remainder (length (without_return (c ∷ cs))) n gap
 
--- behind a comment its line end stands
+-- remainder a comment its line end stands
 pub comment_tail : (line rest : Text) → is_line line ≡ true → IsGap (line ++ rest) (length (comment_part line)) (length line)
 comment_tail [] rest h = gap_none rest 0
 comment_tail (b ∷ []) rest h = go (is_lf b) refl
@@ -186,13 +186,13 @@ comments_order whole at text [] tail to e f h = subst (λ n. InOrder whole n tai
   where
     same : at + lines_sum [] ≡ at
     same = omega arith
-comments_order whole at text (line ∷ more) tail to e f h = go (is_comment_only line) refl h (λ k. comments_order whole (at + length line) split.rest more tail to behind split.left k)
+comments_order whole at text (line ∷ more) tail to e f h = go (is_comment_only line) refl h (λ k. comments_order whole (at + length line) split.rest more tail to remainder split.left k)
   where
     split : Split text line more
     split = first_line text line more f
 
-    behind : drop (at + length line) whole ≡ split.rest
-    behind = drop-sum at (length line) whole ∙ ap (drop (length line)) (e ∙ split.whole) ∙ drop-append_seam line split.rest
+    remainder : drop (at + length line) whole ≡ split.rest
+    remainder = drop-sum at (length line) whole ∙ ap (drop (length line)) (e ∙ split.whole) ∙ drop-append_seam line split.rest
 
     text_is : drop at whole ≡ line ++ split.rest
     text_is = e ∙ split.whole
@@ -221,7 +221,7 @@ comments_order whole at text (line ∷ more) tail to e f h = go (is_comment_only
           order_extend whole (at + length (comment_part line)) (at + length line) _ to (omega (arith, inside)) (gap_here (length (comment_part line)) (length line) (comment_tail line split.rest split.one)) rest,
         )
 
--- the blanks behind the comments
+-- the blanks remainder the comments
 blanks_after : (text : Text) → IsGap text 0 (blanks_len text)
 blanks_after text = subst (λ (t : Text). IsGap t 0 (blanks_len text)) (append-nil text) (blanks_gap text [])
 
@@ -271,7 +271,7 @@ token_order text len node = (omega arith, omega arith, gap_none text 0, (omega a
 margin_step_order : (text : Text) (len : ℕ) (before : List Lexeme) (levels : List ℕ) → InOrder text 0 before len → StepOrdered text (margin_step len before levels (margin_of (drop len text)))
 unfolding margin_step
 margin_step_order text len before levels h =
-    either (StepOrdered text) (not (is_content margin.behind)) _ _ (layout [] (omega arith, margin_gap (drop len text)))
+    either (StepOrdered text) (not (is_content margin.remainder)) _ _ (layout [] (omega arith, margin_gap (drop len text)))
     (either (StepOrdered text) (has_tab margin) _ _ tt
     (either (StepOrdered text) (fits (width_of margin) levels) _ _ (layout (indentation levels margin) (indentation_order levels (drop len text))) tt))
   where
@@ -285,22 +285,22 @@ margin_step_order text len before levels h =
         (subst (λ n. InOrder text n (map (moved len) (margin.comments ++ more)) (len + margin_len margin)) same
         (order_shift len text 0 (margin_len margin) (margin.comments ++ more) (margin_order (drop len text) more k)))
 
-literal_by_order : (text : Text) (place : Mode) (kind : Kind) (opening : Opening) (len : ℕ) (behind : Text) (body : Body) (stop : Stop) → StepOrdered text (literal_by place kind opening len behind body stop)
-literal_by_order text place kind opening len behind body Closing = token_order text (len + body_len body + length (closing_quotes opening)) (literal_token kind (body_value body))
-literal_by_order text place kind opening len behind body (BadEscape read last) = go (len + body_len body) (drop 1 (take read (drop (body_len body) behind)))
+literal_by_order : (text : Text) (place : Mode) (kind : Kind) (opening : Opening) (len : ℕ) (remainder : Text) (body : Body) (stop : Stop) → StepOrdered text (literal_by place kind opening len remainder body stop)
+literal_by_order text place kind opening len remainder body Closing = token_order text (len + body_len body + length (closing_quotes opening)) (literal_token kind (body_value body))
+literal_by_order text place kind opening len remainder body (BadEscape read last) = go (len + body_len body) (drop 1 (take read (drop (body_len body) remainder)))
   where
     go : (begin : ℕ) (read : Text) → StepOrdered text (escape_fault begin read)
     go begin [] = tt
     go begin (b ∷ bs) = tt
-literal_by_order text place kind opening len behind body Line = tt
-literal_by_order text place kind opening len behind body Ended = tt
-literal_by_order text place kind opening len behind body OpeningBrace = tt
-literal_by_order text place kind opening len behind body ClosingBrace = tt
+literal_by_order text place kind opening len remainder body Line = tt
+literal_by_order text place kind opening len remainder body Ended = tt
+literal_by_order text place kind opening len remainder body OpeningBrace = tt
+literal_by_order text place kind opening len remainder body ClosingBrace = tt
 
-opener_order : (text : Text) (place : Mode) (kind : Kind) (opening : Opening) (len : ℕ) (behind : Text) → StepOrdered text (opener place kind opening len behind)
-opener_order text place OfFString opening len behind = token_order text (len + more_quotes opening) (FStringStart opening)
-opener_order text place OfText opening len behind = literal_by_order text place OfText opening (len + more_quotes opening) (drop (more_quotes opening) behind) (body_at (record { kind = OfText; opening = opening }) (drop (more_quotes opening) behind)) _
-opener_order text place OfBytes opening len behind = literal_by_order text place OfBytes opening (len + more_quotes opening) (drop (more_quotes opening) behind) (body_at (record { kind = OfBytes; opening = opening }) (drop (more_quotes opening) behind)) _
+opener_order : (text : Text) (place : Mode) (kind : Kind) (opening : Opening) (len : ℕ) (remainder : Text) → StepOrdered text (opener place kind opening len remainder)
+opener_order text place OfFString opening len remainder = token_order text (len + more_quotes opening) (FStringStart opening)
+opener_order text place OfText opening len remainder = literal_by_order text place OfText opening (len + more_quotes opening) (drop (more_quotes opening) remainder) (body_at (record { kind = OfText; opening = opening }) (drop (more_quotes opening) remainder)) _
+opener_order text place OfBytes opening len remainder = literal_by_order text place OfBytes opening (len + more_quotes opening) (drop (more_quotes opening) remainder) (body_at (record { kind = OfBytes; opening = opening }) (drop (more_quotes opening) remainder)) _
 
 chunk_piece_order : (text : Text) (body : Body) (node : Token) (len : ℕ) → (body_value body ≡ [] → IsGap text 0 (body_len body)) → StepOrdered text (chunk_piece body node len)
 chunk_piece_order text body node len h = go (body_value body) h
@@ -327,23 +327,23 @@ chunk_order : (opening : Opening) (text : Text) → StepOrdered text (chunk open
 unfolding chunk
 chunk_order opening text = chunk_by_order opening text (body_at (record { kind = OfFString; opening = opening }) text) _ (silent_gap (record { kind = OfFString; opening = opening }) text)
 
-word_step_order : (text : Text) (s : Situation) (class : Class) (front behind : Text) → text ≡ front ++ behind → word_fits class front ≡ true → StepOrdered text (word_step s class front behind)
-word_step_order text s word.Skipped front behind e fits = (omega arith, subst (λ (t : Text). IsGap t 0 (length front)) (sym e) (word_gap front behind (and_parts (all_gaps front) (is_plain front) fits).0))
-word_step_order text s word.Comment front behind e fits = token_order text (length front) (Comment (drop 1 front))
-word_step_order text s word.Tabs front behind e fits = tt
-word_step_order text s word.LineEnd front behind e fits =
+word_step_order : (text : Text) (s : Situation) (class : Class) (front remainder : Text) → text ≡ front ++ remainder → word_fits class front ≡ true → StepOrdered text (word_step s class front remainder)
+word_step_order text s word.Skipped front remainder e fits = (omega arith, subst (λ (t : Text). IsGap t 0 (length front)) (sym e) (word_gap front remainder (and_parts (all_gaps front) (is_plain front) fits).0))
+word_step_order text s word.Comment front remainder e fits = token_order text (length front) (Comment (drop 1 front))
+word_step_order text s word.Tabs front remainder e fits = tt
+word_step_order text s word.LineEnd front remainder e fits =
     either (StepOrdered text) (counts s.place s.is_balanced) _ _
-    (subst (λ (t : Text). StepOrdered text (line_end (length front) s.levels t)) (ap (drop (length front)) e ∙ drop-append_seam front behind) (margin_step_order text (length front) (record { begin = 0; node = Newline; end = length front } ∷ []) s.levels (omega arith, omega arith, gap_none text 0, (omega arith, gap_none text (length front)))))
-    (omega arith, subst (λ (t : Text). IsGap t 0 (length front)) (sym e) (word_gap front behind (and_parts (all_gaps front) (is_plain front) fits).0))
-word_step_order text s (word.Opener kind is_raw quote) front behind e fits = opener_order text s.place kind (opening_of is_raw quote behind) (length front) behind
-word_step_order text s word.Reserved front behind e fits = tt
-word_step_order text s word.Identifier front behind e fits = token_order text (length front) (Identifier front)
-word_step_order text s word.Decimal front behind e fits = either (StepOrdered text) (starts_zero front) _ _ tt (token_order text (length front) (Int (integer_of 10 front)))
-word_step_order text s word.Hexadecimal front behind e fits = token_order text (length front) (Int (integer_of 16 (drop 2 front)))
-word_step_order text s word.Octal front behind e fits = token_order text (length front) (Int (integer_of 8 (drop 2 front)))
-word_step_order text s word.Binary front behind e fits = token_order text (length front) (Int (integer_of 2 (drop 2 front)))
-word_step_order text s word.Float front behind e fits = token_order text (length front) (Float front)
-word_step_order text s (word.Fixed terminal) front behind e fits = token_order text (length front) (terminal_token s.place terminal)
+    (subst (λ (t : Text). StepOrdered text (line_end (length front) s.levels t)) (ap (drop (length front)) e ∙ drop-append_seam front remainder) (margin_step_order text (length front) (record { begin = 0; node = Newline; end = length front } ∷ []) s.levels (omega arith, omega arith, gap_none text 0, (omega arith, gap_none text (length front)))))
+    (omega arith, subst (λ (t : Text). IsGap t 0 (length front)) (sym e) (word_gap front remainder (and_parts (all_gaps front) (is_plain front) fits).0))
+word_step_order text s (word.Opener kind is_raw quote) front remainder e fits = opener_order text s.place kind (opening_of is_raw quote remainder) (length front) remainder
+word_step_order text s word.Reserved front remainder e fits = tt
+word_step_order text s word.Identifier front remainder e fits = token_order text (length front) (Identifier front)
+word_step_order text s word.Decimal front remainder e fits = either (StepOrdered text) (starts_zero front) _ _ tt (token_order text (length front) (Int (integer_of 10 front)))
+word_step_order text s word.Hexadecimal front remainder e fits = token_order text (length front) (Int (integer_of 16 (drop 2 front)))
+word_step_order text s word.Octal front remainder e fits = token_order text (length front) (Int (integer_of 8 (drop 2 front)))
+word_step_order text s word.Binary front remainder e fits = token_order text (length front) (Int (integer_of 2 (drop 2 front)))
+word_step_order text s word.Float front remainder e fits = token_order text (length front) (Float front)
+word_step_order text s (word.Fixed terminal) front remainder e fits = token_order text (length front) (terminal_token s.place terminal)
 
 front_step_order : (s : Situation) (text : Text) (found : Option (Class × ℕ)) → longest_front (class_in language) text ≡ found → StepOrdered text (front_step s text found)
 front_step_order s text None f = tt
@@ -398,7 +398,7 @@ pub comments_alone : (text : Text) → InOrder text 0 (margin_of text).comments 
 comments_alone text =
     subst (λ (ls : List Lexeme). InOrder text 0 ls (margin_len (margin_of text))) (append-nil (margin_of text).comments) (margin_order text [] (omega arith, margin_gap text))
 
--- a longest reading behind which nothing fails reaches the text's end
+-- a longest reading remainder which nothing fails reaches the text's end
 whole_len : (text : Text) (pieces : List Piece) → IsLongestReading language nothing text pieces Ends → pieces_len pieces ≡ length text
 whole_len text pieces h =
     let none = ends_at_end language (after_all nothing pieces) (drop (pieces_len pieces) text) h.stands_last in
@@ -411,7 +411,7 @@ along text pieces reads =
     let same : 0 + pieces_len pieces ≡ pieces_len pieces = omega arith in
     subst (InOrder text 0 (lexemes_along 0 pieces)) same (along_order text 0 nothing pieces reads)
 
--- The laws, by what stands behind the longest reading.
+-- The laws, by what stands remainder the longest reading.
 abbrev pub OutcomeInOrder : Text → Outcome → Type 0
 OutcomeInOrder text found =
     ((to : ℕ) × (to ≤ length text) × InOrder text 0 found.lexemes to)

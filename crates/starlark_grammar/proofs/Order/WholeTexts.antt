@@ -47,9 +47,9 @@ token_bounded text len node utf8 end = (((IsCharBoundary-start text utf8, end), 
 margin_step_bounded : (text : Text) (len : ℕ) (before : List Lexeme) (levels : List ℕ) → IsUtf8 text → IsCharBoundary text len → Edges text before → StepBounded text (margin_step len before levels (margin_of (drop len text)))
 unfolding margin_step
 margin_step_bounded text len before levels utf8 here edges =
-    either (StepBounded text) (not (is_content margin.behind)) _ _ (layout [] tt)
+    either (StepBounded text) (not (is_content margin.remainder)) _ _ (layout [] tt)
     (either (StepBounded text) (has_tab margin) _ _ (start, start)
-    (either (StepBounded text) (fits (width_of margin) levels) _ _ (layout (indentation levels margin) (indentation_edges levels (drop len text) behind)) (start, boundary_shift text len (margin_len margin) here found.end)))
+    (either (StepBounded text) (fits (width_of margin) levels) _ _ (layout (indentation levels margin) (indentation_edges levels (drop len text) remainder)) (start, boundary_shift text len (margin_len margin) here found.end)))
   where
     start : IsCharBoundary text 0
     start = IsCharBoundary-start text utf8
@@ -57,11 +57,11 @@ margin_step_bounded text len before levels utf8 here edges =
     margin : Margin
     margin = margin_of (drop len text)
 
-    behind : IsUtf8 (drop len text)
-    behind = IsUtf8-drop text len utf8 here
+    remainder : IsUtf8 (drop len text)
+    remainder = IsUtf8-drop text len utf8 here
 
     found : MarginEdges (drop len text) (margin_of (drop len text))
-    found = margin_edges (drop len text) behind
+    found = margin_edges (drop len text) remainder
 
     layout : (more : List Lexeme) → Edges (drop len text) more → Edges text (before ++ map (moved len) (margin.comments ++ more)) × IsCharBoundary text (len + margin_len margin)
     layout more h = (edges_append text before (map (moved len) (margin.comments ++ more)) edges (edges_shift text len (margin.comments ++ more) here (edges_append (drop len text) margin.comments more found.comments h)), boundary_shift text len (margin_len margin) here found.end)
@@ -69,25 +69,25 @@ margin_step_bounded text len before levels utf8 here edges =
 -- Literals
 
 -- the end of the text, from a place in it on
-text_end : (text : Text) (len : ℕ) (behind : Text) → IsCharBoundary text len → drop len text ≡ behind → IsCharBoundary text (len + length behind)
-text_end text len behind here e =
-    let left : length (drop len text) ≡ length behind = ap (λ (t : Text). length t) e in
+text_end : (text : Text) (len : ℕ) (remainder : Text) → IsCharBoundary text len → drop len text ≡ remainder → IsCharBoundary text (len + length remainder)
+text_end text len remainder here e =
+    let left : length (drop len text) ≡ length remainder = ap (λ (t : Text). length t) e in
     let inside : len ≤ length text = here.0 in
-    let same : length text ≡ len + length behind = omega (arith, left, inside, length-drop len text) in
+    let same : length text ≡ len + length remainder = omega (arith, left, inside, length-drop len text) in
     subst (IsCharBoundary text) same (IsCharBoundary-end text)
 
-literal_by_bounded : (text : Text) (place : Mode) (kind : Kind) (opening : Opening) (len : ℕ) (behind : Text) (body : Body) (stop : Stop) → IsUtf8 text → IsCharBoundary text len → drop len text ≡ behind → StopAt opening (drop (body_len body) behind) stop → StepBounded text (literal_by place kind opening len behind body stop)
-literal_by_bounded text place kind opening len behind body Closing utf8 here e stop =
-    let left : drop (len + body_len body) text ≡ drop (body_len body) behind = drop-sum len (body_len body) text ∙ ap (drop (body_len body)) e in
+literal_by_bounded : (text : Text) (place : Mode) (kind : Kind) (opening : Opening) (len : ℕ) (remainder : Text) (body : Body) (stop : Stop) → IsUtf8 text → IsCharBoundary text len → drop len text ≡ remainder → StopAt opening (drop (body_len body) remainder) stop → StepBounded text (literal_by place kind opening len remainder body stop)
+literal_by_bounded text place kind opening len remainder body Closing utf8 here e stop =
+    let left : drop (len + body_len body) text ≡ drop (body_len body) remainder = drop-sum len (body_len body) text ∙ ap (drop (body_len body)) e in
     let edges = closing_edges opening text (len + body_len body) utf8 (subst (λ (t : Text). t ≡ closing_quotes opening ++ drop (length (closing_quotes opening)) t) (sym left) stop) in
     token_bounded text (len + body_len body + length (closing_quotes opening)) (literal_token kind (body_value body)) utf8 edges.1
-literal_by_bounded text place kind opening len behind body (BadEscape read last) utf8 here e stop = go (drop 1 (take read rest)) count
+literal_by_bounded text place kind opening len remainder body (BadEscape read last) utf8 here e stop = go (drop 1 (take read rest)) count
   where
     at : ℕ
     at = len + body_len body
 
     rest : Text
-    rest = drop (body_len body) behind
+    rest = drop (body_len body) remainder
 
     left : drop at text ≡ rest
     left = drop-sum len (body_len body) text ∙ ap (drop (body_len body)) e
@@ -112,11 +112,11 @@ literal_by_bounded text place kind opening len behind body (BadEscape read last)
     go : (t : Text) → length t ≡ read - 1 → StepBounded text (escape_fault at t)
     go [] k = (begin, one)
     go (b ∷ bs) k = let same : at + read ≡ at + length (byte "\\" ∷ b ∷ bs) = omega (arith, k) in (begin, subst (IsCharBoundary text) same end)
-literal_by_bounded text place kind opening len behind body Line utf8 here e stop =
+literal_by_bounded text place kind opening len remainder body Line utf8 here e stop =
     (IsCharBoundary-start text utf8, before_byte text (len + body_len body) (byte "\n") stop.0 (drop-sum len (body_len body) text ∙ ap (drop (body_len body)) e ∙ stop.1) (omega arith))
-literal_by_bounded text place kind opening len behind body Ended utf8 here e stop = (IsCharBoundary-start text utf8, text_end text len behind here e)
-literal_by_bounded text place kind opening len behind body OpeningBrace utf8 here e stop = (IsCharBoundary-start text utf8, text_end text len behind here e)
-literal_by_bounded text place kind opening len behind body ClosingBrace utf8 here e stop = (IsCharBoundary-start text utf8, text_end text len behind here e)
+literal_by_bounded text place kind opening len remainder body Ended utf8 here e stop = (IsCharBoundary-start text utf8, text_end text len remainder here e)
+literal_by_bounded text place kind opening len remainder body OpeningBrace utf8 here e stop = (IsCharBoundary-start text utf8, text_end text len remainder here e)
+literal_by_bounded text place kind opening len remainder body ClosingBrace utf8 here e stop = (IsCharBoundary-start text utf8, text_end text len remainder here e)
 
 -- the end of an opening
 opening_edge : (text : Text) (len : ℕ) (is_raw : Bool) (quote : Quote) → IsUtf8 text → IsCharBoundary text len → IsCharBoundary text (len + more_quotes (opening_of is_raw quote (drop len text)))
@@ -138,13 +138,13 @@ opener_bounded text place OfFString is_raw quote len utf8 here = token_bounded t
 opener_bounded text place OfText is_raw quote len utf8 here =
     let opening : Opening = opening_of is_raw quote (drop len text) in
     let literal : Literal = record { kind = OfText; opening = opening } in
-    let behind : Text = drop (more_quotes opening) (drop len text) in
-    literal_by_bounded text place OfText opening (len + more_quotes opening) behind (body_at literal behind) _ utf8 (opening_edge text len is_raw quote utf8 here) (drop-sum len (more_quotes opening) text) (stop_at literal behind)
+    let remainder : Text = drop (more_quotes opening) (drop len text) in
+    literal_by_bounded text place OfText opening (len + more_quotes opening) remainder (body_at literal remainder) _ utf8 (opening_edge text len is_raw quote utf8 here) (drop-sum len (more_quotes opening) text) (stop_at literal remainder)
 opener_bounded text place OfBytes is_raw quote len utf8 here =
     let opening : Opening = opening_of is_raw quote (drop len text) in
     let literal : Literal = record { kind = OfBytes; opening = opening } in
-    let behind : Text = drop (more_quotes opening) (drop len text) in
-    literal_by_bounded text place OfBytes opening (len + more_quotes opening) behind (body_at literal behind) _ utf8 (opening_edge text len is_raw quote utf8 here) (drop-sum len (more_quotes opening) text) (stop_at literal behind)
+    let remainder : Text = drop (more_quotes opening) (drop len text) in
+    literal_by_bounded text place OfBytes opening (len + more_quotes opening) remainder (body_at literal remainder) _ utf8 (opening_edge text len is_raw quote utf8 here) (drop-sum len (more_quotes opening) text) (stop_at literal remainder)
 
 -- Texts of f-strings
 
@@ -158,7 +158,7 @@ chunk_piece_bounded text body node len utf8 middle end = (edges_append text (chu
     first [] = tt
     first (b ∷ bs) = ((IsCharBoundary-start text utf8, middle), tt)
 
--- before a byte of ASCII, and behind it
+-- before a byte of ASCII, and remainder it
 byte_edges : (text : Text) (at b : ℕ) (rest : Text) → IsUtf8 text → drop at text ≡ b ∷ rest → b < 128 → is_plain (b ∷ []) ≡ true → IsCharBoundary text at × IsCharBoundary text (at + 1)
 byte_edges text at b rest utf8 e small plain =
     let before : IsCharBoundary text at = before_byte text at b rest e small in
@@ -186,24 +186,24 @@ chunk_bounded opening text utf8 = chunk_by_bounded opening text (body_at (record
 
 -- Words
 
-word_step_bounded : (text : Text) (s : Situation) (class : Class) (front behind : Text) → IsUtf8 text → IsCharBoundary text (length front) → drop (length front) text ≡ behind → StepBounded text (word_step s class front behind)
-word_step_bounded text s word.Skipped front behind utf8 end e = (tt, end)
-word_step_bounded text s word.Comment front behind utf8 end e = token_bounded text (length front) (Comment (drop 1 front)) utf8 end
-word_step_bounded text s word.Tabs front behind utf8 end e = (IsCharBoundary-start text utf8, IsCharBoundary-start text utf8)
-word_step_bounded text s word.LineEnd front behind utf8 end e =
+word_step_bounded : (text : Text) (s : Situation) (class : Class) (front remainder : Text) → IsUtf8 text → IsCharBoundary text (length front) → drop (length front) text ≡ remainder → StepBounded text (word_step s class front remainder)
+word_step_bounded text s word.Skipped front remainder utf8 end e = (tt, end)
+word_step_bounded text s word.Comment front remainder utf8 end e = token_bounded text (length front) (Comment (drop 1 front)) utf8 end
+word_step_bounded text s word.Tabs front remainder utf8 end e = (IsCharBoundary-start text utf8, IsCharBoundary-start text utf8)
+word_step_bounded text s word.LineEnd front remainder utf8 end e =
     either (StepBounded text) (counts s.place s.is_balanced) _ _
     (subst (λ (t : Text). StepBounded text (line_end (length front) s.levels t)) e (margin_step_bounded text (length front) (record { begin = 0; node = Newline; end = length front } ∷ []) s.levels utf8 end ((IsCharBoundary-start text utf8, end), tt)))
     (tt, end)
-word_step_bounded text s (word.Opener kind is_raw quote) front behind utf8 end e =
+word_step_bounded text s (word.Opener kind is_raw quote) front remainder utf8 end e =
     subst (λ (t : Text). StepBounded text (opener s.place kind (opening_of is_raw quote t) (length front) t)) e (opener_bounded text s.place kind is_raw quote (length front) utf8 end)
-word_step_bounded text s word.Reserved front behind utf8 end e = (IsCharBoundary-start text utf8, end)
-word_step_bounded text s word.Identifier front behind utf8 end e = token_bounded text (length front) (Identifier front) utf8 end
-word_step_bounded text s word.Decimal front behind utf8 end e = either (StepBounded text) (starts_zero front) _ _ (IsCharBoundary-start text utf8, end) (token_bounded text (length front) (Int (integer_of 10 front)) utf8 end)
-word_step_bounded text s word.Hexadecimal front behind utf8 end e = token_bounded text (length front) (Int (integer_of 16 (drop 2 front))) utf8 end
-word_step_bounded text s word.Octal front behind utf8 end e = token_bounded text (length front) (Int (integer_of 8 (drop 2 front))) utf8 end
-word_step_bounded text s word.Binary front behind utf8 end e = token_bounded text (length front) (Int (integer_of 2 (drop 2 front))) utf8 end
-word_step_bounded text s word.Float front behind utf8 end e = token_bounded text (length front) (Float front) utf8 end
-word_step_bounded text s (word.Fixed terminal) front behind utf8 end e = token_bounded text (length front) (terminal_token s.place terminal) utf8 end
+word_step_bounded text s word.Reserved front remainder utf8 end e = (IsCharBoundary-start text utf8, end)
+word_step_bounded text s word.Identifier front remainder utf8 end e = token_bounded text (length front) (Identifier front) utf8 end
+word_step_bounded text s word.Decimal front remainder utf8 end e = either (StepBounded text) (starts_zero front) _ _ (IsCharBoundary-start text utf8, end) (token_bounded text (length front) (Int (integer_of 10 front)) utf8 end)
+word_step_bounded text s word.Hexadecimal front remainder utf8 end e = token_bounded text (length front) (Int (integer_of 16 (drop 2 front))) utf8 end
+word_step_bounded text s word.Octal front remainder utf8 end e = token_bounded text (length front) (Int (integer_of 8 (drop 2 front))) utf8 end
+word_step_bounded text s word.Binary front remainder utf8 end e = token_bounded text (length front) (Int (integer_of 2 (drop 2 front))) utf8 end
+word_step_bounded text s word.Float front remainder utf8 end e = token_bounded text (length front) (Float front) utf8 end
+word_step_bounded text s (word.Fixed terminal) front remainder utf8 end e = token_bounded text (length front) (terminal_token s.place terminal) utf8 end
 
 none_behind : (found rest : Option Class) → option_or found rest ≡ None → rest ≡ None
 none_behind None rest e = e

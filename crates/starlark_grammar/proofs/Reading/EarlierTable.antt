@@ -12,7 +12,7 @@ or_false : (a b : Bool) → (a || b) ≡ false → (a ≡ false) × (b ≡ false
 or_false false b h = (refl, h)
 or_false true b h = cc
 
--- at the front, and behind the first byte
+-- at the front, and remainder the first byte
 held_parts : (b : ℕ) (bs : Text) → holds_rf_opener (b ∷ bs) ≡ false → (is_rf_opener (take 3 (b ∷ bs)) ≡ false) × (holds_rf_opener bs ≡ false)
 unfolding holds_rf_opener
 held_parts b bs h = or_false (is_rf_opener (take 3 (b ∷ bs))) (holds_rf_opener bs) h

@@ -9,7 +9,7 @@ use Rattle.starlark_grammar.specs.Items.{body_from, body_at}
 use Rattle.starlark_grammar.specs.Pieces.{Before, Nothing, Layout, Gap, Other, Piece, Step, Stands, Fails, Ends, Situation, chunk, by_place, by_before, step_at}
 use Rattle.starlark_grammar.specs.Reading.{History, nothing, after, after_all, situation, next_step, IsReading, IsLongestReading, pieces_len, read_onward, read_from, read, outcome_of, outcome_in, IsOutcome}
 use Rattle.starlark_grammar.specs.Laws.{Begins}
-use Rattle.starlark_grammar.proofs.Lists.{drop-sum, drop-behind}
+use Rattle.starlark_grammar.proofs.Lists.{drop-sum, drop-remainder}
 use Rattle.starlark_grammar.proofs.Reading.Steps.{FaultFits, PieceFits, StepFits, is_nothing, least_len, step_fits}
 
 -- of two pieces that stand at one place
@@ -75,7 +75,7 @@ none_at_end table s piece h e = by_before' s.before h e
     by_before' Gap h e = by_place' s.place e
     by_before' Other h e = by_place' s.place e
 
--- the history behind a piece isn't that of a text's start
+-- the history remainder a piece isn't that of a text's start
 pub started : (history : History) (piece : Piece) → is_nothing piece.sort ≡ false → is_nothing (after history piece).before ≡ false
 unfolding after
 started history piece h = h
@@ -101,7 +101,7 @@ pub none_next : (table : Table) (history : History) (piece : Piece) → is_nothi
 unfolding next_step situation
 none_next table history piece h e = none_at_end table (situation history) piece h e
 
--- what stands behind no piece
+-- what stands remainder no piece
 pub stops_here : (table : Table) (history : History) (text : Text) (last : Step) → next_step table history text ≡ last → ((piece : Piece) → last ≡ Stands piece → ⊥) → IsLongestReading table history text [] last
 stops_here table history text last e none = record { reads = tt; stands_last = e; no_piece = none }
 
@@ -119,7 +119,7 @@ read_from_is table history zero (b ∷ bs) h = go (next_step table history (b �
         let fits = piece_fits table history (b ∷ bs) piece e in
         let least = one_least history.before h in
         let some = fits.some in
-        let left : drop piece.len (b ∷ bs) ≡ drop (piece.len - 1) bs = drop-behind piece.len b bs (omega (arith, least, some)) in
+        let left : drop piece.len (b ∷ bs) ≡ drop (piece.len - 1) bs = drop-remainder piece.len b bs (omega (arith, least, some)) in
         longest_onward table history (b ∷ bs) piece _ _ e (subst (λ (t : Text). IsLongestReading table (after history piece) t (read_from table (after history piece) (piece.len - 1) bs).pieces (read_from table (after history piece) (piece.len - 1) bs).last) (sym left) (more piece fits.sort))
     go (Fails fault) e more = stops_here table history (b ∷ bs) (Fails fault) e (λ piece k. cc)
     go Ends e more = stops_here table history (b ∷ bs) Ends e (λ piece k. cc)

@@ -84,16 +84,16 @@ unfolding margin_step
 margin_step_fits least len before levels margin text some inside =
     let layout : (lexemes : List Lexeme) (width : Option ℕ) → PieceFits least text (record { len = len + margin_len margin; lexemes = lexemes; width = width; sort = Layout }) =
     λ lexemes width. record { some = omega arith; inside = inside; sort = refl } in
-    either (StepFits least text) (not (is_content margin.behind)) _ _ (layout _ _)
+    either (StepFits least text) (not (is_content margin.remainder)) _ _ (layout _ _)
     (either (StepFits least text) (has_tab margin) _ _ (record { order = omega arith; inside = omega arith })
     (either (StepFits least text) (fits (width_of margin) levels) _ _ (layout _ _) (record { order = omega arith; inside = inside })))
 
 -- Literals
 
-quotes_fit : (is_raw : Bool) (quote : Quote) (behind : Text) → more_quotes (opening_of is_raw quote behind) ≤ length behind
-quotes_fit is_raw quote behind = go (starts_with nat_eq behind (quote_byte quote ∷ quote_byte quote ∷ [])) (starts_fits behind (quote_byte quote ∷ quote_byte quote ∷ []))
+quotes_fit : (is_raw : Bool) (quote : Quote) (remainder : Text) → more_quotes (opening_of is_raw quote remainder) ≤ length remainder
+quotes_fit is_raw quote remainder = go (starts_with nat_eq remainder (quote_byte quote ∷ quote_byte quote ∷ [])) (starts_fits remainder (quote_byte quote ∷ quote_byte quote ∷ []))
   where
-    go : (starts : Bool) → (starts ≡ true → 2 ≤ length behind) → (if starts then 2 else 0) ≤ length behind
+    go : (starts : Bool) → (starts ≡ true → 2 ≤ length remainder) → (if starts then 2 else 0) ≤ length remainder
     go true h = h refl
     go false h = omega arith
 
@@ -101,30 +101,30 @@ escape_fault_fits : (begin : ℕ) (read text : Text) → begin + 1 + length read
 escape_fault_fits begin [] text inside = record { order = omega arith; inside = omega arith }
 escape_fault_fits begin (b ∷ bs) text inside = record { order = omega arith; inside = omega arith }
 
-literal_by_fits : (place : Mode) (kind : Kind) (opening : Opening) (len : ℕ) (behind text : Text) (body : Body) (stop : Stop) → 1 ≤ len → len + length behind ≤ length text → body_len body ≤ length behind → StopFits opening (drop (body_len body) behind) stop → StepFits 1 text (literal_by place kind opening len behind body stop)
-literal_by_fits place kind opening len behind text body Closing some inside fits stop =
-    record { some = omega arith; inside = omega (arith, length-drop (body_len body) behind); sort = refl }
-literal_by_fits place kind opening len behind text body (BadEscape read last) some inside fits stop =
+literal_by_fits : (place : Mode) (kind : Kind) (opening : Opening) (len : ℕ) (remainder text : Text) (body : Body) (stop : Stop) → 1 ≤ len → len + length remainder ≤ length text → body_len body ≤ length remainder → StopFits opening (drop (body_len body) remainder) stop → StepFits 1 text (literal_by place kind opening len remainder body stop)
+literal_by_fits place kind opening len remainder text body Closing some inside fits stop =
+    record { some = omega arith; inside = omega (arith, length-drop (body_len body) remainder); sort = refl }
+literal_by_fits place kind opening len remainder text body (BadEscape read last) some inside fits stop =
     let least = stop.0 in
     let less = stop.1 in
     let within = stop.2 in
-    let taken = take_fits read (drop (body_len body) behind) in
-    escape_fault_fits (len + body_len body) (drop 1 (take read (drop (body_len body) behind))) text
-    (omega (arith, length-drop (body_len body) behind, length-drop 1 (take read (drop (body_len body) behind)), taken.0, taken.1))
-literal_by_fits place kind opening len behind text body Line some inside fits stop = record { order = omega arith; inside = omega arith }
-literal_by_fits place kind opening len behind text body Ended some inside fits stop = record { order = omega arith; inside = inside }
-literal_by_fits place kind opening len behind text body OpeningBrace some inside fits stop = record { order = omega arith; inside = inside }
-literal_by_fits place kind opening len behind text body ClosingBrace some inside fits stop = record { order = omega arith; inside = inside }
+    let taken = take_fits read (drop (body_len body) remainder) in
+    escape_fault_fits (len + body_len body) (drop 1 (take read (drop (body_len body) remainder))) text
+    (omega (arith, length-drop (body_len body) remainder, length-drop 1 (take read (drop (body_len body) remainder)), taken.0, taken.1))
+literal_by_fits place kind opening len remainder text body Line some inside fits stop = record { order = omega arith; inside = omega arith }
+literal_by_fits place kind opening len remainder text body Ended some inside fits stop = record { order = omega arith; inside = inside }
+literal_by_fits place kind opening len remainder text body OpeningBrace some inside fits stop = record { order = omega arith; inside = inside }
+literal_by_fits place kind opening len remainder text body ClosingBrace some inside fits stop = record { order = omega arith; inside = inside }
 
-literal_fits : (place : Mode) (kind : Kind) (opening : Opening) (len : ℕ) (behind text : Text) → 1 ≤ len → len + length behind ≤ length text → StepFits 1 text (literal place kind opening len behind)
-literal_fits place kind opening len behind text some inside =
-    let fits = body_fits (record { kind = kind; opening = opening }) behind in
-    literal_by_fits place kind opening len behind text (body_at (record { kind = kind; opening = opening }) behind) _ some inside fits.0 fits.1
+literal_fits : (place : Mode) (kind : Kind) (opening : Opening) (len : ℕ) (remainder text : Text) → 1 ≤ len → len + length remainder ≤ length text → StepFits 1 text (literal place kind opening len remainder)
+literal_fits place kind opening len remainder text some inside =
+    let fits = body_fits (record { kind = kind; opening = opening }) remainder in
+    literal_by_fits place kind opening len remainder text (body_at (record { kind = kind; opening = opening }) remainder) _ some inside fits.0 fits.1
 
-opener_fits : (place : Mode) (kind : Kind) (opening : Opening) (len : ℕ) (behind text : Text) → 1 ≤ len → len + length behind ≤ length text → more_quotes opening ≤ length behind → StepFits 1 text (opener place kind opening len behind)
-opener_fits place OfFString opening len behind text some inside quotes = token_fits (len + more_quotes opening) (FStringStart opening) text (omega arith) (omega arith)
-opener_fits place OfText opening len behind text some inside quotes = literal_fits place OfText opening (len + more_quotes opening) (drop (more_quotes opening) behind) text (omega arith) (omega (arith, length-drop (more_quotes opening) behind))
-opener_fits place OfBytes opening len behind text some inside quotes = literal_fits place OfBytes opening (len + more_quotes opening) (drop (more_quotes opening) behind) text (omega arith) (omega (arith, length-drop (more_quotes opening) behind))
+opener_fits : (place : Mode) (kind : Kind) (opening : Opening) (len : ℕ) (remainder text : Text) → 1 ≤ len → len + length remainder ≤ length text → more_quotes opening ≤ length remainder → StepFits 1 text (opener place kind opening len remainder)
+opener_fits place OfFString opening len remainder text some inside quotes = token_fits (len + more_quotes opening) (FStringStart opening) text (omega arith) (omega arith)
+opener_fits place OfText opening len remainder text some inside quotes = literal_fits place OfText opening (len + more_quotes opening) (drop (more_quotes opening) remainder) text (omega arith) (omega (arith, length-drop (more_quotes opening) remainder))
+opener_fits place OfBytes opening len remainder text some inside quotes = literal_fits place OfBytes opening (len + more_quotes opening) (drop (more_quotes opening) remainder) text (omega arith) (omega (arith, length-drop (more_quotes opening) remainder))
 
 -- Texts of f-strings
 
@@ -156,22 +156,22 @@ chunk_fits opening text =
 
 -- Words
 
-word_step_fits : (s : Situation) (class : Class) (front behind text : Text) → 1 ≤ length front → length front + length behind ≤ length text → StepFits 1 text (word_step s class front behind)
-word_step_fits s word.Skipped front behind text some inside = record { some = some; inside = omega arith; sort = refl }
-word_step_fits s word.Comment front behind text some inside = token_fits (length front) _ text some (omega arith)
-word_step_fits s word.Tabs front behind text some inside = record { order = omega arith; inside = omega arith }
-word_step_fits s word.LineEnd front behind text some inside =
-    let margin = margin_fits behind in
-    either (StepFits 1 text) (counts s.place s.is_balanced) _ _ (margin_step_fits 1 (length front) _ s.levels (margin_of behind) text some (omega arith)) (record { some = some; inside = omega arith; sort = refl })
-word_step_fits s (word.Opener kind is_raw quote) front behind text some inside = opener_fits s.place kind (opening_of is_raw quote behind) (length front) behind text some inside (quotes_fit is_raw quote behind)
-word_step_fits s word.Reserved front behind text some inside = record { order = omega arith; inside = omega arith }
-word_step_fits s word.Identifier front behind text some inside = token_fits (length front) _ text some (omega arith)
-word_step_fits s word.Decimal front behind text some inside = either (StepFits 1 text) (starts_zero front) _ _ (record { order = omega arith; inside = omega arith }) (token_fits (length front) _ text some (omega arith))
-word_step_fits s word.Hexadecimal front behind text some inside = token_fits (length front) _ text some (omega arith)
-word_step_fits s word.Octal front behind text some inside = token_fits (length front) _ text some (omega arith)
-word_step_fits s word.Binary front behind text some inside = token_fits (length front) _ text some (omega arith)
-word_step_fits s word.Float front behind text some inside = token_fits (length front) _ text some (omega arith)
-word_step_fits s (word.Fixed terminal) front behind text some inside = token_fits (length front) _ text some (omega arith)
+word_step_fits : (s : Situation) (class : Class) (front remainder text : Text) → 1 ≤ length front → length front + length remainder ≤ length text → StepFits 1 text (word_step s class front remainder)
+word_step_fits s word.Skipped front remainder text some inside = record { some = some; inside = omega arith; sort = refl }
+word_step_fits s word.Comment front remainder text some inside = token_fits (length front) _ text some (omega arith)
+word_step_fits s word.Tabs front remainder text some inside = record { order = omega arith; inside = omega arith }
+word_step_fits s word.LineEnd front remainder text some inside =
+    let margin = margin_fits remainder in
+    either (StepFits 1 text) (counts s.place s.is_balanced) _ _ (margin_step_fits 1 (length front) _ s.levels (margin_of remainder) text some (omega arith)) (record { some = some; inside = omega arith; sort = refl })
+word_step_fits s (word.Opener kind is_raw quote) front remainder text some inside = opener_fits s.place kind (opening_of is_raw quote remainder) (length front) remainder text some inside (quotes_fit is_raw quote remainder)
+word_step_fits s word.Reserved front remainder text some inside = record { order = omega arith; inside = omega arith }
+word_step_fits s word.Identifier front remainder text some inside = token_fits (length front) _ text some (omega arith)
+word_step_fits s word.Decimal front remainder text some inside = either (StepFits 1 text) (starts_zero front) _ _ (record { order = omega arith; inside = omega arith }) (token_fits (length front) _ text some (omega arith))
+word_step_fits s word.Hexadecimal front remainder text some inside = token_fits (length front) _ text some (omega arith)
+word_step_fits s word.Octal front remainder text some inside = token_fits (length front) _ text some (omega arith)
+word_step_fits s word.Binary front remainder text some inside = token_fits (length front) _ text some (omega arith)
+word_step_fits s word.Float front remainder text some inside = token_fits (length front) _ text some (omega arith)
+word_step_fits s (word.Fixed terminal) front remainder text some inside = token_fits (length front) _ text some (omega arith)
 
 front_step_fits : (table : Table) (s : Situation) (text : Text) (found : Option (Class × ℕ)) → longest_front (class_in table) text ≡ found → StepFits 1 text (front_step s text found)
 front_step_fits table s text None e = record { order = omega arith; inside = character_fits text }

@@ -39,12 +39,12 @@ plain_content [] h = cc
 plain_content (b ∷ bs) h = ap not (no_margin (is_blank b) (is_lf b) (b == byte "#") h).1
 
 -- it is empty
-pub plain_margin : (text : Text) → begins_plainly text ≡ true → margin_of text ≡ record { comments = []; at = 0; blanks = []; behind = text }
+pub plain_margin : (text : Text) → begins_plainly text ≡ true → margin_of text ≡ record { comments = []; at = 0; blanks = []; remainder = text }
 unfolding begins_plainly margin_of lines
 plain_margin [] h = cc
 plain_margin (b ∷ bs) h =
     ap (λ (ls : List Text). margin_from ls (sum_by length ls) (drop (sum_by length ls) (b ∷ bs))) (none (is_lf b) (lines bs) is.1)
-    ∙ ap (λ n. record { comments = []; at = 0; blanks = take n (b ∷ bs); behind = drop n (b ∷ bs) }) (no_blanks bs)
+    ∙ ap (λ n. record { comments = []; at = 0; blanks = take n (b ∷ bs); remainder = drop n (b ∷ bs) }) (no_blanks bs)
   where
     is : (is_blank b ≡ false) × (is_lf b ≡ false) × ((b == byte "#") ≡ false)
     is = no_margin (is_blank b) (is_lf b) (b == byte "#") h
@@ -82,7 +82,7 @@ all_close (width ∷ levels) h =
     omega (arith, first, sum_by-cons (λ v. cond (nat_lt 0 v) 1 0) width levels, all_close levels parts.1)
 
 pub closing_step : (len : ℕ) (lexemes : List Lexeme) (levels : List ℕ) (comments : List Lexeme) (at : ℕ) (text : Text) → is_content text ≡ true → list_all (nat_lt 0) levels ≡ true
-    → margin_step len lexemes levels (record { comments = comments; at = at; blanks = []; behind = text }) ≡ Stands (record { len = len + (at + 0); lexemes = lexemes ++ map (moved len) (comments ++ dedents (length levels) at); width = Some 0; sort = Layout })
+    → margin_step len lexemes levels (record { comments = comments; at = at; blanks = []; remainder = text }) ≡ Stands (record { len = len + (at + 0); lexemes = lexemes ++ map (moved len) (comments ++ dedents (length levels) at); width = Some 0; sort = Layout })
 unfolding margin_step fits indentation
 closing_step len lexemes levels comments at text content positive = rw (content, all_close levels positive) refl
 
@@ -94,7 +94,7 @@ closed_margin len lexemes levels text more piece whole stands reach begins posit
     last : Piece
     last = record { len = len + (length text + 0); lexemes = lexemes ++ map (moved len) ((margin_of text).comments ++ []); width = None; sort = Layout }
 
-    last_step : margin_of text ≡ record { comments = (margin_of text).comments; at = length text; blanks = []; behind = [] } → margin_step len lexemes levels (margin_of text) ≡ Stands last
+    last_step : margin_of text ≡ record { comments = (margin_of text).comments; at = length text; blanks = []; remainder = [] } → margin_step len lexemes levels (margin_of text) ≡ Stands last
     last_step e = ap (margin_step len lexemes levels) e ∙ blank_step len lexemes levels (margin_of text).comments (length text)
 
     total : len + (length text + 0 + 0) ≡ len + (length text + 0)

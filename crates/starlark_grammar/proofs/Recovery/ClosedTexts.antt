@@ -11,7 +11,7 @@ use Rattle.starlark_grammar.specs.Tokens.{Fault, Lexeme, Newline, Outcome, Spann
 use Rattle.starlark_grammar.specs.Cuts.{is_faultless}
 use Rattle.starlark_grammar.specs.Pieces.{Ends, Fails, Stands, Step}
 use Rattle.starlark_grammar.specs.Reading.{after_all, closing, lexemes_along, nothing, outcome, outcome_of, pieces_len, read}
-use Rattle.starlark_grammar.proofs.Lists.{drop-behind}
+use Rattle.starlark_grammar.proofs.Lists.{drop-remainder}
 use Rattle.starlark_grammar.proofs.Reading.Readings.{read_is}
 use Rattle.starlark_grammar.proofs.Rows.Shapes.{all_definitions}
 use Rattle.starlark_grammar.proofs.Joining.Joined.{map_both, moved_both}
@@ -51,7 +51,7 @@ closed_after_faults [] fault has = let none = empty_faultless in cc
 closed_after_faults (b ∷ bs) fault has =
     let later = restart_later (b ∷ bs) fault (omega arith) in
     by_some (b ∷ bs) (outcome (b ∷ bs)).fault (λ at. is_closed_from (at - 1) bs) fault has
-    ∙ ap (λ closed. is_decided (b ∷ bs) fault && closed) (closed_passed (restart (b ∷ bs) fault - 1) bs ∙ ap is_closed (sym (drop-behind (restart (b ∷ bs) fault) b bs later)))
+    ∙ ap (λ closed. is_decided (b ∷ bs) fault && closed) (closed_passed (restart (b ∷ bs) fault - 1) bs ∙ ap is_closed (sym (drop-remainder (restart (b ∷ bs) fault) b bs later)))
 
 -- a text without fault is closed exactly where it is a cut between lines
 pub closed_faultless : (text : Text) → 0 < length text → (outcome text).fault ≡ None → is_closed text ≡ is_line_cut text
@@ -132,7 +132,7 @@ found_on text fault has found =
 
 -- the rest after a fault, as the outcomes are computed
 rest_is : (b : ℕ) (bs : Text) (fault : Spanned Fault) → drop (restart (b ∷ bs) fault - 1) bs ≡ drop (restart (b ∷ bs) fault) (b ∷ bs)
-rest_is b bs fault = sym (drop-behind (restart (b ∷ bs) fault) b bs (restart_later (b ∷ bs) fault (omega arith)))
+rest_is b bs fault = sym (drop-remainder (restart (b ∷ bs) fault) b bs (restart_later (b ∷ bs) fault (omega arith)))
 
 pub newline_found : (passed : ℕ) (text : Text) → NewlineFound (drop passed text)
 newline_found zero [] = found_alone [] empty_faultless

@@ -128,7 +128,7 @@ next_line_stays text more at h less =
 
 -- the last line of a margin that isn't the rest of its text
 abbrev IsRest : Text → Type 0
-IsRest text = margin_of text ≡ record { comments = (margin_of text).comments; at = length text; blanks = []; behind = [] }
+IsRest text = margin_of text ≡ record { comments = (margin_of text).comments; at = length text; blanks = []; remainder = [] }
 
 margin_line_stays : (text more : Text) (at : ℕ) → ends_line text ≡ true → at ≤ length text → (IsRest (drop at text) → ⊥) → (margin_line (text ++ more) at ≡ margin_line text at) × (margin_line text at < length text)
 margin_line_stays text more at h inside some = go (followed (drop at text) more (whole_behind at text (whole_from_ends text h)))

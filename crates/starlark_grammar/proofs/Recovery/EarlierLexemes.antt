@@ -89,7 +89,7 @@ token_ends len node = (omega arith, tt)
 margin_step_ends : (len : ℕ) (before : List Lexeme) (levels : List ℕ) (margin : Margin) → EndBy len before → EndBy margin.at margin.comments → StepEnds (margin_step len before levels margin)
 unfolding margin_step
 margin_step_ends len before levels margin ends comments =
-    either StepEnds (not (is_content margin.behind)) _ _ (layout [] tt)
+    either StepEnds (not (is_content margin.remainder)) _ _ (layout [] tt)
     (either StepEnds (has_tab margin) _ _ tt
     (either StepEnds (fits (width_of margin) levels) _ _ (layout (indentation levels margin) (indentation_end levels margin)) tt))
   where
@@ -99,22 +99,22 @@ margin_step_ends len before levels margin ends comments =
         (end_moved len (margin_len margin) (margin.comments ++ more)
         (end_append (margin_len margin) margin.comments more (end_later margin.at (margin_len margin) margin.comments (omega arith) comments) h))
 
-literal_by_ends : (place : Mode) (kind : Kind) (opening : Opening) (len : ℕ) (behind : Text) (body : Body) (stop : Stop) → StepEnds (literal_by place kind opening len behind body stop)
-literal_by_ends place kind opening len behind body Closing = (omega arith, tt)
-literal_by_ends place kind opening len behind body (BadEscape read last) = go (len + body_len body) (drop 1 (take read (drop (body_len body) behind)))
+literal_by_ends : (place : Mode) (kind : Kind) (opening : Opening) (len : ℕ) (remainder : Text) (body : Body) (stop : Stop) → StepEnds (literal_by place kind opening len remainder body stop)
+literal_by_ends place kind opening len remainder body Closing = (omega arith, tt)
+literal_by_ends place kind opening len remainder body (BadEscape read last) = go (len + body_len body) (drop 1 (take read (drop (body_len body) remainder)))
   where
     go : (begin : ℕ) (read : Text) → StepEnds (escape_fault begin read)
     go begin [] = tt
     go begin (b ∷ bs) = tt
-literal_by_ends place kind opening len behind body Line = tt
-literal_by_ends place kind opening len behind body Ended = tt
-literal_by_ends place kind opening len behind body OpeningBrace = tt
-literal_by_ends place kind opening len behind body ClosingBrace = tt
+literal_by_ends place kind opening len remainder body Line = tt
+literal_by_ends place kind opening len remainder body Ended = tt
+literal_by_ends place kind opening len remainder body OpeningBrace = tt
+literal_by_ends place kind opening len remainder body ClosingBrace = tt
 
-opener_ends : (place : Mode) (kind : Kind) (opening : Opening) (len : ℕ) (behind : Text) → StepEnds (opener place kind opening len behind)
-opener_ends place OfFString opening len behind = (omega arith, tt)
-opener_ends place OfText opening len behind = literal_by_ends place OfText opening (len + more_quotes opening) (drop (more_quotes opening) behind) (body_at (record { kind = OfText; opening = opening }) (drop (more_quotes opening) behind)) _
-opener_ends place OfBytes opening len behind = literal_by_ends place OfBytes opening (len + more_quotes opening) (drop (more_quotes opening) behind) (body_at (record { kind = OfBytes; opening = opening }) (drop (more_quotes opening) behind)) _
+opener_ends : (place : Mode) (kind : Kind) (opening : Opening) (len : ℕ) (remainder : Text) → StepEnds (opener place kind opening len remainder)
+opener_ends place OfFString opening len remainder = (omega arith, tt)
+opener_ends place OfText opening len remainder = literal_by_ends place OfText opening (len + more_quotes opening) (drop (more_quotes opening) remainder) (body_at (record { kind = OfText; opening = opening }) (drop (more_quotes opening) remainder)) _
+opener_ends place OfBytes opening len remainder = literal_by_ends place OfBytes opening (len + more_quotes opening) (drop (more_quotes opening) remainder) (body_at (record { kind = OfBytes; opening = opening }) (drop (more_quotes opening) remainder)) _
 
 chunk_piece_ends : (body : Body) (node : Token) (len : ℕ) → StepEnds (chunk_piece body node len)
 chunk_piece_ends body node len = go (body_value body)
@@ -135,22 +135,22 @@ chunk_ends opening text = by (body_at (record { kind = OfFString; opening = open
     by body Line = tt
     by body Ended = tt
 
-word_step_ends : (s : Situation) (class : Class) (front behind : Text) → StepEnds (word_step s class front behind)
-word_step_ends s word.Skipped front behind = tt
-word_step_ends s word.Comment front behind = (omega arith, tt)
-word_step_ends s word.Tabs front behind = tt
-word_step_ends s word.LineEnd front behind =
+word_step_ends : (s : Situation) (class : Class) (front remainder : Text) → StepEnds (word_step s class front remainder)
+word_step_ends s word.Skipped front remainder = tt
+word_step_ends s word.Comment front remainder = (omega arith, tt)
+word_step_ends s word.Tabs front remainder = tt
+word_step_ends s word.LineEnd front remainder =
     either StepEnds (counts s.place s.is_balanced) _ _
-    (margin_step_ends (length front) (record { begin = 0; node = Newline; end = length front } ∷ []) s.levels (margin_of behind) (omega arith, tt) (comments_end behind)) tt
-word_step_ends s (word.Opener kind is_raw quote) front behind = opener_ends s.place kind (opening_of is_raw quote behind) (length front) behind
-word_step_ends s word.Reserved front behind = tt
-word_step_ends s word.Identifier front behind = (omega arith, tt)
-word_step_ends s word.Decimal front behind = either StepEnds (starts_zero front) _ _ tt (token_ends (length front) (Int (integer_of 10 front)))
-word_step_ends s word.Hexadecimal front behind = (omega arith, tt)
-word_step_ends s word.Octal front behind = (omega arith, tt)
-word_step_ends s word.Binary front behind = (omega arith, tt)
-word_step_ends s word.Float front behind = (omega arith, tt)
-word_step_ends s (word.Fixed terminal) front behind = (omega arith, tt)
+    (margin_step_ends (length front) (record { begin = 0; node = Newline; end = length front } ∷ []) s.levels (margin_of remainder) (omega arith, tt) (comments_end remainder)) tt
+word_step_ends s (word.Opener kind is_raw quote) front remainder = opener_ends s.place kind (opening_of is_raw quote remainder) (length front) remainder
+word_step_ends s word.Reserved front remainder = tt
+word_step_ends s word.Identifier front remainder = (omega arith, tt)
+word_step_ends s word.Decimal front remainder = either StepEnds (starts_zero front) _ _ tt (token_ends (length front) (Int (integer_of 10 front)))
+word_step_ends s word.Hexadecimal front remainder = (omega arith, tt)
+word_step_ends s word.Octal front remainder = (omega arith, tt)
+word_step_ends s word.Binary front remainder = (omega arith, tt)
+word_step_ends s word.Float front remainder = (omega arith, tt)
+word_step_ends s (word.Fixed terminal) front remainder = (omega arith, tt)
 
 front_step_ends : (s : Situation) (text : Text) (found : Option (Class × ℕ)) → StepEnds (front_step s text found)
 front_step_ends s text None = tt
@@ -222,7 +222,7 @@ stopped_margin text fault begin node none =
 -- the fault of a first margin: a tab's, or one that has the margin's bytes
 margin_fault : (margin : Margin) (found : Spanned Fault) → margin_step 0 [] [] margin ≡ Fails found → ((found.begin ≡ 0) × (is_tab found.node ≡ true)) ⊎ (margin_len margin ≤ found.end)
 unfolding margin_step
-margin_fault margin found e = go (not (is_content margin.behind)) (has_tab margin) (fits (width_of margin) []) _ _ e
+margin_fault margin found e = go (not (is_content margin.remainder)) (has_tab margin) (fits (width_of margin) []) _ _ e
   where
     go : (blank tab fitting : Bool) (one other : Piece)
         → (if blank then Stands one else (if tab then Fails (record { begin = 0; node = InvalidTab; end = 0 }) else (if fitting then Stands other else Fails (record { begin = 0; node = Indentation; end = 0 + margin_len margin })))) ≡ Fails found

@@ -39,7 +39,7 @@ fault_end one other e = ap (λ (f : Spanned Fault). f.end) (same_fault one other
 
 -- a margin that fails has content, so that it ends in its text
 pub margin_within : (len : ℕ) (lexemes : List Lexeme) (levels : List ℕ) (text : Text) (found : Spanned Fault)
-    → margin_of text ≡ record { comments = (margin_of text).comments; at = length text; blanks = []; behind = [] } → margin_step len lexemes levels (margin_of text) ≡ Fails found → ⊥
+    → margin_of text ≡ record { comments = (margin_of text).comments; at = length text; blanks = []; remainder = [] } → margin_step len lexemes levels (margin_of text) ≡ Fails found → ⊥
 margin_within len lexemes levels text found whole fails =
     let stands = ap (margin_step len lexemes levels) whole ∙ blank_step len lexemes levels (margin_of text).comments (length text) in
     let wrong = sym stands ∙ fails in cc
@@ -68,73 +68,73 @@ plain_ends opening (b ∷ []) h single =
 plain_ends opening (b ∷ c ∷ bs) h single = and_right _ (is_plain opening (c ∷ bs)) (plain_ends opening (c ∷ bs) h single)
 
 -- what an unfinished literal of one line is
-pub unfinished_followed : (place : Mode) (kind : Kind) (opening : Opening) (behind more : Text) → ends_line behind ≡ true → opening.is_triple ≡ false → unfinished place kind opening (behind ++ more) ≡ unfinished place kind opening behind
-unfinished_followed Outside kind opening behind more h single = refl
-unfinished_followed (InText other) OfText opening behind more h single = rw (not_plain opening behind more h single, plain_ends opening behind h single) refl
-unfinished_followed AtTop OfText opening behind more h single = rw (not_plain opening behind more h single, plain_ends opening behind h single) refl
-unfinished_followed Deeper OfText opening behind more h single = rw (not_plain opening behind more h single, plain_ends opening behind h single) refl
-unfinished_followed (InText other) OfBytes opening behind more h single = refl
-unfinished_followed AtTop OfBytes opening behind more h single = refl
-unfinished_followed Deeper OfBytes opening behind more h single = refl
-unfinished_followed (InText other) OfFString opening behind more h single = refl
-unfinished_followed AtTop OfFString opening behind more h single = refl
-unfinished_followed Deeper OfFString opening behind more h single = refl
+pub unfinished_followed : (place : Mode) (kind : Kind) (opening : Opening) (remainder more : Text) → ends_line remainder ≡ true → opening.is_triple ≡ false → unfinished place kind opening (remainder ++ more) ≡ unfinished place kind opening remainder
+unfinished_followed Outside kind opening remainder more h single = refl
+unfinished_followed (InText other) OfText opening remainder more h single = rw (not_plain opening remainder more h single, plain_ends opening remainder h single) refl
+unfinished_followed AtTop OfText opening remainder more h single = rw (not_plain opening remainder more h single, plain_ends opening remainder h single) refl
+unfinished_followed Deeper OfText opening remainder more h single = rw (not_plain opening remainder more h single, plain_ends opening remainder h single) refl
+unfinished_followed (InText other) OfBytes opening remainder more h single = refl
+unfinished_followed AtTop OfBytes opening remainder more h single = refl
+unfinished_followed Deeper OfBytes opening remainder more h single = refl
+unfinished_followed (InText other) OfFString opening remainder more h single = refl
+unfinished_followed AtTop OfFString opening remainder more h single = refl
+unfinished_followed Deeper OfFString opening remainder more h single = refl
 
 escape_end : (begin : ℕ) (text : Text) (found : Spanned Fault) → escape_fault begin text ≡ Fails found → found.end ≡ begin + 1 + length text
 escape_end begin [] found e = let end = fault_end _ found e in omega (arith, end)
 escape_end begin (b ∷ bs) found e = let end = fault_end _ found e in omega (arith, end)
 
 -- the fault of a bad escape ends with the bytes that were read
-pub escape_reads : (begin used read last : ℕ) (opening : Opening) (behind : Text) (found : Spanned Fault) → used ≤ length behind → StopFits opening (drop used behind) (BadEscape read last) → escape_fault (begin + used) (drop 1 (take read (drop used behind))) ≡ Fails found
+pub escape_reads : (begin used read last : ℕ) (opening : Opening) (remainder : Text) (found : Spanned Fault) → used ≤ length remainder → StopFits opening (drop used remainder) (BadEscape read last) → escape_fault (begin + used) (drop 1 (take read (drop used remainder))) ≡ Fails found
     → found.end ≡ begin + used + read
-escape_reads begin used read last opening behind found inside fits e =
-    let end = escape_end (begin + used) (drop 1 (take read (drop used behind))) found e in
+escape_reads begin used read last opening remainder found inside fits e =
+    let end = escape_end (begin + used) (drop 1 (take read (drop used remainder))) found e in
     let some = fits.0 in
     let less = fits.1 in
     let within = fits.2 in
-    omega (arith, end, some, less, within, length-drop 1 (take read (drop used behind)), length-take read (drop used behind))
+    omega (arith, end, some, less, within, length-drop 1 (take read (drop used remainder)), length-take read (drop used remainder))
 
-module _ (place : Mode) (kind : Kind) (opening : Opening) (len : ℕ) (behind more : Text) (body : Body) (found : Spanned Fault) (inside : body_len body ≤ length behind) where
+module _ (place : Mode) (kind : Kind) (opening : Opening) (len : ℕ) (remainder more : Text) (body : Body) (found : Spanned Fault) (inside : body_len body ≤ length remainder) where
   -- a literal's fault that ends before the text does leaves its body inside
-  literal_inside : (stop : Stop) → StopFits opening (drop (body_len body) behind) stop → literal_by place kind opening len behind body stop ≡ Fails found → found.end < len + length behind → StopInside (length behind) (body_len body) stop
+  literal_inside : (stop : Stop) → StopFits opening (drop (body_len body) remainder) stop → literal_by place kind opening len remainder body stop ≡ Fails found → found.end < len + length remainder → StopInside (length remainder) (body_len body) stop
   literal_inside Closing fits e less = tt
   literal_inside Line fits e less = tt
   literal_inside OpeningBrace fits e less = tt
   literal_inside ClosingBrace fits e less = tt
   literal_inside Ended fits e less = absurd (omega (arith, less, fault_end _ found e))
   literal_inside (BadEscape read last) fits e less =
-      let end = escape_reads len (body_len body) read last opening behind found inside fits e in omega (arith, less, end)
+      let end = escape_reads len (body_len body) read last opening remainder found inside fits e in omega (arith, less, end)
 
-  literal_same : (stop : Stop) → StopFits opening (drop (body_len body) behind) stop → ends_line behind ≡ true → (stop ≡ Line → opening.is_triple ≡ false) → literal_by place kind opening len behind body stop ≡ Fails found → found.end < len + length behind → literal_by place kind opening len (behind ++ more) body stop ≡ Fails found
+  literal_same : (stop : Stop) → StopFits opening (drop (body_len body) remainder) stop → ends_line remainder ≡ true → (stop ≡ Line → opening.is_triple ≡ false) → literal_by place kind opening len remainder body stop ≡ Fails found → found.end < len + length remainder → literal_by place kind opening len (remainder ++ more) body stop ≡ Fails found
   literal_same Closing fits h single e less = e
-  literal_same Line fits h single e less = ap (λ (node : Fault). fault 0 node (len + body_len body)) (unfinished_followed place kind opening behind more h (single refl)) ∙ e
+  literal_same Line fits h single e less = ap (λ (node : Fault). fault 0 node (len + body_len body)) (unfinished_followed place kind opening remainder more h (single refl)) ∙ e
   literal_same OpeningBrace fits h single e less = absurd (omega (arith, less, fault_end _ found e))
   literal_same ClosingBrace fits h single e less = absurd (omega (arith, less, fault_end _ found e))
   literal_same Ended fits h single e less = absurd (omega (arith, less, fault_end _ found e))
   literal_same (BadEscape read last) fits h single e less =
-      ap (λ (t : Text). escape_fault (len + body_len body) (drop 1 (take read t))) (drop-append-le (body_len body) behind more inside)
-      ∙ ap (λ (t : Text). escape_fault (len + body_len body) (drop 1 t)) (take-append-le read (drop (body_len body) behind) more fits.2)
+      ap (λ (t : Text). escape_fault (len + body_len body) (drop 1 (take read t))) (drop-append-le (body_len body) remainder more inside)
+      ∙ ap (λ (t : Text). escape_fault (len + body_len body) (drop 1 t)) (take-append-le read (drop (body_len body) remainder) more fits.2)
       ∙ e
 
-literal_fails : (place : Mode) (kind : Kind) (opening : Opening) (len : ℕ) (behind more : Text) (found : Spanned Fault) → ends_line behind ≡ true → literal place kind opening len behind ≡ Fails found → found.end < len + length behind → literal place kind opening len (behind ++ more) ≡ Fails found
-literal_fails place kind opening len behind more found h e less =
-    let body : Body = body_at (record { kind = kind; opening = opening }) behind in
-    let fits = body_fits (record { kind = kind; opening = opening }) behind in
-    let inside = literal_inside place kind opening len behind more body found fits.0 body.stop fits.1 e less in
-    ap (λ (b : Body). literal_by place kind opening len (behind ++ more) b b.stop) (body_stays (record { kind = kind; opening = opening }) behind more h inside)
-    ∙ literal_same place kind opening len behind more body found fits.0 body.stop fits.1 h (body_single (record { kind = kind; opening = opening }) behind) e less
+literal_fails : (place : Mode) (kind : Kind) (opening : Opening) (len : ℕ) (remainder more : Text) (found : Spanned Fault) → ends_line remainder ≡ true → literal place kind opening len remainder ≡ Fails found → found.end < len + length remainder → literal place kind opening len (remainder ++ more) ≡ Fails found
+literal_fails place kind opening len remainder more found h e less =
+    let body : Body = body_at (record { kind = kind; opening = opening }) remainder in
+    let fits = body_fits (record { kind = kind; opening = opening }) remainder in
+    let inside = literal_inside place kind opening len remainder more body found fits.0 body.stop fits.1 e less in
+    ap (λ (b : Body). literal_by place kind opening len (remainder ++ more) b b.stop) (body_stays (record { kind = kind; opening = opening }) remainder more h inside)
+    ∙ literal_same place kind opening len remainder more body found fits.0 body.stop fits.1 h (body_single (record { kind = kind; opening = opening }) remainder) e less
 
-literal_behind_fails : (place : Mode) (kind : Kind) (opening : Opening) (len quotes : ℕ) (behind more : Text) (found : Spanned Fault) → ends_line behind ≡ true → quotes < length behind → literal place kind opening (len + quotes) (drop quotes behind) ≡ Fails found → found.end < len + length behind
-    → literal place kind opening (len + quotes) (drop quotes (behind ++ more)) ≡ Fails found
-literal_behind_fails place kind opening len quotes behind more found h inside e less =
-    subst (λ (t : Text). literal place kind opening (len + quotes) t ≡ Fails found) (sym (drop-append-le quotes behind more (omega (arith, inside))))
-    (literal_fails place kind opening (len + quotes) (drop quotes behind) more found (ends_line_drop quotes behind inside h) e (omega (arith, less, inside, length-drop quotes behind)))
+literal_behind_fails : (place : Mode) (kind : Kind) (opening : Opening) (len quotes : ℕ) (remainder more : Text) (found : Spanned Fault) → ends_line remainder ≡ true → quotes < length remainder → literal place kind opening (len + quotes) (drop quotes remainder) ≡ Fails found → found.end < len + length remainder
+    → literal place kind opening (len + quotes) (drop quotes (remainder ++ more)) ≡ Fails found
+literal_behind_fails place kind opening len quotes remainder more found h inside e less =
+    subst (λ (t : Text). literal place kind opening (len + quotes) t ≡ Fails found) (sym (drop-append-le quotes remainder more (omega (arith, inside))))
+    (literal_fails place kind opening (len + quotes) (drop quotes remainder) more found (ends_line_drop quotes remainder inside h) e (omega (arith, less, inside, length-drop quotes remainder)))
 
-opener_fails : (place : Mode) (kind : Kind) (opening : Opening) (len : ℕ) (behind more : Text) (found : Spanned Fault) → ends_line behind ≡ true → more_quotes opening < length behind → opener place kind opening len behind ≡ Fails found → found.end < len + length behind
-    → opener place kind opening len (behind ++ more) ≡ Fails found
-opener_fails place OfFString opening len behind more found h inside e less = e
-opener_fails place OfText opening len behind more found h inside e less = literal_behind_fails place OfText opening len (more_quotes opening) behind more found h inside e less
-opener_fails place OfBytes opening len behind more found h inside e less = literal_behind_fails place OfBytes opening len (more_quotes opening) behind more found h inside e less
+opener_fails : (place : Mode) (kind : Kind) (opening : Opening) (len : ℕ) (remainder more : Text) (found : Spanned Fault) → ends_line remainder ≡ true → more_quotes opening < length remainder → opener place kind opening len remainder ≡ Fails found → found.end < len + length remainder
+    → opener place kind opening len (remainder ++ more) ≡ Fails found
+opener_fails place OfFString opening len remainder more found h inside e less = e
+opener_fails place OfText opening len remainder more found h inside e less = literal_behind_fails place OfText opening len (more_quotes opening) remainder more found h inside e less
+opener_fails place OfBytes opening len remainder more found h inside e less = literal_behind_fails place OfBytes opening len (more_quotes opening) remainder more found h inside e less
 
 -- Texts of f-strings
 
@@ -164,31 +164,31 @@ chunk_fails opening text more found h e less =
 
 -- Words
 
-word_fails : (s : Situation) (class : Class) (front behind more : Text) (found : Spanned Fault) → (in_line front ≡ true → ends_line behind ≡ true) → line_fits class front ≡ true → has_whole_lines behind ≡ true → word_step s class front behind ≡ Fails found → found.end < length front + length behind
-    → word_step s class front (behind ++ more) ≡ Fails found
-word_fails s word.Skipped front behind more found ends fits whole e less = e
-word_fails s word.Comment front behind more found ends fits whole e less = e
-word_fails s word.Tabs front behind more found ends fits whole e less = e
-word_fails s word.LineEnd front behind more found ends fits whole e less = go (counts s.place s.is_balanced) e
+word_fails : (s : Situation) (class : Class) (front remainder more : Text) (found : Spanned Fault) → (in_line front ≡ true → ends_line remainder ≡ true) → line_fits class front ≡ true → has_whole_lines remainder ≡ true → word_step s class front remainder ≡ Fails found → found.end < length front + length remainder
+    → word_step s class front (remainder ++ more) ≡ Fails found
+word_fails s word.Skipped front remainder more found ends fits whole e less = e
+word_fails s word.Comment front remainder more found ends fits whole e less = e
+word_fails s word.Tabs front remainder more found ends fits whole e less = e
+word_fails s word.LineEnd front remainder more found ends fits whole e less = go (counts s.place s.is_balanced) e
   where
     step : Bool → Text → Step
-    step counted behind = if counted then line_end (length front) s.levels behind else Stands (record { len = length front; lexemes = []; width = None; sort = Other })
+    step counted remainder = if counted then line_end (length front) s.levels remainder else Stands (record { len = length front; lexemes = []; width = None; sort = Other })
 
-    go : (counted : Bool) → step counted behind ≡ Fails found → step counted (behind ++ more) ≡ Fails found
-    go true e = margin_fails (length front) _ s.levels behind more found whole e
+    go : (counted : Bool) → step counted remainder ≡ Fails found → step counted (remainder ++ more) ≡ Fails found
+    go true e = margin_fails (length front) _ s.levels remainder more found whole e
     go false e = e
-word_fails s (word.Opener kind is_raw quote) front behind more found ends fits whole e less =
+word_fails s (word.Opener kind is_raw quote) front remainder more found ends fits whole e less =
     let h = ends fits in
-    ap (λ (opening : Opening). opener s.place kind opening (length front) (behind ++ more)) (opening_followed is_raw quote behind more h)
-    ∙ opener_fails s.place kind (opening_of is_raw quote behind) (length front) behind more found h (opening_inside is_raw quote behind h) e less
-word_fails s word.Reserved front behind more found ends fits whole e less = e
-word_fails s word.Identifier front behind more found ends fits whole e less = e
-word_fails s word.Decimal front behind more found ends fits whole e less = e
-word_fails s word.Hexadecimal front behind more found ends fits whole e less = e
-word_fails s word.Octal front behind more found ends fits whole e less = e
-word_fails s word.Binary front behind more found ends fits whole e less = e
-word_fails s word.Float front behind more found ends fits whole e less = e
-word_fails s (word.Fixed terminal) front behind more found ends fits whole e less = e
+    ap (λ (opening : Opening). opener s.place kind opening (length front) (remainder ++ more)) (opening_followed is_raw quote remainder more h)
+    ∙ opener_fails s.place kind (opening_of is_raw quote remainder) (length front) remainder more found h (opening_inside is_raw quote remainder h) e less
+word_fails s word.Reserved front remainder more found ends fits whole e less = e
+word_fails s word.Identifier front remainder more found ends fits whole e less = e
+word_fails s word.Decimal front remainder more found ends fits whole e less = e
+word_fails s word.Hexadecimal front remainder more found ends fits whole e less = e
+word_fails s word.Octal front remainder more found ends fits whole e less = e
+word_fails s word.Binary front remainder more found ends fits whole e less = e
+word_fails s word.Float front remainder more found ends fits whole e less = e
+word_fails s (word.Fixed terminal) front remainder more found ends fits whole e less = e
 
 front_fails : (s : Situation) (text more : Text) (front : Option (Class × ℕ)) (found : Spanned Fault) → ends_line text ≡ true → longest_front (class_in language) text ≡ front → front_step s text front ≡ Fails found → found.end < length text → front_step s (text ++ more) front ≡ Fails found
 front_fails s text more None found h known e less =

@@ -207,8 +207,8 @@ body_from_stays literal zero (b ∷ bs) more h inside =
         let later = inside_later _ _ (length bs) (item.len - 1 + body_len left) left.stop (omega (arith, total, some)) inside in
         let less = passed_inside literal (item.len - 1) bs later in
         let found : other ≡ Goes item = follows (omega (arith, less, some)) in
-        let behind = rest (item.len - 1) (ends_line_rest b bs (omega (arith, less)) h) later in
-        ap (λ (found : Found). body_onward found again) found ∙ ap (λ (rest : Body). record { items = item ∷ rest.items; stop = rest.stop }) behind
+        let remainder = rest (item.len - 1) (ends_line_rest b bs (omega (arith, less)) h) later in
+        ap (λ (found : Found). body_onward found again) found ∙ ap (λ (rest : Body). record { items = item ∷ rest.items; stop = rest.stop }) remainder
 
 -- A body that stops before the end stays.
 pub body_stays : (literal : Literal) (text more : Text) → ends_line text ≡ true → StopInside (length text) (body_len (body_at literal text)) (body_at literal text).stop → body_at literal (text ++ more) ≡ body_at literal text

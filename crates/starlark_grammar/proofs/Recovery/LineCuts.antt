@@ -16,7 +16,7 @@ use Rattle.starlark_grammar.specs.Cuts.{is_layout, is_outside, is_newline, is_fa
 use Rattle.starlark_grammar.proofs.Reading.Readings.{one_longest, longest_onward, read_is, reading_fits, ends_at_end, outcome_only}
 use Rattle.starlark_grammar.proofs.Reading.Steps.{is_nothing}
 use Rattle.starlark_grammar.proofs.Joining.Followed.{ends_line, ends_line_of}
-use Rattle.starlark_grammar.proofs.Joining.Settled.{Settled, outside_none, behind, widths_settled, situation_behind, after_behind, next_behind, all_behind}
+use Rattle.starlark_grammar.proofs.Joining.Settled.{Settled, outside_none, remainder, widths_settled, situation_behind, after_behind, next_behind, all_behind}
 use Rattle.starlark_grammar.proofs.Joining.Joined.{moved_both, all_moved, map_both}
 use Rattle.starlark_grammar.proofs.Joining.CleanCuts.{pieces_both, along_both, past_both, longest_both, CharacterStarts, begun}
 use Rattle.starlark_grammar.proofs.Joining.Tabs.{first_step}
@@ -176,7 +176,7 @@ plain_some (b ∷ bs) h = omega arith
 -- Two places with nothing open
 
 -- after them a text is read alike
-reading_between : (one other history : History) (text : Text) (pieces : List Piece) → Settled one → Settled other → IsReading language (behind one history) text pieces → IsReading language (behind other history) text pieces
+reading_between : (one other history : History) (text : Text) (pieces : List Piece) → Settled one → Settled other → IsReading language (remainder one history) text pieces → IsReading language (remainder other history) text pieces
 reading_between one other history text [] h k reads = tt
 reading_between one other history text (piece ∷ pieces) h k reads = (
   next_behind language other history text k ∙ sym (next_behind language one history text h) ∙ reads.0,
@@ -185,7 +185,7 @@ reading_between one other history text (piece ∷ pieces) h k reads = (
       (subst (λ (past : History). IsReading language past (drop piece.len text) pieces) (after_behind one history piece) reads.1)),
 )
 
-longest_between : (one other history : History) (text : Text) (pieces : List Piece) (last : Step) → Settled one → Settled other → IsLongestReading language (behind one history) text pieces last → IsLongestReading language (behind other history) text pieces last
+longest_between : (one other history : History) (text : Text) (pieces : List Piece) (last : Step) → Settled one → Settled other → IsLongestReading language (remainder one history) text pieces last → IsLongestReading language (remainder other history) text pieces last
 longest_between one other history text pieces last h k longest = record {
   reads = reading_between one other history text pieces h k longest.reads;
   stands_last =
@@ -197,11 +197,11 @@ longest_between one other history text pieces last h k longest = record {
   no_piece = longest.no_piece;
 }
 
-between_behind : (earlier history : History) → Settled earlier → is_between_lines (behind earlier history) ≡ is_between_lines history
+between_behind : (earlier history : History) → Settled earlier → is_between_lines (remainder earlier history) ≡ is_between_lines history
 unfolding is_between_lines situation
 between_behind earlier history h = ap (λ (s : Situation). is_layout s.before && is_outside s.place && s.is_balanced) (situation_behind earlier history h)
 
-closing_behind : (at : ℕ) (earlier history : History) → Settled earlier → closing at (behind earlier history) ≡ closing at history
+closing_behind : (at : ℕ) (earlier history : History) → Settled earlier → closing at (remainder earlier history) ≡ closing at history
 closing_behind at earlier history h =
     ap (λ (ws : List ℕ). record { begin = at; node = Newline; end = at } ∷ dedents (length ws) at) (widths_settled earlier.widths history.widths h.no_width)
 
@@ -229,7 +229,7 @@ line_settled : Settled line_alone
 unfolding open_fstring is_balanced open_widths
 line_settled = record { layout = refl; none_open = refl; balanced = refl; no_width = refl }
 
-line_after : after nothing plain_piece ≡ behind line_alone margin_alone
+line_after : after nothing plain_piece ≡ remainder line_alone margin_alone
 unfolding after
 line_after = refl
 
@@ -241,7 +241,7 @@ closed_settled history none_open balanced = record {
   no_width = none_wider history.widths;
 }
 
-closed_alone : (history : History) → closed_after history ≡ behind (closed_after history) margin_alone
+closed_alone : (history : History) → closed_after history ≡ remainder (closed_after history) margin_alone
 closed_alone history = ap (λ ws. record { tokens = (closed_after history).tokens; widths = ws; before = Layout }) (sym (append-nil (closed_after history).widths))
 
 same_outcome : {one other : List Lexeme} {fault end : Option (Spanned Fault)} → one ≡ other → fault ≡ end → ◌≡◌ {A = Outcome} (record { lexemes = one; fault = fault }) (record { lexemes = other; fault = end })
@@ -266,7 +266,7 @@ module _ (text more : Text) (pieces : List Piece) (here : LineCut text pieces) (
   all_closed : Settled (closed_after (after_all nothing pieces))
   all_closed = closed_settled (after_all nothing pieces) here.none_open here.balanced
 
-  starts : IsLongestReading language (behind line_alone margin_alone) more there.pieces there.last
+  starts : IsLongestReading language (remainder line_alone margin_alone) more there.pieces there.last
   starts = subst (λ (past : History). IsLongestReading language past more there.pieces there.last) line_after there.longest
 
   pub longest : IsLongestReading language nothing (text ++ more) (closed.pieces' ++ there.pieces) there.last
@@ -297,13 +297,13 @@ module _ (text more : Text) (pieces : List Piece) (here : LineCut text pieces) (
       ∙ ap (λ ls. without_last_newline (outcome text).lexemes ++ ls) (along_moved (length text) 0 there.pieces)
 
   -- what is read of both, and what is read of the second text alone
-  pub past : after_all nothing (closed.pieces' ++ there.pieces) ≡ behind (closed_after (after_all nothing pieces)) (after_all margin_alone there.pieces)
+  pub past : after_all nothing (closed.pieces' ++ there.pieces) ≡ remainder (closed_after (after_all nothing pieces)) (after_all margin_alone there.pieces)
   past =
       past_both nothing closed.pieces' there.pieces
       ∙ ap (λ (h : History). after_all h there.pieces) (closed.past ∙ closed_alone (after_all nothing pieces))
       ∙ all_behind (closed_after (after_all nothing pieces)) margin_alone there.pieces
 
-  pub past_alone : after_all nothing (plain_piece ∷ there.pieces) ≡ behind line_alone (after_all margin_alone there.pieces)
+  pub past_alone : after_all nothing (plain_piece ∷ there.pieces) ≡ remainder line_alone (after_all margin_alone there.pieces)
   past_alone = ap (λ (h : History). after_all h there.pieces) line_after ∙ all_behind line_alone margin_alone there.pieces
 
   closings : closing (length text + pieces_len there.pieces) (after_all nothing (closed.pieces' ++ there.pieces)) ≡ map (moved (length text)) (closing (pieces_len there.pieces) (after_all nothing (plain_piece ∷ there.pieces)))
@@ -360,6 +360,6 @@ line_cuts_of_joined text more h begins =
     ∙ ap (λ (history : History). is_faultless there.last && is_between_lines history && ends_with nat_eq (text ++ more) (codes "\n")) (past text more pieces here begins there)
     ∙ ap (λ (between : Bool). is_faultless there.last && between && ends_with nat_eq (text ++ more) (codes "\n"))
     (between_behind (closed_after (after_all nothing pieces)) rest (all_closed text more pieces here begins there) ∙ sym (between_behind line_alone rest line_settled))
-    ∙ ap (λ (ends : Bool). is_faultless there.last && is_between_lines (behind line_alone rest) && ends) (ends_behind text more (plain_some more begins))
+    ∙ ap (λ (ends : Bool). is_faultless there.last && is_between_lines (remainder line_alone rest) && ends) (ends_behind text more (plain_some more begins))
     ∙ ap (λ (history : History). is_faultless there.last && is_between_lines history && ends_with nat_eq more (codes "\n")) (sym (past_alone text more pieces here begins there))
     ∙ sym (line_cut_by more (plain_piece ∷ there.pieces) there.last (longest_onward language nothing more plain_piece there.pieces there.last (plain_step more begins) there.longest))

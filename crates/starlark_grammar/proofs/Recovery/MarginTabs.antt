@@ -134,37 +134,37 @@ tab_not (Fails other) found none e h = both_ways _ (subst (λ (f : Spanned Fault
 tab_not (Stands piece) found none e h = cc
 tab_not Ends found none e h = cc
 
-untabbed_unfinished : (place : Mode) (kind : Kind) (opening : Opening) (behind : Text) → is_tab (unfinished place kind opening behind) ≡ false
-untabbed_unfinished Outside kind opening behind = refl
-untabbed_unfinished (InText other) OfText opening behind = either (λ (node : Fault). is_tab node ≡ false) (is_plain opening behind) UnfinishedFStringExpression UnfinishedStringLiteral refl refl
-untabbed_unfinished AtTop OfText opening behind = either (λ (node : Fault). is_tab node ≡ false) (is_plain opening behind) UnfinishedFStringExpression UnfinishedStringLiteral refl refl
-untabbed_unfinished Deeper OfText opening behind = either (λ (node : Fault). is_tab node ≡ false) (is_plain opening behind) UnfinishedFStringExpression UnfinishedStringLiteral refl refl
-untabbed_unfinished (InText other) OfBytes opening behind = refl
-untabbed_unfinished AtTop OfBytes opening behind = refl
-untabbed_unfinished Deeper OfBytes opening behind = refl
-untabbed_unfinished (InText other) OfFString opening behind = refl
-untabbed_unfinished AtTop OfFString opening behind = refl
-untabbed_unfinished Deeper OfFString opening behind = refl
+untabbed_unfinished : (place : Mode) (kind : Kind) (opening : Opening) (remainder : Text) → is_tab (unfinished place kind opening remainder) ≡ false
+untabbed_unfinished Outside kind opening remainder = refl
+untabbed_unfinished (InText other) OfText opening remainder = either (λ (node : Fault). is_tab node ≡ false) (is_plain opening remainder) UnfinishedFStringExpression UnfinishedStringLiteral refl refl
+untabbed_unfinished AtTop OfText opening remainder = either (λ (node : Fault). is_tab node ≡ false) (is_plain opening remainder) UnfinishedFStringExpression UnfinishedStringLiteral refl refl
+untabbed_unfinished Deeper OfText opening remainder = either (λ (node : Fault). is_tab node ≡ false) (is_plain opening remainder) UnfinishedFStringExpression UnfinishedStringLiteral refl refl
+untabbed_unfinished (InText other) OfBytes opening remainder = refl
+untabbed_unfinished AtTop OfBytes opening remainder = refl
+untabbed_unfinished Deeper OfBytes opening remainder = refl
+untabbed_unfinished (InText other) OfFString opening remainder = refl
+untabbed_unfinished AtTop OfFString opening remainder = refl
+untabbed_unfinished Deeper OfFString opening remainder = refl
 
 untabbed_escape : (begin : ℕ) (text : Text) → NoTab (escape_fault begin text)
 untabbed_escape begin [] = refl
 untabbed_escape begin (b ∷ bs) = refl
 
-untabbed_literal : (place : Mode) (kind : Kind) (opening : Opening) (len : ℕ) (behind : Text) (body : Body) (stop : Stop) → NoTab (literal_by place kind opening len behind body stop)
-untabbed_literal place kind opening len behind body Closing = tt
-untabbed_literal place kind opening len behind body (BadEscape read last) = untabbed_escape _ _
-untabbed_literal place kind opening len behind body Line = untabbed_unfinished place kind opening behind
-untabbed_literal place kind opening len behind body Ended = untabbed_unfinished place kind opening behind
-untabbed_literal place kind opening len behind body OpeningBrace = untabbed_unfinished place kind opening behind
-untabbed_literal place kind opening len behind body ClosingBrace = untabbed_unfinished place kind opening behind
+untabbed_literal : (place : Mode) (kind : Kind) (opening : Opening) (len : ℕ) (remainder : Text) (body : Body) (stop : Stop) → NoTab (literal_by place kind opening len remainder body stop)
+untabbed_literal place kind opening len remainder body Closing = tt
+untabbed_literal place kind opening len remainder body (BadEscape read last) = untabbed_escape _ _
+untabbed_literal place kind opening len remainder body Line = untabbed_unfinished place kind opening remainder
+untabbed_literal place kind opening len remainder body Ended = untabbed_unfinished place kind opening remainder
+untabbed_literal place kind opening len remainder body OpeningBrace = untabbed_unfinished place kind opening remainder
+untabbed_literal place kind opening len remainder body ClosingBrace = untabbed_unfinished place kind opening remainder
 
-untabbed_body : (place : Mode) (kind : Kind) (opening : Opening) (len : ℕ) (behind : Text) (body : Body) → NoTab (literal_by place kind opening len behind body body.stop)
-untabbed_body place kind opening len behind body = untabbed_literal place kind opening len behind body body.stop
+untabbed_body : (place : Mode) (kind : Kind) (opening : Opening) (len : ℕ) (remainder : Text) (body : Body) → NoTab (literal_by place kind opening len remainder body body.stop)
+untabbed_body place kind opening len remainder body = untabbed_literal place kind opening len remainder body body.stop
 
-untabbed_opener : (place : Mode) (kind : Kind) (opening : Opening) (len : ℕ) (behind : Text) → NoTab (opener place kind opening len behind)
-untabbed_opener place OfFString opening len behind = tt
-untabbed_opener place OfText opening len behind = untabbed_body place OfText opening (len + more_quotes opening) (drop (more_quotes opening) behind) (body_at (record { kind = OfText; opening = opening }) (drop (more_quotes opening) behind))
-untabbed_opener place OfBytes opening len behind = untabbed_body place OfBytes opening (len + more_quotes opening) (drop (more_quotes opening) behind) (body_at (record { kind = OfBytes; opening = opening }) (drop (more_quotes opening) behind))
+untabbed_opener : (place : Mode) (kind : Kind) (opening : Opening) (len : ℕ) (remainder : Text) → NoTab (opener place kind opening len remainder)
+untabbed_opener place OfFString opening len remainder = tt
+untabbed_opener place OfText opening len remainder = untabbed_body place OfText opening (len + more_quotes opening) (drop (more_quotes opening) remainder) (body_at (record { kind = OfText; opening = opening }) (drop (more_quotes opening) remainder))
+untabbed_opener place OfBytes opening len remainder = untabbed_body place OfBytes opening (len + more_quotes opening) (drop (more_quotes opening) remainder) (body_at (record { kind = OfBytes; opening = opening }) (drop (more_quotes opening) remainder))
 
 untabbed_chunk : (opening : Opening) (text : Text) → NoTab (chunk opening text)
 unfolding chunk
@@ -199,7 +199,7 @@ pub record TabAt (text : Text) (found : Spanned Fault) : Type 0 where
 
 margin_begin : (len : ℕ) (lexemes : List Lexeme) (levels : List ℕ) (margin : Margin) (found : Spanned Fault) → margin_step len lexemes levels margin ≡ Fails found → found.begin ≡ 0
 unfolding margin_step
-margin_begin len lexemes levels margin found e = go (not (is_content margin.behind)) (has_tab margin) (fits (width_of margin) levels) _ _ e
+margin_begin len lexemes levels margin found e = go (not (is_content margin.remainder)) (has_tab margin) (fits (width_of margin) levels) _ _ e
   where
     go : (blank tab fitting : Bool) (one other : Piece)
         → (if blank then Stands one else (if tab then Fails (record { begin = 0; node = InvalidTab; end = 0 }) else (if fitting then Stands other else Fails (record { begin = 0; node = Indentation; end = len + margin_len margin })))) ≡ Fails found → found.begin ≡ 0

@@ -54,7 +54,7 @@ dedent_at at = record { begin = at; node = Dedent; end = at }
 abbrev last_piece : ℕ → Piece
 last_piece n = record { len = n + (0 + 0); lexemes = line_of n ++ map (moved n) ([] ++ []); width = None; sort = Layout }
 
-none_margin : margin_of [] ≡ record { comments = []; at = 0; blanks = []; behind = [] }
+none_margin : margin_of [] ≡ record { comments = []; at = 0; blanks = []; remainder = [] }
 unfolding margin_of lines
 none_margin = refl
 
@@ -199,7 +199,7 @@ plain_lines b bs blank feed sharp = rw feed (go (lines bs))
     go [] = rw (no_comment b [] blank sharp) refl
     go (line ∷ more) = rw (no_comment b line blank sharp) refl
 
-plain_margin : (text : Text) → begins_plainly text ≡ true → margin_of text ≡ record { comments = []; at = 0; blanks = []; behind = text }
+plain_margin : (text : Text) → begins_plainly text ≡ true → margin_of text ≡ record { comments = []; at = 0; blanks = []; remainder = text }
 unfolding begins_plainly margin_of
 plain_margin [] h = cc
 plain_margin (b ∷ bs) h =

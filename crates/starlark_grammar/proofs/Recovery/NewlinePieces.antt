@@ -149,7 +149,7 @@ terminal_plain place token = (refl, refl)
 margin_plain : (len : ℕ) (line : List Lexeme) (levels : List ℕ) (margin : Margin) → PlainStep (margin_step len line levels margin)
 unfolding margin_step
 margin_plain len line levels margin =
-    either PlainStep (not (is_content margin.behind)) _ _ refl
+    either PlainStep (not (is_content margin.remainder)) _ _ refl
     (either PlainStep (has_tab margin) _ _ tt
     (either PlainStep (fits (width_of margin) levels) _ _ refl tt))
 
@@ -222,7 +222,7 @@ record LineLexemes (line lexemes : List Lexeme) : Type 0 where
 
 margin_lexemes : (len : ℕ) (line : List Lexeme) (levels : List ℕ) (margin : Margin) (piece : Piece) → has_newline margin.comments ≡ false → margin_step len line levels margin ≡ Stands piece → LineLexemes line piece.lexemes
 unfolding margin_step
-margin_lexemes len line levels margin piece comments e = go (not (is_content margin.behind)) (has_tab margin) (fits (width_of margin) levels) (indentation levels margin) (indentation_none levels margin) e
+margin_lexemes len line levels margin piece comments e = go (not (is_content margin.remainder)) (has_tab margin) (fits (width_of margin) levels) (indentation levels margin) (indentation_none levels margin) e
   where
     made : List Lexeme → Option ℕ → Piece
     made indents width = record { len = len + margin_len margin; lexemes = line ++ map (moved len) (margin.comments ++ indents); width = width; sort = Layout }

@@ -3,7 +3,7 @@ use Rattle.std.proofs.Common.{◌≡◌, ℕ, zero, suc, ◌+◌, ◌-◌, ◌�
 use Rattle.std.proofs.lemmas.List.{length-drop}
 use Rattle.std.specs.List.{AllByRecursion}
 use Rattle.std.specs.Prelude.{Option, option_map}
-use Rattle.starlark_grammar.proofs.Lists.{drop-behind}
+use Rattle.starlark_grammar.proofs.Lists.{drop-remainder}
 use Rattle.starlark_grammar.proofs.Order.Inside.{fault_within}
 use Rattle.starlark_grammar.proofs.Order.Lexemes.{outcome_order}
 use Rattle.starlark_grammar.specs.Gaps.{InOrder}
@@ -99,7 +99,7 @@ good_on : (text : Text) (fault : Spanned Fault) → (outcome text).fault ≡ Som
     → IsGood text (outcome text ∷ map (moved_outcome (restart text fault)) (outcomes (drop (restart text fault) text)))
 good_on text fault has good = (
   order_both 0 at (length text) (outcome text).lexemes (lexemes_of more) before (subst (λ (l : List Lexeme). AreInOrder at l (length text)) (sym (lexemes_moved at (outcomes rest))) (order_later at text rest (lexemes_of (outcomes rest)) total good.0)),
-  subst (λ (f : Option (Spanned Fault)). AreInOrder 0 (option_to_list f ++ faults_of more) (length text)) (sym has) (omega arith, within.0, behind),
+  subst (λ (f : Option (Spanned Fault)). AreInOrder 0 (option_to_list f ++ faults_of more) (length text)) (sym has) (omega arith, within.0, remainder),
 )
   where
     at : ℕ
@@ -123,8 +123,8 @@ good_on text fault has good = (
     before : AreInOrder 0 (outcome text).lexemes at
     before = let order = (outcome_order text).0 in order_until text 0 (outcome text).lexemes order.0 at order.2 (omega arith) (lexemes_before_faults text fault has)
 
-    behind : AreInOrder fault.end (faults_of more) (length text)
-    behind =
+    remainder : AreInOrder fault.end (faults_of more) (length text)
+    remainder =
         subst (λ (l : List (Spanned Fault)). AreInOrder fault.end l (length text)) (sym (faults_moved at (outcomes rest)))
         (order_sooner fault.end at (length text) (map (moved at) (faults_of (outcomes rest))) bounds.0 (order_later at text rest (faults_of (outcomes rest)) total good.1))
 
@@ -135,7 +135,7 @@ good_step b bs again = by (outcome (b ∷ bs)).fault refl
     by None is = subst (IsGood (b ∷ bs)) (sym (faultless (b ∷ bs) is)) (good_alone (b ∷ bs) is)
     by (Some fault) is =
         let at : ℕ = restart (b ∷ bs) fault in
-        let same : drop (at - 1) bs ≡ drop at (b ∷ bs) = sym (drop-behind at b bs (restart_later (b ∷ bs) fault (omega arith))) in
+        let same : drop (at - 1) bs ≡ drop at (b ∷ bs) = sym (drop-remainder at b bs (restart_later (b ∷ bs) fault (omega arith))) in
         let rest : IsGood (drop at (b ∷ bs)) (outcomes (drop at (b ∷ bs))) = subst (λ (t : Text). IsGood t (outcomes t)) same (again (at - 1)) in
         subst (IsGood (b ∷ bs)) (sym (lexes_on (b ∷ bs) fault is)) (good_on (b ∷ bs) fault is rest)
 

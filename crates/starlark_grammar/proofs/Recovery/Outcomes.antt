@@ -2,7 +2,7 @@
 use Rattle.std.proofs.Common.{◌≡◌, ℕ, zero, suc, ◌-◌, ◌<◌, ◌≤◌, List, [], ◌∷◌, map, length, drop, refl, ap, sym, ◌∙◌, arith, None, Some}
 use Rattle.std.proofs.lemmas.List.{append-nil}
 use Rattle.std.specs.Prelude.{Option}
-use Rattle.starlark_grammar.proofs.Lists.{drop-behind}
+use Rattle.starlark_grammar.proofs.Lists.{drop-remainder}
 use Rattle.starlark_grammar.proofs.Reading.Faults.{outcome_fault}
 use Rattle.starlark_grammar.proofs.Rows.Shapes.{all_definitions}
 use Rattle.starlark_grammar.specs.Reading.{outcome}
@@ -61,7 +61,7 @@ unfolding outcomes outcomes_from
 lexes_on [] fault has = let none = empty_faultless in cc
 lexes_on (b ∷ bs) fault has =
     let later = restart_later (b ∷ bs) fault (omega arith) in
-    let rest = outcomes_after (restart (b ∷ bs) fault - 1) bs ∙ ap outcomes (sym (drop-behind (restart (b ∷ bs) fault) b bs later)) in
+    let rest = outcomes_after (restart (b ∷ bs) fault - 1) bs ∙ ap outcomes (sym (drop-remainder (restart (b ∷ bs) fault) b bs later)) in
     on_some (b ∷ bs) (outcome (b ∷ bs)) (outcome (b ∷ bs)).fault (λ at. outcomes_from (at - 1) bs) fault has
     ∙ ap (λ os. outcome (b ∷ bs) ∷ map (moved_outcome (restart (b ∷ bs) fault)) os) rest
 

@@ -46,7 +46,7 @@ MarginBeyond text more found = (is_tab found.node ≡ true) × (length text ≤ 
 
 margin_kind : (len : ℕ) (lexemes : List Lexeme) (levels : List ℕ) (margin : Margin) (found : Spanned Fault) → margin_step len lexemes levels margin ≡ Fails found → (is_tab found.node ≡ true) ⊎ (found.end ≡ len + margin_len margin)
 unfolding margin_step
-margin_kind len lexemes levels margin found e = go (not (is_content margin.behind)) (has_tab margin) (fits (width_of margin) levels) _ _ e
+margin_kind len lexemes levels margin found e = go (not (is_content margin.remainder)) (has_tab margin) (fits (width_of margin) levels) _ _ e
   where
     go : (blank tab fitting : Bool) (one other : Piece)
         → (if blank then Stands one else (if tab then Fails (record { begin = 0; node = InvalidTab; end = 0 }) else (if fitting then Stands other else Fails (record { begin = 0; node = Indentation; end = len + margin_len margin })))) ≡ Fails found
@@ -73,46 +73,46 @@ margin_short len lexemes levels text more found whole fails less = go (followed 
 
 -- Literals
 
-module _ (place : Mode) (kind : Kind) (opening : Opening) (len : ℕ) (behind more : Text) (body : Body) (found : Spanned Fault) (within : body_len body ≤ length (behind ++ more)) (less : found.end < len + length behind) where
-  literal_reach : (stop : Stop) → StopFits opening (drop (body_len body) (behind ++ more)) stop → literal_by place kind opening len (behind ++ more) body stop ≡ Fails found → StopInside (length behind) (body_len body) stop × (body_len body < length behind)
+module _ (place : Mode) (kind : Kind) (opening : Opening) (len : ℕ) (remainder more : Text) (body : Body) (found : Spanned Fault) (within : body_len body ≤ length (remainder ++ more)) (less : found.end < len + length remainder) where
+  literal_reach : (stop : Stop) → StopFits opening (drop (body_len body) (remainder ++ more)) stop → literal_by place kind opening len (remainder ++ more) body stop ≡ Fails found → StopInside (length remainder) (body_len body) stop × (body_len body < length remainder)
   literal_reach Closing fits e = cc
   literal_reach Line fits e = let end = fault_end _ found e in (tt, omega (arith, less, end))
-  literal_reach OpeningBrace fits e = absurd (omega (arith, less, fault_end _ found e, length-append behind more))
-  literal_reach ClosingBrace fits e = absurd (omega (arith, less, fault_end _ found e, length-append behind more))
-  literal_reach Ended fits e = absurd (omega (arith, less, fault_end _ found e, length-append behind more))
+  literal_reach OpeningBrace fits e = absurd (omega (arith, less, fault_end _ found e, length-append remainder more))
+  literal_reach ClosingBrace fits e = absurd (omega (arith, less, fault_end _ found e, length-append remainder more))
+  literal_reach Ended fits e = absurd (omega (arith, less, fault_end _ found e, length-append remainder more))
   literal_reach (BadEscape read last) fits e =
-      let end = escape_reads len (body_len body) read last opening (behind ++ more) found within fits e in (omega (arith, less, end), omega (arith, less, end))
+      let end = escape_reads len (body_len body) read last opening (remainder ++ more) found within fits e in (omega (arith, less, end), omega (arith, less, end))
 
-  literal_back : (stop : Stop) → ends_line behind ≡ true → (stop ≡ Line → opening.is_triple ≡ false) → StopInside (length behind) (body_len body) stop → literal_by place kind opening len (behind ++ more) body stop ≡ Fails found → literal_by place kind opening len behind body stop ≡ Fails found
+  literal_back : (stop : Stop) → ends_line remainder ≡ true → (stop ≡ Line → opening.is_triple ≡ false) → StopInside (length remainder) (body_len body) stop → literal_by place kind opening len (remainder ++ more) body stop ≡ Fails found → literal_by place kind opening len remainder body stop ≡ Fails found
   literal_back Closing h single stops e = cc
-  literal_back Line h single stops e = ap (λ (node : Fault). fault 0 node (len + body_len body)) (sym (unfinished_followed place kind opening behind more h (single refl))) ∙ e
-  literal_back OpeningBrace h single stops e = absurd (omega (arith, less, fault_end _ found e, length-append behind more))
-  literal_back ClosingBrace h single stops e = absurd (omega (arith, less, fault_end _ found e, length-append behind more))
+  literal_back Line h single stops e = ap (λ (node : Fault). fault 0 node (len + body_len body)) (sym (unfinished_followed place kind opening remainder more h (single refl))) ∙ e
+  literal_back OpeningBrace h single stops e = absurd (omega (arith, less, fault_end _ found e, length-append remainder more))
+  literal_back ClosingBrace h single stops e = absurd (omega (arith, less, fault_end _ found e, length-append remainder more))
   literal_back Ended h single stops e = absurd stops
   literal_back (BadEscape read last) h single stops e =
-      ap (λ (t : Text). escape_fault (len + body_len body) (drop 1 t)) (sym (take-append-le read (drop (body_len body) behind) more (omega (arith, stops, length-drop (body_len body) behind))))
-      ∙ ap (λ (t : Text). escape_fault (len + body_len body) (drop 1 (take read t))) (sym (drop-append-le (body_len body) behind more (omega (arith, stops))))
+      ap (λ (t : Text). escape_fault (len + body_len body) (drop 1 t)) (sym (take-append-le read (drop (body_len body) remainder) more (omega (arith, stops, length-drop (body_len body) remainder))))
+      ∙ ap (λ (t : Text). escape_fault (len + body_len body) (drop 1 (take read t))) (sym (drop-append-le (body_len body) remainder more (omega (arith, stops))))
       ∙ e
 
-literal_short : (place : Mode) (kind : Kind) (opening : Opening) (len : ℕ) (behind more : Text) (found : Spanned Fault) → ends_line behind ≡ true → literal place kind opening len (behind ++ more) ≡ Fails found → found.end < len + length behind → literal place kind opening len behind ≡ Fails found
-literal_short place kind opening len behind more found h e less =
-    let body : Body = body_at (record { kind = kind; opening = opening }) (behind ++ more) in
-    let within = body_fits (record { kind = kind; opening = opening }) (behind ++ more) in
-    let inside = literal_reach place kind opening len behind more body found within.0 less body.stop within.1 e in
-    ap (λ (b : Body). literal_by place kind opening len behind b b.stop) (body_short (record { kind = kind; opening = opening }) behind more h inside.0 inside.1)
-    ∙ literal_back place kind opening len behind more body found within.0 less body.stop h (body_single (record { kind = kind; opening = opening }) (behind ++ more)) inside.0 e
+literal_short : (place : Mode) (kind : Kind) (opening : Opening) (len : ℕ) (remainder more : Text) (found : Spanned Fault) → ends_line remainder ≡ true → literal place kind opening len (remainder ++ more) ≡ Fails found → found.end < len + length remainder → literal place kind opening len remainder ≡ Fails found
+literal_short place kind opening len remainder more found h e less =
+    let body : Body = body_at (record { kind = kind; opening = opening }) (remainder ++ more) in
+    let within = body_fits (record { kind = kind; opening = opening }) (remainder ++ more) in
+    let inside = literal_reach place kind opening len remainder more body found within.0 less body.stop within.1 e in
+    ap (λ (b : Body). literal_by place kind opening len remainder b b.stop) (body_short (record { kind = kind; opening = opening }) remainder more h inside.0 inside.1)
+    ∙ literal_back place kind opening len remainder more body found within.0 less body.stop h (body_single (record { kind = kind; opening = opening }) (remainder ++ more)) inside.0 e
 
-literal_behind_short : (place : Mode) (kind : Kind) (opening : Opening) (len quotes : ℕ) (behind more : Text) (found : Spanned Fault) → ends_line behind ≡ true → quotes < length behind → literal place kind opening (len + quotes) (drop quotes (behind ++ more)) ≡ Fails found → found.end < len + length behind
-    → literal place kind opening (len + quotes) (drop quotes behind) ≡ Fails found
-literal_behind_short place kind opening len quotes behind more found h some e less =
-    literal_short place kind opening (len + quotes) (drop quotes behind) more found (ends_line_drop quotes behind some h)
-    (subst (λ (t : Text). literal place kind opening (len + quotes) t ≡ Fails found) (drop-append-le quotes behind more (omega (arith, some))) e) (omega (arith, less, some, length-drop quotes behind))
+literal_behind_short : (place : Mode) (kind : Kind) (opening : Opening) (len quotes : ℕ) (remainder more : Text) (found : Spanned Fault) → ends_line remainder ≡ true → quotes < length remainder → literal place kind opening (len + quotes) (drop quotes (remainder ++ more)) ≡ Fails found → found.end < len + length remainder
+    → literal place kind opening (len + quotes) (drop quotes remainder) ≡ Fails found
+literal_behind_short place kind opening len quotes remainder more found h some e less =
+    literal_short place kind opening (len + quotes) (drop quotes remainder) more found (ends_line_drop quotes remainder some h)
+    (subst (λ (t : Text). literal place kind opening (len + quotes) t ≡ Fails found) (drop-append-le quotes remainder more (omega (arith, some))) e) (omega (arith, less, some, length-drop quotes remainder))
 
-opener_short : (place : Mode) (kind : Kind) (opening : Opening) (len : ℕ) (behind more : Text) (found : Spanned Fault) → ends_line behind ≡ true → more_quotes opening < length behind → opener place kind opening len (behind ++ more) ≡ Fails found → found.end < len + length behind
-    → opener place kind opening len behind ≡ Fails found
-opener_short place OfFString opening len behind more found h some e less = e
-opener_short place OfText opening len behind more found h some e less = literal_behind_short place OfText opening len (more_quotes opening) behind more found h some e less
-opener_short place OfBytes opening len behind more found h some e less = literal_behind_short place OfBytes opening len (more_quotes opening) behind more found h some e less
+opener_short : (place : Mode) (kind : Kind) (opening : Opening) (len : ℕ) (remainder more : Text) (found : Spanned Fault) → ends_line remainder ≡ true → more_quotes opening < length remainder → opener place kind opening len (remainder ++ more) ≡ Fails found → found.end < len + length remainder
+    → opener place kind opening len remainder ≡ Fails found
+opener_short place OfFString opening len remainder more found h some e less = e
+opener_short place OfText opening len remainder more found h some e less = literal_behind_short place OfText opening len (more_quotes opening) remainder more found h some e less
+opener_short place OfBytes opening len remainder more found h some e less = literal_behind_short place OfBytes opening len (more_quotes opening) remainder more found h some e less
 
 -- Texts of f-strings
 
@@ -134,35 +134,35 @@ chunk_short opening text more found h e less =
 
 -- Words
 
-word_short : (s : Situation) (class : Class) (front behind more : Text) (found : Spanned Fault) → (in_line front ≡ true → ends_line behind ≡ true) → line_fits class front ≡ true → has_whole_lines behind ≡ true → word_step s class front (behind ++ more) ≡ Fails found → found.end < length front + length behind
-    → (word_step s class front behind ≡ Fails found) ⊎ ((class ≡ word.LineEnd) × MarginBeyond behind more found)
-word_short s word.Skipped front behind more found ends fits whole e less = inl e
-word_short s word.Comment front behind more found ends fits whole e less = inl e
-word_short s word.Tabs front behind more found ends fits whole e less = inl e
-word_short s word.LineEnd front behind more found ends fits whole e less = go (counts s.place s.is_balanced) e
+word_short : (s : Situation) (class : Class) (front remainder more : Text) (found : Spanned Fault) → (in_line front ≡ true → ends_line remainder ≡ true) → line_fits class front ≡ true → has_whole_lines remainder ≡ true → word_step s class front (remainder ++ more) ≡ Fails found → found.end < length front + length remainder
+    → (word_step s class front remainder ≡ Fails found) ⊎ ((class ≡ word.LineEnd) × MarginBeyond remainder more found)
+word_short s word.Skipped front remainder more found ends fits whole e less = inl e
+word_short s word.Comment front remainder more found ends fits whole e less = inl e
+word_short s word.Tabs front remainder more found ends fits whole e less = inl e
+word_short s word.LineEnd front remainder more found ends fits whole e less = go (counts s.place s.is_balanced) e
   where
     step : Bool → Text → Step
-    step counted behind = if counted then line_end (length front) s.levels behind else Stands (record { len = length front; lexemes = []; width = None; sort = Other })
+    step counted remainder = if counted then line_end (length front) s.levels remainder else Stands (record { len = length front; lexemes = []; width = None; sort = Other })
 
-    by : (margin_step (length front) (record { begin = 0; node = Newline; end = length front } ∷ []) s.levels (margin_of behind) ≡ Fails found) ⊎ MarginBeyond behind more found → (step true behind ≡ Fails found) ⊎ ((word.LineEnd ≡ word.LineEnd) × MarginBeyond behind more found)
+    by : (margin_step (length front) (record { begin = 0; node = Newline; end = length front } ∷ []) s.levels (margin_of remainder) ≡ Fails found) ⊎ MarginBeyond remainder more found → (step true remainder ≡ Fails found) ⊎ ((word.LineEnd ≡ word.LineEnd) × MarginBeyond remainder more found)
     by (inl fails) = inl fails
     by (inr beyond) = inr (refl, beyond)
 
-    go : (counted : Bool) → step counted (behind ++ more) ≡ Fails found → (step counted behind ≡ Fails found) ⊎ ((word.LineEnd ≡ word.LineEnd) × MarginBeyond behind more found)
-    go true e = by (margin_short (length front) (record { begin = 0; node = Newline; end = length front } ∷ []) s.levels behind more found whole e less)
+    go : (counted : Bool) → step counted (remainder ++ more) ≡ Fails found → (step counted remainder ≡ Fails found) ⊎ ((word.LineEnd ≡ word.LineEnd) × MarginBeyond remainder more found)
+    go true e = by (margin_short (length front) (record { begin = 0; node = Newline; end = length front } ∷ []) s.levels remainder more found whole e less)
     go false e = cc
-word_short s (word.Opener kind is_raw quote) front behind more found ends fits whole e less =
+word_short s (word.Opener kind is_raw quote) front remainder more found ends fits whole e less =
     let h = ends fits in
-    inl (opener_short s.place kind (opening_of is_raw quote behind) (length front) behind more found h (opening_inside is_raw quote behind h)
-    (sym (ap (λ (opening : Opening). opener s.place kind opening (length front) (behind ++ more)) (opening_followed is_raw quote behind more h)) ∙ e) less)
-word_short s word.Reserved front behind more found ends fits whole e less = inl e
-word_short s word.Identifier front behind more found ends fits whole e less = inl e
-word_short s word.Decimal front behind more found ends fits whole e less = inl e
-word_short s word.Hexadecimal front behind more found ends fits whole e less = inl e
-word_short s word.Octal front behind more found ends fits whole e less = inl e
-word_short s word.Binary front behind more found ends fits whole e less = inl e
-word_short s word.Float front behind more found ends fits whole e less = inl e
-word_short s (word.Fixed terminal) front behind more found ends fits whole e less = inl e
+    inl (opener_short s.place kind (opening_of is_raw quote remainder) (length front) remainder more found h (opening_inside is_raw quote remainder h)
+    (sym (ap (λ (opening : Opening). opener s.place kind opening (length front) (remainder ++ more)) (opening_followed is_raw quote remainder more h)) ∙ e) less)
+word_short s word.Reserved front remainder more found ends fits whole e less = inl e
+word_short s word.Identifier front remainder more found ends fits whole e less = inl e
+word_short s word.Decimal front remainder more found ends fits whole e less = inl e
+word_short s word.Hexadecimal front remainder more found ends fits whole e less = inl e
+word_short s word.Octal front remainder more found ends fits whole e less = inl e
+word_short s word.Binary front remainder more found ends fits whole e less = inl e
+word_short s word.Float front remainder more found ends fits whole e less = inl e
+word_short s (word.Fixed terminal) front remainder more found ends fits whole e less = inl e
 
 -- a line end, and after it a margin whose last line begins at the front's end or later
 record LineBeyond (text more : Text) (found : Spanned Fault) : Type 0 where

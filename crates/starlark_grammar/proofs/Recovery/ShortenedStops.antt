@@ -207,8 +207,8 @@ body_from_short literal zero (b ∷ bs) more h stops inside =
         let some = fits.0 in
         let found : other ≡ Goes item = shortened (omega (arith, inside, total)) in
         let later = inside_later _ _ (length bs) (item.len - 1 + body_len (whole (item.len - 1))) (whole (item.len - 1)).stop (omega (arith, total, some)) stops in
-        let behind = rest (item.len - 1) (ends_line_rest b bs (omega (arith, inside, total, some)) h) later (omega (arith, inside, total, some)) in
-        ap (λ (found : Found). body_onward found (λ passed. body_from literal passed bs)) found ∙ ap (λ (rest : Body). record { items = item ∷ rest.items; stop = rest.stop }) behind
+        let remainder = rest (item.len - 1) (ends_line_rest b bs (omega (arith, inside, total, some)) h) later (omega (arith, inside, total, some)) in
+        ap (λ (found : Found). body_onward found (λ passed. body_from literal passed bs)) found ∙ ap (λ (rest : Body). record { items = item ∷ rest.items; stop = rest.stop }) remainder
 
 -- A body that stops before the front's end.
 pub body_short : (literal : Literal) (text more : Text) → ends_line text ≡ true → StopInside (length text) (body_len (body_at literal (text ++ more))) (body_at literal (text ++ more)).stop → body_len (body_at literal (text ++ more)) < length text → body_at literal text ≡ body_at literal (text ++ more)

@@ -133,7 +133,7 @@ joins_2 :
 unfolding all_definitions is_settled is_clean_cut_in is_clean_cut is_kept_cut
 joins_2 = (refl, refl, refl, refl, refl, refl, refl)
 
--- what a clean cut and a text behind it with a tab in its first margin come to
+-- what a clean cut and a text remainder it with a tab in its first margin come to
 abbrev Tabbed : Text → Text → Outcome → Type 0
 Tabbed first second found = (outcome (first ++ second) ≡ found) × (tabbed (length first) (without_closing (outcome first).lexemes) (margin_of second).comments ≡ found)
 
@@ -143,7 +143,7 @@ tab_at place = Some (at place InvalidTab place)
 abbrev name : ℕ → Text → ℕ → Lexeme
 name begin text end = at begin (Identifier text) end
 
--- the last `Newline` is taken back, with the comments behind it; where there is none all comments stay
+-- the last `Newline` is taken back, with the comments remainder it; where there is none all comments stay
 tabs_behind_cuts :
     Tabbed (codes "x\n") (codes "\ty") (record { lexemes = name 0 (codes "x") 1 ∷ []; fault = tab_at 1 })
     × Tabbed (codes "x\n# a\n") (codes "\ty") (record { lexemes = name 0 (codes "x") 1 ∷ []; fault = tab_at 1 })

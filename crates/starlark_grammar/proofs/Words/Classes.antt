@@ -119,7 +119,7 @@ hexadecimal_digit b h = grind (arith, nat_tests)
 pub decimal_digits : (word : Text) → class_in language word ≡ Some Decimal → is_run (λ b. is_digit b 10) word ≡ true
 decimal_digits word known = run_more is_ascii_digit (λ b. is_digit b 10) word decimal_digit (word_is_of word Decimal known)
 
--- Behind `0` and a letter stand digits of the base, and a text may be cut there.
+-- AfterComments `0` and a letter stand digits of the base, and a text may be cut there.
 pub record IsBased (is_of_base : ℕ → Bool) (word : Text) : Type 0 where
   pub digits : is_run is_of_base (drop 2 word) ≡ true
   pub boundary : IsCharBoundary word 2
@@ -163,7 +163,7 @@ digits_are_number base digits most h = rw (digits_unsigned base digits most h, h
 
 -- Comments
 
--- a text may be cut behind a comment's `#`
+-- a text may be cut remainder a comment's `#`
 pub comment_boundary : (word : Text) → IsUtf8 word → class_in language word ≡ Some Comment → IsCharBoundary word 1
 comment_boundary word utf8 known = behind_hash word utf8 (word_is_of word Comment known)
   where

@@ -9,7 +9,7 @@ use Rattle.std.proofs.lemmas.List.{take-append-drop}
 use Rattle.starlark_grammar.specs.Words.{Text, Class, class_in, listed, openers, line_ends, symbols, names, patterns, language}
 use Rattle.starlark_grammar.specs.Front.{longer, longest_front, language_front}
 use Rattle.starlark_grammar.specs.EarlierLanguage.{is_rf_opener, earlier_language, earlier_front}
-use Rattle.starlark_grammar.proofs.Words.Tables.{class_in-behind}
+use Rattle.starlark_grammar.proofs.Words.Tables.{class_in-remainder}
 
 -- the rows but for the two
 abbrev pub earlier_rows : List (Text × Class) → List (Text × Class)
@@ -33,9 +33,9 @@ lookup_earlier word (row ∷ rows) h = go (is_rf_opener row.0) (bytes_eq word ro
 pub class_agrees : (word : Text) → is_rf_opener word ≡ false → class_in language word ≡ class_in earlier_language word
 unfolding language earlier_language
 class_agrees word h =
-    class_in-behind openers (listed line_ends ++ (listed symbols ++ (listed names ++ patterns))) word
+    class_in-remainder openers (listed line_ends ++ (listed symbols ++ (listed names ++ patterns))) word
     ∙ ap (λ found. option_or found (class_in (listed line_ends ++ (listed symbols ++ (listed names ++ patterns))) word)) (sym (lookup_earlier word openers h))
-    ∙ sym (class_in-behind (earlier_rows openers) (listed line_ends ++ (listed symbols ++ (listed names ++ patterns))) word)
+    ∙ sym (class_in-remainder (earlier_rows openers) (listed line_ends ++ (listed symbols ++ (listed names ++ patterns))) word)
 
 -- Classes that agree on each front of a text have the same longest front there.
 pub fronts_agree : {C : Type 0} (one other : Text → Option C) (text : Text) → ((n : ℕ) → one (take n text) ≡ other (take n text)) → longest_front one text ≡ longest_front other text

@@ -21,15 +21,15 @@ unfolding class_in
 class_in-listed [] word = refl
 class_in-listed (row ∷ rows) word = ap (cond (bytes_eq word row.0) (Some row.1)) (class_in-listed rows word)
 
--- the class by a list of words and a table behind it
-pub class_in-behind : (rows : List (Text × Class)) (back : Table) (word : Text) → class_in (listed rows ++ back) word ≡ option_or (lookup (bytes_eq word) rows) (class_in back word)
-class_in-behind rows back word = class_in-append (listed rows) back word ∙ ap (λ found. option_or found (class_in back word)) (class_in-listed rows word)
+-- the class by a list of words and a table remainder it
+pub class_in-remainder : (rows : List (Text × Class)) (back : Table) (word : Text) → class_in (listed rows ++ back) word ≡ option_or (lookup (bytes_eq word) rows) (class_in back word)
+class_in-remainder rows back word = class_in-append (listed rows) back word ∙ ap (λ found. option_or found (class_in back word)) (class_in-listed rows word)
 
 -- The class of a word by the language: the lists in turn, and then the patterns.
 pub class_in-language : (word : Text) → class_in language word ≡ option_or (lookup (bytes_eq word) openers) (option_or (lookup (bytes_eq word) line_ends) (option_or (lookup (bytes_eq word) symbols) (option_or (lookup (bytes_eq word) names) (class_in patterns word))))
 unfolding language
 class_in-language word =
-    class_in-behind openers (listed line_ends ++ (listed symbols ++ (listed names ++ patterns))) word
-    ∙ ap (option_or (lookup (bytes_eq word) openers)) (class_in-behind line_ends (listed symbols ++ (listed names ++ patterns)) word
-    ∙ ap (option_or (lookup (bytes_eq word) line_ends)) (class_in-behind symbols (listed names ++ patterns) word
-    ∙ ap (option_or (lookup (bytes_eq word) symbols)) (class_in-behind names patterns word)))
+    class_in-remainder openers (listed line_ends ++ (listed symbols ++ (listed names ++ patterns))) word
+    ∙ ap (option_or (lookup (bytes_eq word) openers)) (class_in-remainder line_ends (listed symbols ++ (listed names ++ patterns)) word
+    ∙ ap (option_or (lookup (bytes_eq word) line_ends)) (class_in-remainder symbols (listed names ++ patterns) word
+    ∙ ap (option_or (lookup (bytes_eq word) symbols)) (class_in-remainder names patterns word)))

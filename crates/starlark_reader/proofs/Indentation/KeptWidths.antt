@@ -13,7 +13,7 @@ use Rattle.starlark_grammar.proofs.Indentation.Widths.{newest, open-push, open_a
 use Rattle.starlark_reader.specs.Inner.Layout.{IsLaidOut, IsMargin, greatest_of, keeps_widths}
 use Rattle.starlark_reader.specs.Inner.Pending.{lexemes_after}
 use Rattle.starlark_reader.specs.declared.margins.Margin.{Margin as Measured}
-use Rattle.starlark_reader.specs.declared.pending.Behind.{Behind}
+use Rattle.starlark_reader.specs.declared.pending.AfterComments.{AfterComments}
 use Rattle.starlark_reader.proofs.Indentation.Indents.{dedented}
 use Rattle.starlark_reader.proofs.Indentation.Laid.{decided_blank, decided_fits}
 
@@ -163,19 +163,19 @@ module _ (levels widths : List ℕ) (margin : Measured) (seen : Margin) (same : 
       no_tab false h = refl
       no_tab true h = cc
 
-  pub is_kept : (begin : ℕ) (behind : Behind) → lexemes_after behind ≡ [] → IsLaidOut begin seen widths levels levels behind
-  is_kept begin behind idle = go margin.is_content refl
+  pub is_kept : (begin : ℕ) (remainder : AfterComments) → lexemes_after remainder ≡ [] → IsLaidOut begin seen widths levels levels remainder
+  is_kept begin remainder idle = go margin.is_content refl
     where
-      go : (content : Bool) → margin.is_content ≡ content → IsLaidOut begin seen widths levels levels behind
+      go : (content : Bool) → margin.is_content ≡ content → IsLaidOut begin seen widths levels levels remainder
       go false none =
-          let blank : is_content seen.behind ≡ false = sym same.is_content ∙ none in
+          let blank : is_content seen.remainder ≡ false = sym same.is_content ∙ none in
           record {
             stands = λ len before. decided_blank len before levels seen margin same none;
             those_after = idle ∙ rw blank refl;
             open_now = open_now ∙ ap open_widths (rw blank (sym (append-nil widths)));
           }
       go true some =
-          let content : is_content seen.behind ≡ true = sym same.is_content ∙ some in
+          let content : is_content seen.remainder ≡ true = sym same.is_content ∙ some in
           let fits = leaves some in
           let width = same.blanks.width in
           let other : (nat_lt 0 (width_of seen) && is_widest (width_of seen) levels) ≡ false = rw width at fits.1.is_no_indent in

@@ -11,7 +11,7 @@ use Rattle.starlark_reader.specs.Inner.Layout.{IsFaultFound, IsLaidOut, IsLeftOu
 use Rattle.starlark_reader.specs.Inner.MarginLines.{IsOfMargin}
 use Rattle.starlark_reader.specs.Inner.Pending.{IsPending, lexemes_after, lines_between, pending_lexemes}
 use Rattle.starlark_reader.specs.declared.margins.Margin.{Margin as Measured}
-use Rattle.starlark_reader.specs.declared.pending.Behind.{Behind}
+use Rattle.starlark_reader.specs.declared.pending.AfterComments.{AfterComments}
 use Rattle.starlark_reader.specs.declared.pending.Pending.{Pending}
 use Rattle.starlark_token.specs.declared.lexeme_error.LexemeError.{LexemeError}
 use Rattle.starlark_reader.proofs.Indentation.Pending.{are_comments, margin_between}
@@ -41,8 +41,8 @@ module _ (len : ℕ) (before : List Lexeme) (levels : List ℕ) (seen : Margin) 
       rw (some, tab, fitting) (ap (fault 0 Indentation) whole)
 
 -- a tab before content
-pub left_tab : (levels : List ℕ) (seen : Margin) (margin : Measured) → IsMargin seen margin → margin.is_content ≡ true → margin.blanks.has_tab ≡ true → (behind : Behind) → IsLeftOut seen levels levels behind behind
-left_tab levels seen margin same some is_tab behind =
+pub left_tab : (levels : List ℕ) (seen : Margin) (margin : Measured) → IsMargin seen margin → margin.is_content ≡ true → margin.blanks.has_tab ≡ true → (remainder : AfterComments) → IsLeftOut seen levels levels remainder remainder
+left_tab levels seen margin same some is_tab remainder =
     let tab : has_tab seen ≡ true = sym same.blanks.has_tab ∙ is_tab in
     record {
       stands = λ len before. decided_tab len before levels seen margin same some is_tab ∙ rw tab refl;
@@ -66,23 +66,23 @@ moved_none (lexeme ∷ lexemes) = rw (zero-add lexeme.begin, zero-add lexeme.end
 -- Pending lexemes
 
 -- if no lexeme is pending, none is after the comments
-pub behind_none : (text : Text) (pending : Pending) → pending_lexemes text pending ≡ [] → lexemes_after pending.behind ≡ []
+pub behind_none : (text : Text) (pending : Pending) → pending_lexemes text pending ≡ [] → lexemes_after pending.remainder ≡ []
 unfolding pending_lexemes
 behind_none text pending none = go (comments_from pending.from (lines_between text pending.from pending.to)) none
   where
-    go : (comments : List Lexeme) → comments ++ lexemes_after pending.behind ≡ [] → lexemes_after pending.behind ≡ []
+    go : (comments : List Lexeme) → comments ++ lexemes_after pending.remainder ≡ [] → lexemes_after pending.remainder ≡ []
     go [] h = h
     go (comment ∷ comments) h = cc
 
 -- the pending lexemes of a margin that begins at byte `begin`
-abbrev margin_pending : ℕ → ℕ → Behind → Bool → Pending
-margin_pending begin at behind flat = record { from = begin; to = begin + at; behind = behind; is_flat = flat }
+abbrev margin_pending : ℕ → ℕ → AfterComments → Bool → Pending
+margin_pending begin at remainder flat = record { from = begin; to = begin + at; remainder = remainder; is_flat = flat }
 
 module _ (text : Text) (begin : ℕ) (margin : Measured) (utf8 : IsUtf8 text) (here : IsCharBoundary text begin) (same : IsMargin (margin_of (drop begin text)) margin) where
-  margin_waits : (levels : List ℕ) (behind : Behind) (flat : Bool) → lexemes_after behind ≡ map (moved begin) (margin_indentation levels (margin_of (drop begin text)))
-      → IsPending text (margin_pending begin margin.at behind flat) × (map (moved begin) (margin_lexemes levels (margin_of (drop begin text))) ≡ pending_lexemes text (margin_pending begin margin.at behind flat))
+  margin_waits : (levels : List ℕ) (remainder : AfterComments) (flat : Bool) → lexemes_after remainder ≡ map (moved begin) (margin_indentation levels (margin_of (drop begin text)))
+      → IsPending text (margin_pending begin margin.at remainder flat) × (map (moved begin) (margin_lexemes levels (margin_of (drop begin text))) ≡ pending_lexemes text (margin_pending begin margin.at remainder flat))
   unfolding pending_lexemes
-  margin_waits levels behind flat e =
+  margin_waits levels remainder flat e =
       let both = margin_between text begin margin.at utf8 here same.at in (
         are_comments text begin margin.at utf8 here same.at,
         map-append (moved begin) (margin_of (drop begin text)).comments (margin_indentation levels (margin_of (drop begin text))) ∙ rw (both, e) refl,
@@ -91,20 +91,20 @@ module _ (text : Text) (begin : ℕ) (margin : Measured) (utf8 : IsUtf8 text) (h
 -- What taking a margin does
 
 module _ (text : Text) (begin : ℕ) (pending : Pending) (margin : Measured) (utf8 : IsUtf8 text) (here : IsCharBoundary text begin) (same : IsMargin (margin_of (drop begin text)) margin) (old : List ℕ) (of : IsOfMargin begin margin.at old pending) where
-  of_margin : margin_pending begin margin.at pending.behind pending.is_flat ≡ pending
+  of_margin : margin_pending begin margin.at pending.remainder pending.is_flat ≡ pending
   of_margin = go pending.from pending.to of.from of.to
     where
-      go : (from to : ℕ) → from ≡ begin → to ≡ begin + margin.at → margin_pending begin margin.at pending.behind pending.is_flat ≡ record { from = from; to = to; behind = pending.behind; is_flat = pending.is_flat }
+      go : (from to : ℕ) → from ≡ begin → to ≡ begin + margin.at → margin_pending begin margin.at pending.remainder pending.is_flat ≡ record { from = from; to = to; remainder = pending.remainder; is_flat = pending.is_flat }
       go from to e f = rw (e, f) refl
 
   -- all lexemes of a margin are pending if those after its comments are
-  waits : (levels : List ℕ) → lexemes_after pending.behind ≡ map (moved begin) (margin_indentation levels (margin_of (drop begin text)))
+  waits : (levels : List ℕ) → lexemes_after pending.remainder ≡ map (moved begin) (margin_indentation levels (margin_of (drop begin text)))
       → IsPending text pending × (map (moved begin) (margin_lexemes levels (margin_of (drop begin text))) ≡ pending_lexemes text pending)
   waits levels e = subst (λ p. IsPending text p × (map (moved begin) (margin_lexemes levels (margin_of (drop begin text))) ≡ pending_lexemes text p)) of_margin
-      (margin_waits text begin margin utf8 here same levels pending.behind pending.is_flat e)
+      (margin_waits text begin margin utf8 here same levels pending.remainder pending.is_flat e)
 
   -- only the comments are pending if no lexeme after them is
-  comments_wait : lexemes_after pending.behind ≡ [] → IsPending text pending × (map (moved begin) (margin_of (drop begin text)).comments ≡ pending_lexemes text pending)
+  comments_wait : lexemes_after pending.remainder ≡ [] → IsPending text pending × (map (moved begin) (margin_of (drop begin text)).comments ≡ pending_lexemes text pending)
   unfolding pending_lexemes
   comments_wait none = subst (λ p. IsPending text p × (map (moved begin) (margin_of (drop begin text)).comments ≡ pending_lexemes text p)) of_margin (
     are_comments text begin margin.at utf8 here same.at,
@@ -116,7 +116,7 @@ unfolding open_widths
 none_open levels e = e
 
 module _ (text : Text) (levels now : List ℕ) (margin : Measured) (pending : Pending) (utf8 : IsUtf8 text) (same : IsMargin (margin_of text) margin) (of : IsOfMargin 0 margin.at levels pending) where
-  pub first_taken : levels ≡ [] → IsLaidOut 0 (margin_of text) [] levels now pending.behind → IsTaken text 0 (first_margin text) [] [] now pending (margin.at + margin.blanks.len)
+  pub first_taken : levels ≡ [] → IsLaidOut 0 (margin_of text) [] levels now pending.remainder → IsTaken text 0 (first_margin text) [] [] now pending (margin.at + margin.blanks.len)
   first_taken none laid =
       let both = waits text 0 pending margin utf8 (IsCharBoundary-start text utf8) same levels of levels laid.those_after in
       record {
@@ -128,9 +128,9 @@ module _ (text : Text) (levels now : List ℕ) (margin : Measured) (pending : Pe
         open_now = laid.open_now;
       }
 
-  pub first_refused : levels ≡ [] → (behind : Behind) → IsLeftOut (margin_of text) levels now behind pending.behind → lexemes_after behind ≡ [] → (error : LexemeError) (end : ℕ) → IsFaultFound (margin_fault 0 (margin_of text)) (error, end)
+  pub first_refused : levels ≡ [] → (remainder : AfterComments) → IsLeftOut (margin_of text) levels now remainder pending.remainder → lexemes_after remainder ≡ [] → (error : LexemeError) (end : ℕ) → IsFaultFound (margin_fault 0 (margin_of text)) (error, end)
       → IsRefused text (first_margin text) (margin_of text).comments [] now pending error end
-  first_refused none behind left idle error end found =
+  first_refused none remainder left idle error end found =
       let both = comments_wait text 0 pending margin utf8 (IsCharBoundary-start text utf8) same levels of (ap lexemes_after left.same ∙ idle) in
       record {
         node = found.0;
@@ -146,7 +146,7 @@ abbrev newline : ℕ → Lexeme
 newline len = record { begin = 0; node = Newline; end = len }
 
 module _ (text : Text) (at len : ℕ) (levels now widths : List ℕ) (margin : Measured) (pending : Pending) (open_now : levels ≡ open_widths widths) (same : IsMargin (margin_of (drop (at + len) text)) margin) where
-  pub end_taken : IsUtf8 text → IsCharBoundary text (at + len) → IsOfMargin (at + len) margin.at levels pending → IsLaidOut (at + len) (margin_of (drop (at + len) text)) widths levels now pending.behind
+  pub end_taken : IsUtf8 text → IsCharBoundary text (at + len) → IsOfMargin (at + len) margin.at levels pending → IsLaidOut (at + len) (margin_of (drop (at + len) text)) widths levels now pending.remainder
       → IsTaken text at (line_end len (open_widths widths) (drop (at + len) text)) (record { begin = at; node = Newline; end = at + len } ∷ []) widths now pending (len + margin.at + margin.blanks.len)
   end_taken utf8 here of laid =
       let start : at + 0 ≡ at = omega arith in
@@ -160,9 +160,9 @@ module _ (text : Text) (at len : ℕ) (levels now widths : List ℕ) (margin : M
         open_now = laid.open_now;
       }
 
-  pub end_refused : (behind after_now : Behind) → IsLeftOut (margin_of (drop (at + len) text)) levels now behind after_now → (pending_lexemes text pending ≡ []) × IsPending text pending → (error : LexemeError) (end : ℕ) → IsFaultFound (margin_fault len (margin_of (drop (at + len) text))) (error, end)
+  pub end_refused : (remainder after_now : AfterComments) → IsLeftOut (margin_of (drop (at + len) text)) levels now remainder after_now → (pending_lexemes text pending ≡ []) × IsPending text pending → (error : LexemeError) (end : ℕ) → IsFaultFound (margin_fault len (margin_of (drop (at + len) text))) (error, end)
       → IsRefused text (line_end len (open_widths widths) (drop (at + len) text)) [] widths now pending error end
-  end_refused behind after_now left none error end found = record {
+  end_refused remainder after_now left none error end found = record {
     node = found.0;
     is = found.1;
     stands = ap (λ ls. margin_step len (newline len ∷ []) ls (margin_of (drop (at + len) text))) (sym open_now) ∙ left.stands len (newline len ∷ []) ∙ found.2;

@@ -79,8 +79,8 @@ feed_after_blanks (b ∷ bs) = go (is_blank b) refl (feed_after_blanks bs)
         rw (blank_other b e, one) (omega (arith, more))
 
 -- the length of a line without its LF, after its blanks were counted
-pub feed_measured : (text behind : Text) (k n : ℕ) → k ≡ blanks_len text → behind ≡ drop k text → n ≡ prefix_len is_other behind → k + n ≡ prefix_len is_other text
-feed_measured text behind k n e f h =
+pub feed_measured : (text remainder : Text) (k n : ℕ) → k ≡ blanks_len text → remainder ≡ drop k text → n ≡ prefix_len is_other remainder → k + n ≡ prefix_len is_other text
+feed_measured text remainder k n e f h =
     let there : n ≡ prefix_len is_other (drop (blanks_len text) text) = h ∙ ap (prefix_len is_other) (f ∙ ap (λ i. drop i text) e) in
     omega (arith, e, there, feed_after_blanks text)
 
@@ -165,11 +165,11 @@ pub record ArePassed (text : Text) (at : ℕ) : Type 0 where
 pub none_passed : (text : Text) → ArePassed text 0
 none_passed text = record { inside = omega arith; total = zero-add _ }
 
-pub one_passed : (text line behind : Text) (at n : ℕ) (blanks : Blanks) → ArePassed text at → line ≡ drop at text → IsBlanks (take (blanks_len line) line) blanks → behind ≡ drop blanks.len line → begins_comment behind ≡ true
-    → (0 < length behind → lines behind ≡ take n behind ∷ lines (drop n behind)) → n ≤ length behind → (at < at + (blanks.len + n)) × ArePassed text (at + (blanks.len + n))
-one_passed text line behind at n blanks passed e same f h split inside =
+pub one_passed : (text line remainder : Text) (at n : ℕ) (blanks : Blanks) → ArePassed text at → line ≡ drop at text → IsBlanks (take (blanks_len line) line) blanks → remainder ≡ drop blanks.len line → begins_comment remainder ≡ true
+    → (0 < length remainder → lines remainder ≡ take n remainder ∷ lines (drop n remainder)) → n ≤ length remainder → (at < at + (blanks.len + n)) × ArePassed text (at + (blanks.len + n))
+one_passed text line remainder at n blanks passed e same f h split inside =
     let len : blanks.len ≡ blanks_len line = same.len ∙ length-prefix_len is_blank line in
-    let there : behind ≡ drop (blanks_len line) line = f ∙ ap (λ i. drop i line) len in
+    let there : remainder ≡ drop (blanks_len line) line = f ∙ ap (λ i. drop i line) len in
     let first = first_comment line n (subst (λ (t : Text). begins_comment t ≡ true) there h) (subst (λ (t : Text). 0 < length t → lines t ≡ take n t ∷ lines (drop n t)) there split) (subst (λ (t : Text). n ≤ length t) there inside) in
     let all : length line ≡ length text - at = ap (λ (t : Text). length t) e ∙ length-drop at text in
     let sum : lines_sum (comment_lines line) ≡ length (take (blanks_len line + n) line) + lines_sum (comment_lines (drop (blanks_len line + n) line)) =
@@ -185,12 +185,12 @@ one_passed text line behind at n blanks passed e same f h split inside =
       },
     )
 
-pub last_passed : (text line behind : Text) (at : ℕ) (found : Blanks) (content : Bool) → ArePassed text at → line ≡ drop at text → IsBlanks (take (blanks_len line) line) found → behind ≡ drop found.len line → begins_comment behind ≡ false → content ≡ is_content behind
+pub last_passed : (text line remainder : Text) (at : ℕ) (found : Blanks) (content : Bool) → ArePassed text at → line ≡ drop at text → IsBlanks (take (blanks_len line) line) found → remainder ≡ drop found.len line → begins_comment remainder ≡ false → content ≡ is_content remainder
     → IsMargin (margin_of text) (record { at = at; blanks = found; is_content = content })
 unfolding margin_of
-last_passed text line behind at found content passed e same f h is =
+last_passed text line remainder at found content passed e same f h is =
     let len : found.len ≡ blanks_len line = same.len ∙ length-prefix_len is_blank line in
-    let there : behind ≡ drop (blanks_len line) line = f ∙ ap (λ i. drop i line) len in
+    let there : remainder ≡ drop (blanks_len line) line = f ∙ ap (λ i. drop i line) len in
     let none : comment_lines line ≡ [] = no_comment line (subst (λ (t : Text). begins_comment t ≡ false) there h) in
     let zero_more : lines_sum (comment_lines (drop at text)) ≡ 0 = ap (λ (t : Text). lines_sum (comment_lines t)) (sym e) ∙ ap lines_sum none in
     let place : at ≡ lines_sum (comment_lines text) = omega (arith, passed.total, zero_more) in

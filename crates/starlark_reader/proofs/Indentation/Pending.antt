@@ -141,7 +141,7 @@ pub record IsMeasured (text : Text) (from to k n len : ℕ) : Type 0 where
   pub inside : from + len ≤ to
   pub whole : length (take len (drop from text)) ≡ len
   pub first : lines_between text from to ≡ take len (drop from text) ∷ lines_between text (from + len) to
-  pub behind : IsComments text (from + len) to
+  pub remainder : IsComments text (from + len) to
   pub order : k + 1 ≤ n
   pub part_inside : from + n ≤ length text
 
@@ -161,7 +161,7 @@ measured text from to feed len blanks part is some e split inside least b p =
       inside = line_inside text from to feed len is some e split inside least;
       whole = line_len text from to feed len is some e split inside least;
       first = first_line text from to feed len is some e split inside least;
-      behind = behind_line text from to feed len is some e split inside least;
+      remainder = behind_line text from to feed len is some e split inside least;
       order = comment_inside (take len (drop from text)) blanks part passes k n;
       part_inside = omega (arith, edges.1.0, n);
     }

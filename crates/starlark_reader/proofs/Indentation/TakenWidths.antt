@@ -14,8 +14,8 @@ use Rattle.starlark_grammar.proofs.Indentation.Widths.{newest, open-push}
 use Rattle.starlark_reader.specs.Inner.Layout.{IsLaidOut, IsLeftBy, IsLeftOut, IsMargin, greatest_of, margin_indentation}
 use Rattle.starlark_reader.specs.Inner.Pending.{lexemes_after}
 use Rattle.starlark_reader.specs.declared.margins.Margin.{Margin as Measured}
-use Rattle.starlark_reader.specs.declared.pending.Behind.{Behind}
-use Rattle.starlark_reader.specs.declared.pending.Behind.TheVariants as behind
+use Rattle.starlark_reader.specs.declared.pending.AfterComments.{AfterComments}
+use Rattle.starlark_reader.specs.declared.pending.AfterComments.TheVariants as remainder
 use Rattle.starlark_reader.proofs.Indentation.Indents.{one_indented, some_dedented}
 use Rattle.starlark_reader.proofs.Indentation.Laid.{decided_fits, decided_misfit}
 use Rattle.starlark_reader.proofs.Indentation.KeptWidths.{LeavesWidths, Rises, first_rising, is_greatest, is_rising, leaves_all, rises}
@@ -192,9 +192,9 @@ misfits widths width count left few other =
 -- Margins before content, without a tab
 
 module _ (begin : ℕ) (widths levels : List ℕ) (margin : Measured) (seen : Margin) (open_now : levels ≡ open_widths widths) (same : IsMargin seen margin) (some : margin.is_content ≡ true) (untabbed : margin.blanks.has_tab ≡ false) where
-  laid_out : (new : List ℕ) (behind : Behind) → fits margin.blanks.width levels ≡ true → lexemes_after behind ≡ map (moved begin) (margin_indentation levels seen) → filter (λ w. nat_lt w margin.blanks.width) levels ++ newest margin.blanks.width ≡ new → IsLaidOut begin seen widths levels new behind
-  laid_out new behind fitting gives pushed =
-      let content : is_content seen.behind ≡ true = sym same.is_content ∙ some in
+  laid_out : (new : List ℕ) (remainder : AfterComments) → fits margin.blanks.width levels ≡ true → lexemes_after remainder ≡ map (moved begin) (margin_indentation levels seen) → filter (λ w. nat_lt w margin.blanks.width) levels ++ newest margin.blanks.width ≡ new → IsLaidOut begin seen widths levels new remainder
+  laid_out new remainder fitting gives pushed =
+      let content : is_content seen.remainder ≡ true = sym same.is_content ∙ some in
       let pushed_seen : filter (λ w. nat_lt w (width_of seen)) levels ++ newest (width_of seen) ≡ new = rw same.blanks.width at pushed in
       record {
         stands = λ len before. decided_fits len before levels seen margin same some untabbed fitting;
@@ -202,19 +202,19 @@ module _ (begin : ℕ) (widths levels : List ℕ) (margin : Measured) (seen : Ma
         open_now = sym pushed_seen ∙ ap (λ ls. filter (λ w. nat_lt w (width_of seen)) ls ++ newest (width_of seen)) open_now ∙ sym (open-push widths (width_of seen)) ∙ rw content refl;
       }
 
-  pub is_opened : greatest_of levels < margin.blanks.width → IsLaidOut begin seen widths levels (levels ++ margin.blanks.width ∷ []) (behind.Indent (begin + margin.at) (begin + margin.at + margin.blanks.len))
+  pub is_opened : greatest_of levels < margin.blanks.width → IsLaidOut begin seen widths levels (levels ++ margin.blanks.width ∷ []) (remainder.Indent (begin + margin.at) (begin + margin.at + margin.blanks.len))
   is_opened h =
       let opens = subst (λ ls. OpensWidth ls margin.blanks.width) (sym open_now) (opens_width widths margin.blanks.width (subst (λ ls. greatest_of ls < margin.blanks.width) open_now h)) in
       laid_out _ _ opens.fitting (one_indented begin levels margin seen same some opens.is_indent) opens.pushed
 
-  pub is_closed : (count : ℕ) → IsLeftBy levels margin.blanks.width count → greatest_of (take count levels) ≡ margin.blanks.width → IsLaidOut begin seen widths levels (take count levels) (behind.Dedents (begin + margin.at) (length levels - count))
+  pub is_closed : (count : ℕ) → IsLeftBy levels margin.blanks.width count → greatest_of (take count levels) ≡ margin.blanks.width → IsLaidOut begin seen widths levels (take count levels) (remainder.Dedents (begin + margin.at) (length levels - count))
   is_closed count left is =
       let closes = subst (λ ls. ClosesWidths ls margin.blanks.width count) (sym open_now)
       (closes_widths widths margin.blanks.width count (subst (λ ls. IsLeftBy ls margin.blanks.width count) open_now left) (subst (λ ls. greatest_of (take count ls) ≡ margin.blanks.width) open_now is)) in
       laid_out _ _ closes.fitting (some_dedented begin (length levels - count) levels margin seen same some closes.is_no_indent closes.dedents) closes.pushed
 
-  pub is_misfit : (count : ℕ) (behind : Behind) → IsLeftBy levels margin.blanks.width count → margin.blanks.width ≤ greatest_of levels → (greatest_of (take count levels) ≡ margin.blanks.width → ⊥) → IsLeftOut seen levels levels behind behind
-  is_misfit count behind left few other =
+  pub is_misfit : (count : ℕ) (remainder : AfterComments) → IsLeftBy levels margin.blanks.width count → margin.blanks.width ≤ greatest_of levels → (greatest_of (take count levels) ≡ margin.blanks.width → ⊥) → IsLeftOut seen levels levels remainder remainder
+  is_misfit count remainder left few other =
       let misfit : fits margin.blanks.width levels ≡ false = ap (fits margin.blanks.width) open_now ∙ misfits widths margin.blanks.width count (subst (λ ls. IsLeftBy ls margin.blanks.width count) open_now left)
       (subst (λ ls. margin.blanks.width ≤ greatest_of ls) open_now few) (λ e. other (ap (λ ls. greatest_of (take count ls)) open_now ∙ e)) in
       let tab = sym same.blanks.has_tab ∙ untabbed in

@@ -7,20 +7,20 @@ use Rattle.starlark_grammar.specs.Tokens.{Lexeme, Spanned}
 use Rattle.starlark_token.specs.TokenViews.{TokenView}
 use Rattle.starlark_token.specs.Lexemes.{lexeme_view, shown_lexeme}
 use Rattle.starlark_reader.specs.Inner.Pending.{IsFirst, IsFirstAfter, IsFirstComment, IsIdle, IsPending, lexemes_after, lines_between, pending_lexemes}
-use Rattle.starlark_reader.specs.declared.pending.Behind.{Behind}
+use Rattle.starlark_reader.specs.declared.pending.AfterComments.{AfterComments}
 use Rattle.starlark_reader.specs.declared.pending.Pending.{Pending}
 use Rattle.starlark_token.specs.declared.tokens.Token.{Token}
 use Rattle.starlark_reader.proofs.Indentation.Pending.{no_comments, no_lines_between, some_lines}
 
 -- the first comment
-pub comment_first : (text : Text) (old : Pending) (found : ℕ × Token × ℕ) (len : ℕ) → IsFirstComment text old.from old.to found len → IsFirst text old (record { from = old.from + len; to = old.to; behind = old.behind; is_flat = old.is_flat }) (Some found)
+pub comment_first : (text : Text) (old : Pending) (found : ℕ × Token × ℕ) (len : ℕ) → IsFirstComment text old.from old.to found len → IsFirst text old (record { from = old.from + len; to = old.to; remainder = old.remainder; is_flat = old.is_flat }) (Some found)
 unfolding pending_lexemes
 comment_first text old found len is =
     let later = comments_from (old.from + len) (lines_between text (old.from + len) old.to) in
     let all : comments_from old.from (lines_between text old.from old.to) ≡ comment_of old.from is.line ∷ later =
     ap (comments_from old.from) is.first ∙ ap (λ n. comment_of old.from is.line ∷ comments_from (old.from + n) (lines_between text (old.from + len) old.to)) is.whole in (
-      is.behind,
-      ap (λ ls. map shown_lexeme (ls ++ lexemes_after old.behind)) all ∙ ap (λ v. v ∷ map shown_lexeme (later ++ lexemes_after old.behind)) (sym is.comment),
+      is.remainder,
+      ap (λ ls. map shown_lexeme (ls ++ lexemes_after old.remainder)) all ∙ ap (λ v. v ∷ map shown_lexeme (later ++ lexemes_after old.remainder)) (sym is.comment),
     )
 
 -- if comments are pending, so is a lexeme
@@ -28,19 +28,19 @@ pub comments_left : (text : Text) (old : Pending) → IsPending text old → old
 unfolding pending_lexemes
 comments_left text old is some none = go (lines_between text old.from old.to) refl none
   where
-    go : (ls : List Text) → lines_between text old.from old.to ≡ ls → comments_from old.from ls ++ lexemes_after old.behind ≡ [] → ⊥
+    go : (ls : List Text) → lines_between text old.from old.to ≡ ls → comments_from old.from ls ++ lexemes_after old.remainder ≡ [] → ⊥
     go [] e h = some_lines text old.from old.to some is.inside e
     go (l ∷ ls) e h = cc
 
 -- if no comments are pending, the first lexeme is the one after them
-pub after_first : (text : Text) (old : Pending) (new : Behind) (flat : Bool) (found : Option (ℕ × Token × ℕ)) → IsPending text old → old.to ≤ old.from → IsFirstAfter old.behind new found → (found ≡ None → flat ≡ old.is_flat)
-    → IsFirst text old (record { from = old.from; to = old.to; behind = new; is_flat = flat }) found
+pub after_first : (text : Text) (old : Pending) (new : AfterComments) (flat : Bool) (found : Option (ℕ × Token × ℕ)) → IsPending text old → old.to ≤ old.from → IsFirstAfter old.remainder new found → (found ≡ None → flat ≡ old.is_flat)
+    → IsFirst text old (record { from = old.from; to = old.to; remainder = new; is_flat = flat }) found
 unfolding pending_lexemes
 after_first text old new flat None is none h same = (rw (no_lines_between text old.from old.to none) h.0, rw (h.1, same refl) refl)
 after_first text old new flat (Some found) is none h same = (is, rw (no_lines_between text old.from old.to none) h)
 
 -- no lexeme is pending if no comments are and no lexeme after them is
-pub nothing_left : (text : Text) (pending : Pending) → pending.to ≤ pending.from → lexemes_after pending.behind ≡ [] → pending_lexemes text pending ≡ []
+pub nothing_left : (text : Text) (pending : Pending) → pending.to ≤ pending.from → lexemes_after pending.remainder ≡ [] → pending_lexemes text pending ≡ []
 unfolding pending_lexemes
 nothing_left text pending none empty = rw (no_lines_between text pending.from pending.to none, empty) refl
 
@@ -74,6 +74,6 @@ pub hands_later : (text : Text) (pending : Pending) (lexemes : List Lexeme) → 
 hands_later text pending lexemes is e = (is, ap (map shown_lexeme) e)
 
 -- pending lexemes without comments before them
-pub only_behind : (text : Text) (behind : Behind) → (pending_lexemes text (record { from = 0; to = 0; behind = behind; is_flat = false }) ≡ lexemes_after behind) × IsPending text (record { from = 0; to = 0; behind = behind; is_flat = false })
+pub only_behind : (text : Text) (remainder : AfterComments) → (pending_lexemes text (record { from = 0; to = 0; remainder = remainder; is_flat = false }) ≡ lexemes_after remainder) × IsPending text (record { from = 0; to = 0; remainder = remainder; is_flat = false })
 unfolding pending_lexemes
-only_behind text behind = (rw (no_lines_between text 0 0 (omega arith)) refl, no_comments text 0 (omega arith))
+only_behind text remainder = (rw (no_lines_between text 0 0 (omega arith)) refl, no_comments text 0 (omega arith))

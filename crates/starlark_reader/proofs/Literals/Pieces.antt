@@ -161,8 +161,8 @@ triple_edge text SingleQuote utf8 h = behind_plain text (39 ∷ 39 ∷ []) (drop
 triple_edge text DoubleQuote utf8 h = behind_plain text (34 ∷ 34 ∷ []) (drop 2 text) utf8 (starts_split text (34 ∷ 34 ∷ []) h) refl
 
 -- a literal without two more quotes begins right after its opener
-pub opener_plain : (place : Mode) (kind : Kind) (opening : Opening) (len : ℕ) (behind : Text) → kind ≢ OfFString → opening.is_triple ≡ false → pieces.opener place kind opening len behind ≡ pieces.literal place kind opening len behind
-opener_plain place kind opening len behind other single = by_kind kind other
+pub opener_plain : (place : Mode) (kind : Kind) (opening : Opening) (len : ℕ) (remainder : Text) → kind ≢ OfFString → opening.is_triple ≡ false → pieces.opener place kind opening len remainder ≡ pieces.literal place kind opening len remainder
+opener_plain place kind opening len remainder other single = by_kind kind other
   where
     none_more : pieces.more_quotes opening ≡ 0
     none_more = rw single refl
@@ -170,10 +170,10 @@ opener_plain place kind opening len behind other single = by_kind kind other
     same : len + 0 ≡ len
     same = omega arith
 
-    right_behind : (kind : Kind) → pieces.literal place kind opening (len + pieces.more_quotes opening) (drop (pieces.more_quotes opening) behind) ≡ pieces.literal place kind opening len behind
-    right_behind kind = ap (λ n. pieces.literal place kind opening (len + n) (drop n behind)) none_more ∙ ap (λ n. pieces.literal place kind opening n behind) same
+    right_behind : (kind : Kind) → pieces.literal place kind opening (len + pieces.more_quotes opening) (drop (pieces.more_quotes opening) remainder) ≡ pieces.literal place kind opening len remainder
+    right_behind kind = ap (λ n. pieces.literal place kind opening (len + n) (drop n remainder)) none_more ∙ ap (λ n. pieces.literal place kind opening n remainder) same
 
-    by_kind : (kind : Kind) → kind ≢ OfFString → pieces.opener place kind opening len behind ≡ pieces.literal place kind opening len behind
+    by_kind : (kind : Kind) → kind ≢ OfFString → pieces.opener place kind opening len remainder ≡ pieces.literal place kind opening len remainder
     by_kind OfText other = right_behind OfText
     by_kind OfBytes other = right_behind OfBytes
     by_kind OfFString other = absurd (other refl)

@@ -15,7 +15,7 @@ use Rattle.starlark_reader.specs.Inner.Pieces.{IsAfter, is_code}
 -- the lexer mode determines the step after something that was read
 pub by_read : (follows_gap : Bool) (s : Situation) (text : Text) → IsAfter follows_gap s.before → step_at language s text ≡ by_place language s s.place text
 unfolding step_at
-by_read follows_gap s text behind = go s.before behind
+by_read follows_gap s text remainder = go s.before remainder
   where
     go : (before : Before) → IsAfter follows_gap before → by_before language s before text ≡ by_place language s s.place text
     go Nothing h = absurd h
@@ -25,11 +25,11 @@ by_read follows_gap s text behind = go s.before behind
 
 -- the step in f-string text
 pub in_text : (follows_gap : Bool) (s : Situation) (text : Text) (opening : Opening) → IsAfter follows_gap s.before → s.place ≡ InText opening → step_at language s text ≡ chunk opening text
-in_text follows_gap s text opening behind here = by_read follows_gap s text behind ∙ ap (λ p. by_place language s p text) here
+in_text follows_gap s text opening remainder here = by_read follows_gap s text remainder ∙ ap (λ p. by_place language s p text) here
 
 -- the step in code
 pub code_at : (follows_gap : Bool) (s : Situation) (text : Text) (at : Mode) → is_code at ≡ true → IsAfter follows_gap s.before → s.place ≡ at → step_at language s text ≡ in_code language s text
-code_at follows_gap s text at code behind here = by_read follows_gap s text behind ∙ ap (λ p. by_place language s p text) here ∙ go at code
+code_at follows_gap s text at code remainder here = by_read follows_gap s text remainder ∙ ap (λ p. by_place language s p text) here ∙ go at code
   where
     go : (at : Mode) → is_code at ≡ true → by_place language s at text ≡ in_code language s text
     go Outside code = refl
@@ -73,12 +73,12 @@ bang_by s text at stands known here is e = ap (λ p. takes_bang p s.before && is
 
 -- a bang that is allowed is the step
 pub bang_at : (follows_gap : Bool) (s : Situation) (text : Text) (at : Mode) → is_code at ≡ true → IsAfter follows_gap s.before → s.place ≡ at → (takes_bang at s.before && is_bang text) ≡ true → step_at language s text ≡ token 1 FStringBang
-bang_at follows_gap s text at code behind here bang = code_at follows_gap s text at code behind here ∙ bang_in_code s text (ap (λ p. takes_bang p s.before && is_bang text) here ∙ bang)
+bang_at follows_gap s text at code remainder here bang = code_at follows_gap s text at code remainder here ∙ bang_in_code s text (ap (λ p. takes_bang p s.before && is_bang text) here ∙ bang)
 
 -- the word determines the step, where no bang is
 pub word_at : (follows_gap : Bool) (s : Situation) (text : Text) (at : Mode) (class : Class) (len : ℕ) → is_code at ≡ true → IsAfter follows_gap s.before → s.place ≡ at → language_front text ≡ Some (class, len) → is_bang text ≡ false
     → step_at language s text ≡ word_step s class (take len text) (drop len text)
-word_at follows_gap s text at class len code behind here front bang = code_at follows_gap s text at code behind here ∙ in_code_front s text class len front bang
+word_at follows_gap s text at class len code remainder here front bang = code_at follows_gap s text at code remainder here ∙ in_code_front s text class len front bang
 
 -- a word is in its text, and its end is a character boundary
 pub word_len : (text : Text) (class : Class) (len : ℕ) → language_front text ≡ Some (class, len) → length (take len text) ≡ len

@@ -26,7 +26,7 @@ use Rattle.starlark_grammar.proofs.Choices.{either}
 use Rattle.starlark_grammar.proofs.Joining.CleanCuts.{cut, past_both, pieces_both}
 use Rattle.starlark_grammar.proofs.Joining.Joined.{CountedEnd, counted_end, margin_step_len, outside}
 use Rattle.starlark_grammar.proofs.Joining.KeptPlaces.{HasPassed, IsInMargin, cut_few, cut_in}
-use Rattle.starlark_grammar.proofs.Joining.LaidCuts.{Behind, First, IsFlat, IsLaid, MarginAt, ends_some, laid_clean, laid_lexemes, line_count}
+use Rattle.starlark_grammar.proofs.Joining.LaidCuts.{AfterComments, First, IsFlat, IsLaid, MarginAt, ends_some, laid_clean, laid_lexemes, line_count}
 use Rattle.starlark_grammar.proofs.Joining.Laws.{ends_behind}
 use Rattle.starlark_grammar.proofs.Joining.LineCuts.{kept_by, kept_parts, line_behind, line_clean, line_end_ends, line_lexeme, reading_reach, reads_more}
 use Rattle.starlark_grammar.proofs.Joining.Settled.{outside_none}
@@ -136,13 +136,13 @@ first_ahead_cut text levels piece pending stands of lexemes =
 abbrev BeginsWith : List Lexeme → Piece → Type 0
 BeginsWith line piece = (more : List Lexeme) × (piece.lexemes ≡ line ++ more)
 
-newline_first : (len : ℕ) (levels : List ℕ) (behind : Text) (piece : Piece) → line_end len levels behind ≡ Stands piece → BeginsWith (record { begin = 0; node = grammar.Newline; end = len } ∷ []) piece
+newline_first : (len : ℕ) (levels : List ℕ) (remainder : Text) (piece : Piece) → line_end len levels remainder ≡ Stands piece → BeginsWith (record { begin = 0; node = grammar.Newline; end = len } ∷ []) piece
 unfolding margin_step
-newline_first len levels behind piece stands =
+newline_first len levels remainder piece stands =
     subst (Each (BeginsWith (record { begin = 0; node = grammar.Newline; end = len } ∷ [])) (λ fault. ⊤)) stands
-    (either (Each (BeginsWith (record { begin = 0; node = grammar.Newline; end = len } ∷ [])) (λ fault. ⊤)) (not (is_content (margin_of behind).behind)) _ _ (_, refl)
-    (either (Each (BeginsWith (record { begin = 0; node = grammar.Newline; end = len } ∷ [])) (λ fault. ⊤)) (has_tab (margin_of behind)) _ _ tt
-    (either (Each (BeginsWith (record { begin = 0; node = grammar.Newline; end = len } ∷ [])) (λ fault. ⊤)) (fits (width_of (margin_of behind)) levels) _ _ (_, refl) tt)))
+    (either (Each (BeginsWith (record { begin = 0; node = grammar.Newline; end = len } ∷ [])) (λ fault. ⊤)) (not (is_content (margin_of remainder).remainder)) _ _ (_, refl)
+    (either (Each (BeginsWith (record { begin = 0; node = grammar.Newline; end = len } ∷ [])) (λ fault. ⊤)) (has_tab (margin_of remainder)) _ _ tt
+    (either (Each (BeginsWith (record { begin = 0; node = grammar.Newline; end = len } ∷ [])) (λ fault. ⊤)) (fits (width_of (margin_of remainder)) levels) _ _ (_, refl) tt)))
 
 module _ (text : Text) (history : History) (at len : ℕ) (piece : Piece) (read : IsReadTo text history at) (begun : is_nothing history.before ≡ false) (stands : next_step language history (drop at text) ≡ Stands piece)
     (is : line_end len (open_widths history.widths) (drop (at + len) text) ≡ Stands piece) (layout : is_layout piece.sort ≡ true) (flat : open_widths history.widths ≡ []) where
@@ -203,7 +203,7 @@ module _ (text : Text) (history : History) (at len : ℕ) (piece : Piece) (read 
     pieces = read.pieces;
     n = len;
     reads = read.reads;
-    margin = Behind begun_there counts_there (ap (λ n. longest_front (class_in language) (drop n text)) read.reach ∙ front_here);
+    margin = AfterComments begun_there counts_there (ap (λ n. longest_front (class_in language) (drop n text)) read.reach ∙ front_here);
     flat = flat_there;
     order = omega (arith, read.reach);
     inside = line_inside.1;
@@ -244,7 +244,7 @@ passed_cut text old new ahead is passed inside at =
     record {
       before = at.before + 1;
       more = at.more;
-      lines_left = ap lines (sym behind) ∙ cut.left;
+      lines_left = ap lines (sym remainder) ∙ cut.left;
       reach = omega (arith, passed.to, at.reach);
       known = inr (known at.known);
       count = omega (arith, at.count);
@@ -256,8 +256,8 @@ passed_cut text old new ahead is passed inside at =
     split : Split (drop old.from text) line (lines_between text new.from new.to ++ at.more)
     split = first_line (drop old.from text) line (lines_between text new.from new.to ++ at.more) (at.lines_left ∙ ap (λ (ls : List Text). ls ++ at.more) passed.first)
 
-    behind : split.rest ≡ drop new.from text
-    behind =
+    remainder : split.rest ≡ drop new.from text
+    remainder =
         sym (drop-append_seam line split.rest) ∙ ap (drop (length line)) (sym split.whole) ∙ sym (drop-sum old.from (length line) text) ∙ ap (λ n. drop n text) (sym passed.from)
 
     front : take new.from text ≡ take old.from text ++ line
@@ -271,7 +271,7 @@ passed_cut text old new ahead is passed inside at =
     ends = go split.ended
       where
         go : (split.rest ≡ []) ⊎ ((start : Text) × (line ≡ start ++ 10 ∷ [])) → ends_with nat_eq line (codes "\n") ≡ true
-        go (inl none) = absurd (omega (arith, inside, length-drop new.from text, ap length (sym behind ∙ none)))
+        go (inl none) = absurd (omega (arith, inside, length-drop new.from text, ap length (sym remainder ∙ none)))
         go (inr some) = ap (λ (t : Text). ends_with nat_eq t (codes "\n")) some.1 ∙ ends_behind some.0 (10 ∷ []) (omega arith)
 
     known : ((old.from ≡ 0) × (at.before ≡ 0)) ⊎ ((is_clean_cut (take old.from text) ≡ true) × (lexemes_before text old.from ≡ at.before)) → (is_clean_cut (take new.from text) ≡ true) × (lexemes_before text new.from ≡ at.before + 1)
@@ -303,8 +303,8 @@ left_behind text history at piece = remaining_outcome (after history piece) (at 
 -- a cut is in a piece's margin if fewer lexemes are after it than after the piece's start, and no
 -- fewer than after its end
 pub cut_of_piece : (text : Text) (history : History) (at : ℕ) (piece : Piece) (read : IsReadTo text history at) → is_nothing history.before ≡ false → next_step language history (drop at text) ≡ Stands piece
-    → (x behind : ℕ) → IsCutBefore text x behind → length (left_behind text history at piece).lexemes ≤ behind → behind < length piece.lexemes + length (left_behind text history at piece).lexemes → IsInMargin text x read.pieces
-cut_of_piece text history at piece read begun stands x behind is least most =
+    → (x remainder : ℕ) → IsCutBefore text x remainder → length (left_behind text history at piece).lexemes ≤ remainder → remainder < length piece.lexemes + length (left_behind text history at piece).lexemes → IsInMargin text x read.pieces
+cut_of_piece text history at piece read begun stands x remainder is least most =
     let all = all_lexemes text history at read begun in
     let goes = onward_stands history at (drop at text) piece begun stands in
     let parts = kept_parts text x is.is_kept in
@@ -318,8 +318,8 @@ cut_of_piece text history at piece read begun stands x behind is least most =
 -- a cut is in a text's first margin if fewer lexemes are after it than in the text, and no fewer
 -- than after the margin
 cut_of_first : (text : Text) (piece : Piece) → first_margin text ≡ Stands piece
-    → (x behind : ℕ) → IsCutBefore text x behind → length (left_behind text nothing 0 piece).lexemes ≤ behind → behind < length piece.lexemes + length (left_behind text nothing 0 piece).lexemes → IsInMargin text x []
-cut_of_first text piece stands x behind is least most =
+    → (x remainder : ℕ) → IsCutBefore text x remainder → length (left_behind text nothing 0 piece).lexemes ≤ remainder → remainder < length piece.lexemes + length (left_behind text nothing 0 piece).lexemes → IsInMargin text x []
+cut_of_first text piece stands x remainder is least most =
     let goes = first_stands text piece stands in
     let parts = kept_parts text x is.is_kept in
     let whole = length-append (map (moved 0) piece.lexemes) (left_behind text nothing 0 piece).lexemes in
@@ -329,9 +329,9 @@ cut_of_first text piece stands x behind is least most =
     (omega (arith, ap length goes.lexemes, whole, length-map piece.lexemes (moved 0), count, least))
 
 -- the lines of a margin are the pending ones
-lines_ahead_of : (text : Text) (x behind ahead : ℕ) (pieces : List Piece) (n line begin : ℕ) (levels : List ℕ) (pending : Pending) (found : HasPassed text x pieces n line) → IsOfMargin begin (margin_of (drop begin text)).at levels pending
-    → pieces_len pieces + n ≡ begin → behind + found.passed ≡ ahead → IsAfterLines text pending x behind ahead
-lines_ahead_of text x behind ahead pieces n line begin levels pending found of place count =
+lines_ahead_of : (text : Text) (x remainder ahead : ℕ) (pieces : List Piece) (n line begin : ℕ) (levels : List ℕ) (pending : Pending) (found : HasPassed text x pieces n line) → IsOfMargin begin (margin_of (drop begin text)).at levels pending
+    → pieces_len pieces + n ≡ begin → remainder + found.passed ≡ ahead → IsAfterLines text pending x remainder ahead
+lines_ahead_of text x remainder ahead pieces n line begin levels pending found of place count =
     let left : drop n (drop (pieces_len pieces) text) ≡ drop begin text = sym (drop-sum (pieces_len pieces) n text) ∙ ap (λ k. drop k text) place in
     let lines : lines_between text pending.from pending.to ≡ comment_lines (drop n (drop (pieces_len pieces) text)) =
     ap (λ k. lines_between text k pending.to) of.from ∙ ap (lines_between text begin) of.to ∙ margin_lines text begin (margin_of (drop begin text)).at refl ∙ ap comment_lines (sym left) in
@@ -347,10 +347,10 @@ module _ (text : Text) (history : History) (at len : ℕ) (piece : Piece) (read 
   -- a cut in the margin after a newline has no indent open before it, and is after some of the
   -- lines
   pub line_cut : (levels : List ℕ) (given : Lexeme) (pending : Pending) → IsOfMargin (at + len) (margin_of (drop (at + len) text)).at levels pending → map (moved at) piece.lexemes ≡ given ∷ pending_lexemes text pending
-      → (x behind : ℕ) → IsCutBefore text x behind → length (left_behind text history at piece).lexemes ≤ behind → behind < length piece.lexemes + length (left_behind text history at piece).lexemes
-      → (open_widths history.widths ≡ []) × IsAfterLines text pending x behind (length (pending_lexemes text pending) + length (left_behind text history at piece).lexemes)
-  line_cut levels given pending of lexemes x behind cut least most =
-      let found = cut_of_piece text history at piece read begun stands x behind cut least most in
+      → (x remainder : ℕ) → IsCutBefore text x remainder → length (left_behind text history at piece).lexemes ≤ remainder → remainder < length piece.lexemes + length (left_behind text history at piece).lexemes
+      → (open_widths history.widths ≡ []) × IsAfterLines text pending x remainder (length (pending_lexemes text pending) + length (left_behind text history at piece).lexemes)
+  line_cut levels given pending of lexemes x remainder cut least most =
+      let found = cut_of_piece text history at piece read begun stands x remainder cut least most in
       let flat : open_widths history.widths ≡ [] = ap (λ (h : History). open_widths h.widths) (sym read.is_history) ∙ found.flat.no_width in
       (flat, by flat found.n found.margin found.lines_passed)
     where
@@ -358,7 +358,7 @@ module _ (text : Text) (history : History) (at len : ℕ) (piece : Piece) (read 
       len_of None = 0
       len_of (Some found) = found.1
 
-      count_of : (passed : ℕ) → lexemes_before text x ≡ length (lexemes_along 0 read.pieces) + (1 + passed) → behind + passed ≡ length (pending_lexemes text pending) + length (left_behind text history at piece).lexemes
+      count_of : (passed : ℕ) → lexemes_before text x ≡ length (lexemes_along 0 read.pieces) + (1 + passed) → remainder + passed ≡ length (pending_lexemes text pending) + length (left_behind text history at piece).lexemes
       count_of passed before =
           let all = all_lexemes text history at read begun in
           let goes = onward_stands history at (drop at text) piece begun stands in
@@ -366,35 +366,35 @@ module _ (text : Text) (history : History) (at len : ℕ) (piece : Piece) (read 
           let count = cut.count in
           omega (arith, all, ap length goes.lexemes, whole, count, before, ap length lexemes)
 
-      by : open_widths history.widths ≡ [] → (n : ℕ) (margin : MarginAt text read.pieces n) → HasPassed text x read.pieces n (line_count margin) → IsAfterLines text pending x behind (length (pending_lexemes text pending) + length (left_behind text history at piece).lexemes)
+      by : open_widths history.widths ≡ [] → (n : ℕ) (margin : MarginAt text read.pieces n) → HasPassed text x read.pieces n (line_count margin) → IsAfterLines text pending x remainder (length (pending_lexemes text pending) + length (left_behind text history at piece).lexemes)
       by flat n (First none zero_len) found = let both : true ≡ false = ap (λ (ps : List Piece). is_nothing (after_all nothing ps).before) (sym none) ∙ ap (λ (h : History). is_nothing h.before) read.is_history ∙ begun in cc
-      by flat n (Behind started counted front) found =
+      by flat n (AfterComments started counted front) found =
           let here = front_here text history at len piece read begun stands is layout flat in
           let there : longest_front (class_in language) (drop at text) ≡ Some (class.LineEnd, n) = ap (λ k. longest_front (class_in language) (drop k text)) (sym read.reach) ∙ front in
           let both : Some (class.LineEnd, n) ≡ Some (class.LineEnd, len) = sym there ∙ here in
           let same : n ≡ len = ap len_of both in
-          lines_ahead_of text x behind _ read.pieces n 1 (at + len) levels pending found of (omega (arith, read.reach, same)) (count_of found.passed found.count)
+          lines_ahead_of text x remainder _ read.pieces n 1 (at + len) levels pending found of (omega (arith, read.reach, same)) (count_of found.passed found.count)
 
 -- a cut in the first margin of the text
 pub first_cut : (text : Text) (levels : List ℕ) (piece : Piece) (pending : Pending) → first_margin text ≡ Stands piece → IsOfMargin 0 (margin_of (drop 0 text)).at levels pending → map (moved 0) piece.lexemes ≡ pending_lexemes text pending
-    → (x behind : ℕ) → IsCutBefore text x behind → length (left_behind text nothing 0 piece).lexemes ≤ behind → behind < length piece.lexemes + length (left_behind text nothing 0 piece).lexemes
-    → IsAfterLines text pending x behind (length (pending_lexemes text pending) + length (left_behind text nothing 0 piece).lexemes)
-first_cut text levels piece pending stands of lexemes x behind cut least most =
-    let found = cut_of_first text piece stands x behind cut least most in
+    → (x remainder : ℕ) → IsCutBefore text x remainder → length (left_behind text nothing 0 piece).lexemes ≤ remainder → remainder < length piece.lexemes + length (left_behind text nothing 0 piece).lexemes
+    → IsAfterLines text pending x remainder (length (pending_lexemes text pending) + length (left_behind text nothing 0 piece).lexemes)
+first_cut text levels piece pending stands of lexemes x remainder cut least most =
+    let found = cut_of_first text piece stands x remainder cut least most in
     by found.n found.margin found.lines_passed
   where
-    by : (n : ℕ) (margin : MarginAt text [] n) → HasPassed text x [] n (line_count margin) → IsAfterLines text pending x behind (length (pending_lexemes text pending) + length (left_behind text nothing 0 piece).lexemes)
+    by : (n : ℕ) (margin : MarginAt text [] n) → HasPassed text x [] n (line_count margin) → IsAfterLines text pending x remainder (length (pending_lexemes text pending) + length (left_behind text nothing 0 piece).lexemes)
     by n (First none zero_len) found =
         let goes = first_stands text piece stands in
         let whole = length-append (map (moved 0) piece.lexemes) (left_behind text nothing 0 piece).lexemes in
         let count = cut.count in
-        lines_ahead_of text x behind _ [] n 0 0 levels pending found of (omega (arith, zero_len)) (omega (arith, ap length goes.lexemes, whole, count, found.count, ap length lexemes))
-    by n (Behind started counted front) found = cc
+        lines_ahead_of text x remainder _ [] n 0 0 levels pending found of (omega (arith, zero_len)) (omega (arith, ap length goes.lexemes, whole, count, found.count, ap length lexemes))
+    by n (AfterComments started counted front) found = cc
 
 -- no cut is after the lexemes of all pieces
 pub none_at_end : (text : Text) (history : History) (at : ℕ) (read : IsReadTo text history at) → is_nothing history.before ≡ false → next_step language history (drop at text) ≡ Ends
-    → (x behind : ℕ) → IsCutBefore text x behind → behind < length (remaining_outcome history at (drop at text)).lexemes → ⊥
-none_at_end text history at read begun ends x behind is most =
+    → (x remainder : ℕ) → IsCutBefore text x remainder → remainder < length (remaining_outcome history at (drop at text)).lexemes → ⊥
+none_at_end text history at read begun ends x remainder is most =
     let all = all_lexemes text history at read begun in
     let parts = kept_parts text x is.is_kept in
     let here = ap (λ (h : History). next_step language h (drop (pieces_len read.pieces) text)) read.is_history ∙ ap (λ n. next_step language history (drop n text)) read.reach ∙ ends in
@@ -404,8 +404,8 @@ none_at_end text history at read begun ends x behind is most =
     omega (arith, all, count, most, few, ap (λ (ps : List Piece). length (lexemes_along 0 ps)) same.0)
 
 -- no cut is in a text whose first margin has a fault
-pub none_at_fault : (text : Text) (fault : Spanned grammar.Fault) → first_margin text ≡ Fails fault → (x behind : ℕ) → IsCutBefore text x behind → ⊥
-none_at_fault text fault fails x behind is =
+pub none_at_fault : (text : Text) (fault : Spanned grammar.Fault) → first_margin text ≡ Fails fault → (x remainder : ℕ) → IsCutBefore text x remainder → ⊥
+none_at_fault text fault fails x remainder is =
     let parts = kept_parts text x is.is_kept in
     let none = one_longest language nothing text _ _ _ _ (read_is language text) (stops_here language nothing text (Fails fault) (margin_first text ∙ fails) (λ piece e. let both : Fails fault ≡ Stands piece = e in cc)) in
     let some : 0 < length (take x text) = ends_some (take x text) (cut (take x text) parts.1).ends in

@@ -56,9 +56,9 @@ ahead_here text old new lexemes fault here same pending ahead = record {
   cut = λ on layout flat inside.
       subst (λ (p : Pending). IsMarginAhead text p (length lexemes)) (sym pending)
       (ahead.cut (sym same ∙ on) (sym here.before ∙ layout) (ap (λ (p : Pending). p.is_flat) (sym pending) ∙ flat) (subst (λ (p : Pending). p.from < length text) pending inside));
-  cuts = λ x behind cut least most.
-      let lies = ahead.cuts x behind cut least most in
-      (flat_here old new old.stage new.stage here pending same lies.0, subst (λ (p : Pending). IsAfterLines text p x behind (length lexemes)) (sym pending) lies.1);
+  cuts = λ x remainder cut least most.
+      let lies = ahead.cuts x remainder cut least most in
+      (flat_here old new old.stage new.stage here pending same lies.0, subst (λ (p : Pending). IsAfterLines text p x remainder (length lexemes)) (sym pending) lies.1);
 }
 
 -- where there are lines there are bytes
@@ -70,10 +70,10 @@ lines_some text from to some = go (nat_lt from to) refl
     go false e = absurd (omega (arith, some, ap length (no_lines_between text from to (ltb-false from to e))))
 
 -- a cut is after one pending line fewer, once the first was passed
-behind_passed : (text : Text) (old new : Pending) (at behind ahead : ℕ) → IsPassedLine text old new → IsAfterLines text old at behind (1 + ahead) → behind ≤ ahead → IsAfterLines text new at behind ahead
-behind_passed text old new at behind ahead passed is few = go is.passed is.few is.place is.count
+behind_passed : (text : Text) (old new : Pending) (at remainder ahead : ℕ) → IsPassedLine text old new → IsAfterLines text old at remainder (1 + ahead) → remainder ≤ ahead → IsAfterLines text new at remainder ahead
+behind_passed text old new at remainder ahead passed is few = go is.passed is.few is.place is.count
   where
-    go : (n : ℕ) → n ≤ length (lines_between text old.from old.to) → at ≡ old.from + sum_by (λ (line : Text). length line) (take n (lines_between text old.from old.to)) → behind + n ≡ 1 + ahead → IsAfterLines text new at behind ahead
+    go : (n : ℕ) → n ≤ length (lines_between text old.from old.to) → at ≡ old.from + sum_by (λ (line : Text). length line) (take n (lines_between text old.from old.to)) → remainder + n ≡ 1 + ahead → IsAfterLines text new at remainder ahead
     go zero inside place count = absurd (omega (arith, count, few))
     go (suc n) inside place count =
         let sum = ap (λ (ls : List Text). sum_by (λ (line : Text). length line) (take (suc n) ls)) passed.first ∙ sum_by-cons (λ (line : Text). length line) passed.line (take n (lines_between text new.from new.to)) in
@@ -100,7 +100,7 @@ lexeme_next text old new x lexemes fault here same first lines stays ahead = (
         let passed = lines flat in
         passed_cut text old.pending new.pending (length (map shown_lexeme (pending_lexemes text new.pending) ++ map shown_lexeme ahead.left.lexemes)) ahead.is_pending passed inside
         (subst (IsMarginAhead text old.pending) (ap length (ahead.ahead ∙ ap (λ vs. vs ++ map shown_lexeme ahead.left.lexemes) first.1)) (ahead.cut (sym same ∙ on) (sym here.before ∙ layout) passed.flat (omega (arith, passed.from, inside))));
-    cuts = λ at behind cut least most. after_first at behind cut least (omega (arith, most));
+    cuts = λ at remainder cut least most. after_first at remainder cut least (omega (arith, most));
   },
   λ at cut. reached_by text new at _ (after_first at _ cut (omega (arith, length-append (map shown_lexeme (pending_lexemes text new.pending)) (map shown_lexeme ahead.left.lexemes), length-map ahead.left.lexemes shown_lexeme)) (omega arith)),
 )
@@ -111,15 +111,15 @@ lexeme_next text old new x lexemes fault here same first lines stays ahead = (
     all : length lexemes ≡ 1 + length more
     all = omega (arith, ap length (ahead.ahead ∙ ap (λ vs. vs ++ map shown_lexeme ahead.left.lexemes) first.1))
 
-    after_first : (at behind : ℕ) → IsCutBefore text at behind → length ahead.left.lexemes ≤ behind → behind ≤ length more → IsInFlatMargin new new.stage × IsAfterLines text new.pending at behind (length more)
-    after_first at behind cut least most =
-        let lies = ahead.cuts at behind cut least (omega (arith, most, all)) in
+    after_first : (at remainder : ℕ) → IsCutBefore text at remainder → length ahead.left.lexemes ≤ remainder → remainder ≤ length more → IsInFlatMargin new new.stage × IsAfterLines text new.pending at remainder (length more)
+    after_first at remainder cut least most =
+        let lies = ahead.cuts at remainder cut least (omega (arith, most, all)) in
         let count = lies.1.count in
         let some : old.pending.from < old.pending.to = lines_some text old.pending.from old.pending.to (omega (arith, count, lies.1.few, most, all)) in
         let flat = stays some ∙ lies.0.2 in
         let passed = lines flat in (
           (same ∙ lies.0.0, here.before ∙ lies.0.1, flat),
-          behind_passed text old.pending new.pending at behind (length more) passed (subst (IsAfterLines text old.pending at behind) all lies.1) most,
+          behind_passed text old.pending new.pending at remainder (length more) passed (subst (IsAfterLines text old.pending at remainder) all lies.1) most,
         )
 
 -- the first pending comment is yielded, unless memory runs out
@@ -157,7 +157,7 @@ nothing_next text old new lexemes fault here idle same e e_now ahead =
         ahead = ap (λ ls. map shown_lexeme ls ++ []) (sym (ap (pending_lexemes text) same ∙ idle.1));
         those_after = refl;
         cut = λ on. let over_now : stage.Closed ≡ stage.Onward = sym e_now ∙ on in cc;
-        cuts = λ x behind cut least most. absurd (omega (arith, most));
+        cuts = λ x remainder cut least most. absurd (omega (arith, most));
       },
       kept,
     )

@@ -136,8 +136,8 @@ unfolding change_by
 digit_changes found digit view = ap change_by view
 
 -- the step of an integer of one digit
-digit_word : (s : Situation) (digit : ℕ) (word behind : Text) → word ≡ (digit + 48) ∷ [] → pieces.word_step s class.Decimal word behind ≡ pieces.token 1 (Tokens.Int (integer_of 10 word))
-digit_word s digit word behind e = rw e (rw (and_false (digit + 48 == 48)) refl)
+digit_word : (s : Situation) (digit : ℕ) (word remainder : Text) → word ≡ (digit + 48) ∷ [] → pieces.word_step s class.Decimal word remainder ≡ pieces.token 1 (Tokens.Int (integer_of 10 word))
+digit_word s digit word remainder e = rw e (rw (and_false (digit + 48 == 48)) refl)
   where
     and_false : (x : Bool) → (x && false) ≡ false
     and_false true = refl
@@ -160,10 +160,10 @@ pub bang_read : (text : Text) (history : History) (reader : Reader) (place : Lex
     → step_here text history reader ≡ pieces.token 1 Tokens.FStringBang
 unfolding next_step situation
 bang_read text history reader place follows_gap rest e kept code here gap bang =
-    let behind = gap history.before kept.before in
+    let remainder = gap history.before kept.before in
     let at = here history.tokens kept.nesting in
     subst (λ (t : Text). step_at language (situation history) t ≡ pieces.token 1 Tokens.FStringBang) e
-    (bang_at follows_gap (situation history) rest (mode_view place) (ap is_code at ∙ code history.tokens kept.nesting) behind (sym at) (sym (bang history.before behind)))
+    (bang_at follows_gap (situation history) rest (mode_view place) (ap is_code at ∙ code history.tokens kept.nesting) remainder (sym at) (sym (bang history.before remainder)))
 
 pub bang_step : (text : Text) (history : History) (reader : Reader) → IsStateAfter text history reader → IsBangHere text reader → IsStep (step_here text history reader) (step.Token token.FStringBang 1)
 unfolding token_view
@@ -174,18 +174,18 @@ unfolding change_by token_view
 bang_changes = refl
 
 -- a literal without escapes that one quote closes
-plain_opener : (place : Mode) (kind : LiteralKind) (is_raw : Bool) (quote : Quote) (begin count : ℕ) (behind : Text) → kind ≢ OfFString → IsPlainBody kind is_raw quote behind count
-    → pieces.opener place kind (pieces.opening_of is_raw quote behind) begin behind ≡ pieces.token (begin + count + 1) (pieces.literal_token kind (take count behind))
-plain_opener place kind is_raw quote begin count behind other plain =
-    opener_plain place kind (pieces.opening_of is_raw quote behind) begin behind other plain.single ∙ ap (λ opening. pieces.literal place kind opening begin behind) same ∙ closed
+plain_opener : (place : Mode) (kind : LiteralKind) (is_raw : Bool) (quote : Quote) (begin count : ℕ) (remainder : Text) → kind ≢ OfFString → IsPlainBody kind is_raw quote remainder count
+    → pieces.opener place kind (pieces.opening_of is_raw quote remainder) begin remainder ≡ pieces.token (begin + count + 1) (pieces.literal_token kind (take count remainder))
+plain_opener place kind is_raw quote begin count remainder other plain =
+    opener_plain place kind (pieces.opening_of is_raw quote remainder) begin remainder other plain.single ∙ ap (λ opening. pieces.literal place kind opening begin remainder) same ∙ closed
   where
     single : Tokens.Opening
     single = record { is_raw = is_raw; quote = quote; is_triple = false }
 
-    same : pieces.opening_of is_raw quote behind ≡ single
+    same : pieces.opening_of is_raw quote remainder ≡ single
     same = ap (λ (triple : Bool). record { is_raw = is_raw; quote = quote; is_triple = triple }) plain.single
 
-    closed : pieces.literal place kind single begin behind ≡ pieces.token (begin + count + 1) (pieces.literal_token kind (take count behind))
+    closed : pieces.literal place kind single begin remainder ≡ pieces.token (begin + count + 1) (pieces.literal_token kind (take count remainder))
     closed = rw (plain.stop, plain.len, plain.value) refl
 
 plain_front : (text : Text) (history : History) (reader : Reader) (kind : LiteralKind) (is_raw : Bool) (quote : Quote) (len count : ℕ) → kind ≢ OfFString → IsStateAfter text history reader

@@ -78,14 +78,14 @@ read_more text beside more reader less stages.Closed has = (has.0, omega (arith,
 
 -- lookahead that takes nothing counts beside the reads of the pieces
 pub looked_reads : (text : Text) (beside least most : ℕ) (old new : Reader) → old.stage ≡ stages.Onward → HasRead text beside old → HasLooked least most old new → HasRead text (beside + most) new
-looked_reads text beside least most old new onward has looked =
+looked_reads text beside least most old new onward has lookahead =
     let on : HasReadAt text beside old stages.Onward = subst (HasReadAt text beside old) onward has in
-    subst (HasReadAt text (beside + most) new) (sym (looked.1 ∙ onward)) (omega (arith, looked.0, looked.3.0, on.0), omega (arith, looked.0, looked.2, looked.3.1, on.1))
+    subst (HasReadAt text (beside + most) new) (sym (lookahead.1 ∙ onward)) (omega (arith, lookahead.0, lookahead.3.0, on.0), omega (arith, lookahead.0, lookahead.2, lookahead.3.1, on.1))
 
 pub here_reads : (text : Text) (beside least most : ℕ) (old new : Reader) → old.stage ≡ stages.Onward → HasRead text beside old → HasLookedHere least most old new → HasRead text (beside + most) new
-here_reads text beside least most old new onward has looked =
+here_reads text beside least most old new onward has lookahead =
     let on : HasReadAt text beside old stages.Onward = subst (HasReadAt text beside old) onward has in
-    subst (HasReadAt text (beside + most) new) (sym (looked.1 ∙ onward)) (omega (arith, looked.0, looked.3.0, on.0), omega (arith, looked.0, looked.2, looked.3.1, on.1))
+    subst (HasReadAt text (beside + most) new) (sym (lookahead.1 ∙ onward)) (omega (arith, lookahead.0, lookahead.3.0, on.0), omega (arith, lookahead.0, lookahead.2, lookahead.3.1, on.1))
 
 -- the run that was peeked is in the reader's line, where something else follows
 pub other_reads : {A : Type 0} (text rest : Text) (from extra reads : ℕ) (reader : Reader) (found : Result A ℕ) → from + next_line rest 0 ≤ next_line text reader.at
@@ -97,32 +97,32 @@ other_reads text rest from extra reads reader (Err run) line other = (omega (ari
 -- lookahead that is then taken is part of the reads of its piece
 pub taken_reads : (text : Text) (beside least most len : ℕ) (old mid new : Reader) → old.stage ≡ stages.Onward → HasRead text beside old → HasLooked least most old mid → len ≤ least → most ≤ 10 * len
     → IsPassedBy (mid.at + len) mid new × (new.stage ≡ stages.Onward) → HasRead text beside new
-taken_reads text beside least most len old mid new onward has looked enough few passed =
+taken_reads text beside least most len old mid new onward has lookahead enough few passed =
     let on : HasReadAt text beside old stages.Onward = subst (HasReadAt text beside old) onward has in
     subst (HasReadAt text beside new) (sym passed.1)
-    (omega (arith, enough, looked.0, looked.3.0, on.0, passed.0.0, passed.0.1), omega (arith, few, looked.0, looked.2, looked.3.1, on.1, passed.0.0, passed.0.1, passed.0.2))
+    (omega (arith, enough, lookahead.0, lookahead.3.0, on.0, passed.0.0, passed.0.1), omega (arith, few, lookahead.0, lookahead.2, lookahead.3.1, on.1, passed.0.0, passed.0.1, passed.0.2))
 
 pub here_taken_reads : (text : Text) (beside least most len : ℕ) (old mid new : Reader) → old.stage ≡ stages.Onward → HasRead text beside old → HasLookedHere least most old mid → len ≤ least → most ≤ 10 * len
     → IsPassedBy (mid.at + len) mid new × (new.stage ≡ stages.Onward) → HasRead text beside new
-here_taken_reads text beside least most len old mid new onward has looked enough few passed =
+here_taken_reads text beside least most len old mid new onward has lookahead enough few passed =
     let on : HasReadAt text beside old stages.Onward = subst (HasReadAt text beside old) onward has in
     subst (HasReadAt text beside new) (sym passed.1)
-    (omega (arith, enough, looked.0, looked.3.0, on.0, passed.0.0, passed.0.1), omega (arith, few, looked.0, looked.2, looked.3.1, on.1, passed.0.0, passed.0.1, passed.0.2))
+    (omega (arith, enough, lookahead.0, lookahead.3.0, on.0, passed.0.0, passed.0.1), omega (arith, few, lookahead.0, lookahead.2, lookahead.3.1, on.1, passed.0.0, passed.0.1, passed.0.2))
 
 -- lookahead at an f-string's opener is part of the reads of its start
 pub begun_reads : (text : Text) (beside : ℕ) (old mid new : Reader) → old.stage ≡ stages.Onward → HasRead text beside old → HasLookedHere 3 3 old mid → HasStarted mid new → HasRead text beside new
-begun_reads text beside old mid new onward has looked begun =
+begun_reads text beside old mid new onward has lookahead begun =
     let on : HasReadAt text beside old stages.Onward = subst (HasReadAt text beside old) onward has in
     subst (HasReadAt text beside new) (sym begun.2)
-    (omega (arith, looked.0, looked.3.0, on.0, begun.1, begun.4.0), omega (arith, looked.0, looked.2, looked.3.1, on.1, begun.0, begun.3, begun.4.1))
+    (omega (arith, lookahead.0, lookahead.3.0, on.0, begun.1, begun.4.0), omega (arith, lookahead.0, lookahead.2, lookahead.3.1, on.1, begun.0, begun.3, begun.4.1))
 
 -- lookahead at a newline is part of the reads of it and its margin
 pub margin_reads : (text : Text) (beside len : ℕ) (old mid new : Reader) → mid.at + len ≤ length text → 1 ≤ len → old.stage ≡ stages.Onward → HasRead text beside old → HasLooked len ((5 * len - 4) + 3) old mid
     → IsMarginRead text len mid new new.stage → HasRead text beside new
-margin_reads text beside len old mid new inside some onward has looked margin =
+margin_reads text beside len old mid new inside some onward has lookahead margin =
     let on : HasReadAt text beside old stages.Onward = subst (HasReadAt text beside old) onward has in
-    let before : IsReadBefore beside (old.reads + (mid.at - old.at)) mid.at (owed mid.pending) = (omega (arith, looked.0, on.0), omega (arith, looked.0, looked.2, on.1)) in
-    let read : AreReads len (5 * len + 3) (old.reads + (mid.at - old.at)) mid.reads = (omega (arith, looked.0, looked.3.0), omega (arith, some, looked.0, looked.3.1)) in
+    let before : IsReadBefore beside (old.reads + (mid.at - old.at)) mid.at (owed mid.pending) = (omega (arith, lookahead.0, on.0), omega (arith, lookahead.0, lookahead.2, on.1)) in
+    let read : AreReads len (5 * len + 3) (old.reads + (mid.at - old.at)) mid.reads = (omega (arith, lookahead.0, lookahead.3.0), omega (arith, some, lookahead.0, lookahead.3.1)) in
     line_reads text beside len (old.reads + (mid.at - old.at)) mid new inside before read some margin
 
 -- a state doesn't depend on the number of reads

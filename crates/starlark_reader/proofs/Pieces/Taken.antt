@@ -44,7 +44,7 @@ use Rattle.starlark_grammar.proofs.Reading.Steps.{Each, is_nothing}
 use Rattle.starlark_grammar.proofs.Choices.{either}
 use Rattle.starlark_reader.proofs.Pieces.MarginCuts.{cut_of_piece, first_ahead_cut, first_cut, line_ahead_cut, line_cut, none_at_end, none_at_fault, read_first, read_more}
 use Rattle.starlark_grammar.proofs.Joining.KeptPlaces.{IsInMargin}
-use Rattle.starlark_grammar.proofs.Joining.LaidCuts.{Behind, First, MarginAt, line_laid}
+use Rattle.starlark_grammar.proofs.Joining.LaidCuts.{AfterComments, First, MarginAt, line_laid}
 use Rattle.starlark_reader.proofs.Indentation.Waiting.{Hands, HandsPast, hands_first, hands_later}
 
 -- a state is always after the first margin of the text
@@ -119,7 +119,7 @@ pub record IsLayout (piece : Piece) : Type 0 where
 margin_is_quiet : (len : ℕ) (line : List Lexeme) (levels : List ℕ) (text : Text) → AllQuiet line → Each IsLayout (λ fault. ⊤) (margin_step len line levels (margin_of text))
 unfolding margin_step
 margin_is_quiet len line levels text h =
-    either (Each IsLayout (λ fault. ⊤)) (not (is_content (margin_of text).behind)) _ _ (record { tokens = all [] tt; sort = refl })
+    either (Each IsLayout (λ fault. ⊤)) (not (is_content (margin_of text).remainder)) _ _ (record { tokens = all [] tt; sort = refl })
     (either (Each IsLayout (λ fault. ⊤)) (has_tab (margin_of text)) _ _ tt
     (either (Each IsLayout (λ fault. ⊤)) (fits (width_of (margin_of text)) levels) _ _ (record { tokens = all (indentation levels (margin_of text)) (indentation_is_quiet levels (margin_of text)); sort = refl }) tt))
   where
@@ -129,8 +129,8 @@ margin_is_quiet len line levels text h =
     all : (more : List Lexeme) → AllQuiet more → AllQuiet (line ++ map (moved len) ((margin_of text).comments ++ more))
     all more k = quiet_both line (map (moved len) ((margin_of text).comments ++ more)) h (quiet_moved len ((margin_of text).comments ++ more) (quiet_both (margin_of text).comments more comments k))
 
-pub line_is_quiet : (len : ℕ) (levels : List ℕ) (behind : Text) (piece : Piece) → line_end len levels behind ≡ Stands piece → IsLayout piece
-line_is_quiet len levels behind piece e = subst (Each IsLayout (λ fault. ⊤)) e (margin_is_quiet len (record { begin = 0; node = grammar.Newline; end = len } ∷ []) levels behind (refl, tt))
+pub line_is_quiet : (len : ℕ) (levels : List ℕ) (remainder : Text) (piece : Piece) → line_end len levels remainder ≡ Stands piece → IsLayout piece
+line_is_quiet len levels remainder piece e = subst (Each IsLayout (λ fault. ⊤)) e (margin_is_quiet len (record { begin = 0; node = grammar.Newline; end = len } ∷ []) levels remainder (refl, tt))
 
 pub first_is_quiet : (text : Text) (piece : Piece) → first_margin text ≡ Stands piece → IsLayout piece
 first_is_quiet text piece e = subst (Each IsLayout (λ fault. ⊤)) e (margin_is_quiet 0 [] [] text tt)
@@ -167,9 +167,9 @@ pub record AreCutsBehind (text : Text) (history : History) (at : ℕ) (piece : P
 read_piece : (text : Text) (whole : Outcome) (history : History) (at : ℕ) (given : List (Spanned TokenView)) (new : Reader) (piece : Piece) → GoesOn at piece whole (remaining_outcome (after history piece) (at + piece.len) (drop piece.len (drop at text)))
     → IsStateAfter text (after history piece) new → new.at ≡ at + piece.len → new.stage ≡ stage.Onward → HandsPast text given new.pending (map (moved at) piece.lexemes) → AreCutsBehind text history at piece new → IsReadPast text whole given new
 read_piece text whole history at given new piece goes kept is_at is_onward hands cuts =
-    let behind : drop piece.len (drop at text) ≡ drop new.at text = sym (drop-sum at piece.len text) ∙ ap (λ n. drop n text) (sym is_at) in
+    let remainder : drop piece.len (drop at text) ≡ drop new.at text = sym (drop-sum at piece.len text) ∙ ap (λ n. drop n text) (sym is_at) in
     let rest = remaining_outcome (after history piece) (at + piece.len) (drop piece.len (drop at text)) in
-    let left : rest ≡ remaining_outcome (after history piece) new.at (drop new.at text) = ap (λ n. remaining_outcome (after history piece) n (drop piece.len (drop at text))) (sym is_at) ∙ ap (remaining_outcome (after history piece) new.at) behind in
+    let left : rest ≡ remaining_outcome (after history piece) new.at (drop new.at text) = ap (λ n. remaining_outcome (after history piece) n (drop piece.len (drop at text))) (sym is_at) ∙ ap (remaining_outcome (after history piece) new.at) remainder in
     record {
       lexemes = map (moved at) piece.lexemes;
       left = rest;
@@ -197,7 +197,7 @@ no_cut_in text history at piece read begun stands other x found = by found.n fou
   where
     by : (n : ℕ) → MarginAt text read.pieces n → ⊥
     by n (First none zero_len) = let both : true ≡ false = ap (λ (ps : List Piece). is_nothing (after_all nothing ps).before) (sym none) ∙ ap (λ (h : History). is_nothing h.before) read.is_history ∙ begun in cc
-    by n (Behind started counted front) =
+    by n (AfterComments started counted front) =
         let here = ap (λ (h : History). next_step language h (drop (pieces_len read.pieces) text)) read.is_history ∙ ap (λ n. next_step language history (drop n text)) read.reach ∙ stands in
         let line = (line_laid (after_all nothing read.pieces) (drop (pieces_len read.pieces) text) n started counted front).step in
         let layout = line_is_quiet n (open_widths (after_all nothing read.pieces).widths) (drop n (drop (pieces_len read.pieces) text)) piece (sym line ∙ here) in
@@ -212,8 +212,8 @@ took_past text history old passed new piece utf8 kept stands other nesting level
     took_by text history old passed new piece utf8 kept stands
     (record {
       cut = λ on layout flat inside. let both : true ≡ false = ap is_layout (sym (ap before_view layout) ∙ before) ∙ other in cc;
-      cuts = λ x behind cut least most.
-          absurd (no_cut_in text history old.at piece kept.read (begun text history old kept) stands other x (cut_of_piece text history old.at piece kept.read (begun text history old kept) stands x behind cut least most));
+      cuts = λ x remainder cut least most.
+          absurd (no_cut_in text history old.at piece kept.read (begun text history old kept) stands other x (cut_of_piece text history old.at piece kept.read (begun text history old kept) stands x remainder cut least most));
     })
     nesting levels before
 
@@ -259,7 +259,7 @@ no_tab text piece stands = go (begins_with_tab text) refl
     go : (tabbed : Bool) → begins_with_tab text ≡ tabbed → tabbed ≡ false
     go false e = refl
     go true e =
-        let parts = and_parts (is_content (margin_of text).behind) (has_tab (margin_of text)) e in
+        let parts = and_parts (is_content (margin_of text).remainder) (has_tab (margin_of text)) e in
         let both : Stands piece ≡ Fails tab = sym stands ∙ margin_tab 0 [] [] (margin_of text) (record { content = parts.0; is = parts.1 }) in
         cc
 
@@ -291,7 +291,7 @@ same_place old new at before = ap (λ n. n == 0 && not (is_layout (before_view n
 -- a fault was read, by the lexemes before it
 read_fault : (text : Text) (whole : Outcome) (at : ℕ) (lexemes : List Lexeme) (new : Reader) (fault : Spanned grammar.Fault) (error : LexemeError) → whole ≡ record { lexemes = lexemes; fault = Some (moved at fault) }
     → fault_view error ≡ Some fault.node → new.stage ≡ stage.Fault (at + fault.begin) error (at + fault.end) → Hands text None new.pending lexemes → has_read_none new ≡ begins_with_tab text
-    → new.at ≤ length text → ((x behind : ℕ) → IsCutBefore text x behind → behind < length lexemes → ⊥) → IsRead text whole None new
+    → new.at ≤ length text → ((x remainder : ℕ) → IsCutBefore text x remainder → remainder < length lexemes → ⊥) → IsRead text whole None new
 read_fault text whole at lexemes new fault error left view is hands place inside none = record {
   lexemes = lexemes;
   left = record { lexemes = []; fault = Some (moved at fault) };
@@ -301,13 +301,13 @@ read_fault text whole at lexemes new fault error left view is hands place inside
   is_pending = hands.0;
   yielded_count = hands.1;
   cut = λ on. let over : stage.Fault (at + fault.begin) error (at + fault.end) ≡ stage.Onward = sym is ∙ on in cc;
-  cuts = λ x behind cut least most. absurd (none x behind cut (omega (arith, most)));
+  cuts = λ x remainder cut least most. absurd (none x remainder cut (omega (arith, most)));
 }
 
 pub failed : (text : Text) (history : History) (old new : Reader) (fault : Spanned grammar.Fault) (error : LexemeError) → IsStateAfter text history old → step_here text history old ≡ Fails fault → fault_view error ≡ Some fault.node
     → new.stage ≡ stage.Fault (old.at + fault.begin) error (old.at + fault.end) → Hands text None new.pending [] → new.at ≡ old.at → new.before ≡ old.before → IsRead text (left_here text history old) None new
 failed text history old new fault error kept fails view is hands at before =
-    read_fault text (left_here text history old) old.at [] new fault error (onward_fails history old.at (drop old.at text) fault (begun text history old kept) fails) view is hands (same_place old new at before ∙ state_begun text history old kept) (omega (arith, at, kept.inside)) (λ x behind cut most. omega (arith, most))
+    read_fault text (left_here text history old) old.at [] new fault error (onward_fails history old.at (drop old.at text) fault (begun text history old kept) fails) view is hands (same_place old new at before ∙ state_begun text history old kept) (omega (arith, at, kept.inside)) (λ x remainder cut most. omega (arith, most))
 
 pub failed_first : (text : Text) (new : Reader) (fault : Spanned grammar.Fault) (error : LexemeError) → first_margin text ≡ Fails fault → fault_view error ≡ Some fault.node
     → new.stage ≡ stage.Fault (0 + fault.begin) error (0 + fault.end) → Hands text None new.pending (margin_of text).comments → new.at ≡ 0 → new.before ≡ sort.Other → IsRead text (outcome text) None new
@@ -315,7 +315,7 @@ failed_first text new fault error fails view is hands at before =
     let has = tab_of (margin_of text) fault fails in
     let tabbed : begins_with_tab text ≡ true = rw (has.content, has.is) refl in
     let none : has_read_none new ≡ true = rw (at, before) refl in
-    read_fault text (outcome text) 0 (margin_of text).comments new fault error (first_fails text fault fails) view is hands (none ∙ sym tabbed) (omega (arith, at)) (λ x behind cut most. none_at_fault text fault fails x behind cut)
+    read_fault text (outcome text) 0 (margin_of text).comments new fault error (first_fails text fault fails) view is hands (none ∙ sym tabbed) (omega (arith, at)) (λ x remainder cut most. none_at_fault text fault fails x remainder cut)
 
 -- The text's end
 
@@ -332,7 +332,7 @@ closed text history old given new here kept ends hands is =
       is_pending = hands.0;
       yielded_count = hands.1;
       cut = λ on. let over : stage.Closed ≡ stage.Onward = sym is ∙ on in cc;
-      cuts = λ x behind cut least most. absurd (none_at_end text history old.at kept.read (begun text history old kept) ends x behind cut (omega (arith, most, ap (λ (o : Outcome). length o.lexemes) left)));
+      cuts = λ x remainder cut least most. absurd (none_at_end text history old.at kept.read (begun text history old kept) ends x remainder cut (omega (arith, most, ap (λ (o : Outcome). length o.lexemes) left)));
     }
 
 -- the lexemes that close a text
@@ -357,7 +357,7 @@ both_count one other = omega (arith, length-append (map shown_lexeme one) (map s
 -- what is ahead after one lexeme was passed
 pub past_ahead : (text : Text) (whole : Outcome) (lexeme : Spanned TokenView) (new : Reader) (lexemes : List (Spanned TokenView)) (fault : Option (Spanned grammar.Fault)) → IsReadPast text whole (lexeme ∷ []) new
     → lexemes ≡ map shown_lexeme whole.lexemes → fault ≡ whole.fault → IsAheadPast text lexeme new lexemes fault
-past_ahead text whole lexeme new lexemes fault read ahead behind = (
+past_ahead text whole lexeme new lexemes fault read ahead remainder = (
   map shown_lexeme (pending_lexemes text new.pending) ++ map shown_lexeme read.left.lexemes,
   parts ∙ ap (λ vs. vs ++ map shown_lexeme read.left.lexemes) read.yielded_count,
   record {
@@ -365,10 +365,10 @@ past_ahead text whole lexeme new lexemes fault read ahead behind = (
     is_left = read.is_left;
     is_pending = read.is_pending;
     ahead = refl;
-    those_after = behind ∙ read.fault;
+    those_after = remainder ∙ read.fault;
     cut = subst (IsCutAhead text new new.stage) (both_count (pending_lexemes text new.pending) read.left.lexemes) read.cut;
     cuts = subst (λ n. HoldsCuts text new new.stage (length read.left.lexemes) n n) (both_count (pending_lexemes text new.pending) read.left.lexemes)
-        (λ at behind cut least most. read.cuts at behind cut least (omega (arith, most, one_first)));
+        (λ at remainder cut least most. read.cuts at remainder cut least (omega (arith, most, one_first)));
   },
   λ at cut.
       let count = both_count (pending_lexemes text new.pending) read.left.lexemes in
@@ -385,8 +385,8 @@ past_ahead text whole lexeme new lexemes fault read ahead behind = (
 
 pub read_ahead : (text : Text) (whole : Outcome) (given : Option (ℕ × Token × ℕ)) (new : Reader) (lexemes : List (Spanned TokenView)) (fault : Option (Spanned grammar.Fault)) → IsRead text whole given new
     → lexemes ≡ map shown_lexeme whole.lexemes → fault ≡ whole.fault → IsAheadAfter text given new lexemes fault
-read_ahead text whole (Some found) new lexemes fault read ahead behind = past_ahead text whole (lexeme_view found) new lexemes fault read ahead behind
-read_ahead text whole None new lexemes fault read ahead behind =
+read_ahead text whole (Some found) new lexemes fault read ahead remainder = past_ahead text whole (lexeme_view found) new lexemes fault read ahead remainder
+read_ahead text whole None new lexemes fault read ahead remainder =
     let all : lexemes ≡ map shown_lexeme (pending_lexemes text new.pending) ++ map shown_lexeme read.left.lexemes =
     ahead ∙ ap (λ ls. map shown_lexeme ls) read.parts ∙ map-append shown_lexeme read.lexemes read.left.lexemes ∙ ap (λ vs. vs ++ map shown_lexeme read.left.lexemes) read.yielded_count in
     record {
@@ -394,10 +394,10 @@ read_ahead text whole None new lexemes fault read ahead behind =
       is_left = read.is_left;
       is_pending = read.is_pending;
       ahead = all;
-      those_after = behind ∙ read.fault;
+      those_after = remainder ∙ read.fault;
       cut = subst (IsCutAhead text new new.stage) (both_count (pending_lexemes text new.pending) read.left.lexemes ∙ ap length (sym all)) read.cut;
       cuts = subst (λ n. HoldsCuts text new new.stage (length read.left.lexemes) n n) (both_count (pending_lexemes text new.pending) read.left.lexemes ∙ ap length (sym all))
-          (λ x behind cut least most. read.cuts x behind cut least (omega (arith, most, ap length read.yielded_count, length-map read.lexemes shown_lexeme, length-map (pending_lexemes text new.pending) shown_lexeme)));
+          (λ x remainder cut least most. read.cuts x remainder cut least (omega (arith, most, ap length read.yielded_count, length-map read.lexemes shown_lexeme, length-map (pending_lexemes text new.pending) shown_lexeme)));
     }
 
 -- Less is left to read
@@ -450,8 +450,8 @@ module _ (text : Text) (history : History) (old : Reader) (len : ℕ) (kept : Is
       let cuts : AreCutsBehind text history old.at taken.piece new = record {
         cut = λ on layout_now flat inside.
             line_ahead_cut text history old.at len taken.piece kept.read (begun text history old kept) stands taken.stands (ap is_layout layout.sort) (sym kept.levels ∙ none_open old.levels (sym of.flat ∙ flat)) old.levels (record { begin = old.at; node = grammar.Newline; end = old.at + len }) new.pending of taken.lexemes;
-        cuts = λ x behind cut least most.
-            let lies = line_cut text history old.at len taken.piece kept.read (begun text history old kept) stands taken.stands (ap is_layout layout.sort) old.levels (record { begin = old.at; node = grammar.Newline; end = old.at + len }) new.pending of taken.lexemes x behind cut least most in
+        cuts = λ x remainder cut least most.
+            let lies = line_cut text history old.at len taken.piece kept.read (begun text history old kept) stands taken.stands (ap is_layout layout.sort) old.levels (record { begin = old.at; node = grammar.Newline; end = old.at + len }) new.pending of taken.lexemes x remainder cut least most in
             ((refl, before, of.flat ∙ ap (λ (levels : List ℕ). length levels == 0) (kept.levels ∙ lies.0)), lies.1);
       } in
       took_by text history old (lexeme_view (old.at, found, old.at + len) ∷ []) new taken.piece utf8 kept stands cuts
@@ -479,8 +479,8 @@ module _ (text : Text) (old new : Reader) (is_new : IsNew old) where
       let end : new.at ≡ 0 + taken.piece.len = omega (arith, is_at, is_new.at, taken.whole) in
       let cuts : AreCutsBehind text nothing 0 taken.piece new = record {
         cut = λ on layout_now flat inside. first_ahead_cut text old.levels taken.piece new.pending taken.stands of taken.lexemes;
-        cuts = λ x behind cut least most.
-            ((refl, before, of.flat ∙ ap (λ (levels : List ℕ). length levels == 0) is_new.levels), first_cut text old.levels taken.piece new.pending taken.stands of taken.lexemes x behind cut least most);
+        cuts = λ x remainder cut least most.
+            ((refl, before, of.flat ∙ ap (λ (levels : List ℕ). length levels == 0) is_new.levels), first_cut text old.levels taken.piece new.pending taken.stands of taken.lexemes x remainder cut least most);
       } in
       took_first text new taken.piece utf8 taken.stands cuts
       (rw nesting (quiet_kept taken.piece.lexemes [] old.nesting layout.tokens is_new.nesting)) taken.open_now (ap before_view before ∙ sym layout.sort) end (rw nesting few) is_onward (hands_later text new.pending _ taken.is_pending taken.lexemes)

@@ -11,7 +11,7 @@ use Rattle.starlark_token.specs.Lexemes.{fault_view}
 use Rattle.starlark_reader.specs.Inner.Pending.{IsPending, lexemes_after, pending_lexemes}
 use Rattle.starlark_reader.specs.declared.margins.Blanks.{Blanks}
 use Rattle.starlark_reader.specs.declared.margins.Margin.{Margin}
-use Rattle.starlark_reader.specs.declared.pending.Behind.{Behind}
+use Rattle.starlark_reader.specs.declared.pending.AfterComments.{AfterComments}
 use Rattle.starlark_reader.specs.declared.pending.Pending.{Pending}
 use Rattle.starlark_token.specs.declared.lexeme_error.LexemeError.{LexemeError}
 
@@ -25,7 +25,7 @@ pub record IsBlanks (blanks : Text) (found : Blanks) : Type 0 where
 pub record IsMargin (margin : margins.Margin) (found : Margin) : Type 0 where
   pub at : found.at ≡ margin.at
   pub blanks : IsBlanks margin.blanks found.blanks
-  pub is_content : found.is_content ≡ is_content margin.behind
+  pub is_content : found.is_content ≡ is_content margin.remainder
 
 -- the greatest open width; 0 if none is open
 abbrev pub greatest_of : List ℕ → ℕ
@@ -45,7 +45,7 @@ keeps_widths margin levels = not margin.is_content || (not margin.blanks.has_tab
 
 -- the lexemes of a margin without fault after its comments: an `Indent` or `Dedent`s
 abbrev pub margin_indentation : List ℕ → margins.Margin → List grammar.Lexeme
-margin_indentation levels margin = if is_content margin.behind then indentation levels margin else []
+margin_indentation levels margin = if is_content margin.remainder then indentation levels margin else []
 
 -- all lexemes of a margin without fault
 abbrev pub margin_lexemes : List ℕ → margins.Margin → List grammar.Lexeme
@@ -53,7 +53,7 @@ margin_lexemes levels margin = margin.comments ++ margin_indentation levels marg
 
 -- the width of a margin, if content follows
 abbrev pub margin_width : margins.Margin → Option ℕ
-margin_width margin = if is_content margin.behind then Some (width_of margin) else None
+margin_width margin = if is_content margin.remainder then Some (width_of margin) else None
 
 -- the piece of a newline of `len` bytes and a margin without fault
 abbrev pub margin_piece : ℕ → List grammar.Lexeme → List ℕ → margins.Margin → pieces.Piece
@@ -75,21 +75,21 @@ IsFaultFound stands found = (node : grammar.Fault) × (fault_view found.0 ≡ So
 
 -- the margin has no fault, its lexemes after the comments are pending, and its width went to the
 -- open ones
-pub record IsLaidOut (begin : ℕ) (margin : margins.Margin) (widths old new : List ℕ) (behind : Behind) : Type 0 where
+pub record IsLaidOut (begin : ℕ) (margin : margins.Margin) (widths old new : List ℕ) (remainder : AfterComments) : Type 0 where
   pub stands : (len : ℕ) (before : List grammar.Lexeme) → pieces.margin_step len before old margin ≡ pieces.Stands (margin_piece len before old margin)
-  pub those_after : lexemes_after behind ≡ map (grammar.moved begin) (margin_indentation old margin)
+  pub those_after : lexemes_after remainder ≡ map (grammar.moved begin) (margin_indentation old margin)
   pub open_now : new ≡ open_widths (widths ++ option_to_list (margin_width margin))
 
 -- the margin has a fault, and nothing changed
-pub record IsLeftOut (margin : margins.Margin) (old new : List ℕ) (behind after_now : Behind) : Type 0 where
+pub record IsLeftOut (margin : margins.Margin) (old new : List ℕ) (remainder after_now : AfterComments) : Type 0 where
   pub stands : (len : ℕ) (before : List grammar.Lexeme) → pieces.margin_step len before old margin ≡ margin_fault len margin
   pub levels : new ≡ old
-  pub same : after_now ≡ behind
+  pub same : after_now ≡ remainder
 
 -- what taking a margin that begins at byte `begin` did, by whether it has no fault
-abbrev pub IsLaid : Bool → ℕ → margins.Margin → List ℕ → (old new : List ℕ) → Behind → Behind → Type 0
-IsLaid true begin margin widths old new behind after_now = IsLaidOut begin margin widths old new after_now
-IsLaid false begin margin widths old new behind after_now = IsLeftOut margin old new behind after_now
+abbrev pub IsLaid : Bool → ℕ → margins.Margin → List ℕ → (old new : List ℕ) → AfterComments → AfterComments → Type 0
+IsLaid true begin margin widths old new remainder after_now = IsLaidOut begin margin widths old new after_now
+IsLaid false begin margin widths old new remainder after_now = IsLeftOut margin old new remainder after_now
 
 -- the step is a piece of `len` bytes, its lexemes are the given ones and then the pending ones, and
 -- its width went to the open ones

@@ -17,13 +17,13 @@ pub record IsCutBefore (text : Text) (at ahead : ℕ) : Type 0 where
   pub is_kept : is_kept_cut text at ≡ true
   pub count : lexemes_before text at + ahead ≡ length (outcome text).lexemes
 
--- byte `at` is after some of the lines whose comments are pending: `behind` lexemes are after it,
+-- byte `at` is after some of the lines whose comments are pending: `remainder` lexemes are after it,
 -- if `ahead` are after byte `pending.from`
-pub record IsAfterLines (text : Text) (pending : Pending) (at behind ahead : ℕ) : Type 0 where
+pub record IsAfterLines (text : Text) (pending : Pending) (at remainder ahead : ℕ) : Type 0 where
   pub passed : ℕ
   pub few : passed ≤ length (lines_between text pending.from pending.to)
   pub place : at ≡ pending.from + sum_by (λ (line : Text). length line) (take passed (lines_between text pending.from pending.to))
-  pub count : behind + passed ≡ ahead
+  pub count : remainder + passed ≡ ahead
 
 -- in a margin with no indent open before it, byte `pending.from` is the margin's start or after a
 -- line of it; all lexemes before that byte were yielded, and `ahead` of the text are left

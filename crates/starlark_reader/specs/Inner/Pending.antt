@@ -7,8 +7,8 @@ use Rattle.starlark_grammar.specs.Laws.{AtBoundaries}
 use Rattle.starlark_grammar.specs.Margins.{comment_of, comments_from, is_comment_only, lines}
 use Rattle.starlark_token.specs.Lexemes.{lexeme_view, shown_lexeme}
 use Rattle.starlark_reader.specs.Inner.TextEnds.{text_end_node}
-use Rattle.starlark_reader.specs.declared.pending.Behind.{Behind}
-use Rattle.starlark_reader.specs.declared.pending.Behind.TheVariants as behind
+use Rattle.starlark_reader.specs.declared.pending.AfterComments.{AfterComments}
+use Rattle.starlark_reader.specs.declared.pending.AfterComments.TheVariants as remainder
 use Rattle.starlark_reader.specs.declared.pending.Pending.{Pending}
 use Rattle.starlark_token.specs.declared.tokens.Token.{Token}
 
@@ -21,14 +21,14 @@ abbrev pub owed : Pending → ℕ
 owed pending = pending.to - pending.from
 
 -- the lexemes that are pending after the comments
-abbrev pub lexemes_after : Behind → List grammar.Lexeme
-lexemes_after (behind.Dedents at count) = replicate count (record { begin = at; node = grammar.Dedent; end = at })
-lexemes_after (behind.Indent begin end) = record { begin = begin; node = grammar.Indent; end = end } ∷ []
-lexemes_after (behind.TextEnd begin stop end) = record { begin = begin; node = text_end_node stop; end = end } ∷ []
+abbrev pub lexemes_after : AfterComments → List grammar.Lexeme
+lexemes_after (remainder.Dedents at count) = replicate count (record { begin = at; node = grammar.Dedent; end = at })
+lexemes_after (remainder.Indent begin end) = record { begin = begin; node = grammar.Indent; end = end } ∷ []
+lexemes_after (remainder.TextEnd begin stop end) = record { begin = begin; node = text_end_node stop; end = end } ∷ []
 
 -- all pending lexemes: comments of lines, and the lexemes after them
 unfoldable pub pending_lexemes : Text → Pending → List grammar.Lexeme
-pending_lexemes text pending = comments_from pending.from (lines_between text pending.from pending.to) ++ lexemes_after pending.behind
+pending_lexemes text pending = comments_from pending.from (lines_between text pending.from pending.to) ++ lexemes_after pending.remainder
 
 -- all lines from byte `from` to `to` are comment-only, and their comments begin and end at
 -- character boundaries
@@ -53,10 +53,10 @@ pub record IsFirstComment (text : Text) (from to : ℕ) (found : ℕ × Token ×
   pub first : lines_between text from to ≡ line ∷ lines_between text (from + len) to
   pub whole : length line ≡ len
   pub comment : lexeme_view found ≡ shown_lexeme (comment_of from line)
-  pub behind : IsComments text (from + len) to
+  pub remainder : IsComments text (from + len) to
 
 -- the first lexeme after the comments was taken, or there was none and nothing changed
-abbrev pub IsFirstAfter : Behind → Behind → Option (ℕ × Token × ℕ) → Type 0
+abbrev pub IsFirstAfter : AfterComments → AfterComments → Option (ℕ × Token × ℕ) → Type 0
 IsFirstAfter old new None = (lexemes_after old ≡ []) × (new ≡ old)
 IsFirstAfter old new (Some found) = map shown_lexeme (lexemes_after old) ≡ lexeme_view found ∷ map shown_lexeme (lexemes_after new)
 

@@ -85,7 +85,7 @@ pub record IsStateAfter (text : Text) (history : History) (reader : Reader) : Ty
 
 -- whether a text's first margin has a tab before content, which is a fault
 abbrev pub begins_with_tab : Text → Bool
-begins_with_tab text = is_content (margin_of text).behind && has_tab (margin_of text)
+begins_with_tab text = is_content (margin_of text).remainder && has_tab (margin_of text)
 
 -- whether no piece of a text was read
 abbrev pub has_read_none : Reader → Bool
@@ -114,7 +114,7 @@ IsInFlatMargin reader now = (now ≡ stage.Onward) × (reader.before ≡ before.
 -- flat margin; `ahead` lexemes are left there
 abbrev pub HoldsCuts : Text → Reader → Stage → ℕ → ℕ → ℕ → Type 0
 HoldsCuts text reader now least most ahead =
-    (at behind : ℕ) → IsCutBefore text at behind → least ≤ behind → behind < most → IsInFlatMargin reader now × IsAfterLines text reader.pending at behind ahead
+    (at remainder : ℕ) → IsCutBefore text at remainder → least ≤ remainder → remainder < most → IsInFlatMargin reader now × IsAfterLines text reader.pending at remainder ahead
 
 -- byte `at` is the offset reached in the reader's flat margin
 abbrev pub IsReached : Reader → ℕ → Type 0

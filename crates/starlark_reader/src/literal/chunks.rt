@@ -12,14 +12,14 @@ use super::pieces::Step;
 use crate::text_end::TextEnd;
 use starlark_grammar::class::Opening;
 use starlark_token::lexeme_error::LexemeError;
-use starlark_words::reads::Reads;
+use starlark_words::reads::ReadCounter;
 use starlark_words::scanner::LiteralKind;
 use starlark_words::{Body, Literal, LiteralValue, Stop, closing_len, plain_chunk_len, read_body};
 use std::alloc::{AllocError, Global};
 
 /// The f-string text up to its first stop: an expression, the closing quotes, or a fault.
 pub(crate) fn chunk_from(
-    reads: &mut Reads,
+    reads: &mut ReadCounter,
     alloc: Global,
     opening: Opening,
     text: &str,
@@ -87,7 +87,7 @@ pub struct PlainText {
 /// fault, the error is the length in bytes of the run without these at its start.
 #[inline(always)]
 pub(crate) fn plain_text(
-    reads: &mut Reads,
+    reads: &mut ReadCounter,
     opening: Opening,
     text: &str,
 ) -> Result<PlainText, usize>

@@ -21,7 +21,7 @@ use starlark_grammar::class::Opening;
 use starlark_token::fstring_style::FStringQuote;
 use starlark_token::lexeme_error::LexemeError;
 use starlark_token::tokens::Token;
-use starlark_words::reads::Reads;
+use starlark_words::reads::ReadCounter;
 use starlark_words::scanner::{LiteralKind, Quote};
 use starlark_words::{Literal, LiteralValue, Stop, closing_len, read_body};
 use std::alloc::{AllocError, Global};
@@ -57,18 +57,23 @@ fn is_plain(opening: Opening, text: &[u8]) -> bool
     })
 }
 
-/// The fault of a literal that goes on to the end of the text. `behind` is the text after its
+/// The fault of a literal that goes on to the end of the text. `remainder` is the text after its
 /// opening.
-fn unfinished(reads: &mut Reads, outside: bool, literal: Literal, behind: &str) -> LexemeError
-    ensures fault { (place : Mode) → is_outside place ≡ outside → fault_view result ≡ Some (grammar.unfinished place literal.kind (opening_view literal.opening) behind.now) }
-    ensures reads { AreReads 0 (length behind.now) reads.old reads.new }
+fn unfinished(
+    reads: &mut ReadCounter,
+    outside: bool,
+    literal: Literal,
+    remainder: &str,
+) -> LexemeError
+    ensures fault { (place : Mode) → is_outside place ≡ outside → fault_view result ≡ Some (grammar.unfinished place literal.kind (opening_view literal.opening) remainder.now) }
+    ensures reads { AreReads 0 (length remainder.now) reads.old reads.new }
     ensures untabbed { is_tab_error result ≡ false }
 {
     if !outside
         && literal.kind == LiteralKind::Text
         && is_plain(
             literal.opening,
-            reads.front(behind.as_bytes(), behind.len()),
+            reads.front(remainder.as_bytes(), remainder.len()),
         )
     {
         LexemeError::UnfinishedFStringExpression
@@ -108,20 +113,20 @@ fn escape_fault(alloc: Global, begin: usize, read: &str) -> Result<Step, AllocEr
     })
 }
 
-/// A string or bytes literal. Its opening has `len` bytes, and `behind` is the text after it.
+/// A string or bytes literal. Its opening has `len` bytes, and `remainder` is the text after it.
 fn literal_from(
-    reads: &mut Reads,
+    reads: &mut ReadCounter,
     alloc: Global,
     outside: bool,
     literal: Literal,
     len: usize,
-    behind: &str,
+    remainder: &str,
 ) -> Result<Step, AllocError>
-    requires { len + length behind.now < 2 ^ 64 }
-    ensures step { IfOk result (λ step. (place : Mode) → is_outside place ≡ outside → IsStep (grammar.literal place literal.kind (opening_view literal.opening) len behind.now) step) }
+    requires { len + length remainder.now < 2 ^ 64 }
+    ensures step { IfOk result (λ step. (place : Mode) → is_outside place ≡ outside → IsStep (grammar.literal place literal.kind (opening_view literal.opening) len remainder.now) step) }
     ensures reads { IfOk result (λ step. AreWordReads len 9 0 0 6 step reads.old reads.new) }
 {
-    let body = read_body(reads, alloc, literal, behind)?;
+    let body = read_body(reads, alloc, literal, remainder)?;
     match body.stop {
         Stop::Closing => Ok(Step::Token {
             token: literal_token(body.value),
@@ -131,7 +136,7 @@ fn literal_from(
             escape_fault(
                 alloc,
                 len + body.len,
-                &behind[body.len + 1..body.len + read],
+                &remainder[body.len + 1..body.len + read],
             )
         }
         Stop::Line => Ok(Step::Fault {
@@ -141,8 +146,8 @@ fn literal_from(
         }),
         _ => Ok(Step::Fault {
             begin: 0,
-            fault: unfinished(reads, outside, literal, behind),
-            end: len + behind.len(),
+            fault: unfinished(reads, outside, literal, remainder),
+            end: len + remainder.len(),
         }),
     }
 }
@@ -160,8 +165,8 @@ pub(crate) fn quotes_of(opening: Opening) -> FStringQuote
 }
 
 /// Whether two more of the opener's quotes follow it.
-fn is_triple(reads: &mut Reads, quote: Quote, behind: &str) -> bool
-    ensures value { result ≡ (grammar.opening_of false quote behind.now).is_triple }
+fn is_triple(reads: &mut ReadCounter, quote: Quote, remainder: &str) -> bool
+    ensures value { result ≡ (grammar.opening_of false quote remainder.now).is_triple }
     ensures reads { reads.new ≡ more_reads reads.old 2 }
 {
     let quotes = match quote {
@@ -169,48 +174,53 @@ fn is_triple(reads: &mut Reads, quote: Quote, behind: &str) -> bool
         Quote::Double => "\"\"",
     };
     reads
-        .front(behind.as_bytes(), 2)
+        .front(remainder.as_bytes(), 2)
         .starts_with(quotes.as_bytes())
 }
 
 /// The opening of a literal, from its opener and the text after that.
-pub(crate) fn opening_of(reads: &mut Reads, is_raw: bool, quote: Quote, behind: &str) -> Opening
+pub(crate) fn opening_of(
+    reads: &mut ReadCounter,
+    is_raw: bool,
+    quote: Quote,
+    remainder: &str,
+) -> Opening
     ensures reads { reads.new ≡ more_reads reads.old 2 }
-    ensures opening { opening_view result ≡ grammar.opening_of is_raw quote behind.now }
+    ensures opening { opening_view result ≡ grammar.opening_of is_raw quote remainder.now }
 {
     Opening {
         is_raw,
         quote,
-        is_triple: is_triple(reads, quote, behind),
+        is_triple: is_triple(reads, quote, remainder),
     }
 }
 
-/// A string or bytes literal. Its opener has `len` bytes, and `behind` is the text after it.
+/// A string or bytes literal. Its opener has `len` bytes, and `remainder` is the text after it.
 pub(crate) fn literal_piece(
-    reads: &mut Reads,
+    reads: &mut ReadCounter,
     alloc: Global,
     outside: bool,
     kind: LiteralKind,
     is_raw: bool,
     quote: Quote,
     len: usize,
-    behind: &str,
+    remainder: &str,
 ) -> Result<Step, AllocError>
     requires kind { kind ≢ OfFString }
-    requires fits { len + length behind.now < 2 ^ 64 }
+    requires fits { len + length remainder.now < 2 ^ 64 }
     ensures reads { IfOk result (λ step. AreWordReads len 9 2 0 8 step reads.old reads.new) }
     ensures step { IfOk result (λ step. (place : Mode) → is_outside place ≡ outside →
-        IsStep (grammar.opener place kind (grammar.opening_of is_raw quote behind.now) len behind.now) step) }
+        IsStep (grammar.opener place kind (grammar.opening_of is_raw quote remainder.now) len remainder.now) step) }
 {
     let opening = Opening {
         is_raw,
         quote,
-        is_triple: is_triple(reads, quote, behind),
+        is_triple: is_triple(reads, quote, remainder),
     };
     let literal = Literal { kind, opening };
     if opening.is_triple {
-        literal_from(reads, alloc, outside, literal, len + 2, &behind[2..])
+        literal_from(reads, alloc, outside, literal, len + 2, &remainder[2..])
     } else {
-        literal_from(reads, alloc, outside, literal, len, behind)
+        literal_from(reads, alloc, outside, literal, len, remainder)
     }
 }

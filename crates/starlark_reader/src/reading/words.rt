@@ -17,7 +17,7 @@ use starlark_token::lexeme_error::LexemeError;
 use starlark_token::number_text::number_in;
 use starlark_token::token_int::TokenInt;
 use starlark_token::tokens::Token;
-use starlark_words::reads::Reads;
+use starlark_words::reads::ReadCounter;
 use std::alloc::{AllocError, Global};
 
 /// The token of a comment, whose value leaves out the `#`.
@@ -113,10 +113,14 @@ fn starts_zero(word: &[u8]) -> bool
 }
 
 /// The token of a decimal integer, or the fault of a leading 0 before more digits.
-pub(crate) fn decimal(reads: &mut Reads, alloc: Global, word: &str) -> Result<Step, AllocError>
+pub(crate) fn decimal(
+    reads: &mut ReadCounter,
+    alloc: Global,
+    word: &str,
+) -> Result<Step, AllocError>
     requires { class_in language word.now ≡ Some class.Decimal }
     ensures reads { reads.new ≡ more_reads reads.old 2 }
-    ensures step { IfOk result (λ step. (s : grammar.Situation) (behind : Text) → IsStep (grammar.word_step s class.Decimal word.now behind) step) }
+    ensures step { IfOk result (λ step. (s : grammar.Situation) (remainder : Text) → IsStep (grammar.word_step s class.Decimal word.now remainder) step) }
     ensures word { IfOk result (IsOfWord (length word.now)) }
 {
     if starts_zero(reads.front(word.as_bytes(), 2)) {

@@ -93,14 +93,14 @@ pub enum Wanted {
     /// How it prints.
     Lexemes,
     /// How often bytes were read for it.
-    Reads,
+    ReadCounter,
 }
 
 /// What a row wants to know of a lexed text.
 fn wanted_of(alloc: Global, lexed: &LexedText<'_>, wanted: Wanted) -> Answer {
     match wanted {
         Wanted::Lexemes => printed(alloc, lexed),
-        Wanted::Reads => shown(alloc, &lexed.reads()),
+        Wanted::ReadCounter => shown(alloc, &lexed.reads()),
     }
 }
 
@@ -230,7 +230,7 @@ fn marks(alloc: Global, row: &Row) -> Answer {
 fn of_joined(alloc: Global, row: &Row) -> Answer {
     let wanted = match row.text(1) {
         "relex_joined" => Wanted::Lexemes,
-        "relex_joined_reads" => Wanted::Reads,
+        "relex_joined_reads" => Wanted::ReadCounter,
         _ => return unknown(alloc, row),
     };
     let (first, second, edited) = (row.text(2), row.text(3), row.text(5));
@@ -244,10 +244,10 @@ pub fn answer(alloc: Global, row: &Row) -> Answer {
         "lex" => lex(alloc, text),
         "is_clean_cut" => shown(alloc, &lexed(alloc, text)?.is_clean_cut()),
         "reads" => shown(alloc, &lexed(alloc, text)?.reads()),
-        "join_reads" => join(alloc, text, row.text(3), Wanted::Reads),
+        "join_reads" => join(alloc, text, row.text(3), Wanted::ReadCounter),
         "join" => join(alloc, text, row.text(3), Wanted::Lexemes),
         "join_each" => marks(alloc, row),
-        "relex_reads" => relex(alloc, text, row.count(3), row.text(4), Wanted::Reads),
+        "relex_reads" => relex(alloc, text, row.count(3), row.text(4), Wanted::ReadCounter),
         "relex" => relex(alloc, text, row.count(3), row.text(4), Wanted::Lexemes),
         "each_byte" => each_byte(alloc, text, row.text(3)),
         _ => of_joined(alloc, row),

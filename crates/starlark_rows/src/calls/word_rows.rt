@@ -61,7 +61,7 @@ pub fn add_placed(
 fn after_memory(lexer: &mut Lexer<'_>) -> &'static str {
     match lexer.next() {
         None => "out of memory",
-        Some(_) => "more behind want of memory",
+        Some(_) => "more after out of memory",
     }
 }
 
@@ -109,7 +109,9 @@ pub fn lexemes(alloc: Global, text: &str, source: &str) -> Answer {
 
 /// Adds the places of a plain lexeme of a text, and its value.
 fn add_plain(list: &mut String, text: &str, plain: PlainLexeme) -> Result<(), AllocError> {
-    let value = text.get(plain.value_begin..plain.value_end).unwrap_or("no text");
+    let value = text
+        .get(plain.value_begin..plain.value_end)
+        .unwrap_or("no text");
     write!(list, "{}-{} [{value}]; ", plain.begin, plain.end)
 }
 

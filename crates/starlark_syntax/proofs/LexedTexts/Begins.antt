@@ -22,7 +22,7 @@ up_to_one : (cuts : List Cut) (i : ℕ) (d : Cut) → IsRising cuts → i < leng
 up_to_one [] i d rising inside = absurd (omega (arith, inside))
 up_to_one (cut ∷ cuts) zero d rising inside = (omega arith, tt)
 up_to_one (cut ∷ cuts) (suc i) d rising inside =
-    let less : cut.at < (slice_index_or cuts i d).at = all_at (λ (behind : Cut). cut.at < behind.at) cuts i d rising.0 (omega (arith, inside)) in
+    let less : cut.at < (slice_index_or cuts i d).at = all_at (λ (remainder : Cut). cut.at < remainder.at) cuts i d rising.0 (omega (arith, inside)) in
     (omega (arith, less), up_to_one cuts i d rising.1 (omega (arith, inside)))
 
 -- so many cuts lie at or before a place where the last of them does

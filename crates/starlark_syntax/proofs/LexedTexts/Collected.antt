@@ -50,7 +50,7 @@ file_is text file state found is = ap (λ (v : LexerView). v.code_map) is.view
 pub goes_on : (text : Text) (file : SourceFile) (state : LexerState) (found : List (ℕ × Token × ℕ)) → IsCollected text file state found → state.has_ended ≡ false
 goes_on text file state found is = ap (λ (v : LexerView). v.has_ended) is.view
 
--- with one lexeme more, right behind which a kept cut is reached
+-- with one lexeme more, right remainder which a kept cut is reached
 pub one_more : (text : Text) (file : SourceFile) (old new : LexerState) (found : List (ℕ × Token × ℕ)) (lexeme : ℕ × Token × ℕ) → IsCollected text file old found → HasAnswered old (Some (Ok lexeme)) new → IsLexing new
     → view_of new ≡ record (view_of old) { yielded_count = old.yielded_count + 1; has_ended = false; reads = new.reader.reads }
     → IsCollected text file new (found ++ lexeme ∷ []) × (length found < length (outcome text).lexemes) × ((at : ℕ) → IsCutBefore text at (length (left_in new)) → IsReached new.reader at)
@@ -117,10 +117,10 @@ pub all_weaker : {A : Type 0} (P Q : A → Type 0) (xs : List A) → ((x : A) �
 all_weaker P Q [] more all = tt
 all_weaker P Q (x ∷ xs) more all = (more x all.0, all_weaker P Q xs more all.1)
 
--- one more behind them
+-- one more remainder them
 rising_last : (cuts : List Cut) (last : Cut) → IsRising cuts → AllByRecursion (λ (cut : Cut). cut.at < last.at) cuts → IsRising (cuts ++ last ∷ [])
 rising_last [] last rising before = (tt, tt)
-rising_last (cut ∷ cuts) last rising before = (all_both (λ (behind : Cut). cut.at < behind.at) cuts (last ∷ []) rising.0 (before.0, tt), rising_last cuts last rising.1 before.1)
+rising_last (cut ∷ cuts) last rising before = (all_both (λ (remainder : Cut). cut.at < remainder.at) cuts (last ∷ []) rising.0 (before.0, tt), rising_last cuts last rising.1 before.1)
 
 before_last : (text : Text) (cuts : List Cut) (count : ℕ) (last : Cut) → AllByRecursion (IsCutOf text) cuts → AllByRecursion (λ (cut : Cut). cut.lexemes ≤ count) cuts → IsCutOf text last → count < last.lexemes → AllByRecursion (λ (cut : Cut). cut.at < last.at) cuts
 before_last text [] count last each few is more = tt
@@ -138,7 +138,7 @@ pub some_weaker : {A : Type 0} (x : Option A) (P Q : A → Type 0) → ((a : A) 
 some_weaker None P Q more h = tt
 some_weaker (Some a) P Q more h = more a h
 
--- behind one lexeme more, where there may be a cut
+-- remainder one lexeme more, where there may be a cut
 pub cuts_more : (text : Text) (count : ℕ) (rest : List (Spanned TokenView)) (cuts : List Cut) (place : Option ℕ) → AreCutsSoFar text count cuts → (count + 1) + length rest ≡ length (outcome text).lexemes → IfSome place (λ at. IsCutBefore text at (length rest))
     → ((at : ℕ) → IsCutBefore text at (length rest) → place ≡ Some at) → AreCutsSoFar text (count + 1) (cuts ++ cuts_at place (count + 1))
 cuts_more text count rest cuts place so whole found reached = by place found reached
@@ -175,7 +175,7 @@ cuts_more text count rest cuts place so whole found reached = by place found rea
           all = all_more (last ∷ []) (λ other there. let same : Some at ≡ Some other = reached other there in let equal : at ≡ other = cc in subst (λ n. holds_cut n (record { at = at; lexemes = count + 1 } ∷ []) ≡ true) equal (held_one (record { at = at; lexemes = count + 1 })));
         }
 
--- behind all lexemes they are all but the text's end
+-- remainder all lexemes they are all but the text's end
 kept_few : (text : Text) (at : ℕ) → is_kept_cut text at ≡ true → lexemes_before text at ≤ length (outcome text).lexemes
 kept_few text at kept = let law = kept_cuts_keep text at kept in omega (arith, ap length law.1, length-append (without_closing (outcome (take at text)).lexemes) law.0)
 
@@ -208,7 +208,7 @@ fault_given text file state new part exception is answer so thrown no_cut tab =
       tab = tab ∙ answer.2 ∙ ap begins_with_tab same;
     }
 
--- the cut at a text's end, where it is one, behind others
+-- the cut at a text's end, where it is one, remainder others
 end_is : (text : Text) (cuts : List Cut) (count : ℕ) (is_cut : Bool) → AreCutsSoFar text count cuts → is_cut ≡ is_clean_cut text → count ≡ length (outcome text).lexemes → AreCuts text (cuts ++ end_cuts text count is_cut)
 end_is text cuts count true so is same =
     let last : IsCutOf text (record { at = length text; lexemes = count - 1 }) = subst (λ n. IsCutOf text (record { at = length text; lexemes = n - 1 })) (sym same) (whole_kept text (sym is)) in

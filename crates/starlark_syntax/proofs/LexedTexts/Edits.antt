@@ -1,4 +1,4 @@
--- What a text comes to behind an edit.
+-- What a text comes to remainder an edit.
 use Rattle.std.proofs.Common.{◌≡◌, ℕ, suc, zero, ◌+◌, ◌-◌, ◌*◌, ◌<◌, ◌≤◌, Bool, true, false, List, [], ◌∷◌, ◌++◌, map, take, drop, length, refl, ap, sym, subst, ◌∙◌, arith, Some, None, inl, inr, ◌⊎◌, append-nil, length-append}
 use Rattle.std.specs.Prelude.{Option, ◌&&◌, ◌||◌, ◌==◌, if◌then◌else◌, nat_lt, option_map, slice_get, slice_index_or}
 use Rattle.std.specs.List.{AllByRecursion}
@@ -38,7 +38,7 @@ use Rattle.starlark_syntax.specs.LexedTexts.{IsReadFrom, LexedView}
 use Rattle.starlark_syntax.proofs.LexedTexts.Relexed.{above_later, all_both, all_later, all_stay, cut_boundary, rising_both, rising_later, rising_take, some_cut}
 use Rattle.starlark_reader.proofs.Pieces.Onward.{first_fails}
 
--- What is kept and what is put behind it are what a text comes to.
+-- What is kept and what is put remainder it are what a text comes to.
 pub record IsRelexed (edited : Text) (ls : List (ℕ × Token × ℕ)) (cuts : List Cut) (at count : ℕ) (part : PartView) (kept : Kept) : Type 0 where
   pub lexemes : map lexeme_view (take kept.lexemes ls ++ map (later at) (if kept.gives_more then part.lexemes else [])) ≡ map shown_lexeme (outcome edited).lexemes
   pub fault : (outcome edited).fault ≡ option_map (moved kept.fault_at) (outcome (drop at edited)).fault
@@ -124,7 +124,7 @@ module _ (file : SourceFile) (old edited : Text) (ls : List (ℕ × Token × ℕ
       ∙ sym (map-append shown_lexeme (without_closing (outcome (take at edited)).lexemes) (map (moved at) (outcome (drop at edited)).lexemes))
       ∙ ap (map shown_lexeme) (sym e)
 
-  -- a cut of the new text at or before the one that is read from is an old one, among the first where the others lie behind it
+  -- a cut of the new text at or before the one that is read from is an old one, among the first where the others lie remainder it
   held_old : (x to n : ℕ) → x ≤ at → x ≤ to → AreBeyond cuts to n → is_clean_cut (take x edited) ≡ true → holds_cut x (take n cuts) ≡ true
   held_old x to n before less beyond there = held_front x to n cuts (are.all x (kept_in old edited at x same is.is_kept before there)) beyond less
 
@@ -134,7 +134,7 @@ module _ (file : SourceFile) (old edited : Text) (ls : List (ℕ × Token × ℕ
   relexed_cut kept_cuts up_to beyond margin =
       let joined = ap outcome (sym whole) ∙ cuts_join (take at edited) (drop at edited) clean margin in
       let reach : pieces_len (read language edited).pieces ≡ length (take at edited) + pieces_len (read language (drop at edited)).pieces = ap (λ (t : Text). pieces_len (read language t).pieces) (sym whole) ∙ reach_joined (take at edited) (drop at edited) clean margin in
-      let behind = all_later (take at edited) (drop at edited) part.cuts clean margin is_part.cuts.each in
+      let remainder = all_later (take at edited) (drop at edited) part.cuts clean margin is_part.cuts.each in
       record {
         lexemes = all_views (ap (λ (o : Outcome). o.lexemes) joined ∙ ap (λ n. without_closing (outcome (take at edited)).lexemes ++ map (moved n) (outcome (drop at edited)).lexemes) len);
         fault = ap (λ (o : Outcome). o.fault) joined ∙ ap (λ n. option_map (moved n) (outcome (drop at edited)).fault) len;
@@ -142,7 +142,7 @@ module _ (file : SourceFile) (old edited : Text) (ls : List (ℕ × Token × ℕ
           each = all_both (IsCutOf edited) (take kept_cuts cuts) _ (all_stay old edited at at (take kept_cuts cuts) same inside (omega arith) (omega (arith, reach, len)) (all_take (IsCutOf old) kept_cuts cuts are.each) up_to)
               (subst (λ n. AllByRecursion (IsCutOf edited) (map (later_cut at n) part.cuts)) count_is
               (subst (λ n. AllByRecursion (IsCutOf edited) (map (later_cut n (length (without_closing (outcome (take at edited)).lexemes))) part.cuts)) len
-              (subst (λ (t : Text). AllByRecursion (IsCutOf t) (map (later_cut (length (take at edited)) (length (without_closing (outcome (take at edited)).lexemes))) part.cuts)) whole behind)));
+              (subst (λ (t : Text). AllByRecursion (IsCutOf t) (map (later_cut (length (take at edited)) (length (without_closing (outcome (take at edited)).lexemes))) part.cuts)) whole remainder)));
           order = rising_both at (take kept_cuts cuts) _ (rising_take kept_cuts cuts are.order) (rising_later at count part.cuts is_part.cuts.order) up_to (above_later (drop at edited) at count part.cuts is_part.cuts.each);
           all = λ x kept. subst (λ n. holds_cut x (take kept_cuts cuts ++ map (later_cut n count) part.cuts) ≡ true) len
               (held_joined (take at edited) (drop at edited) (take kept_cuts cuts) part.cuts count clean margin
@@ -180,7 +180,7 @@ module _ (file : SourceFile) (old edited : Text) (ls : List (ℕ × Token × ℕ
         let here : pieces_len bt.front + 0 ≡ fault.begin = begin in
         omega (arith, reach, here)
 
-    -- where it has a tab, behind comments alone
+    -- where it has a tab, remainder comments alone
     pub relexed_comments : last_newline_of (map lexeme_view (take count ls)) ≡ None → IsRelexed edited ls cuts at count part (record { lexemes = count; cuts = 0; fault_at = 0; gives_more = true })
     relexed_comments none =
         let before = none_shown (without_closing (outcome (take at edited)).lexemes) (ap last_newline_of (sym kept_views) ∙ none) in
@@ -219,7 +219,7 @@ module _ (file : SourceFile) (old edited : Text) (ls : List (ℕ × Token × ℕ
     take_less (suc k) (suc n) [] h = refl
     take_less (suc k) (suc n) (x ∷ xs) h = ap (λ ys. x ∷ ys) (take_less k n xs (omega (arith, h)))
 
-    -- where it has a tab, behind a `Newline`
+    -- where it has a tab, remainder a `Newline`
     pub relexed_line : (last : ℕ) (kept : Kept) → last_newline_of (map lexeme_view (take count ls)) ≡ Some last → IsTakenBack ls cuts last kept → IsRelexed edited ls cuts at count part kept
     relexed_line last kept some taken =
         let lexemes = without_closing (outcome (take at edited)).lexemes in
@@ -238,7 +238,7 @@ module _ (file : SourceFile) (old edited : Text) (ls : List (ℕ × Token × ℕ
         record {
           lexemes = rw (taken.count, taken.gives_none) (ap (map lexeme_view) (append-nil (take last ls) ∙ sym (take_less last count ls (omega (arith, less)))) ∙ sym (take-map lexeme_view last (take count ls)) ∙ ap (take last) kept_views ∙ take-map shown_lexeme last lexemes ∙ ap (λ (o : Outcome). map shown_lexeme o.lexemes) (sym all));
           fault = ap (λ (o : Outcome). o.fault) all ∙ at_place found.begin kept.fault_at placed ∙ ap (λ (o : Outcome). option_map (moved kept.fault_at) o.fault) (sym fails);
-          are_cuts = subst (λ (behind : List Cut). AreCuts edited (take kept.cuts cuts ++ behind)) (sym nil) (subst (AreCuts edited) (sym (append-nil (take kept.cuts cuts)))
+          are_cuts = subst (λ (remainder : List Cut). AreCuts edited (take kept.cuts cuts ++ remainder)) (sym nil) (subst (AreCuts edited) (sym (append-nil (take kept.cuts cuts)))
               (record { each = all_stay old edited at kept.fault_at (take kept.cuts cuts) same inside near (omega (arith, placed, here, reach)) (all_take (IsCutOf old) kept.cuts cuts are.each) up_to; order = rising_take kept.cuts cuts are.order; all = λ x kept_x. let parts = kept_parts edited x kept_x in held_old x kept.fault_at kept.cuts (omega (arith, parts.0, reach, here, placed, near)) (omega (arith, parts.0, reach, here, placed)) taken.beyond parts.1 }));
           near = near;
           few = omega (arith, taken.count, less, few);
@@ -276,7 +276,7 @@ begin_few old ls cuts from begin lexed is = by is.stands
 
 -- all cases together
 pub relexed : (file : SourceFile) (old edited : Text) (ls : List (ℕ × Token × ℕ)) (cuts : List Cut) (from : ℕ) (begin : Begin) (part : PartView) (kept : Kept) (has : Bool) → map lexeme_view ls ≡ map shown_lexeme (outcome old).lexemes → AreCuts old cuts → IsBegin old cuts from begin
-    → take from old ≡ take from edited → from ≤ length edited → IsPart file (drop begin.at edited) part → has ≡ (is_content (margin_of (drop begin.at edited)).behind && has_tab (margin_of (drop begin.at edited)))
+    → take from old ≡ take from edited → from ≤ length edited → IsPart file (drop begin.at edited) part → has ≡ (is_content (margin_of (drop begin.at edited)).remainder && has_tab (margin_of (drop begin.at edited)))
     → (has ≡ false → kept ≡ record { lexemes = begin.lexemes; cuts = begin.cuts; fault_at = begin.at; gives_more = true })
     → (has ≡ true → last_newline_of (map lexeme_view (take begin.lexemes ls)) ≡ None → kept ≡ record { lexemes = begin.lexemes; cuts = 0; fault_at = 0; gives_more = true })
     → (has ≡ true → (last : ℕ) → last_newline_of (map lexeme_view (take begin.lexemes ls)) ≡ Some last → IsTakenBack ls cuts last kept)
@@ -307,7 +307,7 @@ relexed file old edited ls cuts from begin part kept has lexed are is same insid
         within = omega (arith, is.before, inside)
 
         has_of : has ≡ true → HasTab (margin_of (drop begin.at edited))
-        has_of h = let parts = and_parts (is_content (margin_of (drop begin.at edited)).behind) (has_tab (margin_of (drop begin.at edited))) (sym tab_is ∙ h) in record { content = parts.0; is = parts.1 }
+        has_of h = let parts = and_parts (is_content (margin_of (drop begin.at edited)).remainder) (has_tab (margin_of (drop begin.at edited))) (sym tab_is ∙ h) in record { content = parts.0; is = parts.1 }
 
         margin_of_it : has ≡ false → HasFirstMargin language (drop begin.at edited) ⊎ HasTab (margin_of (drop begin.at edited)) → HasFirstMargin language (drop begin.at edited)
         margin_of_it h (inl margin) = margin
@@ -380,5 +380,5 @@ read_from old edited from ls given cuts begin lexed kept seen are is made most l
   kept = kept;
   more = map lexeme_view (map (later begin.at) given);
   lexemes = made ∙ map-append lexeme_view (take kept ls) (map (later begin.at) given) ∙ ap (λ vs. vs ++ map lexeme_view (map (later begin.at) given)) (sym (take-map lexeme_view kept ls) ∙ ap (take kept) (sym seen));
-  behind = later_begins begin.at given;
+  later = later_begins begin.at given;
 }

@@ -67,7 +67,7 @@ held_front at to (suc n) (cut ∷ cuts) h beyond less = go (cut.at == at) h (λ 
     go true h more = refl
     go false h more = more h
 
--- one cut less before those that lie behind a place
+-- one cut less before those that lie remainder a place
 pub beyond_more : (cuts : List Cut) (from n : ℕ) (d : Cut) → n < length cuts → from < (slice_index_or cuts n d).at → AreBeyond cuts from (suc n) → AreBeyond cuts from n
 beyond_more [] from n d inside here beyond = absurd (omega (arith, inside))
 beyond_more (cut ∷ cuts) from zero d inside here beyond = (here, beyond)
@@ -91,7 +91,7 @@ kept_some text at h =
     let clean = (kept_parts text at h).1 in
     omega (arith, ends_some (take at text) (cut (take at text) clean).ends, length-take at text)
 
--- A kept cut of a text lies as well in another that begins as that does, if not behind a kept cut of that.
+-- A kept cut of a text lies as well in another that begins as that does, if not remainder a kept cut of that.
 pub kept_in : (old new : Text) (at x : ℕ) → take at old ≡ take at new → is_kept_cut old at ≡ true → x ≤ at → is_clean_cut (take x new) ≡ true → is_kept_cut old x ≡ true
 kept_in old new at x same kept less clean =
     let front : take x old ≡ take x new = sym (take_less x at old less) ∙ ap (take x) same ∙ take_less x at new less in
@@ -100,7 +100,7 @@ kept_in old new at x same kept less clean =
 -- All kept cuts of two texts joined are those of both.
 pub held_joined : (first second : Text) (one other : List Cut) (count : ℕ) → is_clean_cut first ≡ true → HasFirstMargin language second → ((x : ℕ) → x ≤ length first → is_clean_cut (take x first) ≡ true → holds_cut x one ≡ true)
     → ((x : ℕ) → is_kept_cut second x ≡ true → holds_cut x other ≡ true) → (x : ℕ) → is_kept_cut (first ++ second) x ≡ true → holds_cut x (one ++ map (later_cut (length first) count) other) ≡ true
-held_joined first second one other count clean margin before behind x kept = go (nat_le x (length first)) refl
+held_joined first second one other count clean margin before remainder x kept = go (nat_le x (length first)) refl
   where
     parts : (x ≤ pieces_len (read language (first ++ second)).pieces) × (is_clean_cut (take x (first ++ second)) ≡ true)
     parts = kept_parts (first ++ second) x kept
@@ -117,4 +117,4 @@ held_joined first second one other count clean margin before behind x kept = go 
         let some : 0 < length (take (x - length first) second) = omega (arith, length-take-le (x - length first) second inside, more) in
         let cut_there : is_clean_cut (take (x - length first) second) ≡ true = sym (cuts_of_joined first (take (x - length first) second) clean some) ∙ ap is_clean_cut (sym front) ∙ parts.1 in
         let reach : x - length first ≤ pieces_len (read language second).pieces = omega (arith, parts.0, reach_joined first second clean margin) in
-        held_right x one _ (ap (λ n. holds_cut n (map (later_cut (length first) count) other)) place ∙ held_later (length first) count (x - length first) other (behind (x - length first) (kept_by second (x - length first) reach cut_there)))
+        held_right x one _ (ap (λ n. holds_cut n (map (later_cut (length first) count) other)) place ∙ held_later (length first) count (x - length first) other (remainder (x - length first) (kept_by second (x - length first) reach cut_there)))

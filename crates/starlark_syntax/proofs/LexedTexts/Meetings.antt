@@ -50,17 +50,17 @@ rising_end : (cuts : List Cut) (last : Cut) → IsRising (cuts ++ last ∷ []) �
 rising_end [] last rising = (omega arith, tt)
 rising_end (cut ∷ cuts) last rising = (before cuts rising.0, rising_end cuts last rising.1)
   where
-    before : (cuts : List Cut) → AllByRecursion (λ (behind : Cut). cut.at < behind.at) (cuts ++ last ∷ []) → cut.at ≤ last.at
+    before : (cuts : List Cut) → AllByRecursion (λ (remainder : Cut). cut.at < remainder.at) (cuts ++ last ∷ []) → cut.at ≤ last.at
     before [] all = omega (arith, all.0)
     before (next ∷ cuts) all = before cuts all.1
 
 -- those after one of the cuts lie beyond it
-pub beyond_one : (cuts : List Cut) (index : ℕ) (cut : Cut) → IsRising cuts → slice_get cuts index ≡ Some cut → AllByRecursion (λ (behind : Cut). cut.at < behind.at) (drop (index + 1) cuts)
-beyond_one cuts index cut rising found = let next : suc index ≡ index + 1 = omega arith in subst (λ n. AllByRecursion (λ (behind : Cut). cut.at < behind.at) (drop n cuts)) next (go cuts index rising found)
+pub beyond_one : (cuts : List Cut) (index : ℕ) (cut : Cut) → IsRising cuts → slice_get cuts index ≡ Some cut → AllByRecursion (λ (remainder : Cut). cut.at < remainder.at) (drop (index + 1) cuts)
+beyond_one cuts index cut rising found = let next : suc index ≡ index + 1 = omega arith in subst (λ n. AllByRecursion (λ (remainder : Cut). cut.at < remainder.at) (drop n cuts)) next (go cuts index rising found)
   where
-    go : (cuts : List Cut) (index : ℕ) → IsRising cuts → slice_get cuts index ≡ Some cut → AllByRecursion (λ (behind : Cut). cut.at < behind.at) (drop (suc index) cuts)
+    go : (cuts : List Cut) (index : ℕ) → IsRising cuts → slice_get cuts index ≡ Some cut → AllByRecursion (λ (remainder : Cut). cut.at < remainder.at) (drop (suc index) cuts)
     go [] index rising found = cc
-    go (first ∷ cuts) zero rising found = let same : first ≡ cut = cc in subst (λ (c : Cut). AllByRecursion (λ (behind : Cut). c.at < behind.at) cuts) same rising.0
+    go (first ∷ cuts) zero rising found = let same : first ≡ cut = cc in subst (λ (c : Cut). AllByRecursion (λ (remainder : Cut). c.at < remainder.at) cuts) same rising.0
     go (first ∷ cuts) (suc index) rising found = go cuts index rising.1 found
 
 pub one_is : (P : Cut → Type 0) (cuts : List Cut) (index : ℕ) (cut : Cut) → slice_get cuts index ≡ Some cut → AllByRecursion P cuts → P cut
@@ -94,7 +94,7 @@ held_drop cuts index cut at rising found beyond h = let next : suc index ≡ ind
     go [] index rising found h = cc
     go (first ∷ cuts) zero rising found h = let same : first ≡ cut = cc in held_rest first cuts at (omega (arith, beyond, ap (λ (c : Cut). c.at) same)) h
     go (first ∷ cuts) (suc index) rising found h =
-        let less : first.at < cut.at = one_is (λ (behind : Cut). first.at < behind.at) cuts index cut found rising.0 in
+        let less : first.at < cut.at = one_is (λ (remainder : Cut). first.at < remainder.at) cuts index cut found rising.0 in
         go cuts index rising.1 found (held_rest first cuts at (omega (arith, less, beyond)) h)
 
 held_moved : (from to : Cut) (at : ℕ) (cuts : List Cut) → holds_cut at cuts ≡ true → holds_cut (at - from.at + to.at) (map (moved_cut from to) cuts) ≡ true
@@ -114,7 +114,7 @@ rising_moved : (from to : Cut) (cuts : List Cut) → AllByRecursion (λ (cut : C
 rising_moved from to [] beyond rising = tt
 rising_moved from to (cut ∷ cuts) beyond rising = (all cuts rising.0, rising_moved from to cuts beyond.1 rising.1)
   where
-    all : (cuts : List Cut) → AllByRecursion (λ (behind : Cut). cut.at < behind.at) cuts → AllByRecursion (λ (behind : Cut). cut.at - from.at + to.at < behind.at) (map (moved_cut from to) cuts)
+    all : (cuts : List Cut) → AllByRecursion (λ (remainder : Cut). cut.at < remainder.at) cuts → AllByRecursion (λ (remainder : Cut). cut.at - from.at + to.at < remainder.at) (map (moved_cut from to) cuts)
     all [] h = tt
     all (next ∷ cuts) h = (omega (arith, h.0, beyond.0), all cuts h.1)
 
@@ -181,7 +181,7 @@ module _ (one other rest : Text) (clean_one : is_clean_cut one ≡ true) (clean_
       ∙ drop-append_seam (map shown_lexeme (without_closing (outcome one).lexemes)) (map shown_lexeme (map (moved (length one)) (outcome rest).lexemes))
       ∙ shown_later (length one) (outcome rest).lexemes
 
-  -- and behind the other text
+  -- and remainder the other text
   pub behind_other : (ls found : List (ℕ × Token × ℕ)) → map lexeme_view ls ≡ map shown_lexeme (outcome (one ++ rest)).lexemes → map lexeme_view found ≡ map shown_lexeme (without_closing (outcome other).lexemes)
       → map lexeme_view (found ++ map (moved_lexeme (length one) (length other)) (drop (count_of one) ls)) ≡ map shown_lexeme (outcome (other ++ rest)).lexemes
   behind_other ls found lexed front =
@@ -255,7 +255,7 @@ met_whole file text known ls cuts is_cut at index cut part lexed faultless is ar
     text_none : (outcome text).fault ≡ None
     text_none = ap (λ (t : Text). (outcome t).fault) (sym whole) ∙ (faults_join (take at text) (drop at text) clean_other).1 none
 
-    beyond : AllByRecursion (λ (behind : Cut). cut.at < behind.at) (drop (index + 1) cuts)
+    beyond : AllByRecursion (λ (remainder : Cut). cut.at < remainder.at) (drop (index + 1) cuts)
     beyond = beyond_one cuts index cut are.order found
 
     -- a cut of the known text, moved
@@ -267,7 +267,7 @@ met_whole file text known ls cuts is_cut at index cut part lexed faultless is ar
         let count : one_cut.lexemes - length (without_closing (outcome (take cut.at known)).lexemes) + length (without_closing (outcome (take at text)).lexemes) ≡ one_cut.lexemes - cut.lexemes + length part.lexemes = omega (arith, one_count, other_count) in
         subst (λ (t : Text). IsCutOf t (moved_cut cut there one_cut)) whole (rw (place, count) at later)
 
-    each_moved : (found : List Cut) → AllByRecursion (IsCutOf known) found → AllByRecursion (λ (behind : Cut). cut.at < behind.at) found → AllByRecursion (IsCutOf text) (map (moved_cut cut there) found)
+    each_moved : (found : List Cut) → AllByRecursion (IsCutOf known) found → AllByRecursion (λ (remainder : Cut). cut.at < remainder.at) found → AllByRecursion (IsCutOf text) (map (moved_cut cut there) found)
     each_moved [] each less = tt
     each_moved (next ∷ found) each less = (moved_is next each.0 less.0, each_moved found each.1 less.1)
 

@@ -31,7 +31,7 @@ some_cut text clean = go text (cut text clean).ends
     go [] h = cc
     go (b ∷ bs) h = omega arith
 
--- A kept cut of a text behind a clean cut, as one of both.
+-- A kept cut of a text remainder a clean cut, as one of both.
 pub cut_later : (first second : Text) (cut : Cut) → is_clean_cut first ≡ true → HasFirstMargin language second → IsCutOf second cut → IsCutOf (first ++ second) (later_cut (length first) (length (without_closing (outcome first).lexemes)) cut)
 cut_later first second cut clean margin is =
     let parts = kept_parts second cut.at is.is_kept in
@@ -76,7 +76,7 @@ rising_take zero cuts h = tt
 rising_take (suc n) [] h = tt
 rising_take (suc n) (cut ∷ cuts) h = (taken n cuts h.0, rising_take n cuts h.1)
   where
-    taken : (n : ℕ) (cuts : List Cut) → AllByRecursion (λ (behind : Cut). cut.at < behind.at) cuts → AllByRecursion (λ (behind : Cut). cut.at < behind.at) (take n cuts)
+    taken : (n : ℕ) (cuts : List Cut) → AllByRecursion (λ (remainder : Cut). cut.at < remainder.at) cuts → AllByRecursion (λ (remainder : Cut). cut.at < remainder.at) (take n cuts)
     taken zero cuts h = tt
     taken (suc n) [] h = tt
     taken (suc n) (next ∷ cuts) h = (h.0, taken n cuts h.1)
@@ -85,23 +85,23 @@ pub rising_both : (at : ℕ) (one other : List Cut) → IsRising one → IsRisin
 rising_both at [] other h k up above = k
 rising_both at (cut ∷ one) other h k up above = (all one h.0 other above, rising_both at one other h.1 k up.1 above)
   where
-    behind : (other : List Cut) → AllByRecursion (λ (behind : Cut). at < behind.at) other → AllByRecursion (λ (behind : Cut). cut.at < behind.at) other
-    behind [] above = tt
-    behind (next ∷ other) above = (omega (arith, above.0, up.0), behind other above.1)
+    remainder : (other : List Cut) → AllByRecursion (λ (remainder : Cut). at < remainder.at) other → AllByRecursion (λ (remainder : Cut). cut.at < remainder.at) other
+    remainder [] above = tt
+    remainder (next ∷ other) above = (omega (arith, above.0, up.0), remainder other above.1)
 
-    all : (one : List Cut) → AllByRecursion (λ (behind : Cut). cut.at < behind.at) one → (other : List Cut) → AllByRecursion (λ (behind : Cut). at < behind.at) other → AllByRecursion (λ (behind : Cut). cut.at < behind.at) (one ++ other)
-    all [] h other above = behind other above
+    all : (one : List Cut) → AllByRecursion (λ (remainder : Cut). cut.at < remainder.at) one → (other : List Cut) → AllByRecursion (λ (remainder : Cut). at < remainder.at) other → AllByRecursion (λ (remainder : Cut). cut.at < remainder.at) (one ++ other)
+    all [] h other above = remainder other above
     all (next ∷ one) h other above = (h.0, all one h.1 other above)
 
 pub rising_later : (len count : ℕ) (cuts : List Cut) → IsRising cuts → IsRising (map (later_cut len count) cuts)
 rising_later len count [] h = tt
 rising_later len count (cut ∷ cuts) h = (all cuts h.0, rising_later len count cuts h.1)
   where
-    all : (cuts : List Cut) → AllByRecursion (λ (behind : Cut). cut.at < behind.at) cuts → AllByRecursion (λ (behind : Cut). len + cut.at < behind.at) (map (later_cut len count) cuts)
+    all : (cuts : List Cut) → AllByRecursion (λ (remainder : Cut). cut.at < remainder.at) cuts → AllByRecursion (λ (remainder : Cut). len + cut.at < remainder.at) (map (later_cut len count) cuts)
     all [] h = tt
     all (next ∷ cuts) h = (omega (arith, h.0), all cuts h.1)
 
--- cuts of the text behind lie behind
+-- cuts of the text remainder lie remainder
 pub above_later : (text : Text) (len count : ℕ) (cuts : List Cut) → AllByRecursion (IsCutOf text) cuts → AllByRecursion (λ (cut : Cut). len < cut.at) (map (later_cut len count) cuts)
 above_later text len count [] each = tt
 above_later text len count (cut ∷ cuts) each =

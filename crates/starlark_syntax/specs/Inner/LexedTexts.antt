@@ -49,7 +49,7 @@ pub record IsCutOf (text : Text) (cut : Cut) : Type 0 where
 -- the cuts' offsets rise
 abbrev pub IsRising : List Cut → Type 0
 IsRising [] = ⊤
-IsRising (cut ∷ cuts) = AllByRecursion (λ (behind : Cut). cut.at < behind.at) cuts × IsRising cuts
+IsRising (cut ∷ cuts) = AllByRecursion (λ (other : Cut). cut.at < other.at) cuts × IsRising cuts
 
 -- whether one of the cuts has the offset `at`
 abbrev pub holds_cut : ℕ → List Cut → Bool

@@ -16,7 +16,7 @@ use Rattle.starlark_syntax.specs.PlainLexemes.{IsPlainIn, plain_view}
 use Rattle.starlark_syntax.specs.declared.lexer_state.FastPath.{FastPath}
 use Rattle.starlark_syntax.specs.declared.lexer_state.FastPath.TheVariants as fast
 use Rattle.starlark_syntax.specs.declared.lexer_state.LexerState.{LexerState}
-use Rattle.starlark_syntax.specs.declared.lexer_state.Looked.TheVariants as looked
+use Rattle.starlark_syntax.specs.declared.lexer_state.Lookahead.TheVariants as lookahead
 use Rattle.starlark_text.specs.declared.or_memory.OrMemory.{OrMemory}
 use Rattle.starlark_text.specs.declared.or_memory.OrMemory.TheVariants.{Error, Memory}
 use Rattle.starlark_syntax.specs.declared.plain_lexeme.PlainKind.TheVariants as kind
@@ -40,8 +40,8 @@ IsLexing state =
     (length state.text.now < 2 ^ 32)
     × (state.has_ended ≡ false → (state.yielded_count ≤ length (outcome state.text.now).lexemes)
     × IsAhead state.text.now state.reader state.reader.stage (left_in state) (outcome state.text.now).fault)
-    × GoesOn state.looked state.has_ended
-    × (state.has_ended ≡ false → IsLooked state.text.now state.reader state.looked_to state.looked)
+    × GoesOn state.lookahead state.has_ended
+    × (state.has_ended ≡ false → IsLooked state.text.now state.reader state.looked_to state.lookahead)
     × IsInReach state.text.now state.looked_to
 
 -- Lexing a text has begun, and nothing was looked at yet: the reader has all of any text ahead.
@@ -49,7 +49,7 @@ pub record IsBegun (text : Text) (file : SourceFile) (state : LexerState) : Type
   pub view : view_of state ≡ record { text = text; code_map = file; yielded_count = 0; has_ended = false; reads = 0 }
   pub ahead : (any : Text) → IsAhead any state.reader state.reader.stage (map shown_lexeme (outcome any).lexemes) (outcome any).fault
   pub reads : (any : Text) → HasRead any 0 state.reader
-  pub looked : state.looked ≡ looked.All
+  pub lookahead : state.lookahead ≡ lookahead.All
   pub place : state.looked_to ≡ 0
 
 -- What a call answers: the first lexeme that is left, or the exception of the fault where none is, or nothing where there is
@@ -89,7 +89,7 @@ plain_string begin opener end = record { kind = kind.String; begin = begin; end 
 -- A plain lexeme that was passed is an item, or there was out of memory in its place, which ends the lexer.
 abbrev pub HasTaken : LexerState → PlainLexeme → Option (Result (ℕ × Token × ℕ) (OrMemory (Diagnosed ErrorKind))) → LexerState → Type 0
 HasTaken old plain (Some (Ok lexeme)) new = (lexeme_view lexeme ≡ plain_view old.text.now plain) × (new ≡ old)
-HasTaken old plain (Some (Err Memory)) new = new ≡ record old { yielded_count = old.yielded_count - 1; has_ended = true; looked = looked.All }
+HasTaken old plain (Some (Err Memory)) new = new ≡ record old { yielded_count = old.yielded_count - 1; has_ended = true; lookahead = lookahead.All }
 HasTaken old plain answer new = ⊥
 
 -- An error that a lexer still has to say: out of memory in the place of an item.

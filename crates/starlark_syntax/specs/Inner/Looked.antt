@@ -12,8 +12,8 @@ use Rattle.starlark_reader.specs.Inner.Pending.{IsIdle, IsPending}
 use Rattle.starlark_reader.specs.Inner.Reader.{IsAtCode, IsInCode}
 use Rattle.starlark_reader.specs.Inner.Reads.{HasRead}
 use Rattle.starlark_reader.specs.declared.reader.Reader.{Reader}
-use Rattle.starlark_syntax.specs.declared.lexer_state.Looked.{Looked}
-use Rattle.starlark_syntax.specs.declared.lexer_state.Looked.TheVariants as looked
+use Rattle.starlark_syntax.specs.declared.lexer_state.Lookahead.{Lookahead}
+use Rattle.starlark_syntax.specs.declared.lexer_state.Lookahead.TheVariants as lookahead
 
 -- Lookahead that found nothing took at most six reads for each byte up to `to`, and `spare` reads fewer.
 abbrev pub HasSpared : (text : Text) (spare : ℕ) → Reader → (to : ℕ) → Type 0
@@ -35,11 +35,11 @@ looked_len is_text len = if is_text || len == 1 then len + 1 else len
 
 -- The reads of the lookahead that is still possible are within the bound. After two bytes of lookahead, failed lookahead
 -- reaches no further than the end of the word at the reader's offset, if that has two bytes or more and opens no text literal.
-abbrev pub IsLooked : Text → Reader → (to : ℕ) → Looked → Type 0
-IsLooked text reader to looked.Nothing = IsAtCode text reader × (to ≤ reader.at) × HasSpared text 0 reader to
-IsLooked text reader to looked.Front =
+abbrev pub IsLooked : Text → Reader → (to : ℕ) → Lookahead → Type 0
+IsLooked text reader to lookahead.Nothing = IsAtCode text reader × (to ≤ reader.at) × HasSpared text 0 reader to
+IsLooked text reader to lookahead.Front =
     IsAtCode text reader × (to ≤ length text + 1) × ((class : Class) (len : ℕ) → language_front (drop reader.at text) ≡ Some (class, len) → 2 ≤ len → is_text_opener class ≡ false → to ≤ reader.at + len) × HasSpared text 3 reader to
-IsLooked text reader to looked.All = HasSpared text 0 reader to
+IsLooked text reader to lookahead.All = HasSpared text 0 reader to
 
 -- Failed lookahead reaches at most one byte past the word at the reader's offset, and the reads of a literal's body are
 -- within the bound.
@@ -47,44 +47,44 @@ abbrev pub HasOpened : Text → Reader → (to : ℕ) → Type 0
 HasOpened text reader to = ((class : Class) (len : ℕ) → language_front (drop reader.at text) ≡ Some (class, len) → to ≤ reader.at + len + 1) × HasSpared text 5 reader to
 
 -- the fast path goes on only while no error has ended the lexer
-abbrev pub GoesOn : Looked → (has_ended : Bool) → Type 0
-GoesOn looked.All has_ended = ⊤
+abbrev pub GoesOn : Lookahead → (has_ended : Bool) → Type 0
+GoesOn lookahead.All has_ended = ⊤
 GoesOn it has_ended = has_ended ≡ false
 
 -- If no lookahead is spent, the reader is in code, and past all failed lookahead.
-abbrev pub IsFoundOut : Reader → (to : ℕ) → Looked → Type 0
-IsFoundOut reader to looked.Nothing = (to ≤ reader.at) × ((text : Text) → IsPending text reader.pending → IsAtCode text reader)
-IsFoundOut reader to looked.All = ⊤
+abbrev pub IsFoundOut : Reader → (to : ℕ) → Lookahead → Type 0
+IsFoundOut reader to lookahead.Nothing = (to ≤ reader.at) × ((text : Text) → IsPending text reader.pending → IsAtCode text reader)
+IsFoundOut reader to lookahead.All = ⊤
 IsFoundOut reader to it = ⊥
 
 -- If no lookahead is spent, the mode is code.
-abbrev pub IsFoundInCode : Reader → Looked → Type 0
-IsFoundInCode reader looked.Nothing = IsInCode reader
-IsFoundInCode reader looked.All = ⊤
+abbrev pub IsFoundInCode : Reader → Lookahead → Type 0
+IsFoundInCode reader lookahead.Nothing = IsInCode reader
+IsFoundInCode reader lookahead.All = ⊤
 IsFoundInCode reader it = ⊥
 
 -- If no lookahead is spent, the reader is past all failed lookahead.
-abbrev pub IsFoundFurther : Reader → (to : ℕ) → Looked → Type 0
-IsFoundFurther reader to looked.Nothing = to ≤ reader.at
-IsFoundFurther reader to looked.All = ⊤
+abbrev pub IsFoundFurther : Reader → (to : ℕ) → Lookahead → Type 0
+IsFoundFurther reader to lookahead.Nothing = to ≤ reader.at
+IsFoundFurther reader to lookahead.All = ⊤
 IsFoundFurther reader to it = ⊥
 
 -- If no lookahead is spent, the reader is past all failed lookahead, and the mode is code.
-abbrev pub IsFoundFurtherInCode : Reader → (to : ℕ) → Looked → Type 0
-IsFoundFurtherInCode reader to looked.Nothing = (to ≤ reader.at) × IsInCode reader
-IsFoundFurtherInCode reader to looked.All = ⊤
+abbrev pub IsFoundFurtherInCode : Reader → (to : ℕ) → Lookahead → Type 0
+IsFoundFurtherInCode reader to lookahead.Nothing = (to ≤ reader.at) × IsInCode reader
+IsFoundFurtherInCode reader to lookahead.All = ⊤
 IsFoundFurtherInCode reader to it = ⊥
 
 -- If no lookahead is spent, the reader is past all failed lookahead, and nothing is pending.
-abbrev pub IsFoundBehindMargin : Reader → (to : ℕ) → Looked → Type 0
-IsFoundBehindMargin reader to looked.Nothing = (to ≤ reader.at) × ((text : Text) → IsPending text reader.pending → IsIdle text reader.pending)
-IsFoundBehindMargin reader to looked.All = ⊤
-IsFoundBehindMargin reader to it = ⊥
+abbrev pub IsFoundAfterMargin : Reader → (to : ℕ) → Lookahead → Type 0
+IsFoundAfterMargin reader to lookahead.Nothing = (to ≤ reader.at) × ((text : Text) → IsPending text reader.pending → IsIdle text reader.pending)
+IsFoundAfterMargin reader to lookahead.All = ⊤
+IsFoundAfterMargin reader to it = ⊥
 
-abbrev pub is_nothing : Looked → Bool
-is_nothing looked.Nothing = true
+abbrev pub is_nothing : Lookahead → Bool
+is_nothing lookahead.Nothing = true
 is_nothing it = false
 
-abbrev pub is_front : Looked → Bool
-is_front looked.Front = true
+abbrev pub is_front : Lookahead → Bool
+is_front lookahead.Front = true
 is_front it = false

@@ -1,10 +1,10 @@
--- Signs at the front of a text, and where a text may be cut behind one.
+-- Signs at the front of a text, and where a text may be cut remainder one.
 use Rattle.std.proofs.Common.{◌≡◌, ℕ, ◌<◌, true, false, List, [], ◌∷◌, length, get_or, drop, refl, arith}
 use Rattle.std.specs.Str.{IsUtf8, IsCharBoundary}
 use Rattle.starlark_grammar.specs.Words.{is_sign, unsigned}
 use Rattle.std.proofs.lemmas.Str.{IsCharBoundary-after_ascii}
 
--- behind a sign
+-- remainder a sign
 pub unsigned_signed : (text : List ℕ) → is_sign (get_or text 0 0) ≡ true → drop 1 text ≡ unsigned text
 unsigned_signed [] signed = grind arith
 unsigned_signed (b ∷ bs) signed = rw signed refl

@@ -152,7 +152,7 @@ agree text h = front_agrees text (is_no_opener (take 3 text) (no_quote_front 3 t
 abbrev NoQuotes : List (Class × Text) → Type 0
 NoQuotes words = (front : FrontOf) → FindsNoQuotes front → (text rest : Text) → ReadsBy front text words rest → has_no_quote rest ≡ true → has_no_quote text ≡ true
 
--- a word and what is left behind it
+-- a word and what is left remainder it
 one_more : (front : FrontOf) → FindsNoQuotes front → (class : Class) → ((word : Text) → quote_fits class word ≡ true → has_no_quote word ≡ true)
     → (text word more : Text) → text ≡ word ++ more → front text ≡ Some (class, length word) → has_no_quote more ≡ true → has_no_quote text ≡ true
 one_more front finds class bare text word more cut found h =
@@ -166,23 +166,23 @@ skipped_behind [] front finds text rest reads h = subst (λ (t : Text). has_no_q
 skipped_behind (piece ∷ pieces) front finds text rest reads h =
     one_more front finds Skipped (λ word k. k) text piece reads.0 reads.1 reads.2 (skipped_behind pieces front finds reads.0 rest reads.3 h)
 
-all_before : (before behind : List Text) (name : Text) → NoQuotes (map skipped before ++ (Identifier, name) ∷ map skipped behind)
-all_before [] behind name front finds text rest reads h =
-    one_more front finds Identifier (λ word k. k) text name reads.0 reads.1 reads.2 (skipped_behind behind front finds reads.0 rest reads.3 h)
-all_before (piece ∷ before) behind name front finds text rest reads h =
-    one_more front finds Skipped (λ word k. k) text piece reads.0 reads.1 reads.2 (all_before before behind name front finds reads.0 rest reads.3 h)
+all_before : (before remainder : List Text) (name : Text) → NoQuotes (map skipped before ++ (Identifier, name) ∷ map skipped remainder)
+all_before [] remainder name front finds text rest reads h =
+    one_more front finds Identifier (λ word k. k) text name reads.0 reads.1 reads.2 (skipped_behind remainder front finds reads.0 rest reads.3 h)
+all_before (piece ∷ before) remainder name front finds text rest reads h =
+    one_more front finds Skipped (λ word k. k) text piece reads.0 reads.1 reads.2 (all_before before remainder name front finds reads.0 rest reads.3 h)
 
 -- A reading of a text without a quote is one by whatever finds the same words in such texts.
 reads_too : (one other : FrontOf) → ((text : Text) → has_no_quote text ≡ true → one text ≡ other text) → (text rest : Text) (words : List (Class × Text)) → has_no_quote text ≡ true → ReadsBy one text words rest → ReadsBy other text words rest
 reads_too one other same text rest [] h reads = reads
 reads_too one other same text rest (word ∷ words) h reads =
-    let behind : has_no_quote reads.0 ≡ true = (no_quote_parts word.1 reads.0 (subst (λ (t : Text). has_no_quote t ≡ true) reads.1 h)).1 in
-    (reads.0, reads.1, sym (same text h) ∙ reads.2, reads_too one other same reads.0 rest words behind reads.3)
+    let remainder : has_no_quote reads.0 ≡ true = (no_quote_parts word.1 reads.0 (subst (λ (t : Text). has_no_quote t ≡ true) reads.1 h)).1 in
+    (reads.0, reads.1, sym (same text h) ∙ reads.2, reads_too one other same reads.0 rest words remainder reads.3)
 
 is_one_too : (one other : FrontOf) → FindsNoQuotes one → ((text : Text) → has_no_quote text ≡ true → one text ≡ other text) → (text name : Text) → IsOneIdentifierBy one text name → IsOneIdentifierBy other text name
 is_one_too one other finds same text name is =
-    let none : has_no_quote text ≡ true = all_before is.before is.behind name one finds text [] is.words refl in
-    record { before = is.before; behind = is.behind; words = reads_too one other same text [] _ none is.words }
+    let none : has_no_quote text ≡ true = all_before is.before is.remainder name one finds text [] is.words refl in
+    record { before = is.before; remainder = is.remainder; words = reads_too one other same text [] _ none is.words }
 
 -- A text is one identifier by both tables, or by none.
 pub identifiers_stay : (text name : Text) → IsOneIdentifier text name ↔ IsOneIdentifierBy earlier_front text name

@@ -1,4 +1,4 @@
--- Behind a skipped piece and behind an identifier a text may be cut, since both are ASCII.
+-- AfterComments a skipped piece and remainder an identifier a text may be cut, since both are ASCII.
 use Rattle.std.proofs.Common.{◌≡◌, ℕ, zero, suc, ◌<◌, ◌≤◌, ◌⊎◌, Bool, true, false, cond, nat_eq, List, [], ◌∷◌, length, get_or, take, refl, ap, subst, Option, Some, None, unwrap_or, inl, inr, arith, add-one}
 use Rattle.std.proofs.lemmas.Bool.{and_parts, eqb-true, ltb-true, lt-ltb}
 use Rattle.std.proofs.lemmas.Slice.Eq.{bytes_eq-Decides}
@@ -65,11 +65,11 @@ listed_are_ascii (row ∷ rows) ascii word class h =
 
 -- a list in front of other tables
 list_first : (rows : List (Text × Class)) → list_all (λ row. list_all is_ascii row.0) rows ≡ true → (word : Text) (further : Option Class) → (IsBare further → AllAscii word) → IsBare (option_or (lookup (bytes_eq word) rows) further) → AllAscii word
-list_first rows ascii word further behind bare = by_row (lookup (bytes_eq word) rows) refl bare
+list_first rows ascii word further remainder bare = by_row (lookup (bytes_eq word) rows) refl bare
   where
     by_row : (found : Option Class) → lookup (bytes_eq word) rows ≡ found → IsBare (option_or found further) → AllAscii word
     by_row (Some class) e h = listed_are_ascii rows ascii word class e
-    by_row None e h = behind h
+    by_row None e h = remainder h
 
 -- the patterns
 of_two : (blank comment tabs name decimal hexadecimal octal binary float pointed : Bool)

@@ -1,4 +1,4 @@
--- A body behind a run.
+-- A body remainder a run.
 use Rattle.std.proofs.Math.Utf8.{encode, encodes, scalar, scalars, scalar_cases}
 use Rattle.std.proofs.Common.{◌≡◌, ◌⊎◌, inl, inr, ℕ, ◌+◌, ◌≤◌, ◌<◌, ◌==◌, ◌&&◌, ◌||◌, Bool, true, false, not, nat_eq, List, [], ◌∷◌, ◌++◌, length, take, drop, refl, ap, ◌∙◌, sym, subst, one-add, arith}
 use Rattle.std.proofs.lemmas.Bool.{and_parts, not-true}
@@ -54,7 +54,7 @@ run_item literal b bs h =
     let other = others literal b h in
     rw (stays literal b bs other.quote, other.line, other.return, other.backslash, other.brace) refl
 
--- a front, and one of what is left behind it
+-- a front, and one of what is left remainder it
 pub front_after : (literal : Literal) (text : Text) (n m : ℕ) (first second : Text) → IsFront literal text n first → IsFront literal (drop n text) m second → IsFront literal text (n + m) (first ++ second)
 front_after literal text n m first second front more =
     let rest : drop (n + m) text ≡ drop m (drop n text) = drop-sum n m text in
@@ -91,9 +91,9 @@ characters_front literal (c ∷ cs) rest s all =
     let parts = and_parts (scalar c) (scalars cs) s in
     let bytes = and_parts (list_all (is_in_run literal) (encode c)) (list_all (is_in_run literal) (encodes cs)) (sym (list_all-append (is_in_run literal) (encode c) (encodes cs)) ∙ all) in
     let nested : (encode c ++ encodes cs) ++ rest ≡ encode c ++ (encodes cs ++ rest) = append_assoc (encode c) (encodes cs) rest in
-    let behind : drop (length (encode c)) (encode c ++ (encodes cs ++ rest)) ≡ encodes cs ++ rest = drop_at (encode c) (encodes cs ++ rest) (length (encode c)) refl in
+    let remainder : drop (length (encode c)) (encode c ++ (encodes cs ++ rest)) ≡ encodes cs ++ rest = drop_at (encode c) (encodes cs ++ rest) (length (encode c)) refl in
     let first = character_front literal c (encodes cs ++ rest) (in_range (scalar_cases c parts.0)) bytes.0 in
-    let more = subst (λ (t : Text). IsFront literal t (length (encodes cs)) (encodes cs)) (sym behind) (characters_front literal cs rest parts.1 bytes.1) in
+    let more = subst (λ (t : Text). IsFront literal t (length (encodes cs)) (encodes cs)) (sym remainder) (characters_front literal cs rest parts.1 bytes.1) in
     let whole = front_after literal (encode c ++ (encodes cs ++ rest)) (length (encode c)) (length (encodes cs)) (encode c) (encodes cs) first more in
     subst (λ n. IsFront literal ((encode c ++ encodes cs) ++ rest) n (encode c ++ encodes cs)) (sym (length-append (encode c) (encodes cs)))
     (subst (λ (t : Text). IsFront literal t (length (encode c) + length (encodes cs)) (encode c ++ encodes cs)) (sym nested) whole)
@@ -125,9 +125,9 @@ pub run_front : (literal : Literal) (text run : Text) → IsUtf8 text → run �
 run_front literal text run utf8 same =
     bytes_front literal text run (prefix_len (is_in_run literal) text) utf8 (run_edge literal text) same (subst (λ (t : Text). list_all (is_in_run literal) t ≡ true) (sym same) (run_all (is_in_run literal) text))
 
--- a front, and the run behind it
+-- a front, and the run remainder it
 pub front_run : (literal : Literal) (text rest : Text) (count : ℕ) (denoted run : Text) → IsUtf8 text → IsCharBoundary text count → IsFront literal text count denoted → rest ≡ drop count text → run ≡ take (prefix_len (is_in_run literal) rest) rest
     → IsFront literal text (count + length run) (denoted ++ run)
-front_run literal text rest count denoted run utf8 boundary front behind same =
+front_run literal text rest count denoted run utf8 boundary front remainder same =
     front_after literal text count (length run) denoted run front
-    (run_front literal (drop count text) run (IsUtf8-drop text count utf8 boundary) (same ∙ ap (λ (t : Text). take (prefix_len (is_in_run literal) t) t) behind))
+    (run_front literal (drop count text) run (IsUtf8-drop text count utf8 boundary) (same ∙ ap (λ (t : Text). take (prefix_len (is_in_run literal) t) t) remainder))

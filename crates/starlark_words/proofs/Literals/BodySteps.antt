@@ -8,7 +8,7 @@ use Rattle.starlark_words.specs.declared.items.Value.{Value}
 use Rattle.starlark_words.specs.declared.body.LiteralValue.{LiteralValue}
 use Rattle.starlark_words.specs.declared.body.LiteralValue.TheVariants as read
 use Rattle.starlark_words.specs.Inner.Literals.{IsCharacters, Takes, holds_text}
-use Rattle.starlark_grammar.proofs.Lists.{drop-behind, drop-sum}
+use Rattle.starlark_grammar.proofs.Lists.{drop-remainder, drop-sum}
 use Rattle.starlark_grammar.proofs.Literals.Bodies.{FoundFits, found_fits}
 
 -- bytes that are still to pass may as well be dropped
@@ -34,14 +34,14 @@ unfolding body_from body_at found_at
 body_goes literal [] item e = absurd (goes_none item _ e)
 body_goes literal (b ∷ bs) item e =
     let fits = item_fits literal (b ∷ bs) item e in
-    rw (e, drop-behind item.len b bs fits.0) (ap (more_body item) (dropped literal (item.len - 1) bs))
+    rw (e, drop-remainder item.len b bs fits.0) (ap (more_body item) (dropped literal (item.len - 1) bs))
 
 pub body_stops : (literal : Literal) (text : Text) (stop : Stop) → found_at literal text ≡ Stops stop → body_at literal text ≡ record { items = []; stop = stop }
 unfolding body_from body_at found_at
 body_stops literal [] stop e = grind (arith, e)
 body_stops literal (b ∷ bs) stop e = rw e refl
 
--- So many bytes at the front of a body, what they denote, and the body that goes on behind them.
+-- So many bytes at the front of a body, what they denote, and the body that goes on remainder them.
 pub record IsFront (literal : Literal) (text : Text) (count : ℕ) (denoted : Text) : Type 0 where
   pub inside : count ≤ length text
   pub len : count + body_len (body_at literal (drop count text)) ≡ body_len (body_at literal text)

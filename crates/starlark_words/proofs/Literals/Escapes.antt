@@ -17,40 +17,40 @@ with_first (x ∷ rest) b h = ap (λ found. unwrap_or found 0 ∷ rest) h
 pub escape_end : (kind : Kind) (text : Text) → slice_get text 0 ≡ None → escape kind text ≡ broken 1 text
 unfolding escape
 escape_end kind [] h = refl
-escape_end kind (b ∷ behind) h = grind arith
+escape_end kind (b ∷ remainder) h = grind arith
 
-pub escape_feed : (kind : Kind) (behind : Text) → escape kind (10 ∷ behind) ≡ goes 2 []
+pub escape_feed : (kind : Kind) (remainder : Text) → escape kind (10 ∷ remainder) ≡ goes 2 []
 unfolding escape
-escape_feed kind behind = refl
+escape_feed kind remainder = refl
 
-pub escape_return : (kind : Kind) (behind : Text) → escape kind (13 ∷ behind) ≡ escaped_newline behind
+pub escape_return : (kind : Kind) (remainder : Text) → escape kind (13 ∷ remainder) ≡ escaped_newline remainder
 unfolding escape
-escape_return kind behind = refl
+escape_return kind remainder = refl
 
-pub escape_x : (kind : Kind) (behind : Text) → escape kind (120 ∷ behind) ≡ hexadecimal 2 (is_of_bytes kind) behind
+pub escape_x : (kind : Kind) (remainder : Text) → escape kind (120 ∷ remainder) ≡ hexadecimal 2 (is_of_bytes kind) remainder
 unfolding escape
-escape_x kind behind = refl
+escape_x kind remainder = refl
 
-pub escape_u : (kind : Kind) (behind : Text) → escape kind (117 ∷ behind) ≡ hexadecimal 4 false behind
+pub escape_u : (kind : Kind) (remainder : Text) → escape kind (117 ∷ remainder) ≡ hexadecimal 4 false remainder
 unfolding escape
-escape_u kind behind = refl
+escape_u kind remainder = refl
 
-pub escape_long : (kind : Kind) (behind : Text) → escape kind (85 ∷ behind) ≡ hexadecimal 8 false behind
+pub escape_long : (kind : Kind) (remainder : Text) → escape kind (85 ∷ remainder) ≡ hexadecimal 8 false remainder
 unfolding escape
-escape_long kind behind = refl
+escape_long kind remainder = refl
 
-pub escape_octal : (kind : Kind) (b : ℕ) (behind : Text) → is_octal_digit b ≡ true → escape kind (b ∷ behind) ≡ octal (is_of_bytes kind) (b ∷ behind)
+pub escape_octal : (kind : Kind) (b : ℕ) (remainder : Text) → is_octal_digit b ≡ true → escape kind (b ∷ remainder) ≡ octal (is_of_bytes kind) (b ∷ remainder)
 unfolding escape
-escape_octal kind b behind h = grind (arith, nat_tests)
+escape_octal kind b remainder h = grind (arith, nat_tests)
 
 unequal : (a b : ℕ) → (a ≡ b → ⊥) → (a == b) ≡ false
 unequal a b h = false_from_ne_true _ (λ e. h (eqb-true a b e))
 
 -- any other byte than those above
-escape_simple : (kind : Kind) (b : ℕ) (behind : Text) → is_octal_digit b ≡ false → (b ≡ 10 → ⊥) → (b ≡ 13 → ⊥) → (b ≡ 120 → ⊥) → (b ≡ 117 → ⊥) → (b ≡ 85 → ⊥)
-    → escape kind (b ∷ behind) ≡ simple (lookup (nat_eq b) simple_escapes) (first_character (b ∷ behind))
+escape_simple : (kind : Kind) (b : ℕ) (remainder : Text) → is_octal_digit b ≡ false → (b ≡ 10 → ⊥) → (b ≡ 13 → ⊥) → (b ≡ 120 → ⊥) → (b ≡ 117 → ⊥) → (b ≡ 85 → ⊥)
+    → escape kind (b ∷ remainder) ≡ simple (lookup (nat_eq b) simple_escapes) (first_character (b ∷ remainder))
 unfolding escape
-escape_simple kind b behind octal feed return x u long = rw (unequal b 10 feed, unequal b 13 return, unequal b 120 x, unequal b 117 u, unequal b 85 long, octal) refl
+escape_simple kind b remainder octal feed return x u long = rw (unequal b 10 feed, unequal b 13 return, unequal b 120 x, unequal b 117 u, unequal b 85 long, octal) refl
 
 pub escape_other : (kind : Kind) (text : Text) (b : ℕ) → slice_get text 0 ≡ Some b → is_octal_digit b ≡ false → (b ≡ 10 → ⊥) → (b ≡ 13 → ⊥) → (b ≡ 120 → ⊥) → (b ≡ 117 → ⊥) → (b ≡ 85 → ⊥)
     → escape kind text ≡ simple (lookup (nat_eq b) simple_escapes) (first_character text)

@@ -74,7 +74,7 @@ unfolding found_at
 at_plain literal [] b first stays line other plain braced = grind arith
 at_plain literal (x ∷ bs) b first stays line other plain braced = rw (stays, first_is x b bs first, line, unequal b 13 other, unequal b 92 plain, braced) refl
 
--- a raw backslash, by the text behind it
+-- a raw backslash, by the text remainder it
 pub raw_end : (kind : Kind) (quote : Quote) (text : Text) → slice_get text 0 ≡ None → raw_pair kind quote text ≡ Stops Ended
 unfolding raw_pair
 raw_end kind quote [] h = refl
@@ -90,6 +90,6 @@ unfolding raw_pair
 raw_kept kind quote [] b first keeps = grind arith
 raw_kept kind quote (x ∷ bs) b first keeps = rw (first_is x b bs first, keeps) refl
 
--- a backslash and what stands behind it, cut behind so many bytes
-pub cut_behind : (text behind : Text) (len : ℕ) → text ≡ 92 ∷ behind → take (1 + len) text ≡ 92 ∷ take len behind
-cut_behind text behind len same = rw (same, one-add) refl
+-- a backslash and what stands remainder it, cut remainder so many bytes
+pub cut_behind : (text remainder : Text) (len : ℕ) → text ≡ 92 ∷ remainder → take (1 + len) text ≡ 92 ∷ take len remainder
+cut_behind text remainder len same = rw (same, one-add) refl

@@ -31,7 +31,7 @@ AsciiFront text n = (n ≤ length text) × (is_plain (take n text) ≡ true)
 ascii_edge : (text : Text) (n : ℕ) → AsciiFront text n → IsUtf8 text → IsCharBoundary text n
 ascii_edge text n front utf8 = plain_end text n utf8 front.0 front.1
 
-broken_edge : (text : Text) (good : ℕ) (behind : Text) → EdgeAt text (broken good behind)
+broken_edge : (text : Text) (good : ℕ) (remainder : Text) → EdgeAt text (broken good remainder)
 broken_edge text good [] = tt
 broken_edge text good (b ∷ bs) = tt
 
@@ -58,11 +58,11 @@ octal_edge is_byte bs =
     let plain : is_plain (take (1 + n) (92 ∷ bs)) ≡ true = subst (λ k. is_plain (take k (92 ∷ bs)) ≡ true) (sym one) run.1 in
     numbered_edge (92 ∷ bs) (1 + n) is_byte (digits_value 8 (take n bs)) (omega (arith, inside), plain)
 
-escaped_feed_edge : (behind : Text) → EdgeAt (92 ∷ 13 ∷ behind) (escaped_newline behind)
+escaped_feed_edge : (remainder : Text) → EdgeAt (92 ∷ 13 ∷ remainder) (escaped_newline remainder)
 escaped_feed_edge [] = tt
 escaped_feed_edge (b ∷ bs) = when (EdgeAt (92 ∷ 13 ∷ b ∷ bs)) (b == byte "\n") _ _ (λ e. ascii_edge (92 ∷ 13 ∷ b ∷ bs) 3 (omega arith, rw (letter_small b (byte "\n") refl e) refl)) (broken_edge (92 ∷ 13 ∷ b ∷ bs) 2 (b ∷ bs))
 
--- a byte of ASCII and the character behind it
+-- a byte of ASCII and the character remainder it
 pair_edge : (b : ℕ) (bs : Text) → is_ascii b ≡ true → IsUtf8 (b ∷ bs) → IsCharBoundary (b ∷ bs) (1 + length (first_character bs))
 pair_edge b bs small utf8 =
     let one = ascii_edge (b ∷ bs) 1 (omega arith, rw small refl) utf8 in

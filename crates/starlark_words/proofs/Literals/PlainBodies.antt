@@ -47,7 +47,7 @@ single_by_second is_raw quote [] h = refl
 single_by_second is_raw quote (a ∷ []) h = both_false (nat_eq (quote_byte quote) a)
 single_by_second is_raw quote (a ∷ b ∷ rest) h = rw (flipped (quote_byte quote) b h) (both_false (nat_eq (quote_byte quote) a))
 
--- nor behind a byte of a run
+-- nor remainder a byte of a run
 pub single_by_first : (kind : LiteralKind) (is_raw : Bool) (quote : Quote) (text : Text) → 0 < prefix_len (is_in_run (single_literal kind is_raw quote)) text → (opening_of is_raw quote text).is_triple ≡ false
 single_by_first kind is_raw quote [] some = absurd (omega (arith, some))
 single_by_first kind is_raw quote (b ∷ bs) some = go (is_in_run (single_literal kind is_raw quote) b) refl some
@@ -67,7 +67,7 @@ plain_body kind is_raw quote text run utf8 same boundary closes single =
     let end = front_stops literal text (length run) run Closing (run_front literal text run utf8 same) (closed_by kind is_raw quote (drop (length run) text) (ap (λ b. b == quote_byte quote) here ∙ closes)) in
     record { single = single; boundary = boundary; len = sym end.0; value = sym end.1 ∙ same ∙ ap (λ n. take n text) (sym whole); stop = sym end.2 }
 
--- the same by what was looked at: the run, the byte behind it, and where it is empty the second byte
+-- the same by what was looked at: the run, the byte remainder it, and where it is empty the second byte
 pub plain_run : (kind : LiteralKind) (is_raw : Bool) (quote : Quote) (text run : Text) → run ≡ take (prefix_len (is_in_run (single_literal kind is_raw quote)) text) text → (length run ≡ 0 → (get_or text 1 0 == quote_byte quote) ≡ false) → (opening_of is_raw quote text).is_triple ≡ false
 plain_run kind is_raw quote text run same second = go (length run) refl
   where
@@ -132,7 +132,7 @@ chunk_closed opening (b ∷ bs) closing = rw closing refl
 pub closed_by_three : (opening : Opening) (front text : Text) → closes (fstring_literal opening) front ≡ true → front ≡ take 3 text → found_at (fstring_literal opening) text ≡ Stops Closing
 closed_by_three opening front text closing read = chunk_closed opening text (sym (closes_by_three (fstring_literal opening) text) ∙ ap (closes (fstring_literal opening)) (sym read) ∙ closing)
 
--- and so does a brace with no other behind it
+-- and so does a brace with no other remainder it
 opened_by : (opening : Opening) (b : ℕ) (rest : Text) → closes (fstring_literal opening) (123 ∷ b ∷ rest) ≡ false → (123 == b) ≡ false → found_at (fstring_literal opening) (123 ∷ b ∷ rest) ≡ Stops OpeningBrace
 unfolding found_at
 opened_by opening b rest stays other = rw (stays, other) refl

@@ -37,8 +37,8 @@ short_by_two : (literal : Literal) (front : Text) (b : ℕ) (found : Option ℕ)
 short_by_two literal front b None first second plain is ascii = tt
 short_by_two literal front b (Some value) first second plain is ascii = λ text read.
     let begins : slice_get text 0 ≡ Some 92 = at_front text text front (Some 92) read refl (sym first) in
-    let behind : slice_get (drop 1 text) 0 ≡ Some b = behind_one text ∙ sym (second_by_three text) ∙ sym (ap (λ (t : Text). slice_get t 1) read) ∙ second in
-    at_escape literal text 92 begins refl plain ∙ escape_short literal.kind (drop 1 text) b value behind (sym is) ∙ ap (goes 2) (sym (encode_ascii value ascii))
+    let remainder : slice_get (drop 1 text) 0 ≡ Some b = behind_one text ∙ sym (second_by_three text) ∙ sym (ap (λ (t : Text). slice_get t 1) read) ∙ second in
+    at_escape literal text 92 begins refl plain ∙ escape_short literal.kind (drop 1 text) b value remainder (sym is) ∙ ap (goes 2) (sym (encode_ascii value ascii))
 
 -- an escape of two bytes is told by them
 pub short_by_three : (literal : Literal) (front : Text) (found : Option ℕ) → 2 ≤ length front → get_or front 0 0 ≡ 92 → literal.opening.is_raw ≡ false → found ≡ lookup (nat_eq (get_or front 1 0)) simple_escapes

@@ -60,7 +60,7 @@ no_digit : (word : Text) → begins is_ascii_digit word ≡ false → begins_wit
 no_digit [] h = refl
 no_digit (b ∷ word) h = rw h refl
 
--- a point with no digit behind it begins no number
+-- a point with no digit remainder it begins no number
 point_alone : (word : Text) → begins is_ascii_digit word ≡ false → is_pointed (46 ∷ word) ≡ false
 point_alone word h = and_false (is_fraction (46 ∷ word)) (begins_with_digit word) (no_digit word h)
 
@@ -100,7 +100,7 @@ is_empty : Text → Bool
 is_empty [] = true
 is_empty (b ∷ word) = false
 
--- whether no byte stands behind the first that is in no name
+-- whether no byte stands remainder the first that is in no name
 abbrev ends_at_other : Text → Bool
 ends_at_other [] = true
 ends_at_other (b ∷ word) = cond (is_in_name b) (ends_at_other word) (is_empty word)

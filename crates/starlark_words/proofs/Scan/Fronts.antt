@@ -19,7 +19,7 @@ front_triple class_of b c d rest h = rw (front_double (λ word. class_of (b ∷ 
 pub take_behind : (c : ℕ) (rest : Text) (m n : ℕ) → m ≡ suc n → take m (c ∷ rest) ≡ c ∷ take n rest
 take_behind c rest m n e = rw e refl
 
--- a run of so many bytes behind the first, and perhaps one byte more
+-- a run of so many bytes remainder the first, and perhaps one byte more
 abbrev pub run_and : {C : Type 0} → Option C → C → ℕ → Option (C × ℕ)
 run_and (Some class) other n = Some (class, n + 2)
 run_and None other n = Some (other, n + 1)

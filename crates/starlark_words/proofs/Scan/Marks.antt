@@ -10,7 +10,7 @@ use Rattle.starlark_grammar.specs.declared.class.Class.{Class}
 use Rattle.starlark_grammar.specs.Front.{longer, longest_front}
 use Rattle.starlark_words.proofs.Scan.Listed.{all_pass, lookup_fails}
 use Rattle.starlark_words.proofs.Scan.Fronts.{front_triple}
-use Rattle.starlark_grammar.proofs.Words.Tables.{class_in-behind, class_in-listed}
+use Rattle.starlark_grammar.proofs.Words.Tables.{class_in-remainder, class_in-listed}
 
 -- the class of a mark
 abbrev pub mark_of : Text → Option Class
@@ -29,7 +29,7 @@ line_ends_are_short = refl
 
 -- the class of a mark: that of a line end, or that of a symbol
 pub mark_is : (word : Text) → mark_of word ≡ option_or (lookup (bytes_eq word) line_ends) (lookup (bytes_eq word) symbols)
-mark_is word = class_in-behind line_ends (listed symbols) word ∙ ap (option_or _) (class_in-listed symbols word)
+mark_is word = class_in-remainder line_ends (listed symbols) word ∙ ap (option_or _) (class_in-listed symbols word)
 
 no_longer_mark : (a b c d : ℕ) (word : Text) → mark_of (a ∷ b ∷ c ∷ d ∷ word) ≡ None
 no_longer_mark a b c d word =

@@ -77,7 +77,7 @@ exponent_some (b ∷ rest) h =
     go sign zero = refl
     go sign (suc digits) = ap plain (omega arith)
 
--- what stands behind the digits begins with none
+-- what stands remainder the digits begins with none
 no_more_digits : (text : Text) → begins is_ascii_digit (after_digits text) ≡ false
 no_more_digits [] = refl
 no_more_digits (b ∷ rest) = go (is_ascii_digit b) refl (no_more_digits rest)
@@ -90,7 +90,7 @@ no_more_digits (b ∷ rest) = go (is_ascii_digit b) refl (no_more_digits rest)
 pub behind_digit : (b : ℕ) (text : Text) → is_ascii_digit b ≡ true → after_digits (b ∷ text) ≡ after_digits text
 behind_digit b text e = rw (e, one-add) refl
 
--- Behind digits: a class for the digits alone, and one for digits and what follows them.
+-- AfterComments digits: a class for the digits alone, and one for digits and what follows them.
 module _ {C : Type 0} (alone with_end : C) (ends : Text → Bool) where
   digits_and_end : Text → Option C
   digits_and_end word = cond (list_all is_ascii_digit word) (Some alone) (if_passes with_end ends (after_digits word))
@@ -426,7 +426,7 @@ number_is_long (b ∷ c ∷ rest) h = go (is_ascii_digit b) refl h
         float_end (b ∷ c ∷ rest) ∙ rw (fraction_some (b ∷ c ∷ rest) parts.0) refl in
         rw none (omega (arith, digits, float))
 
--- so many digits of a base, behind the two bytes that say which
+-- so many digits of a base, remainder the two bytes that say which
 abbrev pub if_based : Class → ℕ → Option (Class × ℕ)
 if_based class zero = None
 if_based class (suc digits) = Some (class, suc digits + 2)
@@ -448,7 +448,7 @@ module _ (class : Class) (test : ℕ → Bool) (letter : ℕ) (known : (word : T
       go zero = refl
       go (suc n) = ap (λ m. Some (class, m)) (omega arith)
 
--- the digits behind a base
+-- the digits remainder a base
 abbrev pub BaseClaim : ℕ → ℕ → Class → (ℕ → Bool) → Type 0
 BaseClaim lower upper class test = (text : Text) → has_base lower upper text ≡ true → longest_front (class_in based) text ≡ if_based class (prefix_len test (drop 2 text))
 
@@ -537,7 +537,7 @@ pub if_based_word : (class : Class) (n : ℕ) → option_map word_view (if n == 
 if_based_word class zero = refl
 if_based_word class (suc n) = rw eqb-suc-zero refl
 
--- a digit behind which no number goes on
+-- a digit remainder which no number goes on
 
 -- a byte that is no digit, no point, and no letter that numbers have
 abbrev ends_digit : ℕ → Bool

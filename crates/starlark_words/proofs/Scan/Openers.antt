@@ -24,7 +24,7 @@ prefixes_are_short : all_pass (λ word. nat_le (prefix_len is_in_name word) 2) o
 unfolding openers
 prefixes_are_short = refl
 
--- whether a quote stands behind the name that a word begins with
+-- whether a quote stands remainder the name that a word begins with
 abbrev is_quoted : Text → Bool
 is_quoted word = is_quote (get_or word (prefix_len is_in_name word) 0)
 
@@ -32,7 +32,7 @@ openers_are_quoted : all_pass is_quoted openers ≡ true
 unfolding openers
 openers_are_quoted = refl
 
--- a name and the byte behind it begin with the same name
+-- a name and the byte remainder it begin with the same name
 name_of_opener : (text : Text) → prefix_len is_in_name (take (prefix_len is_in_name text + 1) text) ≡ prefix_len is_in_name text
 name_of_opener [] = refl
 name_of_opener (b ∷ rest) = go (is_in_name b) refl (name_of_opener rest)

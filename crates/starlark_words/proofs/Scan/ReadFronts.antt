@@ -71,7 +71,7 @@ mark_by_three (a ∷ []) = refl
 mark_by_three (a ∷ b ∷ []) = refl
 mark_by_three (a ∷ b ∷ c ∷ rest) = front_three a b c [] ∙ sym (front_three a b c rest)
 
--- a name has a first byte, behind which its run goes on
+-- a name has a first byte, remainder which its run goes on
 pub name_some : (text : Text) → begins is_name_start text ≡ true → 1 ≤ length text
 name_some [] h = cc
 name_some (b ∷ rest) h = omega arith

@@ -88,7 +88,7 @@ pub longer_by_none : {C : Type 0} (front : Option (C × ℕ)) → longer_by 0 fr
 longer_by_none None = refl
 longer_by_none (Some front) = ap (λ k. Some (front.0, k)) (omega arith)
 
--- Behind a first byte with which no word ends, the words are those that go on.
+-- AfterComments a first byte with which no word ends, the words are those that go on.
 pub front_into : {C : Type 0} (class_of next : Text → Option C) (b : ℕ) (rest : Text) → ((word : Text) → class_of (b ∷ word) ≡ next word) → class_of [] ≡ None → front_on class_of (b ∷ rest) ≡ longer_by 1 (front_on next rest)
 unfolding front_on
 front_into {C} class_of next b rest h empty = rw (front_same (λ word. class_of (b ∷ word)) next rest h, empty) (go (front_on next rest))

@@ -1,4 +1,4 @@
--- Marks of one byte or two that the byte behind them makes no longer.
+-- Marks of one byte or two that the byte remainder them makes no longer.
 use Rattle.std.proofs.Common.{◌≡◌, ◌≢◌, ℕ, ◌<◌, Bool, true, false, not, ◌&&◌, ◌||◌, ◌==◌, nat_eq, [], ◌∷◌, get_or, refl, sym, subst, ap, ◌∙◌, Option, None, Some}
 use Rattle.std.proofs.lemmas.Bool.{agree_below, and_parts, both_ways, not-true, eq-eqb, eqb-true}
 use Rattle.std.specs.Char.{is_ascii_digit}
@@ -138,7 +138,7 @@ front_alone (x ∷ c ∷ rest) b small e h =
         let one = symbol_is_one x parts.0 in
         (front_marks (x ∷ c ∷ rest) x refl (small 0) one (rw (no_digit x (small 0) one, no_number_goes_on x c (small 1) ends) refl) ∙ front_of_one x c rest (λ word. short_ends x c word parts.0 ends), one_is_no_bang x (c ∷ rest) (small 0) one)
 
--- a mark of two bytes, which no `=` behind it makes longer
+-- a mark of two bytes, which no `=` remainder it makes longer
 
 is_other_start : ℕ → Bool
 is_other_start b = list_any (nat_eq b) (32 ∷ 9 ∷ 35 ∷ 39 ∷ 34 ∷ [])

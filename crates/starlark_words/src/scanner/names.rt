@@ -15,7 +15,7 @@ ghost use Rattle.starlark_grammar.specs.declared.class.Class.TheVariants as clas
 use super::openers::opener_class;
 use super::{Class, Terminal, Word};
 use crate::names::name_run;
-use crate::reads::Reads;
+use crate::reads::ReadCounter;
 
 /// Entry of a name in the table of keywords and reserved words.
 #[derive(Clone, Copy)]
@@ -195,16 +195,16 @@ fn is_quote(byte: Option<u8>) -> bool
 /// Opener at the front of a text that begins with a name of `len` bytes: that name as a prefix, and
 /// the next byte as its quote.
 #[inline(always)]
-fn prefixed_opener(text: &str, len: usize, behind: Option<u8>) -> Option<Class>
+fn prefixed_opener(text: &str, len: usize, remainder: Option<u8>) -> Option<Class>
     requires len { len ≡ prefix_len grammar.is_in_name text.now }
-    requires behind { behind ≡ slice_get text.now len }
+    requires remainder { remainder ≡ slice_get text.now len }
     ensures opener { result ≡ lookup (bytes_eq (take (len + 1) text.now)) grammar.openers }
     ensures within { IfSome result (λ class. len < length text.now) }
 {
     if len > PREFIX_LEN {
         return None;
     }
-    if !is_quote(behind) {
+    if !is_quote(remainder) {
         return None;
     }
     opener_class(&text[..len + 1])
@@ -214,14 +214,14 @@ fn prefixed_opener(text: &str, len: usize, behind: Option<u8>) -> Option<Class>
 /// the
 /// read of that byte.
 #[inline(always)]
-pub(crate) fn name_from(reads: &mut Reads, text: &str) -> Word
+pub(crate) fn name_from(reads: &mut ReadCounter, text: &str) -> Word
     requires { grammar.begins grammar.is_name_start text.now ≡ true }
     ensures word { Some (word_view result) ≡ language_front text.now }
     ensures reads { AreReads (result.len - 1) (5 * result.len - 4) reads.old reads.new }
 {
-    let (more, behind) = name_run(reads, &text.as_bytes()[1..]);
+    let (more, remainder) = name_run(reads, &text.as_bytes()[1..]);
     let len = 1 + more;
-    match prefixed_opener(text, len, behind) {
+    match prefixed_opener(text, len, remainder) {
         Some(class) => Word {
             class,
             len: len + 1,

@@ -10,7 +10,7 @@ ghost use Rattle.starlark_grammar.specs.Words as grammar;
 
 use super::first::is_name_start;
 use super::{Class, Word};
-use crate::reads::Reads;
+use crate::reads::ReadCounter;
 
 /// Whether a text begins with a sign.
 fn is_sign(text: &[u8]) -> bool
@@ -20,7 +20,7 @@ fn is_sign(text: &[u8]) -> bool
 }
 
 /// Length of the sign at the front of a text; 0 if there is none.
-fn sign_len(reads: &mut Reads, text: &[u8]) -> usize
+fn sign_len(reads: &mut ReadCounter, text: &[u8]) -> usize
     ensures value { result ≡ grammar.sign_len text.now }
     ensures within { result ≤ length text.now }
     ensures reads { reads.new ≡ more_reads reads.old 1 }
@@ -34,7 +34,7 @@ fn is_exponent_letter(text: &[u8]) -> bool
     matches!(text, [b'e' | b'E', ..])
 }
 
-fn begins_exponent(reads: &mut Reads, text: &[u8]) -> bool
+fn begins_exponent(reads: &mut ReadCounter, text: &[u8]) -> bool
     ensures value { result ≡ grammar.begins grammar.is_exponent_letter text.now }
     ensures reads { reads.new ≡ more_reads reads.old 1 }
 {
@@ -56,7 +56,7 @@ fn has_base(text: &[u8], lower: u8, upper: u8) -> bool
 
 /// Length of the exponent at the start of a text that begins with its letter; 0 if no digits
 /// follow.
-fn exponent_from(reads: &mut Reads, text: &[u8]) -> usize
+fn exponent_from(reads: &mut ReadCounter, text: &[u8]) -> usize
     requires { grammar.begins grammar.is_exponent_letter text.now ≡ true }
     ensures value { result ≡ longest_len grammar.is_exponent text.now }
     ensures within { result ≤ length text.now }
@@ -69,7 +69,7 @@ fn exponent_from(reads: &mut Reads, text: &[u8]) -> usize
 }
 
 /// Length of the exponent at the start of a text; 0 if there is none.
-fn exponent_len(reads: &mut Reads, text: &[u8]) -> usize
+fn exponent_len(reads: &mut ReadCounter, text: &[u8]) -> usize
     ensures value { result ≡ longest_len grammar.is_exponent text.now }
     ensures within { result ≤ length text.now }
     ensures reads { AreReads result (result + 3) reads.old reads.new }
@@ -84,7 +84,7 @@ fn exponent_len(reads: &mut Reads, text: &[u8]) -> usize
 /// Length of the fraction at the front of a text that begins with a point: the point, the digits
 /// and
 /// the exponent.
-fn fraction_len(reads: &mut Reads, text: &[u8]) -> usize
+fn fraction_len(reads: &mut ReadCounter, text: &[u8]) -> usize
     requires { grammar.begins grammar.is_point text.now ≡ true }
     ensures value { result ≡ longest_len grammar.is_fraction text.now }
     ensures some { 0 < result }
@@ -97,7 +97,7 @@ fn fraction_len(reads: &mut Reads, text: &[u8]) -> usize
 }
 
 /// Length of what makes the digits before it a float; 0 if nothing does.
-fn float_end_len(reads: &mut Reads, text: &[u8]) -> usize
+fn float_end_len(reads: &mut ReadCounter, text: &[u8]) -> usize
     ensures value { result ≡ longest_len grammar.makes_float text.now }
     ensures within { result ≤ length text.now }
     ensures reads { AreReads result (5 * result + 3) reads.old reads.new }
@@ -143,7 +143,7 @@ fn based_word(class: Class, digits: usize) -> Option<Word>
 
 /// The longest integer with a base at the front of a text. The caller has counted the reads of the
 /// first three bytes.
-fn based_front(reads: &mut Reads, front: &[u8], text: &[u8]) -> Option<Word>
+fn based_front(reads: &mut ReadCounter, front: &[u8], text: &[u8]) -> Option<Word>
     requires { front.now ≡ take 3 text.now }
     ensures value { option_map word_view result ≡ longest_front (grammar.class_in grammar.based) text.now }
     ensures reads { AreReads (word_len result - 2) (word_len result) reads.old reads.new }
@@ -184,7 +184,7 @@ pub(crate) fn is_digit_alone(text: &[u8]) -> bool
 /// The longest number at the front of a text that begins with one. The caller has counted the reads
 /// of
 /// the first three bytes.
-pub(crate) fn number_from(reads: &mut Reads, front: &[u8], text: &[u8]) -> Word
+pub(crate) fn number_from(reads: &mut ReadCounter, front: &[u8], text: &[u8]) -> Word
     requires number { begins_number text.now ≡ true }
     requires front { front.now ≡ take 3 text.now }
     ensures word { Some (word_view result) ≡ language_front text.now }

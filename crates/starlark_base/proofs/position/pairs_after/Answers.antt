@@ -18,6 +18,6 @@ returns-in-None c front is =
 pub returns-in-Some : goal.returns-in-Some
 returns-in-Some c front is =
     let found = rw c.in-Some.is at (rfind_char 10 c.args.passed.now c.rfind.result c.rfind.ensures.cases (omega arith)) in
-    let behind = pairs_behind_last front c.args.passed.now c.in-Some.last found in
+    let remainder = pairs_behind_last front c.args.passed.now c.in-Some.last found in
     let count = rw c.range_from.ensures.value at c.pair_count-in-Some.ensures in
-    rw (← count) at behind
+    rw (← count) at remainder

@@ -52,7 +52,7 @@ returns-clause-comment c =
       first = line.first;
       whole = line.whole;
       comment = comment_lexeme c.args.from c.blanks_len-blanks.result c.comment_end.result there _ (token.Comment c.in_ok-comment.comment) line.blanks line.part said refl;
-      behind = line.behind;
+      remainder = line.remainder;
     }
 
 pub returns-clause-reads : goal.returns-clause-reads

@@ -16,7 +16,7 @@ use Rattle.starlark_reader.proofs.reading.piece_at.Goals as goal
 
 -- outside of f-string text
 elsewhere : (follows_gap : Bool) (s : Situation) (text : Text) (at : LexerMode) → ((opening : code.Opening) → at ≡ place.InText opening → ⊥) → IsAfter follows_gap s.before → s.place ≡ mode_view at → step_at language s text ≡ in_code language s text
-elsewhere follows_gap s text at other behind here = by_read follows_gap s text behind ∙ ap (λ p. by_place language s p text) here ∙ go at other
+elsewhere follows_gap s text at other remainder here = by_read follows_gap s text remainder ∙ ap (λ p. by_place language s p text) here ∙ go at other
   where
     go : (at : LexerMode) → ((opening : code.Opening) → at ≡ place.InText opening → ⊥) → by_place language s (mode_view at) text ≡ in_code language s text
     go place.Outside other = refl
@@ -30,16 +30,16 @@ code_ends s [] none = refl
 code_ends s (b ∷ bs) none = grind arith
 
 pub returns-in-InText-clause-piece : goal.returns-in-InText-clause-piece
-returns-in-InText-clause-piece c = λ s here balanced behind. rw (in_text c.args.follows_gap s c.args.text.now (opening_view c.in-InText.opening) behind (here ∙ ap mode_view c.in-InText.is)) c.in_ok-chunk_from.ensures.step
+returns-in-InText-clause-piece c = λ s here balanced remainder. rw (in_text c.args.follows_gap s c.args.text.now (opening_view c.in-InText.opening) remainder (here ∙ ap mode_view c.in-InText.is)) c.in_ok-chunk_from.ensures.step
 
 pub returns-then-is_empty-clause-piece : goal.returns-then-is_empty-clause-piece
-returns-then-is_empty-clause-piece c = λ s here balanced behind.
-    elsewhere c.args.follows_gap s c.args.text.now c.args.place c.in_default.not-InText behind here
+returns-then-is_empty-clause-piece c = λ s here balanced remainder.
+    elsewhere c.args.follows_gap s c.args.text.now c.args.place c.in_default.not-InText remainder here
     ∙ code_ends s c.args.text.now (sym c.is_empty.ensures ∙ c.if-is_empty.true)
 
 pub returns-clause-piece : goal.returns-clause-piece
-returns-clause-piece c = if_ok _ _ c.code_piece.result (λ piece is s here balanced behind.
-    rw (elsewhere c.args.follows_gap s c.args.text.now c.args.place c.in_default.not-InText behind here) (is s here balanced behind)) c.code_piece.ensures.piece
+returns-clause-piece c = if_ok _ _ c.code_piece.result (λ piece is s here balanced remainder.
+    rw (elsewhere c.args.follows_gap s c.args.text.now c.args.place c.in_default.not-InText remainder here) (is s here balanced remainder)) c.code_piece.ensures.piece
 
 pub returns-in-InText-clause-reads : goal.returns-in-InText-clause-reads
 returns-in-InText-clause-reads c = chunk_reads (next_line c.args.text.now 0) c.in_ok-chunk_from.field-0 _ _ c.in_ok-chunk_from.ensures.reads

@@ -6,7 +6,7 @@ use Rattle.starlark_reader.proofs.widths.take_margin.Goals as goal
 
 pub returns-then-keeps_widths-clause-laid : goal.returns-then-keeps_widths-clause-laid
 returns-then-keeps_widths-clause-laid c = λ widths seen open_now same.
-    rw c.wait_for_comments.ensures (is_kept c.args.levels.now widths c.args.margin seen same open_now (sym c.keeps_widths.ensures ∙ c.if-keeps_widths.true) c.args.begin c.args.pending.now.behind c.requires.idle)
+    rw c.wait_for_comments.ensures (is_kept c.args.levels.now widths c.args.margin seen same open_now (sym c.keeps_widths.ensures ∙ c.if-keeps_widths.true) c.args.begin c.args.pending.now.remainder c.requires.idle)
 
 content : (a b : Bool) → (not a || b) ≡ false → a ≡ true
 content true b h = refl
@@ -14,4 +14,4 @@ content false b h = cc
 
 pub returns-then-margin-clause-laid : goal.returns-then-margin-clause-laid
 returns-then-margin-clause-laid c = λ widths seen open_now same.
-    rw c.wait_for_comments.ensures (left_tab c.args.levels.now seen c.args.margin same (content c.args.margin.is_content _ (sym c.keeps_widths.ensures ∙ c.if-keeps_widths.false)) c.if-margin.true c.args.pending.now.behind)
+    rw c.wait_for_comments.ensures (left_tab c.args.levels.now seen c.args.margin same (content c.args.margin.is_content _ (sym c.keeps_widths.ensures ∙ c.if-keeps_widths.false)) c.if-margin.true c.args.pending.now.remainder)

@@ -8,7 +8,7 @@ returns-then-width-greatest c = λ widths seen open_now same.
 
 pub returns-then-greatest_of-width : goal.returns-then-greatest_of-width
 returns-then-greatest_of-width c = λ widths seen open_now same.
-    is_misfit c.args.begin widths c.args.levels.now c.args.margin seen open_now same c.requires.content c.requires.untabbed c.left_by-left.result c.args.behind.now c.left_by-left.ensures (omega (arith, c.greatest.ensures, c.if-width-greatest.false))
+    is_misfit c.args.begin widths c.args.levels.now c.args.margin seen open_now same c.requires.content c.requires.untabbed c.left_by-left.result c.args.remainder.now c.left_by-left.ensures (omega (arith, c.greatest.ensures, c.if-width-greatest.false))
     (λ e. absurd (omega (arith, e, c.greatest_of.ensures, c.if-greatest_of-width.true)))
 
 pub returns : goal.returns

@@ -19,6 +19,6 @@ pub returns-in-Some : goal.returns-in-Some
 returns-in-Some c front utf8 is =
     let last = c.in-Some.last in
     let found = rw c.in-Some.is at (rfind_char 10 c.args.passed.now c.rfind.result c.rfind.ensures.cases (omega arith)) in
-    let behind = place_behind_last front c.args.passed.now last found in
+    let remainder = place_behind_last front c.args.passed.now last found in
     let column = rw c.range_from.ensures.value at c.count_characters-in-Some.ensures in
-    rw (is, ← c.newline_count.ensures, ← column) at behind
+    rw (is, ← c.newline_count.ensures, ← column) at remainder

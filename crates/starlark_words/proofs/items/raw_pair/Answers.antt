@@ -8,23 +8,23 @@ use Rattle.starlark_words.proofs.items.raw_pair.Goals as goal
 
 pub returns-in_default-clause-value : goal.returns-in_default-clause-value
 returns-in_default-clause-value c =
-    let behind = c.after_first-behind.ensures in
+    let remainder = c.after_first-remainder.ensures in
     let bytes = c.as_bytes.ensures.value in
-    let end : slice_get (drop 1 c.args.text.now) 0 ≡ None = first_of _ _ _ (bytes ∙ behind) c.in_default.ensures.byte in
+    let end : slice_get (drop 1 c.args.text.now) 0 ≡ None = first_of _ _ _ (bytes ∙ remainder) c.in_default.ensures.byte in
     sym (raw_end c.args.literal.kind c.args.literal.opening.quote (drop 1 c.args.text.now) end)
 
 pub returns-then-drops_backslash-clause-value : goal.returns-then-drops_backslash-clause-value
 returns-then-drops_backslash-clause-value c =
-    let behind = c.after_first-behind.ensures in
+    let remainder = c.after_first-remainder.ensures in
     let bytes = c.as_bytes.ensures.value in
-    let first : slice_get (drop 1 c.args.text.now) 0 ≡ Some c.in-Some.first = first_of _ _ _ (bytes ∙ behind) c.in-Some.ensures.byte in
+    let first : slice_get (drop 1 c.args.text.now) 0 ≡ Some c.in-Some.first = first_of _ _ _ (bytes ∙ remainder) c.in-Some.ensures.byte in
     let drops : drops_backslash c.args.literal.kind c.args.literal.opening.quote c.in-Some.first ≡ true = sym c.drops_backslash.ensures ∙ c.if-drops_backslash.true in
-    rw (c.part.ensures.value, c.range.ensures.value, sub-zero, c.character_len-character.ensures.character, c.character_len-character.ensures.whole, behind) (sym (raw_dropped c.args.literal.kind c.args.literal.opening.quote (drop 1 c.args.text.now) c.in-Some.first first drops))
+    rw (c.part.ensures.value, c.range.ensures.value, sub-zero, c.character_len-character.ensures.character, c.character_len-character.ensures.whole, remainder) (sym (raw_dropped c.args.literal.kind c.args.literal.opening.quote (drop 1 c.args.text.now) c.in-Some.first first drops))
 
 pub returns-else-drops_backslash-clause-value : goal.returns-else-drops_backslash-clause-value
 returns-else-drops_backslash-clause-value c =
-    let behind = c.after_first-behind.ensures in
+    let remainder = c.after_first-remainder.ensures in
     let bytes = c.as_bytes.ensures.value in
-    let first : slice_get (drop 1 c.args.text.now) 0 ≡ Some c.in-Some.first = first_of _ _ _ (bytes ∙ behind) c.in-Some.ensures.byte in
+    let first : slice_get (drop 1 c.args.text.now) 0 ≡ Some c.in-Some.first = first_of _ _ _ (bytes ∙ remainder) c.in-Some.ensures.byte in
     let keeps : drops_backslash c.args.literal.kind c.args.literal.opening.quote c.in-Some.first ≡ false = sym c.drops_backslash.ensures ∙ c.if-drops_backslash.false in
-    rw (c.part-else-drops_backslash.ensures.value, c.range-else-drops_backslash.ensures.value, sub-zero, cut_behind c.args.text.now (drop 1 c.args.text.now) c.character_len-character.result c.requires, ← behind, c.character_len-character.ensures.character, c.character_len-character.ensures.whole, behind) (sym (raw_kept c.args.literal.kind c.args.literal.opening.quote (drop 1 c.args.text.now) c.in-Some.first first keeps))
+    rw (c.part-else-drops_backslash.ensures.value, c.range-else-drops_backslash.ensures.value, sub-zero, cut_behind c.args.text.now (drop 1 c.args.text.now) c.character_len-character.result c.requires, ← remainder, c.character_len-character.ensures.character, c.character_len-character.ensures.whole, remainder) (sym (raw_kept c.args.literal.kind c.args.literal.opening.quote (drop 1 c.args.text.now) c.in-Some.first first keeps))

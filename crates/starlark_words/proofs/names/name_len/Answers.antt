@@ -36,6 +36,6 @@ returns-clause-value c =
     let inside = run_within is_in_name 16 (drop 4 c.args.text.now) room in
     let full : c.lanes_name_len-more.result ≡ 16 = omega (arith, more, inside, c.if-more-lt-LANES.false) in
     let further = run_goes_on is_in_name 16 (drop 4 c.args.text.now) room (sym more ∙ full) in
-    let behind : drop 16 (drop 4 c.args.text.now) ≡ drop 20 c.args.text.now = drop-drop 16 4 c.args.text.now in
+    let remainder : drop 16 (drop 4 c.args.text.now) ≡ drop 20 c.args.text.now = drop-drop 16 4 c.args.text.now in
     let last = take_all (length c.args.text.now - 20) (drop 20 c.args.text.now) (omega (arith, length-drop 20 c.args.text.now)) in
-    omega (arith, on, further, ap (prefix_len is_in_name) behind, c.last_name_len.ensures.value, ap (prefix_len is_in_name) last)
+    omega (arith, on, further, ap (prefix_len is_in_name) remainder, c.last_name_len.ensures.value, ap (prefix_len is_in_name) last)

@@ -5,12 +5,12 @@ use Rattle.starlark_reader.proofs.Literals.Pieces.{if_ok, opener_plain, triple_e
 use Rattle.starlark_reader.proofs.literal.pieces.literal_piece.Goals as goal
 
 pub range_from-requires : goal.range_from-requires
-range_from-requires c = λ some. triple_edge c.args.behind.now c.args.quote c.utf8.behind (sym c.is_triple.ensures.value ∙ c.if-opening.true)
+range_from-requires c = λ some. triple_edge c.args.remainder.now c.args.quote c.utf8.remainder (sym c.is_triple.ensures.value ∙ c.if-opening.true)
 
 pub returns-else-opening-clause-step : goal.returns-else-opening-clause-step
 returns-else-opening-clause-step c =
-    let single : (opening_of c.args.is_raw c.args.quote c.args.behind.now).is_triple ≡ false = sym c.is_triple.ensures.value ∙ c.if-opening.false in
-    if_ok _ _ c.literal_from-else-opening.result (λ step is place outside. rw (opener_plain place c.args.kind (opening_of c.args.is_raw c.args.quote c.args.behind.now) c.args.len c.args.behind.now c.requires.kind single, ← c.is_triple.ensures.value) (is place outside)) c.literal_from-else-opening.ensures.step
+    let single : (opening_of c.args.is_raw c.args.quote c.args.remainder.now).is_triple ≡ false = sym c.is_triple.ensures.value ∙ c.if-opening.false in
+    if_ok _ _ c.literal_from-else-opening.result (λ step is place outside. rw (opener_plain place c.args.kind (opening_of c.args.is_raw c.args.quote c.args.remainder.now) c.args.len c.args.remainder.now c.requires.kind single, ← c.is_triple.ensures.value) (is place outside)) c.literal_from-else-opening.ensures.step
 
 pub returns-else-opening-clause-reads : goal.returns-else-opening-clause-reads
 returns-else-opening-clause-reads c =

@@ -15,6 +15,6 @@ returns c =
         idle = c.requires.code.idle;
         code = c.requires.code.code;
         stands = λ history kept. bang_read c.args.text.now history _ c.place.result c.follows_gap.result rest refl kept c.requires.code.code
-            c.place.ensures c.follows_gap.ensures (λ before behind. sym yes ∙ c.bang_stands.ensures before behind ∙ ap (λ b. takes_bang (mode_view c.place.result) before && b) front);
+            c.place.ensures c.follows_gap.ensures (λ before remainder. sym yes ∙ c.bang_stands.ensures before remainder ∙ ap (λ b. takes_bang (mode_view c.place.result) before && b) front);
       };
     }

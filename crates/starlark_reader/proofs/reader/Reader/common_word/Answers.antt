@@ -8,8 +8,8 @@ use Rattle.starlark_reader.proofs.reader.Reader.common_word.Goals as goal
 pub range_from-requires : goal.range_from-requires
 range_from-requires c = λ some.
     let ready = c.requires.ready in
-    let behind = c.pass_spaces-gap.ensures.ahead ready.0 ready.1 (left_onward c.args.text.now c.args.self.now ready.0 ready.1 c.requires.code.stage ready.2) in
-    behind.is_left.1.boundary
+    let remainder = c.pass_spaces-gap.ensures.ahead ready.0 ready.1 (left_onward c.args.text.now c.args.self.now ready.0 ready.1 c.requires.code.stage ready.2) in
+    remainder.is_left.1.boundary
 
 pub returns-clause-ahead : goal.returns-clause-ahead
 returns-clause-ahead c = λ lexemes fault ahead.

@@ -28,8 +28,8 @@ single_len opening len is e = rw (is, e) refl
 pub begin_fstring-requires-clause-stands : goal.begin_fstring-requires-clause-stands
 begin_fstring-requires-clause-stands c =
     let left = (left_onward c.args.text.now c.args.self.now c.requires.ready.0 c.requires.ready.1 c.requires.stands.stage c.requires.ready.2).is_left in
-    let behind : c.range_from.result.now ≡ drop 2 (drop c.args.self.now.at c.args.text.now) = c.range_from.ensures.value ∙ ap (drop 2) c.range_from-rest.ensures.value in
-    let is : opening_view c.opening_of-opening.result ≡ opening_of false c.args.quote (drop 2 (drop c.args.self.now.at c.args.text.now)) = c.opening_of-opening.ensures.opening ∙ ap (opening_of false c.args.quote) behind in
+    let remainder : c.range_from.result.now ≡ drop 2 (drop c.args.self.now.at c.args.text.now) = c.range_from.ensures.value ∙ ap (drop 2) c.range_from-rest.ensures.value in
+    let is : opening_view c.opening_of-opening.result ≡ opening_of false c.args.quote (drop 2 (drop c.args.self.now.at c.args.text.now)) = c.opening_of-opening.ensures.opening ∙ ap (opening_of false c.args.quote) remainder in
     let whole : c.if-opening.len ≡ 2 + more_quotes (opening_view c.opening_of-opening.result) = elim c.if-opening.branch [
       | then-opening w ↦ triple_len c.opening_of-opening.result c.if-opening.len w.if-opening.true w.len-is
       | else-opening w ↦ single_len c.opening_of-opening.result c.if-opening.len w.if-opening.false w.len-is
@@ -41,8 +41,8 @@ begin_fstring-requires-clause-stands c =
 
 pub returns-clause-ahead : goal.returns-clause-ahead
 returns-clause-ahead c =
-    let behind : c.range_from.result.now ≡ drop 2 (drop c.args.self.now.at c.args.text.now) = c.range_from.ensures.value ∙ ap (drop 2) c.range_from-rest.ensures.value in
-    let is : opening_view c.opening_of-opening.result ≡ opening_of false c.args.quote (drop 2 (drop c.args.self.now.at c.args.text.now)) = c.opening_of-opening.ensures.opening ∙ ap (opening_of false c.args.quote) behind in
+    let remainder : c.range_from.result.now ≡ drop 2 (drop c.args.self.now.at c.args.text.now) = c.range_from.ensures.value ∙ ap (drop 2) c.range_from-rest.ensures.value in
+    let is : opening_view c.opening_of-opening.result ≡ opening_of false c.args.quote (drop 2 (drop c.args.self.now.at c.args.text.now)) = c.opening_of-opening.ensures.opening ∙ ap (opening_of false c.args.quote) remainder in
     let whole : c.if-opening.len ≡ 2 + more_quotes (opening_view c.opening_of-opening.result) = elim c.if-opening.branch [
       | then-opening w ↦ triple_len c.opening_of-opening.result c.if-opening.len w.if-opening.true w.len-is
       | else-opening w ↦ single_len c.opening_of-opening.result c.if-opening.len w.if-opening.false w.len-is

@@ -10,8 +10,8 @@ use Rattle.starlark_reader.proofs.Pieces.PieceTaken.{bytes_changes, bytes_step, 
 use Rattle.starlark_reader.proofs.Indentation.Waiting.{after_error}
 use Rattle.starlark_reader.proofs.reader.Reader.take_plain_bytes.Goals as goal
 
-pub range_from-behind-requires : goal.range_from-behind-requires
-range_from-behind-requires c = λ some.
+pub range_from-remainder-requires : goal.range_from-remainder-requires
+range_from-remainder-requires c = λ some.
     word_cut c.range_from-rest.result.now (class.Opener kind.Bytes false c.args.quote) 2 c.range_from-rest.utf8 (ap language_front c.range_from-rest.ensures.value ∙ sym c.requires.stands.front)
 
 pub returns-in_err-extend_from_slice-clause-memory : goal.returns-in_err-extend_from_slice-clause-memory
@@ -20,15 +20,15 @@ returns-in_err-extend_from_slice-clause-memory c = after_error c.from_residual.r
 pub pass_token-requires-clause-stands : goal.pass_token-requires-clause-stands
 pass_token-requires-clause-stands c =
     let left = (left_onward c.args.text.now c.args.self.now c.requires.ready.0 c.requires.ready.1 c.requires.stands.stage c.requires.ready.2).is_left in
-    let behind : c.range_from-behind.result.now ≡ drop 2 (drop c.args.self.now.at c.args.text.now) = c.range_from-behind.ensures.value ∙ ap (drop 2) c.range_from-rest.ensures.value in
-    let part : c.as_bytes.result.now ≡ take c.args.body (drop 2 (drop c.args.self.now.at c.args.text.now)) = c.as_bytes.ensures.value ∙ c.range.ensures.value ∙ ap (λ n. take n c.range_from-behind.result.now) (sub-zero _) ∙ ap (take c.args.body) behind in
+    let remainder : c.range_from-remainder.result.now ≡ drop 2 (drop c.args.self.now.at c.args.text.now) = c.range_from-remainder.ensures.value ∙ ap (drop 2) c.range_from-rest.ensures.value in
+    let part : c.as_bytes.result.now ≡ take c.args.body (drop 2 (drop c.args.self.now.at c.args.text.now)) = c.as_bytes.ensures.value ∙ c.range.ensures.value ∙ ap (λ n. take n c.range_from-remainder.result.now) (sub-zero _) ∙ ap (take c.args.body) remainder in
     let value : c.extend_from_slice.new.self.items ≡ take c.args.body (drop 2 (drop c.args.self.now.at c.args.text.now)) = c.in_ok-extend_from_slice.ensures.items ∙ ap (λ items. items ++ c.as_bytes.result.now) c.new-value.ensures.items ∙ part in
     (left.0, left.1, bytes_step c.args.text.now left.0 c.args.self.now c.args.quote c.args.body c.extend_from_slice.new.self left.1 c.requires.stands c.requires.plain value)
 
 pub returns-clause-ahead : goal.returns-clause-ahead
 returns-clause-ahead c = λ lexemes fault ahead.
-    let behind : c.range_from-behind.result.now ≡ drop 2 (drop c.args.self.now.at c.args.text.now) = c.range_from-behind.ensures.value ∙ ap (drop 2) c.range_from-rest.ensures.value in
-    let part : c.as_bytes.result.now ≡ take c.args.body (drop 2 (drop c.args.self.now.at c.args.text.now)) = c.as_bytes.ensures.value ∙ c.range.ensures.value ∙ ap (λ n. take n c.range_from-behind.result.now) (sub-zero _) ∙ ap (take c.args.body) behind in
+    let remainder : c.range_from-remainder.result.now ≡ drop 2 (drop c.args.self.now.at c.args.text.now) = c.range_from-remainder.ensures.value ∙ ap (drop 2) c.range_from-rest.ensures.value in
+    let part : c.as_bytes.result.now ≡ take c.args.body (drop 2 (drop c.args.self.now.at c.args.text.now)) = c.as_bytes.ensures.value ∙ c.range.ensures.value ∙ ap (λ n. take n c.range_from-remainder.result.now) (sub-zero _) ∙ ap (take c.args.body) remainder in
     let value : c.extend_from_slice.new.self.items ≡ take c.args.body (drop 2 (drop c.args.self.now.at c.args.text.now)) = c.in_ok-extend_from_slice.ensures.items ∙ ap (λ items. items ++ c.as_bytes.result.now) c.new-value.ensures.items ∙ part in
     onward_ahead c.args.text.now c.args.self.now (Some (c.args.self.now.at, token.Bytes c.extend_from_slice.new.self, c.args.self.now.at + (2 + c.args.body + 1))) c.pass_token.new.self lexemes fault
     (λ history kept. c.pass_token.ensures.read history kept (bytes_step c.args.text.now history c.args.self.now c.args.quote c.args.body c.extend_from_slice.new.self kept c.requires.stands c.requires.plain value))

@@ -5,7 +5,7 @@ use Rattle.starlark_reader.proofs.Pieces.CodePlaces.{word_at, word_len}
 use Rattle.starlark_reader.proofs.reading.code.gap_len.Goals as goal
 
 pub returns-clause-gap : goal.returns-clause-gap
-returns-clause-gap c = λ some s follows_gap code behind.
+returns-clause-gap c = λ some s follows_gap code remainder.
     let front = c.gap_len.ensures.word some in
-    word_at follows_gap s c.args.text.now s.place class.Skipped c.gap_len.result code behind refl front (c.gap_len.ensures.bang some)
+    word_at follows_gap s c.args.text.now s.place class.Skipped c.gap_len.result code remainder refl front (c.gap_len.ensures.bang some)
     ∙ ap grammar.gap (word_len c.args.text.now class.Skipped c.gap_len.result front)

@@ -15,7 +15,7 @@ zero_by_two (a ∷ []) = refl
 zero_by_two (a ∷ b ∷ rest) = grind (arith, nat_tests)
 
 pub returns-then-starts_zero-clause-step : goal.returns-then-starts_zero-clause-step
-returns-then-starts_zero-clause-step c = λ s behind.
+returns-then-starts_zero-clause-step c = λ s remainder.
     let zero : grammar.starts_zero c.args.word.now ≡ true = sym (zero_by_two c.args.word.now) ∙ sym (ap grammar.starts_zero (c.front.ensures.bytes ∙ ap (take 2) c.as_bytes.ensures.value)) ∙ sym c.starts_zero.ensures ∙ c.if-starts_zero.true in
     (StartsZero c.args.word.now, ap (λ text. Some (StartsZero text)) c.in_ok-from_str.ensures.ok, rw zero refl)
 
@@ -25,4 +25,4 @@ integer-requires-clause-digits c = decimal_digits c.args.word.now c.requires
 pub returns-clause-step : goal.returns-clause-step
 returns-clause-step c =
     let zero : grammar.starts_zero c.args.word.now ≡ false = sym (zero_by_two c.args.word.now) ∙ sym (ap grammar.starts_zero (c.front.ensures.bytes ∙ ap (take 2) c.as_bytes.ensures.value)) ∙ sym c.starts_zero.ensures ∙ c.if-starts_zero.false in
-    if_ok _ _ c.integer.result (λ step is s behind. rw zero is) c.integer.ensures.step
+    if_ok _ _ c.integer.result (λ step is s remainder. rw zero is) c.integer.ensures.step

@@ -19,8 +19,8 @@ position_after-requires-clause-column c =
 pub returns-clause-place : goal.returns-clause-place
 returns-clause-place c =
     let text = c.args.text.now in
-    let behind = c.position_after.ensures (take c.args.self.at text) (IsUtf8-take text c.args.self.at c.utf8.text c.requires.here.boundary) (sym c.requires.here.position) in
+    let remainder = c.position_after.ensures (take c.args.self.at text) (IsUtf8-take text c.args.self.at c.utf8.text c.requires.here.boundary) (sym c.requires.here.position) in
     record {
       boundary = c.requires.boundary;
-      position = sym (rw c.range.ensures.value at behind) ∙ place_onward text c.args.self.at c.args.to c.requires.onward;
+      position = sym (rw c.range.ensures.value at remainder) ∙ place_onward text c.args.self.at c.args.to c.requires.onward;
     }

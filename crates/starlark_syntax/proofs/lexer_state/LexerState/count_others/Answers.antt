@@ -8,6 +8,6 @@ returns-clause-lexing c =
       c.requires.lexing.0,
       (λ on. (now.0, c.count_others.ensures.ahead state.text.now _ _ now.1)),
       c.requires.lexing.2,
-      (λ on. looked_reads state.text.now state.reader c.count_others.new.self state.looked_to state.looked c.count_others.ensures.same (c.count_others.ensures.reads state.text.now) (c.requires.lexing.3 c.requires.going)),
+      (λ on. looked_reads state.text.now state.reader c.count_others.new.self state.looked_to state.lookahead c.count_others.ensures.same (c.count_others.ensures.reads state.text.now) (c.requires.lexing.3 c.requires.going)),
       c.requires.lexing.4,
     )

@@ -9,6 +9,6 @@ returns-clause-begun c = record {
   view = rw c.new.ensures.unread refl;
   ahead = c.new.ensures.ahead;
   reads = c.new.ensures.reads;
-  looked = refl;
+  lookahead = refl;
   place = refl;
 }

@@ -25,9 +25,9 @@ returns-in-Some-Symbol-clause-lexing c =
     let inv = c.requires.lexing.1 c.requires.going in
     let is = c.take_terminal-lexeme.ensures.ahead _ _ (c.front-front.ensures.ahead _ _ inv.1) in
     let further = one_more (map shown_lexeme (outcome c.args.self.now.text.now).lexemes) c.args.self.now.yielded_count _ is.0 is.1 in
-    let looked = front_looked c.args.self.now.text.now c.args.self.now.reader c.args.self.now.looked_to c.args.self.now.looked (sym c.is_front.ensures ∙ c.if-not-is_front.false) (c.requires.lexing.3 c.requires.going) in
-    let paid = looked.3 in
-    let read = here_taken_reads c.args.self.now.text.now paid.0 3 3 2 c.args.self.now.reader c.front-front.new.self c.take_terminal-lexeme.new.self looked.0.stage paid.2 c.front-front.ensures.looked (omega (arith)) (omega (arith)) (c.take_terminal-lexeme.ensures.taken.1, c.take_terminal-lexeme.ensures.taken.2) in (
+    let lookahead = front_looked c.args.self.now.text.now c.args.self.now.reader c.args.self.now.looked_to c.args.self.now.lookahead (sym c.is_front.ensures ∙ c.if-not-is_front.false) (c.requires.lexing.3 c.requires.going) in
+    let paid = lookahead.3 in
+    let read = here_taken_reads c.args.self.now.text.now paid.0 3 3 2 c.args.self.now.reader c.front-front.new.self c.take_terminal-lexeme.new.self lookahead.0.stage paid.2 c.front-front.ensures.lookahead (omega (arith)) (omega (arith)) (c.take_terminal-lexeme.ensures.taken.1, c.take_terminal-lexeme.ensures.taken.2) in (
       c.requires.lexing.0,
       (λ on. (omega (arith, further.0, length-map (outcome c.args.self.now.text.now).lexemes shown_lexeme), rw further.1 is.2)),
       goes_on c.looked_further_in_code-self.result _ c.requires.going,
@@ -47,9 +47,9 @@ returns-in-Some-Digit-clause-lexing c =
     let inv = c.requires.lexing.1 c.requires.going in
     let is = c.take_digit-lexeme.ensures.ahead _ _ (c.front-front.ensures.ahead _ _ inv.1) in
     let further = one_more (map shown_lexeme (outcome c.args.self.now.text.now).lexemes) c.args.self.now.yielded_count _ is.0 is.1 in
-    let looked = front_looked c.args.self.now.text.now c.args.self.now.reader c.args.self.now.looked_to c.args.self.now.looked (sym c.is_front.ensures ∙ c.if-not-is_front.false) (c.requires.lexing.3 c.requires.going) in
-    let paid = looked.3 in
-    let read = here_taken_reads c.args.self.now.text.now paid.0 3 3 1 c.args.self.now.reader c.front-front.new.self c.take_digit-lexeme.new.self looked.0.stage paid.2 c.front-front.ensures.looked (omega (arith)) (omega (arith)) (c.take_digit-lexeme.ensures.taken.1, c.take_digit-lexeme.ensures.taken.2) in (
+    let lookahead = front_looked c.args.self.now.text.now c.args.self.now.reader c.args.self.now.looked_to c.args.self.now.lookahead (sym c.is_front.ensures ∙ c.if-not-is_front.false) (c.requires.lexing.3 c.requires.going) in
+    let paid = lookahead.3 in
+    let read = here_taken_reads c.args.self.now.text.now paid.0 3 3 1 c.args.self.now.reader c.front-front.new.self c.take_digit-lexeme.new.self lookahead.0.stage paid.2 c.front-front.ensures.lookahead (omega (arith)) (omega (arith)) (c.take_digit-lexeme.ensures.taken.1, c.take_digit-lexeme.ensures.taken.2) in (
       c.requires.lexing.0,
       (λ on. (omega (arith, further.0, length-map (outcome c.args.self.now.text.now).lexemes shown_lexeme), rw further.1 is.2)),
       goes_on c.looked_further-self.result _ c.requires.going,
@@ -69,9 +69,9 @@ returns-in-Ok-clause-lexing c =
     let inv = c.requires.lexing.1 c.requires.going in
     let is = c.in-Ok.ensures.ahead _ _ (c.front-front.ensures.ahead _ _ inv.1) in
     let further = one_more (map shown_lexeme (outcome c.args.self.now.text.now).lexemes) c.args.self.now.yielded_count _ is.0 is.1 in
-    let looked = front_looked c.args.self.now.text.now c.args.self.now.reader c.args.self.now.looked_to c.args.self.now.looked (sym c.is_front.ensures ∙ c.if-not-is_front.false) (c.requires.lexing.3 c.requires.going) in
-    let paid = looked.3 in
-    let read = begun_reads c.args.self.now.text.now paid.0 c.args.self.now.reader c.front-front.new.self c.take_fstring.new.self looked.0.stage paid.2 c.front-front.ensures.looked c.in-Ok.ensures.begun in (
+    let lookahead = front_looked c.args.self.now.text.now c.args.self.now.reader c.args.self.now.looked_to c.args.self.now.lookahead (sym c.is_front.ensures ∙ c.if-not-is_front.false) (c.requires.lexing.3 c.requires.going) in
+    let paid = lookahead.3 in
+    let read = begun_reads c.args.self.now.text.now paid.0 c.args.self.now.reader c.front-front.new.self c.take_fstring.new.self lookahead.0.stage paid.2 c.front-front.ensures.lookahead c.in-Ok.ensures.begun in (
       c.requires.lexing.0,
       (λ on. (omega (arith, further.0, length-map (outcome c.args.self.now.text.now).lexemes shown_lexeme), rw further.1 is.2)),
       tt,
@@ -89,20 +89,20 @@ overflow_add-self-in-Ok-take_plain_bytes c =
 pub next_of_reader-requires-clause-lexing : goal.next_of_reader-requires-clause-lexing
 next_of_reader-requires-clause-lexing c =
     let inv = c.requires.lexing.1 c.requires.going in
-    let looked = front_looked c.args.self.now.text.now c.args.self.now.reader c.args.self.now.looked_to c.args.self.now.looked (sym c.is_front.ensures ∙ c.if-not-is_front.false) (c.requires.lexing.3 c.requires.going) in
-    let paid = looked.3 in
-    let short = here_reads c.args.self.now.text.now paid.0 3 3 c.args.self.now.reader c.front-front.new.self looked.0.stage paid.2 c.front-front.ensures.looked in
+    let lookahead = front_looked c.args.self.now.text.now c.args.self.now.reader c.args.self.now.looked_to c.args.self.now.lookahead (sym c.is_front.ensures ∙ c.if-not-is_front.false) (c.requires.lexing.3 c.requires.going) in
+    let paid = lookahead.3 in
+    let short = here_reads c.args.self.now.text.now paid.0 3 3 c.args.self.now.reader c.front-front.new.self lookahead.0.stage paid.2 c.front-front.ensures.lookahead in
     let other = c.in-Err-plain_body_len.ensures.other in
-    let read = here_reads c.args.self.now.text.now (paid.0 + 3) 0 (2 * c.in-Err-plain_body_len.run' + 3) c.front-front.new.self c.plain_body_len.new.self (c.front-front.ensures.looked.1 ∙ looked.0.stage) short other.1 in
-    let same = c.front-front.ensures.looked.0 in
+    let read = here_reads c.args.self.now.text.now (paid.0 + 3) 0 (2 * c.in-Err-plain_body_len.run' + 3) c.front-front.new.self c.plain_body_len.new.self (c.front-front.ensures.lookahead.1 ∙ lookahead.0.stage) short other.1 in
+    let same = c.front-front.ensures.lookahead.0 in
     let stands : language_front (drop c.args.self.now.reader.at c.args.self.now.text.now) ≡ Some (class.Opener kind.Bytes false c.in-Some-bytes_opener.quote, 2) = rw same at (sym c.in-Some-bytes_opener.ensures.stands.front) in
-    let reach = looked.2 _ 2 stands (omega arith) refl in
+    let reach = lookahead.2 _ 2 stands (omega arith) refl in
     let at : c.at.result ≡ c.args.self.now.reader.at = c.at.ensures ∙ other.1.0 ∙ same in (
       c.requires.lexing.0,
       (λ on. (inv.0, c.plain_body_len.ensures.ahead _ _ (c.front-front.ensures.ahead _ _ inv.1))),
       tt,
       (λ on. (paid.0 + 3 + (2 * c.in-Err-plain_body_len.run' + 3), omega (arith, paid.1, reach, at), read)),
-      reached c.args.self.now.text.now c.args.self.now.reader _ c.plain_body_len.new.self.at _ looked.0.stage inv.1 (other.1.0 ∙ same) (omega (arith, other.0, other.1.0, same, at)),
+      reached c.args.self.now.text.now c.args.self.now.reader _ c.plain_body_len.new.self.at _ lookahead.0.stage inv.1 (other.1.0 ∙ same) (omega (arith, other.0, other.1.0, same, at)),
     )
 
 pub returns-in-Ok-take_plain_bytes-clause-lexing : goal.returns-in-Ok-take_plain_bytes-clause-lexing
@@ -110,9 +110,9 @@ returns-in-Ok-take_plain_bytes-clause-lexing c =
     let inv = c.requires.lexing.1 c.requires.going in
     let is = c.in-Ok-take_plain_bytes.ensures.ahead _ _ (c.plain_body_len.ensures.ahead _ _ (c.front-front.ensures.ahead _ _ inv.1)) in
     let further = one_more (map shown_lexeme (outcome c.args.self.now.text.now).lexemes) c.args.self.now.yielded_count _ is.0 is.1 in
-    let front = front_looked c.args.self.now.text.now c.args.self.now.reader c.args.self.now.looked_to c.args.self.now.looked (sym c.is_front.ensures ∙ c.if-not-is_front.false) (c.requires.lexing.3 c.requires.going) in
+    let front = front_looked c.args.self.now.text.now c.args.self.now.reader c.args.self.now.looked_to c.args.self.now.lookahead (sym c.is_front.ensures ∙ c.if-not-is_front.false) (c.requires.lexing.3 c.requires.going) in
     let paid = front.3 in
-    let read = plain_reads c.args.self.now.text.now paid.0 3 3 2 c.in-Ok-plain_body_len.body c.args.self.now.reader c.front-front.new.self c.plain_body_len.new.self c.take_plain_bytes.new.self front.0.stage paid.2 c.front-front.ensures.looked (omega arith, omega arith) c.in-Ok-plain_body_len.ensures.looked (omega arith, omega arith)
+    let read = plain_reads c.args.self.now.text.now paid.0 3 3 2 c.in-Ok-plain_body_len.body c.args.self.now.reader c.front-front.new.self c.plain_body_len.new.self c.take_plain_bytes.new.self front.0.stage paid.2 c.front-front.ensures.lookahead (omega arith, omega arith) c.in-Ok-plain_body_len.ensures.lookahead (omega arith, omega arith)
     (c.in-Ok-take_plain_bytes.ensures.taken.1, c.in-Ok-take_plain_bytes.ensures.taken.2) in (
       c.requires.lexing.0,
       (λ on. (omega (arith, further.0, length-map (outcome c.args.self.now.text.now).lexemes shown_lexeme), rw further.1 is.2)),
@@ -133,9 +133,9 @@ returns-then-bang_stands-clause-lexing c =
     let inv = c.requires.lexing.1 c.requires.going in
     let is = c.take_bang-lexeme.ensures.ahead _ _ (c.front-front.ensures.ahead _ _ inv.1) in
     let further = one_more (map shown_lexeme (outcome c.args.self.now.text.now).lexemes) c.args.self.now.yielded_count _ is.0 is.1 in
-    let looked = front_looked c.args.self.now.text.now c.args.self.now.reader c.args.self.now.looked_to c.args.self.now.looked (sym c.is_front.ensures ∙ c.if-not-is_front.false) (c.requires.lexing.3 c.requires.going) in
-    let paid = looked.3 in
-    let read = here_taken_reads c.args.self.now.text.now paid.0 3 3 1 c.args.self.now.reader c.front-front.new.self c.take_bang-lexeme.new.self looked.0.stage paid.2 c.front-front.ensures.looked (omega (arith)) (omega (arith)) (c.take_bang-lexeme.ensures.taken.1, c.take_bang-lexeme.ensures.taken.2) in (
+    let lookahead = front_looked c.args.self.now.text.now c.args.self.now.reader c.args.self.now.looked_to c.args.self.now.lookahead (sym c.is_front.ensures ∙ c.if-not-is_front.false) (c.requires.lexing.3 c.requires.going) in
+    let paid = lookahead.3 in
+    let read = here_taken_reads c.args.self.now.text.now paid.0 3 3 1 c.args.self.now.reader c.front-front.new.self c.take_bang-lexeme.new.self lookahead.0.stage paid.2 c.front-front.ensures.lookahead (omega (arith)) (omega (arith)) (c.take_bang-lexeme.ensures.taken.1, c.take_bang-lexeme.ensures.taken.2) in (
       c.requires.lexing.0,
       (λ on. (omega (arith, further.0, length-map (outcome c.args.self.now.text.now).lexemes shown_lexeme), rw further.1 is.2)),
       goes_on c.looked_further-self-then-bang_stands.result _ c.requires.going,
@@ -155,11 +155,11 @@ returns-in-Ok-take_comment-clause-lexing c =
     let inv = c.requires.lexing.1 c.requires.going in
     let is = c.in-Ok-take_comment.ensures.ahead _ _ (c.comment_len.ensures.ahead _ _ (c.front-front.ensures.ahead _ _ inv.1)) in
     let further = one_more (map shown_lexeme (outcome c.args.self.now.text.now).lexemes) c.args.self.now.yielded_count _ is.0 is.1 in
-    let looked = front_looked c.args.self.now.text.now c.args.self.now.reader c.args.self.now.looked_to c.args.self.now.looked (sym c.is_front.ensures ∙ c.if-not-is_front.false) (c.requires.lexing.3 c.requires.going) in
-    let paid = looked.3 in
-    let short = here_reads c.args.self.now.text.now paid.0 3 3 c.args.self.now.reader c.front-front.new.self looked.0.stage paid.2 c.front-front.ensures.looked in
+    let lookahead = front_looked c.args.self.now.text.now c.args.self.now.reader c.args.self.now.looked_to c.args.self.now.lookahead (sym c.is_front.ensures ∙ c.if-not-is_front.false) (c.requires.lexing.3 c.requires.going) in
+    let paid = lookahead.3 in
+    let short = here_reads c.args.self.now.text.now paid.0 3 3 c.args.self.now.reader c.front-front.new.self lookahead.0.stage paid.2 c.front-front.ensures.lookahead in
     let some = c.in-Ok-take_comment.ensures.taken.0 in
-    let read = here_taken_reads c.args.self.now.text.now (paid.0 + 3) c.in-Some-comment_len.len (5 * c.in-Some-comment_len.len + 2) c.in-Some-comment_len.len c.front-front.new.self c.comment_len.new.self c.take_comment.new.self (c.front-front.ensures.looked.1 ∙ looked.0.stage) short c.in-Some-comment_len.ensures.looked
+    let read = here_taken_reads c.args.self.now.text.now (paid.0 + 3) c.in-Some-comment_len.len (5 * c.in-Some-comment_len.len + 2) c.in-Some-comment_len.len c.front-front.new.self c.comment_len.new.self c.take_comment.new.self (c.front-front.ensures.lookahead.1 ∙ lookahead.0.stage) short c.in-Some-comment_len.ensures.lookahead
     (omega (arith)) (omega (arith, some)) (c.in-Ok-take_comment.ensures.taken.1, c.in-Ok-take_comment.ensures.taken.2) in (
       c.requires.lexing.0,
       (λ on. (omega (arith, further.0, length-map (outcome c.args.self.now.text.now).lexemes shown_lexeme), rw further.1 is.2)),
@@ -171,10 +171,10 @@ returns-in-Ok-take_comment-clause-lexing c =
 pub next_of_reader-requires-in_default-comment_len-clause-lexing : goal.next_of_reader-requires-in_default-comment_len-clause-lexing
 next_of_reader-requires-in_default-comment_len-clause-lexing c =
     let inv = c.requires.lexing.1 c.requires.going in
-    let looked = front_looked c.args.self.now.text.now c.args.self.now.reader c.args.self.now.looked_to c.args.self.now.looked (sym c.is_front.ensures ∙ c.if-not-is_front.false) (c.requires.lexing.3 c.requires.going) in
-    let paid = looked.3 in
-    let short = here_reads c.args.self.now.text.now paid.0 3 3 c.args.self.now.reader c.front-front.new.self looked.0.stage paid.2 c.front-front.ensures.looked in
-    let read = here_reads c.args.self.now.text.now (paid.0 + 3) 0 0 c.front-front.new.self c.comment_len.new.self (c.front-front.ensures.looked.1 ∙ looked.0.stage) short (c.comment_len.ensures.none c.in_default-comment_len.is) in
+    let lookahead = front_looked c.args.self.now.text.now c.args.self.now.reader c.args.self.now.looked_to c.args.self.now.lookahead (sym c.is_front.ensures ∙ c.if-not-is_front.false) (c.requires.lexing.3 c.requires.going) in
+    let paid = lookahead.3 in
+    let short = here_reads c.args.self.now.text.now paid.0 3 3 c.args.self.now.reader c.front-front.new.self lookahead.0.stage paid.2 c.front-front.ensures.lookahead in
+    let read = here_reads c.args.self.now.text.now (paid.0 + 3) 0 0 c.front-front.new.self c.comment_len.new.self (c.front-front.ensures.lookahead.1 ∙ lookahead.0.stage) short (c.comment_len.ensures.none c.in_default-comment_len.is) in
     (c.requires.lexing.0, (λ on. (inv.0, c.comment_len.ensures.ahead _ _ (c.front-front.ensures.ahead _ _ inv.1))), tt, (λ on. (paid.0 + 3 + 0, omega (arith, paid.1), read)), c.requires.lexing.4)
 
 pub overflow_add-self-in-Err-plain_body_len-2 : goal.overflow_add-self-in-Err-plain_body_len-2

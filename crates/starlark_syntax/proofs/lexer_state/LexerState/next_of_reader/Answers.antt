@@ -34,12 +34,12 @@ returns-in-Ok-Lexeme-clause-lexing c =
     let inv = c.requires.lexing.1 c.requires.going in
     let is : IsNext c.args.self.now.text.now (drop c.args.self.now.yielded_count (map shown_lexeme (outcome c.args.self.now.text.now).lexemes)) (outcome c.args.self.now.text.now).fault (next.Lexeme c.in-Ok-Lexeme.lexeme) c.next.new.self = subst (λ (n : Next). IsNext c.args.self.now.text.now (drop c.args.self.now.yielded_count (map shown_lexeme (outcome c.args.self.now.text.now).lexemes)) (outcome c.args.self.now.text.now).fault n c.next.new.self) c.in-Ok-Lexeme.field-0-is (c.in-Ok-Lexeme.ensures.next _ _ inv.1) in
     let further = one_more (map shown_lexeme (outcome c.args.self.now.text.now).lexemes) c.args.self.now.yielded_count _ is.0 is.1 in
-    let paid = spared c.args.self.now.text.now c.args.self.now.reader c.args.self.now.looked_to c.args.self.now.looked (c.requires.lexing.3 c.requires.going) in
+    let paid = spared c.args.self.now.text.now c.args.self.now.reader c.args.self.now.looked_to c.args.self.now.lookahead (c.requires.lexing.3 c.requires.going) in
     let read = subst (λ (n : Next). HasReadNext c.args.self.now.text.now paid.0 n c.next.new.self) c.in-Ok-Lexeme.field-0-is (c.in-Ok-Lexeme.ensures.reads paid.0 paid.2) in (
       c.requires.lexing.0,
       (λ on. (omega (arith, further.0, length-map (outcome c.args.self.now.text.now).lexemes shown_lexeme), rw further.1 is.2)),
-      goes_on c.looked_behind-self.result _ c.requires.going,
-      (λ on. found_out c.args.self.now.text.now c.next.new.self c.args.self.now.looked_to paid.0 c.looked_behind-self.result c.looked_behind-self.ensures is.2.is_pending (omega (arith, paid.1)) read),
+      goes_on c.looked_after-self.result _ c.requires.going,
+      (λ on. found_out c.args.self.now.text.now c.next.new.self c.args.self.now.looked_to paid.0 c.looked_after-self.result c.looked_after-self.ensures is.2.is_pending (omega (arith, paid.1)) read),
       c.requires.lexing.4,
     )
 
@@ -60,7 +60,7 @@ pub returns-in-Ok-Nothing-clause-lexing : goal.returns-in-Ok-Nothing-clause-lexi
 returns-in-Ok-Nothing-clause-lexing c =
     let inv = c.requires.lexing.1 c.requires.going in
     let is : IsNext c.args.self.now.text.now (drop c.args.self.now.yielded_count (map shown_lexeme (outcome c.args.self.now.text.now).lexemes)) (outcome c.args.self.now.text.now).fault next.Nothing c.next.new.self = subst (λ (n : Next). IsNext c.args.self.now.text.now (drop c.args.self.now.yielded_count (map shown_lexeme (outcome c.args.self.now.text.now).lexemes)) (outcome c.args.self.now.text.now).fault n c.next.new.self) c.in-Ok-Nothing.field-0-is (c.in-Ok-Nothing.ensures.next _ _ inv.1) in
-    let paid = spared c.args.self.now.text.now c.args.self.now.reader c.args.self.now.looked_to c.args.self.now.looked (c.requires.lexing.3 c.requires.going) in
+    let paid = spared c.args.self.now.text.now c.args.self.now.reader c.args.self.now.looked_to c.args.self.now.lookahead (c.requires.lexing.3 c.requires.going) in
     let read = subst (λ (n : Next). HasReadNext c.args.self.now.text.now paid.0 n c.next.new.self) c.in-Ok-Nothing.field-0-is (c.in-Ok-Nothing.ensures.reads paid.0 paid.2) in
     (c.requires.lexing.0, (λ on. (inv.0, rw (is.0, is.1) is.2)), tt, (λ on. (paid.0, paid.1, read.0)), c.requires.lexing.4)
 
@@ -68,7 +68,7 @@ pub returns-in-Ok-clause-answer : goal.returns-in-Ok-clause-answer
 returns-in-Ok-clause-answer c =
     let inv = c.requires.lexing.1 c.requires.going in
     let is : IsNext c.args.self.now.text.now (left_in c.args.self.now) (outcome c.args.self.now.text.now).fault (next.Fault c.in-Ok-Fault.begin c.in-Ok-Fault.fault c.in-Ok-Fault.end) c.next.new.self = subst (λ (n : Next). IsNext c.args.self.now.text.now (left_in c.args.self.now) (outcome c.args.self.now.text.now).fault n c.next.new.self) c.in-Ok-Fault.field-0-is (c.in-Ok-Fault.ensures.next _ _ inv.1) in
-    let paid = spared c.args.self.now.text.now c.args.self.now.reader c.args.self.now.looked_to c.args.self.now.looked (c.requires.lexing.3 c.requires.going) in
+    let paid = spared c.args.self.now.text.now c.args.self.now.reader c.args.self.now.looked_to c.args.self.now.lookahead (c.requires.lexing.3 c.requires.going) in
     let read = subst (λ (n : Next). HasReadNext c.args.self.now.text.now paid.0 n c.next.new.self) c.in-Ok-Fault.field-0-is (c.in-Ok-Fault.ensures.reads paid.0 paid.2) in
     let place : Spanned Fault = record { begin = c.in-Ok-Fault.begin; node = is.0; end = c.in-Ok-Fault.end } in
     let few = read.1 is.0 is.1 in
@@ -88,6 +88,6 @@ pub returns-in-Ok-Nothing-clause-answer : goal.returns-in-Ok-Nothing-clause-answ
 returns-in-Ok-Nothing-clause-answer c =
     let inv = c.requires.lexing.1 c.requires.going in
     let is : IsNext c.args.self.now.text.now (left_in c.args.self.now) (outcome c.args.self.now.text.now).fault next.Nothing c.next.new.self = subst (λ (n : Next). IsNext c.args.self.now.text.now (left_in c.args.self.now) (outcome c.args.self.now.text.now).fault n c.next.new.self) c.in-Ok-Nothing.field-0-is (c.in-Ok-Nothing.ensures.next _ _ inv.1) in
-    let paid = spared c.args.self.now.text.now c.args.self.now.reader c.args.self.now.looked_to c.args.self.now.looked (c.requires.lexing.3 c.requires.going) in
+    let paid = spared c.args.self.now.text.now c.args.self.now.reader c.args.self.now.looked_to c.args.self.now.lookahead (c.requires.lexing.3 c.requires.going) in
     let read = subst (λ (n : Next). HasReadNext c.args.self.now.text.now paid.0 n c.next.new.self) c.in-Ok-Nothing.field-0-is (c.in-Ok-Nothing.ensures.reads paid.0 paid.2) in
     (is.0, is.1, is.3, read.1, omega (arith, paid.1, read.2, c.requires.lexing.4.inside))

@@ -23,11 +23,11 @@ returns-in-Ok-clause-lexing c =
     let inv = c.requires.lexing.1 c.requires.going in
     let is = c.in-Ok.ensures.ahead _ _ inv.1 in
     let further = one_more (map shown_lexeme (outcome c.args.self.now.text.now).lexemes) c.args.self.now.yielded_count _ is.0 is.1 in
-    let paid = spared c.args.self.now.text.now c.args.self.now.reader c.args.self.now.looked_to c.args.self.now.looked (c.requires.lexing.3 c.requires.going) in (
+    let paid = spared c.args.self.now.text.now c.args.self.now.reader c.args.self.now.looked_to c.args.self.now.lookahead (c.requires.lexing.3 c.requires.going) in (
       c.requires.lexing.0,
       (λ on. (omega (arith, further.0, length-map (outcome c.args.self.now.text.now).lexemes shown_lexeme), rw further.1 is.2)),
-      goes_on c.looked_behind-self.result _ c.requires.going,
-      (λ on. found_out c.args.self.now.text.now c.next_comment.new.self c.args.self.now.looked_to paid.0 c.looked_behind-self.result c.looked_behind-self.ensures is.2.is_pending (omega (arith, paid.1)) (c.in-Ok.ensures.reads paid.0 paid.2)),
+      goes_on c.looked_after-self.result _ c.requires.going,
+      (λ on. found_out c.args.self.now.text.now c.next_comment.new.self c.args.self.now.looked_to paid.0 c.looked_after-self.result c.looked_after-self.ensures is.2.is_pending (omega (arith, paid.1)) (c.in-Ok.ensures.reads paid.0 paid.2)),
       c.requires.lexing.4,
     )
 
@@ -43,11 +43,11 @@ returns-in-Some-clause-lexing c =
     let inv = c.requires.lexing.1 c.requires.going in
     let is = c.in-Some.ensures.ahead c.args.self.now.text.now _ _ inv.1 in
     let further = one_more (map shown_lexeme (outcome c.args.self.now.text.now).lexemes) c.args.self.now.yielded_count _ is.0 is.1 in
-    let paid = spared c.args.self.now.text.now c.args.self.now.reader c.args.self.now.looked_to c.args.self.now.looked (c.requires.lexing.3 c.requires.going) in (
+    let paid = spared c.args.self.now.text.now c.args.self.now.reader c.args.self.now.looked_to c.args.self.now.lookahead (c.requires.lexing.3 c.requires.going) in (
       c.requires.lexing.0,
       (λ on. (omega (arith, further.0, length-map (outcome c.args.self.now.text.now).lexemes shown_lexeme), rw further.1 is.2)),
-      goes_on c.looked_behind-self-in-Some.result _ c.requires.going,
-      (λ on. found_out c.args.self.now.text.now c.next_mark.new.self c.args.self.now.looked_to paid.0 c.looked_behind-self-in-Some.result c.looked_behind-self-in-Some.ensures is.2.is_pending (omega (arith, paid.1)) (c.in-Some.ensures.reads c.args.self.now.text.now paid.0 paid.2)),
+      goes_on c.looked_after-self-in-Some.result _ c.requires.going,
+      (λ on. found_out c.args.self.now.text.now c.next_mark.new.self c.args.self.now.looked_to paid.0 c.looked_after-self-in-Some.result c.looked_after-self-in-Some.ensures is.2.is_pending (omega (arith, paid.1)) (c.in-Some.ensures.reads c.args.self.now.text.now paid.0 paid.2)),
       c.requires.lexing.4,
     )
 
@@ -63,32 +63,32 @@ returns-in-Ok-take_text-clause-lexing c =
     let inv = c.requires.lexing.1 c.requires.going in
     let is = c.in-Ok-take_text.ensures.ahead _ _ (c.plain_text.ensures.ahead _ _ (c.in_default.ensures.ahead c.args.self.now.text.now _ _ inv.1)) in
     let further = one_more (map shown_lexeme (outcome c.args.self.now.text.now).lexemes) c.args.self.now.yielded_count _ is.0 is.1 in
-    let paid = spared c.args.self.now.text.now c.args.self.now.reader c.args.self.now.looked_to c.args.self.now.looked (c.requires.lexing.3 c.requires.going) in
+    let paid = spared c.args.self.now.text.now c.args.self.now.reader c.args.self.now.looked_to c.args.self.now.lookahead (c.requires.lexing.3 c.requires.going) in
     let marked = c.in_default.ensures.reads c.args.self.now.text.now paid.0 paid.2 in
     let found = c.in-Ok-plain_text.found in
     let some = c.in-Ok-plain_text.ensures.some in
-    let read = here_taken_reads c.args.self.now.text.now paid.0 (found.len + 3) (2 * found.len + 4) (found.len + found.stop_len) c.next_mark.new.self c.plain_text.new.self c.take_text.new.self (c.reads_on.ensures.stage c.if-not-reads_on.false) marked c.in-Ok-plain_text.ensures.looked
+    let read = here_taken_reads c.args.self.now.text.now paid.0 (found.len + 3) (2 * found.len + 4) (found.len + found.stop_len) c.next_mark.new.self c.plain_text.new.self c.take_text.new.self (c.reads_on.ensures.stage c.if-not-reads_on.false) marked c.in-Ok-plain_text.ensures.lookahead
     (omega (arith, some.1)) (omega (arith, some.0)) c.in-Ok-take_text.ensures.passed in (
       c.requires.lexing.0,
       (λ on. (omega (arith, further.0, length-map (outcome c.args.self.now.text.now).lexemes shown_lexeme), rw further.1 is.2)),
-      goes_on c.looked_behind-self-in-Ok-take_text.result _ c.requires.going,
-      (λ on. found_out c.args.self.now.text.now c.take_text.new.self c.args.self.now.looked_to paid.0 c.looked_behind-self-in-Ok-take_text.result c.looked_behind-self-in-Ok-take_text.ensures is.2.is_pending (omega (arith, paid.1)) read),
+      goes_on c.looked_after-self-in-Ok-take_text.result _ c.requires.going,
+      (λ on. found_out c.args.self.now.text.now c.take_text.new.self c.args.self.now.looked_to paid.0 c.looked_after-self-in-Ok-take_text.result c.looked_after-self-in-Ok-take_text.ensures is.2.is_pending (omega (arith, paid.1)) read),
       c.requires.lexing.4,
     )
 
 pub next_of_reader-requires-in-Err-plain_text-clause-lexing : goal.next_of_reader-requires-in-Err-plain_text-clause-lexing
 next_of_reader-requires-in-Err-plain_text-clause-lexing c =
     let inv = c.requires.lexing.1 c.requires.going in
-    let paid = spared c.args.self.now.text.now c.args.self.now.reader c.args.self.now.looked_to c.args.self.now.looked (c.requires.lexing.3 c.requires.going) in
+    let paid = spared c.args.self.now.text.now c.args.self.now.reader c.args.self.now.looked_to c.args.self.now.lookahead (c.requires.lexing.3 c.requires.going) in
     let marked = c.in_default.ensures.reads c.args.self.now.text.now paid.0 paid.2 in
     let other = c.in-Err-plain_text.ensures.other in
     let here = other.1 in
     let ahead = c.in_default.ensures.ahead c.args.self.now.text.now _ _ inv.1 in
     let inside = (left_onward c.args.self.now.text.now c.next_mark.new.self _ _ (c.reads_on.ensures.stage c.if-not-reads_on.false) ahead).is_left.1.inside in
-    let behind : c.args.self.now.looked_to ≤ c.next_mark.new.self.at = omega (arith, c.if-at-self.false, c.at.ensures) in
+    let remainder : c.args.self.now.looked_to ≤ c.next_mark.new.self.at = omega (arith, c.if-at-self.false, c.at.ensures) in
     let at : c.at-in-Err-plain_text.result ≡ c.next_mark.new.self.at = c.at-in-Err-plain_text.ensures ∙ here.0 in
     let read = here_reads c.args.self.now.text.now paid.0 0 (2 * c.in-Err-plain_text.run' + 4) c.next_mark.new.self c.plain_text.new.self (c.reads_on.ensures.stage c.if-not-reads_on.false) marked here in
-    (c.requires.lexing.0, (λ on. (inv.0, c.plain_text.ensures.ahead _ _ ahead)), tt, (λ on. (paid.0 + (2 * c.in-Err-plain_text.run' + 4), omega (arith, paid.1, behind, at), read)), reached c.args.self.now.text.now c.next_mark.new.self _ c.plain_text.new.self.at _ (c.reads_on.ensures.stage c.if-not-reads_on.false) ahead here.0 (omega (arith, at, other.0, here.0)))
+    (c.requires.lexing.0, (λ on. (inv.0, c.plain_text.ensures.ahead _ _ ahead)), tt, (λ on. (paid.0 + (2 * c.in-Err-plain_text.run' + 4), omega (arith, paid.1, remainder, at), read)), reached c.args.self.now.text.now c.next_mark.new.self _ c.plain_text.new.self.at _ (c.reads_on.ensures.stage c.if-not-reads_on.false) ahead here.0 (omega (arith, at, other.0, here.0)))
 
 pub overflow_add-self-in-Err-plain_text : goal.overflow_add-self-in-Err-plain_text
 overflow_add-self-in-Err-plain_text c =

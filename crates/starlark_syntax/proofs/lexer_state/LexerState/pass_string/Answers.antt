@@ -39,10 +39,10 @@ returns-clause-lexing c =
     let inv = c.requires.lexing.1 c.requires.going in
     let is = c.pass_plain_text.ensures.ahead _ _ (c.plain_body_len.ensures.ahead _ _ (c.text_opener.ensures.ahead _ _ inv.1)) in
     let further = one_more (map shown_lexeme (outcome c.args.self.now.text.now).lexemes) c.args.self.now.yielded_count _ is.0 is.1 in
-    let front = front_is c.args.self.now.text.now c.args.self.now.reader c.args.self.now.looked_to c.args.self.now.looked c.requires.front (c.requires.lexing.3 c.requires.going) in
+    let front = front_is c.args.self.now.text.now c.args.self.now.reader c.args.self.now.looked_to c.args.self.now.lookahead c.requires.front (c.requires.lexing.3 c.requires.going) in
     let paid = c.requires.opened.1 in
     let opener = text_opener_len (drop c.text_opener.new.self.at c.args.self.now.text.now) c.in-Some.field-0.is_raw c.in-Some.field-0.quote c.in-Some.field-0.len c.in-Some.ensures.stands.front in
-    let read = plain_reads c.args.self.now.text.now paid.0 2 2 c.in-Some.field-0.len c.in-Ok.body c.args.self.now.reader c.text_opener.new.self c.plain_body_len.new.self c.pass_plain_text.new.self front.0.stage paid.2 c.text_opener.ensures.looked (omega arith, omega arith) c.in-Ok.ensures.looked opener
+    let read = plain_reads c.args.self.now.text.now paid.0 2 2 c.in-Some.field-0.len c.in-Ok.body c.args.self.now.reader c.text_opener.new.self c.plain_body_len.new.self c.pass_plain_text.new.self front.0.stage paid.2 c.text_opener.ensures.lookahead (omega arith, omega arith) c.in-Ok.ensures.lookahead opener
     (c.pass_plain_text.ensures.taken.1, c.pass_plain_text.ensures.taken.2) in (
       c.requires.lexing.0,
       (λ on. (omega (arith, further.0, length-map (outcome c.args.self.now.text.now).lexemes shown_lexeme), rw further.1 is.2)),
@@ -54,20 +54,20 @@ returns-clause-lexing c =
 pub returns-in_default-clause-lexing : goal.returns-in_default-clause-lexing
 returns-in_default-clause-lexing c =
     let inv = c.requires.lexing.1 c.requires.going in
-    let front = front_is c.args.self.now.text.now c.args.self.now.reader c.args.self.now.looked_to c.args.self.now.looked c.requires.front (c.requires.lexing.3 c.requires.going) in
+    let front = front_is c.args.self.now.text.now c.args.self.now.reader c.args.self.now.looked_to c.args.self.now.lookahead c.requires.front (c.requires.lexing.3 c.requires.going) in
     let paid = c.requires.opened.1 in
-    let opened = here_reads c.args.self.now.text.now paid.0 2 2 c.args.self.now.reader c.text_opener.new.self front.0.stage paid.2 c.text_opener.ensures.looked in
+    let opened = here_reads c.args.self.now.text.now paid.0 2 2 c.args.self.now.reader c.text_opener.new.self front.0.stage paid.2 c.text_opener.ensures.lookahead in
     (c.requires.lexing.0, (λ on. (inv.0, c.text_opener.ensures.ahead _ _ inv.1)), tt, (λ on. (paid.0 + 2, omega (arith, paid.1), opened)), c.requires.lexing.4)
 
 pub returns-in-Err-clause-lexing : goal.returns-in-Err-clause-lexing
 returns-in-Err-clause-lexing c =
     let inv = c.requires.lexing.1 c.requires.going in
-    let front = front_is c.args.self.now.text.now c.args.self.now.reader c.args.self.now.looked_to c.args.self.now.looked c.requires.front (c.requires.lexing.3 c.requires.going) in
+    let front = front_is c.args.self.now.text.now c.args.self.now.reader c.args.self.now.looked_to c.args.self.now.lookahead c.requires.front (c.requires.lexing.3 c.requires.going) in
     let paid = c.requires.opened.1 in
-    let opened = here_reads c.args.self.now.text.now paid.0 2 2 c.args.self.now.reader c.text_opener.new.self front.0.stage paid.2 c.text_opener.ensures.looked in
+    let opened = here_reads c.args.self.now.text.now paid.0 2 2 c.args.self.now.reader c.text_opener.new.self front.0.stage paid.2 c.text_opener.ensures.lookahead in
     let other = c.in-Err.ensures.other in
-    let read = here_reads c.args.self.now.text.now (paid.0 + 2) 0 (2 * c.in-Err.run' + 3) c.text_opener.new.self c.plain_body_len.new.self (c.text_opener.ensures.looked.1 ∙ front.0.stage) opened other.1 in
-    let same = c.text_opener.ensures.looked.0 in
+    let read = here_reads c.args.self.now.text.now (paid.0 + 2) 0 (2 * c.in-Err.run' + 3) c.text_opener.new.self c.plain_body_len.new.self (c.text_opener.ensures.lookahead.1 ∙ front.0.stage) opened other.1 in
+    let same = c.text_opener.ensures.lookahead.0 in
     let stands = rw same at (sym c.in-Some.ensures.stands.front) in
     let reach = c.requires.opened.0 _ c.in-Some.field-0.len stands in
     let at : c.at.result ≡ c.args.self.now.reader.at = c.at.ensures ∙ other.1.0 ∙ same in (
@@ -100,10 +100,10 @@ pub returns-clause-passed : goal.returns-clause-passed
 returns-clause-passed c = λ some.
     let text = c.args.self.now.text.now in
     let inv = c.requires.lexing.1 c.requires.going in
-    let front = front_is text c.args.self.now.reader c.args.self.now.looked_to c.args.self.now.looked c.requires.front (c.requires.lexing.3 c.requires.going) in
+    let front = front_is text c.args.self.now.reader c.args.self.now.looked_to c.args.self.now.lookahead c.requires.front (c.requires.lexing.3 c.requires.going) in
     let is = c.pass_plain_text.ensures.ahead _ _ (c.plain_body_len.ensures.ahead _ _ (c.text_opener.ensures.ahead _ _ inv.1)) in
     let taken = c.pass_plain_text.ensures.taken in
-    let same : c.plain_body_len.new.self.at ≡ c.args.self.now.reader.at = c.in-Ok.ensures.looked.0 ∙ c.text_opener.ensures.looked.0 in
+    let same : c.plain_body_len.new.self.at ≡ c.args.self.now.reader.at = c.in-Ok.ensures.lookahead.0 ∙ c.text_opener.ensures.lookahead.0 in
     let first = reader_boundary text c.args.self.now.reader _ _ front.0.stage inv.1 in
     let last = reader_boundary text c.pass_plain_text.new.self _ _ taken.2 is.2 in
     let value = c.pass_plain_text.ensures.value in

@@ -8,7 +8,7 @@ returns-clause-lexing c =
     let begun = c.requires.unread in (
       c.requires.fits,
       (λ on. (omega (arith, none), rw none (begun.ahead c.args.text.now))),
-      rw begun.looked tt,
-      (λ on. rw begun.looked (0, omega arith, begun.reads c.args.text.now)),
+      rw begun.lookahead tt,
+      (λ on. rw begun.lookahead (0, omega arith, begun.reads c.args.text.now)),
       record { inside = omega (arith, begun.place); fault = λ fault has. omega (arith, begun.place) },
     )

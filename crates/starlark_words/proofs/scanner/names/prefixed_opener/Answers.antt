@@ -18,11 +18,11 @@ returns-then-len-gt-PREFIX_LEN-clause-opener c =
 
 pub returns-then-not-is_quote-clause-opener : goal.returns-then-not-is_quote-clause-opener
 returns-then-not-is_quote-clause-opener c =
-    sym (unquoted_is_no_opener c.args.text.now c.args.len c.requires.len (quote_at c.args.text.now c.args.len _ _ c.requires.behind c.if-not-is_quote.ensures))
+    sym (unquoted_is_no_opener c.args.text.now c.args.len c.requires.len (quote_at c.args.text.now c.args.len _ _ c.requires.remainder c.if-not-is_quote.ensures))
 
 pub range-requires-clause-end_boundary : goal.range-requires-clause-end_boundary
 range-requires-clause-end_boundary c =
-    let quote = quote_at c.args.text.now c.args.len _ _ c.requires.behind c.if-not-is_quote.ensures in
+    let quote = quote_at c.args.text.now c.args.len _ _ c.requires.remainder c.if-not-is_quote.ensures in
     IsCharBoundary-after_ascii c.args.text.now c.args.len c.utf8.text (quote_is_within _ _ quote) (quote_is_ascii _ quote)
 
 pub returns-clause-opener : goal.returns-clause-opener
