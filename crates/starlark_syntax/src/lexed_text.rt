@@ -220,7 +220,9 @@ impl<'a> LexedText<'a> {
     ///
     /// The result is what `lex` returns for `edited`, with its fault in this code map. Only the
     /// bytes after the last cut at or before `from` are read, and no lexeme before it is made
-    /// again. The error is the lexed text, unchanged, where memory runs out.
+    /// again. If this text has no fault, lexing stops where `edited` meets it again: the bytes after
+    /// that are compared, and their lexemes moved. The error is the lexed text, unchanged, where
+    /// memory runs out.
     pub fn relex(
         self,
         from: usize,

@@ -23,19 +23,19 @@ use std::alloc::{AllocError, Global};
 /// Offsets count from the start of the text that was lexed.
 #[derive(Drop)]
 pub struct Part {
-    /// The lexemes up to the fault, or all.
+    /// The lexemes up to the fault or the meeting, or all.
     pub lexemes: Vec<PlacedToken>,
     /// The exception of the first fault, if there is one.
     pub fault: Option<EvalException>,
     /// The offsets where the text can be cut, in order.
     pub cuts: Vec<Cut>,
-    /// Whether the text is a clean cut.
+    /// Whether the text is a clean cut. At a meeting it says nothing.
     pub is_cut: bool,
     /// Whether the first margin has a tab before content.
     pub has_tab: bool,
     /// Number of reads of bytes.
     pub reads: u64,
-    /// Where lexing met a known text and stopped. There the text isn't lexed to its end.
+    /// Where lexing met a known text and stopped, if it did.
     pub met: Option<Meeting>,
 }
 
