@@ -13,6 +13,7 @@ ghost use Rattle.starlark_token.specs.Lexemes.{fault_view, lexeme_view};
 ghost use Rattle.starlark_token.specs.TokenViews.{token_view};
 
 use crate::endings::{Ending, Filled};
+use crate::kinds::number_of_plain;
 use crate::progress::{Progress, Stop, is_plain_newline, want, want_lexeme, want_plain};
 use crate::records::{
     FaultRecord, LexemeRecord, bytes_of, bytes_of_fault, bytes_of_plain, number_of_fault,
@@ -98,11 +99,13 @@ fn put_plain(
     requires plain { IsPlainIn text.now plain }
     ensures { Puts (plain_view text.now plain) filled (record { lexemes = lexemes.old; values = values.old }) (record { lexemes = lexemes.new; values = values.new }) result }
 {
+    // First: so each kind of plain lexeme has its number without a table (5 % of a mix).
+    let number = number_of_plain(plain.kind);
     if lexemes.len() <= filled.lexemes {
         return None;
     }
     let end = put_plain_value(values, filled.values, text, plain)?;
-    lexemes[filled.lexemes] = plain_record_at(filled.values, end - filled.values, plain);
+    lexemes[filled.lexemes] = plain_record_at(filled.values, end - filled.values, number, plain);
     Some(Filled {
         lexemes: filled.lexemes + 1,
         values: end,
