@@ -4,15 +4,18 @@ ghost use Rattle.std.specs.Prelude.{◌≡◌, ◌<◌, ◌≤◌, ◌+◌, ◌^
 ghost use Rattle.starlark_base.specs.Sources.{SourceFile};
 ghost use Rattle.starlark_c.specs.Endings.{IsText, lexemes_of};
 ghost use Rattle.starlark_c.specs.Inner.Filling.{EndsAtFault, EndsByFault, EndsWithStop, IsCutIn, IsOverflow, IsStop, IsStopped, IsWanted, MayStop, Puts, PutsNext, is_without_margin, put, wanted_by};
+ghost use Rattle.starlark_c.specs.Kinds.{token_number};
 ghost use Rattle.starlark_c.specs.Records.{fault_bytes, value_bytes, values};
 ghost use Rattle.starlark_grammar.specs.Reading.{outcome};
 ghost use Rattle.starlark_grammar.specs.Tokens.{Fault as GrammarFault, Spanned};
 ghost use Rattle.starlark_syntax.specs.Exceptions.{IsException, IsFaultIn};
-ghost use Rattle.starlark_syntax.specs.PlainLexemes.{IsPlainIn, plain_view};
+ghost use Rattle.starlark_grammar.specs.Words.{Text};
+ghost use Rattle.starlark_syntax.specs.PlainLexemes.{IsPlainIn, plain_view, token_of};
 ghost use Rattle.starlark_token.specs.Lexemes.{fault_view, lexeme_view};
 ghost use Rattle.starlark_token.specs.TokenViews.{token_view};
 
 use crate::endings::{Ending, Filled};
+use crate::kinds::number_of_plain;
 use crate::progress::{Progress, Stop, is_plain_newline, want, want_lexeme, want_plain};
 use crate::records::{
     FaultRecord, LexemeRecord, bytes_of, bytes_of_fault, bytes_of_plain, number_of_fault,
@@ -83,7 +86,8 @@ fn put_plain_value(values: &mut [u8], at: usize, text: &str, plain: PlainLexeme)
     put_bytes(values, at, bytes)
 }
 
-/// Puts a plain lexeme of a text after what fills the buffers, and returns what fills them then.
+/// Puts a plain lexeme of a text, whose kind has a number, after what fills the buffers, and returns
+/// what fills them then.
 ///
 /// `None`, and nothing changes, where there is no room.
 #[inline(always)]
@@ -91,9 +95,11 @@ fn put_plain(
     lexemes: &mut [LexemeRecord],
     values: &mut [u8],
     filled: Filled,
+    number: u16,
     text: &str,
     plain: PlainLexeme,
 ) -> Option<Filled>
+    requires number { (value : Text) → number ≡ token_number (token_of plain.kind value) }
     requires values_within { filled.values ≤ length values.old }
     requires plain { IsPlainIn text.now plain }
     ensures { Puts (plain_view text.now plain) filled (record { lexemes = lexemes.old; values = values.old }) (record { lexemes = lexemes.new; values = values.new }) result }
@@ -102,7 +108,7 @@ fn put_plain(
         return None;
     }
     let end = put_plain_value(values, filled.values, text, plain)?;
-    lexemes[filled.lexemes] = plain_record_at(filled.values, end - filled.values, plain);
+    lexemes[filled.lexemes] = plain_record_at(filled.values, end - filled.values, number, plain);
     Some(Filled {
         lexemes: filled.lexemes + 1,
         values: end,
@@ -216,7 +222,9 @@ fn take_plain(
     requires plain { IsPlainIn text.now plain }
     ensures { PutsNext (plain_view text.now plain) progress.old progress.new (record { lexemes = lexemes.old; values = values.old }) (record { lexemes = lexemes.new; values = values.new }) result }
 {
-    match put_plain(lexemes, values, progress.filled, text, plain) {
+    // First: so each kind of plain lexeme has its number without a table (5 % of a mix).
+    let number = number_of_plain(plain.kind);
+    match put_plain(lexemes, values, progress.filled, number, text, plain) {
         Some(filled) => {
             progress.filled = filled;
             Ok(())

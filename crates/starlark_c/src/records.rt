@@ -1,13 +1,14 @@
 //! Lexemes and faults as plain records of numbers, and the values that these point to.
 
 ghost use Rattle.std.specs.Prelude.{◌≡◌, ◌<◌, ◌≤◌, ◌+◌, ◌^◌, ℕ, IfSome, length};
+ghost use Rattle.starlark_c.specs.Kinds.{token_number};
 ghost use Rattle.starlark_c.specs.Records.{detail, fault_bytes, fault_number, integer, quotes_number, record_of, value_bytes};
 ghost use Rattle.starlark_grammar.specs.Words.{Text};
-ghost use Rattle.starlark_syntax.specs.PlainLexemes.{IsPlainIn, plain_view};
+ghost use Rattle.starlark_syntax.specs.PlainLexemes.{IsPlainIn, plain_view, token_of};
 ghost use Rattle.starlark_token.specs.Lexemes.{fault_view, lexeme_view};
 ghost use Rattle.starlark_token.specs.TokenViews.{fstring_quote_view, token_view};
 
-use crate::kinds::{number_of_kind, number_of_plain};
+use crate::kinds::number_of_kind;
 use starlark_syntax::lexer::{FStringQuote, LexemeError, PlainKind, PlainLexeme, Token, TokenInt};
 
 /// A lexeme: its place in the text, its kind, and where its value is among the values.
@@ -135,10 +136,12 @@ pub fn record_at(at: usize, lexeme: &(usize, Token, usize)) -> LexemeRecord
     }
 }
 
-/// The record of a plain lexeme whose value is that of `len` bytes at byte `at` of the values.
+/// The record of a plain lexeme of a kind with a number, whose value is that of `len` bytes at byte
+/// `at` of the values.
 #[tactic(auto, unfolding(crate::specs::Kinds::kind_number, crate::specs::Records::integer, crate::specs::Records::detail))]
 #[inline(always)]
-pub fn plain_record_at(at: usize, len: usize, plain: PlainLexeme) -> LexemeRecord
+pub fn plain_record_at(at: usize, len: usize, number: u16, plain: PlainLexeme) -> LexemeRecord
+    requires number { (value : Text) → number ≡ token_number (token_of plain.kind value) }
     requires begin { plain.begin < 2 ^ 32 }
     requires end { plain.end < 2 ^ 32 }
     ensures { (text : Text) → len ≡ length (value_bytes (plain_view text plain).node) → result ≡ record_of at (plain_view text plain) }
@@ -146,7 +149,7 @@ pub fn plain_record_at(at: usize, len: usize, plain: PlainLexeme) -> LexemeRecor
     LexemeRecord {
         begin: plain.begin as u32,
         end: plain.end as u32,
-        kind: number_of_plain(plain.kind),
+        kind: number,
         detail: 0,
         integer: 0,
         value_begin: at,
