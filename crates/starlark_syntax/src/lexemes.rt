@@ -117,8 +117,9 @@ impl<'a> Lexer<'a> {
 
     /// Offset in bytes where the text may be cut, if the lexemes yielded so far are those before it.
     ///
-    /// The text before the offset is a clean cut, and is lexed the same whatever follows. The offset is
-    /// before the end of the text. `None` where there is none, and after any error. No byte is read.
+    /// The text up to the offset is a clean cut. Its lexemes but the closing `Newline` are those
+    /// yielded so far; the text's other lexemes are those of the rest, moved. The offset is before the
+    /// end of the text. `None` where there is no such offset, and after any error. No byte is read.
     #[inline(always)]
     pub fn cut(&self) -> Option<usize>
         ensures kept { IfSome result (IsCutAfter self.now.text self.now.yielded_count) }
