@@ -115,6 +115,15 @@ fn add_plain(list: &mut String, text: &str, plain: PlainLexeme) -> Result<(), Al
     write!(list, "{}-{} [{value}]; ", plain.begin, plain.end)
 }
 
+/// Passes the next item, and returns whether there was one.
+fn pass_other(lexer: &mut Lexer<'_>) -> Result<bool, AllocError> {
+    match lexer.next() {
+        None => Ok(false),
+        Some(Err(OrMemory::Memory)) => Err(AllocError),
+        Some(_) => Ok(true),
+    }
+}
+
 /// The plain lexemes of a text, and `other` for each item that isn't one.
 fn plain_lexemes(alloc: Global, text: &str) -> Answer {
     let mut lexer = lexer(alloc, text, "f", text)?;
@@ -122,7 +131,7 @@ fn plain_lexemes(alloc: Global, text: &str) -> Answer {
     for _ in 0..u64::MAX {
         if let Some(plain) = lexer.next_plain() {
             add_plain(&mut list, text, plain)?;
-        } else if lexer.next().is_some() {
+        } else if pass_other(&mut lexer)? {
             list.push_str("other; ")?;
         } else {
             break;
