@@ -9,4 +9,5 @@ pub mod BodyReads
 pub mod EndLanes
 pub mod RunBytes
 pub mod BodyRuns
+pub mod BodyRounds
 pub mod PlainBodies

@@ -247,6 +247,7 @@ fn is_of_bytes(kind: LiteralKind) -> bool
 }
 
 /// The escape at the start of a text, which begins with its backslash: an item, or a bad escape.
+#[inline(always)]
 pub(crate) fn escape<'a>(reads: &mut ReadCounter, kind: LiteralKind, text: &'a str) -> Found<'a>
     requires { text.now ≡ 92 ∷ drop 1 text.now }
     ensures value { found_view result ≡ grammar.escape kind (drop 1 text.now) }

@@ -198,6 +198,7 @@ pub(crate) fn ends_line(opening: Opening, byte: u8) -> bool
 
 /// The item or stop at the start of the rest of a body. `front` is its first three bytes, read
 /// already.
+#[inline(always)]
 pub(crate) fn found_at<'a>(
     reads: &mut ReadCounter,
     literal: Literal,

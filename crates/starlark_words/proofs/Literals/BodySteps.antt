@@ -1,13 +1,9 @@
 -- A body one item further.
-use Rattle.std.proofs.Common.{◌≡◌, ℕ, zero, suc, ◌+◌, ◌-◌, ◌≤◌, Bool, true, false, not, [], ◌∷◌, ◌++◌, length, drop, refl, ap, sym, subst, ◌∙◌, arith}
+use Rattle.std.proofs.Common.{◌≡◌, ℕ, zero, suc, ◌+◌, ◌-◌, ◌≤◌, [], ◌∷◌, ◌++◌, length, drop, refl, ap, sym, subst, ◌∙◌, arith}
 use Rattle.std.proofs.lemmas.List.{append_assoc, append-nil, length-drop}
 use Rattle.std.proofs.lemmas.List.Sums.{sum_by-cons}
 use Rattle.starlark_grammar.specs.Words.{Text}
 use Rattle.starlark_grammar.specs.Items.{Literal, Item, Stop, Goes, Stops, found_at, Body, body_len, body_value, body_from, body_at}
-use Rattle.starlark_words.specs.declared.items.Value.{Value}
-use Rattle.starlark_words.specs.declared.body.LiteralValue.{LiteralValue}
-use Rattle.starlark_words.specs.declared.body.LiteralValue.TheVariants as read
-use Rattle.starlark_words.specs.Inner.Literals.{IsCharacters, Takes, holds_text}
 use Rattle.starlark_grammar.proofs.Lists.{drop-remainder, drop-sum}
 use Rattle.starlark_grammar.proofs.Literals.Bodies.{FoundFits, found_fits}
 
@@ -72,9 +68,3 @@ pub front_stops : (literal : Literal) (text : Text) (count : ℕ) (denoted : Tex
 front_stops literal text count denoted stop front e =
     let stops = body_stops literal (drop count text) stop e in
     (omega (arith, front.len, ap body_len stops), sym (append-nil denoted) ∙ sym (ap (λ body. denoted ++ body_value body) stops) ∙ front.value, sym (ap (λ (body : Body). body.stop) stops) ∙ front.stop)
-
--- what is found in a literal that isn't of bytes is taken by a text
-pub takes : (value : LiteralValue) (denoted : Value) (of_bytes : Bool) → holds_text value ≡ not of_bytes → (of_bytes ≡ false → IsCharacters denoted) → Takes value denoted
-takes (read.Text text) denoted false kind characters = characters refl
-takes (read.Text text) denoted true kind characters = cc
-takes (read.Bytes bytes) denoted of_bytes kind characters = tt

@@ -83,11 +83,6 @@ abbrev pub holds_text : LiteralValue → Bool
 holds_text (read.Text text) = true
 holds_text (read.Bytes bytes) = false
 
--- the item's value can be appended to the literal's value: a text takes no lone byte
-abbrev pub Takes : LiteralValue → Value → Type 0
-Takes (read.Text text) value = IsCharacters value
-Takes (read.Bytes bytes) value = ⊤
-
 -- the body that was read is that of the grammar
 pub record IsBody (body : items.Body) (found : Body) : Type 0 where
   pub len : found.len ≡ items.body_len body

@@ -1,0 +1,16 @@
+use Rattle.std.proofs.Common.{◌-◌, ◌*◌, length}
+use Rattle.std.specs.Str.{IsCharBoundary}
+use Rattle.starlark_words.specs.Inner.Literals.{literal_view}
+use Rattle.starlark_words.proofs.Literals.BodySteps.{IsFront}
+use Rattle.starlark_words.specs.Inner.Reads.{AreReads}
+use Rattle.starlark_words.proofs.body.read_bytes_body.Given as goal
+
+abbrev pub invariant-loop-value : goal.invariant-loop-value
+invariant-loop-value l = record {
+  front : IsFront (literal_view l.literal) l.text l.len l.value.items;
+  boundary : IsCharBoundary l.text l.len;
+  reads : AreReads l.len (8 * l.len) l.fn.reads l.reads;
+}
+
+abbrev pub decreases-loop-value : goal.decreases-loop-value
+decreases-loop-value l = length l.text - l.len
