@@ -1,6 +1,6 @@
 //! The lexer: an iterator over a text's lexemes.
 
-use crate::ffi::{self, Buffers, Ending, FaultRecord};
+use crate::ffi::{self, Buffers, Ending, FaultRecord, LexemeRecord};
 use crate::piece::Piece;
 use crate::{Fault, FaultKind, Span, Token, TooLong};
 use std::iter::FusedIterator;
@@ -65,6 +65,9 @@ pub struct Lexer<'a> {
     after: After,
     /// How many bytes of the text one call lexes.
     window: usize,
+    /// An item of which more than its record had to be looked at, until `next` returns it.
+    // Not what a call returns: then each item would lie in memory, and be copied once more.
+    item: Option<Result<Lexeme<'a>, Fault>>,
 }
 
 impl<'a> Lexer<'a> {
@@ -105,6 +108,7 @@ impl<'a> Lexer<'a> {
             index: 0,
             after: After::Text(0),
             window: WINDOW,
+            item: None,
         })
     }
 
@@ -131,6 +135,22 @@ impl<'a> Lexer<'a> {
         (record.lexemes_before == self.index).then(|| self.fault(record))
     }
 
+    /// The lexeme of a record of the piece.
+    fn lexeme(&self, record: &LexemeRecord) -> Lexeme<'a> {
+        Lexeme {
+            span: self.piece.span(record.begin, record.end),
+            token: Token::of_record(&self.piece, record),
+        }
+    }
+
+    /// Makes the lexeme of a record the item that comes next.
+    // Not inlined: with these kinds, too, in the loop of a caller each lexeme costs 10 instructions
+    // more.
+    #[inline(never)]
+    fn keep_lexeme(&mut self, record: LexemeRecord) {
+        self.item = Some(Ok(self.lexeme(&record)));
+    }
+
     /// The next item where the buffers have no further lexeme.
     #[cold]
     fn next_after_buffers(&mut self) -> Option<Result<Lexeme<'a>, Fault>> {
@@ -149,7 +169,7 @@ impl<'a> Lexer<'a> {
             }
             if let Some(record) = self.piece.buffers.lexeme(0) {
                 self.index = 1;
-                return Token::item_of_record(&self.piece, record);
+                return Some(Ok(self.lexeme(record)));
             }
         }
     }
@@ -222,22 +242,39 @@ fn room_for(len: usize) -> (usize, usize) {
     (len / 2 + 16, len + 16)
 }
 
-/// The front of a text that one call lexes: all, or about so many bytes of it.
+/// The front of a text that one call lexes: all, or at most so many bytes of it.
 ///
-/// It ends after the first letter of a line near its end, if there is such a line: there a statement
-/// mostly begins, before which the text may be cut.
+/// It ends after the first letter of the last line before which the text may mostly be cut, if such a
+/// line is in the second half of those bytes.
 fn front_of(text: &str, window: usize) -> &str {
     if text.len() <= window {
         return text;
     }
-    let from = window - window / 4;
-    let begins_line = |pair: &[u8]| pair[0] == b'\n' && pair[1].is_ascii_alphabetic();
-    let tail = &text.as_bytes()[from..window];
-    if let Some(at) = tail.windows(2).rposition(begins_line) {
-        return &text[..from + at + 2];
+    let half = window / 2;
+    if let Some(at) = last_cut(&text.as_bytes()[half..window]) {
+        return &text[..=half + at];
     }
     let end = (0..=window).rev().find(|&end| text.is_char_boundary(end));
     &text[..end.unwrap_or(0)]
+}
+
+/// Where the last line begins before which a text may mostly be cut, whatever comes after.
+///
+/// It begins with a letter, as a statement does. The line before it, but for blank lines and comments,
+/// has no margin, so that no block is open there.
+fn last_cut(bytes: &[u8]) -> Option<usize> {
+    let mut statement = None;
+    let mut end = bytes.len();
+    while let Some(lf) = bytes[..end].iter().rposition(|&byte| byte == b'\n') {
+        end = lf;
+        match bytes.get(lf + 1) {
+            None | Some(b'\n' | b'\r' | b'#') => {}
+            Some(b' ' | b'\t') => statement = None,
+            Some(_) if statement.is_some() => return statement,
+            Some(byte) => statement = byte.is_ascii_alphabetic().then_some(lf + 1),
+        }
+    }
+    None
 }
 
 /// Twice a capacity, if that isn't more than the most; else the capacity.
@@ -251,10 +288,17 @@ impl<'a> Iterator for Lexer<'a> {
     #[inline]
     fn next(&mut self) -> Option<Self::Item> {
         let Some(record) = self.piece.buffers.lexeme(self.index) else {
-            return self.next_after_buffers();
+            self.item = self.next_after_buffers();
+            return self.item.take();
         };
         self.index += 1;
-        Token::item_of_record(&self.piece, record)
+        match Token::plain_item(&self.piece, record) {
+            Some(item) => Some(item),
+            None => {
+                self.keep_lexeme(*record);
+                self.item.take()
+            }
+        }
     }
 }
 
@@ -309,7 +353,14 @@ mod tests {
     #[test]
     fn a_front_ends_where_a_statement_may_begin() {
         assert_eq!(front_of("a\nb\ncd", 8), "a\nb\ncd");
-        assert_eq!(front_of("abcdefghi\nj\nk", 12), "abcdefghi\nj");
+        assert_eq!(front_of("abcdefgh\ni\nj\nk", 13), "abcdefgh\ni\nj");
+        assert_eq!(
+            front_of("abcdefgh\n)\n# c\n\nj\n k", 20),
+            "abcdefgh\n)\n# c\n\nj"
+        );
+        // Before `j` a block is open, `i` is in the first half, and `é` has two bytes.
+        assert_eq!(front_of("abcdefgh\nh\ni\n  k\nj\nk", 19), "abcdefgh\nh\ni");
+        assert_eq!(front_of("h\ni\n  klmn\nj\nk", 14), "h\ni\n  klmn\nj\n");
         assert_eq!(front_of("abcdefghiéj", 10), "abcdefghi");
     }
 
