@@ -28,13 +28,12 @@ fn short_front_len(reads: &mut ReadCounter, text: &[u8], other: u8) -> usize
 }
 
 /// Number of bytes before the first LF or `other` byte among the 16 bytes from `at` on; 16 if none.
+/// The caller has to count the reads.
 #[inline(always)]
-fn lanes_front_len(reads: &mut ReadCounter, text: &[u8], at: usize, other: u8) -> usize
+fn lanes_front_len(text: &[u8], at: usize, other: u8) -> usize
     requires { at + 16 ≤ length text.now }
     ensures value { result ≡ prefix_len (is_in_front other) (take 16 (drop at text.now)) }
-    ensures reads { reads.new ≡ more_reads reads.old 16 }
 {
-    reads.count_lanes();
     let lanes = u8x16::from_slice(&text[at..]);
     let ends = lanes.simd_eq(u8x16::splat(other)) | lanes.simd_eq(u8x16::splat(b'\n'));
     lowest_bit(ends.to_bitmask())
@@ -57,11 +56,13 @@ pub fn front_len(reads: &mut ReadCounter, text: &[u8], other: u8) -> usize
         return at;
     }
     while at + LANES <= text.len() {
-        let len = lanes_front_len(reads, text, at, other);
+        let len = lanes_front_len(text, at, other);
         if len < LANES {
+            reads.count_run_and_lanes(at - ALONE);
             return at + len;
         }
         at += LANES;
     }
+    reads.count_run(at - ALONE);
     at + short_front_len(reads, &text[at..], other)
 }

@@ -80,15 +80,7 @@ impl ReadCounter {
         self.add(len + 1);
     }
 
-    /// Counts the 16 bytes of a SIMD step.
-    #[inline(always)]
-    pub(crate) fn count_lanes(&mut self)
-        ensures { self.new ≡ more_reads self.old 16 }
-    {
-        self.add(LANES);
-    }
-
-    /// Counts a run of `len` bytes that was read one by one, and the SIMD step after it.
+    /// Counts a run of `len` bytes, each read once, and the 16 bytes of the SIMD step after it.
     #[inline(always)]
     pub(crate) fn count_run_and_lanes(&mut self, len: usize)
         requires { len < 2 ^ 64 - 16 }

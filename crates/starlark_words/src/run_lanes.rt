@@ -4,12 +4,10 @@ ghost use Rattle.std.specs.Prelude.{◌≡◌, ℕ, ◌+◌, ◌≤◌, drop, le
 ghost use Rattle.std.specs.List.{prefix_len};
 ghost use Rattle.starlark_grammar.specs.Items.{quote_byte};
 ghost use Rattle.starlark_words.specs.Inner.Literals.{literal_view};
-ghost use Rattle.starlark_words.specs.Inner.Reads.{more_reads};
 ghost use Rattle.starlark_words.specs.Inner.Runs.{is_end, is_special};
 
 use super::items::Literal;
 use crate::lanes::lowest_bit;
-use crate::reads::ReadCounter;
 use starlark_grammar::class::{LiteralKind, Quote};
 use std::simd::prelude::*;
 
@@ -58,14 +56,13 @@ impl Ends {
     }
 }
 
-/// Length of the run at the start of the 16 bytes from `at` on; 16 if it fills them.
+/// Length of the run at the start of the 16 bytes from `at` on; 16 if it fills them. The caller has
+/// to count the reads.
 #[inline(always)]
-pub(crate) fn lanes_run_len(reads: &mut ReadCounter, ends: Ends, bytes: &[u8], at: usize) -> usize
+pub(crate) fn lanes_run_len(ends: Ends, bytes: &[u8], at: usize) -> usize
     requires { at + 16 ≤ length bytes.now }
     ensures value { result ≡ prefix_len (λ b. not (is_end ends b)) (take 16 (drop at bytes.now)) }
-    ensures reads { reads.new ≡ more_reads reads.old 16 }
 {
-    reads.count_lanes();
     let lanes = u8x16::from_slice(&bytes[at..]);
     let ends = lanes.simd_eq(u8x16::splat(ends.quote))
         | lanes.simd_eq(u8x16::splat(ends.feed))

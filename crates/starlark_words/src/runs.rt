@@ -76,12 +76,14 @@ fn long_run_len(reads: &mut ReadCounter, literal: Literal, bytes: &[u8]) -> usiz
     let ends = Ends::of(literal);
     let mut at = 0;
     while at + LANES <= bytes.len() {
-        let len = lanes_run_len(reads, ends, bytes, at);
+        let len = lanes_run_len(ends, bytes, at);
         if len < LANES {
+            reads.count_run_and_lanes(at);
             return at + len;
         }
         at += LANES;
     }
+    reads.count_run(at);
     at + short_run_len(reads, literal, &bytes[at..])
 }
 

@@ -3,6 +3,7 @@ use Rattle.std.proofs.lemmas.List.{length-drop, length-take-le, drop-drop}
 use Rattle.std.proofs.lemmas.List.Sums.{prefix_len-le-length}
 use Rattle.std.specs.List.{prefix_len}
 use Rattle.starlark_words.specs.Inner.Lines.{is_in_front}
+use Rattle.starlark_words.specs.Inner.Reads.{more_reads}
 use Rattle.starlark_words.proofs.LaneRuns.{run_ends, run_goes_on, run_within}
 use Rattle.starlark_words.proofs.lines.front_len.Goals as goal
 
@@ -23,7 +24,7 @@ loop-at-init c =
       within = omega (arith, whole, room);
       value = run_goes_on (is_in_front c.args.other) 5 c.args.text.now room (sym counted ∙ whole) ∙ ap (λ n. n + prefix_len (is_in_front c.args.other) (drop n c.args.text.now)) (sym whole);
       some = omega (arith, whole);
-      reads = (omega (arith, c.short_front_len-at.ensures.reads, whole), omega (arith, c.short_front_len-at.ensures.reads, whole));
+      reads = c.short_front_len-at.ensures.reads ∙ ap (λ n. more_reads c.args.reads.now (n + 1)) whole;
     }
 
 pub overflow_add-result : goal.overflow_add-result
@@ -54,7 +55,7 @@ loop-at-preserved c =
       within = omega (arith, whole, c.loop-at-test.true);
       value = omega (arith, c.loop-at.invariant.value, on, whole, ap (prefix_len (is_in_front c.args.other)) rest);
       some = omega (arith, c.loop-at.invariant.some);
-      reads = (omega (arith, c.loop-at.invariant.reads.0, c.lanes_front_len-len.ensures.reads, whole), omega (arith, c.loop-at.invariant.reads.1, c.lanes_front_len-len.ensures.reads, whole));
+      reads = c.loop-at.invariant.reads;
     }
 
 pub overflow_add-result-2 : goal.overflow_add-result-2
@@ -68,3 +69,16 @@ pub returns-clause-within : goal.returns-clause-within
 returns-clause-within c =
     let fits = length-take-le (length c.args.text.now - c.loop-at.at) (drop c.loop-at.at c.args.text.now) (omega (arith, length-drop c.loop-at.at c.args.text.now)) in
     omega (arith, fits, c.short_front_len-2.ensures.within, c.loop-at.invariant.within)
+
+pub returns-then-len-lt-LANES-clause-reads : goal.returns-then-len-lt-LANES-clause-reads
+returns-then-len-lt-LANES-clause-reads c =
+    let so_far = c.loop-at.invariant.reads in
+    let some = c.loop-at.invariant.some in
+    let less = c.if-len-lt-LANES.true in
+    (omega (arith, less, some, so_far, c.count_run_and_lanes.ensures), omega (arith, less, some, so_far, c.count_run_and_lanes.ensures))
+
+pub returns-clause-reads : goal.returns-clause-reads
+returns-clause-reads c =
+    let so_far = c.loop-at.invariant.reads in
+    let some = c.loop-at.invariant.some in
+    (omega (arith, some, so_far, c.count_run.ensures, c.short_front_len-2.ensures.reads), omega (arith, some, so_far, c.count_run.ensures, c.short_front_len-2.ensures.reads))

@@ -1,6 +1,6 @@
 use Rattle.std.proofs.Common.{length, ◌+◌, ◌-◌, ◌≡◌, ◌≤◌, drop}
 use Rattle.std.specs.List.{prefix_len}
-use Rattle.starlark_words.specs.Inner.Reads.{AreReads}
+use Rattle.starlark_words.specs.Inner.Reads.{more_reads}
 use Rattle.starlark_words.specs.Inner.Lines.{is_in_front}
 use Rattle.starlark_words.proofs.lines.front_len.Given as goal
 
@@ -9,7 +9,7 @@ invariant-loop-at l = record {
   within : l.at ≤ length l.text;
   value : prefix_len (is_in_front l.other) l.text ≡ l.at + prefix_len (is_in_front l.other) (drop l.at l.text);
   some : 5 ≤ l.at;
-  reads : AreReads (l.at + 1) (l.at + 1) l.fn.reads l.reads;
+  reads : l.reads ≡ more_reads l.fn.reads 6;
 }
 
 abbrev pub decreases-loop-at : goal.decreases-loop-at

@@ -10,8 +10,8 @@ neither : (a b : Bool) → not (a || b) ≡ (not a && not b)
 neither true b = refl
 neither false b = refl
 
-pub returns-clause-value : goal.returns-clause-value
-returns-clause-value c =
+pub returns : goal.returns
+returns c =
     let v = chunk c.args.at 16 c.args.text.now in
     let long : length v ≡ 16 = length-chunk c.args.at 16 c.args.text.now c.requires in
-    lanes_counted (λ x. eqb x c.args.other || eqb x 10) v _ _ long c.lowest_bit.ensures (two_lanes c.args.other 10 v long) ∙ (λ i. prefix_len (λ x. neither (eqb x c.args.other) (eqb x 10) i) v)
+    record { value = lanes_counted (λ x. eqb x c.args.other || eqb x 10) v _ _ long c.lowest_bit.ensures (two_lanes c.args.other 10 v long) ∙ (λ i. prefix_len (λ x. neither (eqb x c.args.other) (eqb x 10) i) v) }

@@ -35,7 +35,7 @@ loop-at-preserved c =
     record {
       within = omega (arith, whole, c.loop-at-test.true);
       value = omega (arith, c.loop-at.invariant.value, on, whole, ap (prefix_len (is_in_run (literal_view c.args.literal))) rest);
-      reads = (omega (arith, c.loop-at.invariant.reads.0, c.lanes_run_len-len.ensures.reads, whole), omega (arith, c.loop-at.invariant.reads.1, c.lanes_run_len-len.ensures.reads, whole));
+      reads = c.loop-at.invariant.reads;
     }
 
 pub overflow_add-result-2 : goal.overflow_add-result-2
@@ -49,3 +49,14 @@ pub returns-then-len-lt-LANES-clause-within : goal.returns-then-len-lt-LANES-cla
 returns-then-len-lt-LANES-clause-within c =
     let less = c.if-len-lt-LANES.true in
     omega (arith, less, c.loop-at-test.true)
+
+pub returns-then-len-lt-LANES-clause-reads : goal.returns-then-len-lt-LANES-clause-reads
+returns-then-len-lt-LANES-clause-reads c =
+    let same = c.loop-at.invariant.reads in
+    let less = c.if-len-lt-LANES.true in
+    (omega (arith, less, same, c.count_run_and_lanes.ensures), omega (arith, less, same, c.count_run_and_lanes.ensures))
+
+pub returns-clause-reads : goal.returns-clause-reads
+returns-clause-reads c =
+    let same = c.loop-at.invariant.reads in
+    (omega (arith, same, c.count_run.ensures, c.short_run_len.ensures.reads), omega (arith, same, c.count_run.ensures, c.short_run_len.ensures.reads))

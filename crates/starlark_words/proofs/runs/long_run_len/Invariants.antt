@@ -2,14 +2,13 @@ use Rattle.std.proofs.Common.{length, ◌+◌, ◌-◌, ◌≡◌, ◌≤◌, dr
 use Rattle.std.specs.List.{prefix_len}
 use Rattle.starlark_words.specs.Inner.Runs.{is_in_run}
 use Rattle.starlark_words.specs.Inner.Literals.{literal_view}
-use Rattle.starlark_words.specs.Inner.Reads.{AreReads}
 use Rattle.starlark_words.proofs.runs.long_run_len.Given as goal
 
 abbrev pub invariant-loop-at : goal.invariant-loop-at
 invariant-loop-at l = record {
   within : l.at ≤ length l.bytes;
   value : prefix_len (is_in_run (literal_view l.literal)) l.bytes ≡ l.at + prefix_len (is_in_run (literal_view l.literal)) (drop l.at l.bytes);
-  reads : AreReads l.at l.at l.fn.reads l.reads;
+  reads : l.reads ≡ l.fn.reads;
 }
 
 abbrev pub decreases-loop-at : goal.decreases-loop-at
