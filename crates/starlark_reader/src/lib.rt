@@ -20,6 +20,6 @@ mod reading;
 mod text_end;
 mod widths;
 
-pub use margins::{Margin, margin_of};
+pub use margins::margin_of;
 pub use placed_token::PlacedToken;
 pub use reading::terminals::{ends_expression, own_token};
