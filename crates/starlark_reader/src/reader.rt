@@ -8,7 +8,7 @@ ghost use Rattle.starlark_reader.specs.Inner.Steps.{IsStep};
 ghost use Rattle.starlark_token.specs.Lexemes.{shown_lexeme};
 ghost use Rattle.starlark_words.specs.Inner.Literals.{IsPlainBody};
 ghost use Rattle.starlark_grammar.specs.Inner.Openings.{opening_view};
-ghost use Rattle.starlark_words.specs.Inner.Words.{HasDigit, IsDigitAt, short_view, word_len};
+ghost use Rattle.starlark_words.specs.Inner.Words.{IsDigitAt, word_len};
 ghost use Rattle.starlark_grammar.specs.Margins.{open_widths};
 ghost use Rattle.starlark_grammar.specs.Pieces as grammar;
 ghost use Rattle.starlark_grammar.specs.declared.class.Class.TheVariants as class;
@@ -44,8 +44,8 @@ use starlark_token::tokens::Token;
 use starlark_words::plain_body_len;
 use starlark_words::reads::ReadCounter;
 use starlark_words::scanner::{
-    LiteralKind, Quote, ShortWord, Terminal, TextOpener, Word, bytes_opener, comment_len,
-    fstring_opener, short_word, text_opener, word_after,
+    LiteralKind, Quote, Terminal, Word, bytes_opener, comment_len, fstring_opener, single_digit,
+    text_opener, two_byte_symbol, word_after,
 };
 use std::alloc::{AllocError, Global};
 use std::mem;
@@ -583,31 +583,44 @@ impl Reader {
         self.reads.front(text[self.at..].as_bytes(), 3)
     }
 
-    /// The next word if it is a symbol of two bytes or an integer of one digit; `None` if something
-    /// else comes. The byte after it determines its end. For offsets in code, after spaces.
+    /// The value of the integer that comes next if it has one digit, and the byte after it tells so;
+    /// `None` if something else comes. For offsets in code, after spaces.
     #[inline(always)]
-    pub fn short_word(&self, front: &[u8], text: &str) -> Option<ShortWord>
+    pub fn single_digit(&self, front: &[u8], text: &str) -> Option<u8>
         requires fits { length text.now < 2 ^ 32 }
         requires ready { IsReady text.now self.now self.now.stage }
         requires code { IsAtCode text.now self.now }
         requires front { front.now ≡ take 3 (drop self.now.at text.now) }
-        ensures stands { IfSome result (λ short. IsWordHere text.now self.now (short_view short)) }
-        ensures digit { IfSome result (λ short. HasDigit short (drop self.now.at text.now)) }
+        ensures stands { IfSome result (λ digit. IsWordHere text.now self.now (record { class = class.Decimal; len = 1 })) }
+        ensures digit { IfSome result (λ digit. IsDigitAt digit (drop self.now.at text.now)) }
     {
-        short_word(front, &text[self.at..])
+        single_digit(front, &text[self.at..])
+    }
+
+    /// The symbol that comes next if it has two bytes, and the byte after it tells so; `None` if
+    /// something else comes. For offsets in code, after spaces.
+    #[inline(always)]
+    pub fn two_byte_symbol(&self, front: &[u8], text: &str) -> Option<Terminal>
+        requires fits { length text.now < 2 ^ 32 }
+        requires ready { IsReady text.now self.now self.now.stage }
+        requires code { IsAtCode text.now self.now }
+        requires front { front.now ≡ take 3 (drop self.now.at text.now) }
+        ensures stands { IfSome result (λ terminal. IsWordHere text.now self.now (record { class = class.Fixed terminal; len = 2 })) }
+    {
+        two_byte_symbol(front, &text[self.at..])
     }
 
     /// The opener of the string literal that comes next; `None` if something else comes. For
     /// offsets in code, after spaces.
     #[inline(always)]
-    pub fn text_opener(&mut self, text: &str) -> Option<TextOpener>
+    pub fn text_opener(&mut self, text: &str) -> Option<Word>
         requires fits { length text.now < 2 ^ 32 }
         requires ready { IsReady text.now self.old self.old.stage }
         requires code { IsAtCode text.now self.old }
         ensures ahead { (lexemes : List (Spanned TokenView)) (fault : Option (Spanned Fault)) → IsAhead text.now self.old self.old.stage lexemes fault → IsAhead text.now self.new self.new.stage lexemes fault }
         ensures onward { left_to_read text.now self.new self.new.stage ≤ left_to_read text.now self.old self.old.stage }
         ensures code { IsAtCode text.now self.new }
-        ensures stands { IfSome result (λ opener. IsWordHere text.now self.new (record { class = class.Opener kind.Text opener.is_raw opener.quote; len = opener.len })) }
+        ensures stands { IfSome result (IsWordHere text.now self.new) }
         ensures lookahead { HasLookedHere 2 2 self.old self.new }
     {
         text_opener(&mut self.reads, &text[self.at..])
