@@ -32,7 +32,6 @@ use crate::literal::{Opening, PlainText, Step, opening_of, plain_text, quotes_of
 use crate::margins::margin_of;
 use crate::nesting::{LexerMode, Nesting};
 use crate::pending::{AfterComments, Pending};
-use crate::placed_token::PlacedToken;
 use crate::reading::code::{gap_len, is_code};
 use crate::reading::terminals::token_in;
 use crate::reading::words::digit_token;
@@ -97,7 +96,7 @@ pub struct Reader {
 /// The next result of a text: a lexeme, its fault, or nothing more. Offsets count bytes.
 #[derive(Drop)]
 pub enum Next {
-    Lexeme(PlacedToken),
+    Lexeme((usize, Token, usize)),
     Fault {
         begin: usize,
         fault: LexemeError,
@@ -214,7 +213,11 @@ impl Reader {
 
     /// Reads a newline of `len` bytes that counts, and the margin after it. Returns its `Newline`;
     /// `None` where the margin has a fault.
-    fn read_line_end(&mut self, text: &str, len: usize) -> Result<Option<PlacedToken>, AllocError>
+    fn read_line_end(
+        &mut self,
+        text: &str,
+        len: usize,
+    ) -> Result<Option<(usize, Token, usize)>, AllocError>
         requires fits { length text.now < 2 ^ 32 }
         requires stage { self.old.stage ≡ Stage.Onward }
         requires stands { (history : History) × IsStateAfter text.now history self.old × (step_here text.now history self.old ≡ grammar.line_end len (open_widths history.widths) (drop len (drop self.old.at text.now))) }
@@ -239,7 +242,7 @@ impl Reader {
         opening: Opening,
         len: usize,
         text: &str,
-    ) -> Result<PlacedToken, AllocError>
+    ) -> Result<(usize, Token, usize), AllocError>
         requires fits { length text.now < 2 ^ 32 }
         requires stage { self.old.stage ≡ Stage.Onward }
         requires stands { (history : History) × IsStateAfter text.now history self.old × (step_here text.now history self.old ≡ grammar.token len (FStringStart (opening_view opening))) }
@@ -274,7 +277,7 @@ impl Reader {
     }
 
     /// Takes a token of `len` bytes that begins no f-string, and returns it with its span.
-    fn take_token(&mut self, token: Token, len: usize, text: &str) -> PlacedToken
+    fn take_token(&mut self, token: Token, len: usize, text: &str) -> (usize, Token, usize)
         requires fits { length text.now < 2 ^ 32 }
         requires stage { self.old.stage ≡ Stage.Onward }
         requires stands { (history : History) × IsStateAfter text.now history self.old × IsStep (step_here text.now history self.old) (Step.Token token len) }
@@ -300,7 +303,7 @@ impl Reader {
         stop: TextEnd,
         len: usize,
         text: &str,
-    ) -> PlacedToken
+    ) -> (usize, Token, usize)
         requires fits { length text.now < 2 ^ 32 }
         requires stage { self.old.stage ≡ Stage.Onward }
         requires stands { (history : History) × IsStateAfter text.now history self.old × IsStep (step_here text.now history self.old) (Step.Text chunk chunk_len stop len) }
@@ -328,7 +331,7 @@ impl Reader {
 
     /// Takes a step, and returns its first token. Stops at a fault, and returns `None`.
     #[inline(always)]
-    fn take(&mut self, step: Step, text: &str) -> Option<PlacedToken>
+    fn take(&mut self, step: Step, text: &str) -> Option<(usize, Token, usize)>
         requires fits { length text.now < 2 ^ 32 }
         requires stage { self.old.stage ≡ Stage.Onward }
         requires stands { (history : History) × IsStateAfter text.now history self.old × IsStep (step_here text.now history self.old) step }
@@ -446,7 +449,7 @@ impl Reader {
 
     /// Closes a text without fault at its end. Returns a `Newline` of no bytes. A `Dedent` for each
     /// open indent becomes pending.
-    fn close(&mut self, text: &str) -> PlacedToken
+    fn close(&mut self, text: &str) -> (usize, Token, usize)
         ensures read { (history : History) → IsStateAfter text.now history self.old → step_here text.now history self.old ≡ grammar.Ends → IsRead text.now (left_here text.now history self.old) (Some result) self.new }
         ensures less { left_to_read text.now self.new self.new.stage < left_to_read text.now self.old Stage.Onward }
         ensures passed { IsPassedBy self.old.at self.old self.new × (self.new.stage ≡ Stage.Closed) }
@@ -461,7 +464,7 @@ impl Reader {
 
     /// Reads the piece at the offset, where no lexeme is pending. Returns its first lexeme; `None`
     /// if it has none.
-    fn read_piece(&mut self, text: &str) -> Result<Option<PlacedToken>, AllocError>
+    fn read_piece(&mut self, text: &str) -> Result<Option<(usize, Token, usize)>, AllocError>
         requires fits { length text.now < 2 ^ 32 }
         requires stage { self.old.stage ≡ Stage.Onward }
         requires ready { IsReady text.now self.old Stage.Onward }
@@ -764,7 +767,11 @@ impl Reader {
 
     /// Takes the comment of `len` bytes here. Don't use the reader after an `AllocError`.
     #[inline(always)]
-    pub fn take_comment(&mut self, len: usize, text: &str) -> Result<PlacedToken, AllocError>
+    pub fn take_comment(
+        &mut self,
+        len: usize,
+        text: &str,
+    ) -> Result<(usize, Token, usize), AllocError>
         requires fits { length text.now < 2 ^ 32 }
         requires ready { IsReady text.now self.old self.old.stage }
         requires stands { IsWordHere text.now self.old (record { class = class.Comment; len = len }) }
@@ -838,7 +845,7 @@ impl Reader {
         quote: Quote,
         body: usize,
         text: &str,
-    ) -> Result<PlacedToken, AllocError>
+    ) -> Result<(usize, Token, usize), AllocError>
         requires fits { length text.now < 2 ^ 32 }
         requires ready { IsReady text.now self.old self.old.stage }
         requires stands { IsWordHere text.now self.old (record { class = class.Opener kind.Bytes false quote; len = 2 }) }
@@ -862,7 +869,11 @@ impl Reader {
     /// Takes the start of the f-string here, whose opener is an `f` and `quote`. Don't use the
     /// reader after an `AllocError`.
     #[inline(always)]
-    pub fn take_fstring(&mut self, quote: Quote, text: &str) -> Result<PlacedToken, AllocError>
+    pub fn take_fstring(
+        &mut self,
+        quote: Quote,
+        text: &str,
+    ) -> Result<(usize, Token, usize), AllocError>
         requires fits { length text.now < 2 ^ 32 }
         requires ready { IsReady text.now self.old self.old.stage }
         requires stands { IsWordHere text.now self.old (record { class = class.Opener kind.FString false quote; len = 2 }) }
@@ -886,7 +897,7 @@ impl Reader {
 
     /// Takes the first pending comment. Don't use the reader after an `AllocError`.
     #[inline(always)]
-    pub fn next_comment(&mut self, text: &str) -> Result<PlacedToken, AllocError>
+    pub fn next_comment(&mut self, text: &str) -> Result<(usize, Token, usize), AllocError>
         requires some { self.old.pending.from < self.old.pending.to }
         requires ready { IsReady text.now self.old self.old.stage }
         ensures ahead { IfOk result (λ given. (lexemes : List (Spanned TokenView)) (fault : Option (Spanned Fault)) → IsAhead text.now self.old self.old.stage lexemes fault → IsAheadAfter text.now (Some given) self.new lexemes fault) }
@@ -898,7 +909,7 @@ impl Reader {
 
     /// Takes the first pending lexeme where no comments are pending; `None` if there is none.
     #[inline(always)]
-    pub fn next_mark(&mut self) -> Option<PlacedToken>
+    pub fn next_mark(&mut self) -> Option<(usize, Token, usize)>
         requires none { self.old.pending.to ≤ self.old.pending.from }
         ensures ahead { (text : Text) (lexemes : List (Spanned TokenView)) (fault : Option (Spanned Fault)) → IsAhead text self.old self.old.stage lexemes fault → IsAheadAfter text result self.new lexemes fault }
         ensures stays { result ≡ None → self.new ≡ self.old }
@@ -932,7 +943,11 @@ impl Reader {
     /// Takes the f-string text here, which has no escapes. An empty text yields no token: then what
     /// ends it is returned. Don't use the reader after an `AllocError`.
     #[inline(always)]
-    pub fn take_text(&mut self, found: PlainText, text: &str) -> Result<PlacedToken, AllocError>
+    pub fn take_text(
+        &mut self,
+        found: PlainText,
+        text: &str,
+    ) -> Result<(usize, Token, usize), AllocError>
         requires fits { length text.now < 2 ^ 32 }
         requires ready { IsReady text.now self.old self.old.stage }
         requires stands { IsPlainTextHere text.now self.old found }
@@ -947,7 +962,12 @@ impl Reader {
 
     /// Takes the keyword or symbol of `len` bytes here.
     #[inline(always)]
-    pub fn take_terminal(&mut self, terminal: Terminal, len: usize, text: &str) -> PlacedToken
+    pub fn take_terminal(
+        &mut self,
+        terminal: Terminal,
+        len: usize,
+        text: &str,
+    ) -> (usize, Token, usize)
         requires fits { length text.now < 2 ^ 32 }
         requires ready { IsReady text.now self.old self.old.stage }
         requires stands { IsWordHere text.now self.old (record { class = class.Fixed terminal; len = len }) }
@@ -964,7 +984,7 @@ impl Reader {
 
     /// Takes the integer of one digit here, whose value is `digit`.
     #[inline(always)]
-    pub fn take_digit(&mut self, digit: u8, text: &str) -> PlacedToken
+    pub fn take_digit(&mut self, digit: u8, text: &str) -> (usize, Token, usize)
         requires fits { length text.now < 2 ^ 32 }
         requires ready { IsReady text.now self.old self.old.stage }
         requires stands { IsWordHere text.now self.old (record { class = class.Decimal; len = 1 }) }
@@ -981,7 +1001,7 @@ impl Reader {
 
     /// Takes the bang of an f-string expression here.
     #[inline(always)]
-    pub fn take_bang(&mut self, text: &str) -> PlacedToken
+    pub fn take_bang(&mut self, text: &str) -> (usize, Token, usize)
         requires fits { length text.now < 2 ^ 32 }
         requires ready { IsReady text.now self.old self.old.stage }
         requires stands { IsBangHere text.now self.old }

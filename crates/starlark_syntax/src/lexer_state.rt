@@ -16,7 +16,6 @@ use crate::eval_exception::EvalException;
 use crate::fault_exception::exception;
 use crate::plain_lexeme::{PlainKind, PlainLexeme, token_of};
 use starlark_base::codemap::{CodeMap, OrMemory};
-use starlark_reader::PlacedToken;
 use starlark_reader::reader::{LineEnd, Next, Reader};
 use starlark_token::tokens::Token;
 use starlark_words::scanner::{Class, LiteralKind, Terminal, Word};
@@ -108,7 +107,7 @@ pub enum FastPath {
     Passed(PlainLexeme),
     /// A keyword or symbol, which it passed.
     // With its token: a second `match` on the terminal costs 1 % of a mix.
-    Symbol(Terminal, PlacedToken),
+    Symbol(Terminal, (usize, Token, usize)),
     /// Out of memory, which ends the lexer.
     OutOfMemory,
     /// The slow path decides, unless the lexer has ended.
