@@ -5,7 +5,7 @@ ghost use Rattle.std.specs.Prelude.{◌≡◌, ◌≤◌, IfNone, IfSome, length
 ghost use Rattle.starlark_c.specs.Restarts.{AreOf, IsRestart, IsSpan};
 ghost use Rattle.starlark_grammar.specs.Tokens.{Fault, Spanned};
 
-use starlark_syntax::restarts::{FaultPlace, restart};
+use starlark_syntax::restarts::restart;
 
 /// What is returned where no fault of a text has the numbers.
 pub const NO_RESTART: usize = usize::MAX;
@@ -36,7 +36,7 @@ fn restart_after(text: &str, begin: usize, end: usize, kind: u32) -> usize
     ensures within { result ≤ length text.now }
 {
     let is_tab = kind == INVALID_TAB;
-    restart(text, FaultPlace { begin, end, is_tab })
+    restart(text, begin, end, is_tab)
 }
 
 /// Where lexing begins again after a fault of a text, or `NO_RESTART` where none has the numbers.

@@ -8,7 +8,6 @@ ghost use Rattle.starlark_words.specs.Inner.Reads.{AreReads, more_reads};
 
 use crate::lf_search::before_lf_len;
 use crate::margins::{blanks_len, line_len};
-use crate::placed_token::PlacedToken;
 use starlark_token::tokens::Token;
 use starlark_words::reads::ReadCounter;
 use std::alloc::{AllocError, Global};
@@ -39,7 +38,7 @@ pub(crate) fn first_comment(
     text: &str,
     from: usize,
     to: usize,
-) -> Result<(PlacedToken, usize), AllocError>
+) -> Result<((usize, Token, usize), usize), AllocError>
     requires some { from < to }
     requires comments { IsComments text.now from to }
     ensures comment { IfOk result (λ found. IsFirstComment text.now from to found.0 found.1) }

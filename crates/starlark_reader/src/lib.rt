@@ -14,12 +14,10 @@ mod literal;
 mod margins;
 mod nesting;
 mod pending;
-mod placed_token;
 pub mod reader;
 mod reading;
 mod text_end;
 mod widths;
 
-pub use margins::{Margin, margin_of};
-pub use placed_token::PlacedToken;
+pub use margins::margin_of;
 pub use reading::terminals::{ends_expression, own_token};

@@ -7,7 +7,6 @@ ghost use Rattle.starlark_grammar.specs.Words.{Text};
 ghost use Rattle.starlark_words.specs.Inner.Reads.{more_reads};
 
 use crate::comments::first_comment;
-use crate::placed_token::PlacedToken;
 use crate::text_end::TextEnd;
 use starlark_token::tokens::Token;
 use starlark_words::reads::ReadCounter;
@@ -59,7 +58,7 @@ impl AfterComments {
 
     /// Takes the first pending lexeme; `None` if there is none.
     #[tactic(auto, unfolding(starlark_token::specs::TokenViews::token_view))]
-    fn next(&mut self) -> Option<PlacedToken>
+    fn next(&mut self) -> Option<(usize, Token, usize)>
         ensures { IsFirstAfter self.old self.new result }
     {
         match *self {
@@ -136,7 +135,7 @@ impl Pending {
         reads: &mut ReadCounter,
         alloc: Global,
         text: &str,
-    ) -> Result<PlacedToken, AllocError>
+    ) -> Result<(usize, Token, usize), AllocError>
         requires some { self.old.from < self.old.to }
         requires pending { IsPending text.now self.old }
         ensures next { IfOk result (λ first. IsFirst text.now self.old self.new (Some first)) }
@@ -151,7 +150,7 @@ impl Pending {
 
     /// Takes the first pending lexeme where no comments are pending; `None` if there is none.
     #[inline(always)]
-    pub(crate) fn next_mark(&mut self) -> Option<PlacedToken>
+    pub(crate) fn next_mark(&mut self) -> Option<(usize, Token, usize)>
         requires none { self.old.to ≤ self.old.from }
         ensures next { (text : Text) → IsPending text self.old → IsFirst text self.old self.new result }
         ensures lines { (text : Text) → IsLinePassed text self.old self.new result }
@@ -172,7 +171,7 @@ impl Pending {
         reads: &mut ReadCounter,
         alloc: Global,
         text: &str,
-    ) -> Result<Option<PlacedToken>, AllocError>
+    ) -> Result<Option<(usize, Token, usize)>, AllocError>
         requires { IsPending text.now self.old }
         ensures next { IfOk result (λ first. IsFirst text.now self.old self.new first) }
         ensures memory { OnErr result (pending_lexemes text.now self.old ≡ [] → ⊥) }

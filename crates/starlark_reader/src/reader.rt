@@ -8,7 +8,7 @@ ghost use Rattle.starlark_reader.specs.Inner.Steps.{IsStep};
 ghost use Rattle.starlark_token.specs.Lexemes.{shown_lexeme};
 ghost use Rattle.starlark_words.specs.Inner.Literals.{IsPlainBody};
 ghost use Rattle.starlark_grammar.specs.Inner.Openings.{opening_view};
-ghost use Rattle.starlark_words.specs.Inner.Words.{HasDigit, IsDigitAt, short_view, word_len};
+ghost use Rattle.starlark_words.specs.Inner.Words.{IsDigitAt, word_len};
 ghost use Rattle.starlark_grammar.specs.Margins.{open_widths};
 ghost use Rattle.starlark_grammar.specs.Pieces as grammar;
 ghost use Rattle.starlark_grammar.specs.declared.class.Class.TheVariants as class;
@@ -32,7 +32,6 @@ use crate::literal::{Opening, PlainText, Step, opening_of, plain_text, quotes_of
 use crate::margins::margin_of;
 use crate::nesting::{LexerMode, Nesting};
 use crate::pending::{AfterComments, Pending};
-use crate::placed_token::PlacedToken;
 use crate::reading::code::{gap_len, is_code};
 use crate::reading::terminals::token_in;
 use crate::reading::words::digit_token;
@@ -44,8 +43,8 @@ use starlark_token::tokens::Token;
 use starlark_words::plain_body_len;
 use starlark_words::reads::ReadCounter;
 use starlark_words::scanner::{
-    LiteralKind, Quote, ShortWord, Terminal, TextOpener, Word, bytes_opener, comment_len,
-    fstring_opener, short_word, text_opener, word_after,
+    LiteralKind, Quote, Terminal, Word, bytes_opener, comment_len, fstring_opener, single_digit,
+    text_opener, two_byte_symbol, word_after,
 };
 use std::alloc::{AllocError, Global};
 use std::mem;
@@ -97,7 +96,7 @@ pub struct Reader {
 /// The next result of a text: a lexeme, its fault, or nothing more. Offsets count bytes.
 #[derive(Drop)]
 pub enum Next {
-    Lexeme(PlacedToken),
+    Lexeme((usize, Token, usize)),
     Fault {
         begin: usize,
         fault: LexemeError,
@@ -214,7 +213,11 @@ impl Reader {
 
     /// Reads a newline of `len` bytes that counts, and the margin after it. Returns its `Newline`;
     /// `None` where the margin has a fault.
-    fn read_line_end(&mut self, text: &str, len: usize) -> Result<Option<PlacedToken>, AllocError>
+    fn read_line_end(
+        &mut self,
+        text: &str,
+        len: usize,
+    ) -> Result<Option<(usize, Token, usize)>, AllocError>
         requires fits { length text.now < 2 ^ 32 }
         requires stage { self.old.stage ≡ Stage.Onward }
         requires stands { (history : History) × IsStateAfter text.now history self.old × (step_here text.now history self.old ≡ grammar.line_end len (open_widths history.widths) (drop len (drop self.old.at text.now))) }
@@ -239,7 +242,7 @@ impl Reader {
         opening: Opening,
         len: usize,
         text: &str,
-    ) -> Result<PlacedToken, AllocError>
+    ) -> Result<(usize, Token, usize), AllocError>
         requires fits { length text.now < 2 ^ 32 }
         requires stage { self.old.stage ≡ Stage.Onward }
         requires stands { (history : History) × IsStateAfter text.now history self.old × (step_here text.now history self.old ≡ grammar.token len (FStringStart (opening_view opening))) }
@@ -274,7 +277,7 @@ impl Reader {
     }
 
     /// Takes a token of `len` bytes that begins no f-string, and returns it with its span.
-    fn take_token(&mut self, token: Token, len: usize, text: &str) -> PlacedToken
+    fn take_token(&mut self, token: Token, len: usize, text: &str) -> (usize, Token, usize)
         requires fits { length text.now < 2 ^ 32 }
         requires stage { self.old.stage ≡ Stage.Onward }
         requires stands { (history : History) × IsStateAfter text.now history self.old × IsStep (step_here text.now history self.old) (Step.Token token len) }
@@ -300,7 +303,7 @@ impl Reader {
         stop: TextEnd,
         len: usize,
         text: &str,
-    ) -> PlacedToken
+    ) -> (usize, Token, usize)
         requires fits { length text.now < 2 ^ 32 }
         requires stage { self.old.stage ≡ Stage.Onward }
         requires stands { (history : History) × IsStateAfter text.now history self.old × IsStep (step_here text.now history self.old) (Step.Text chunk chunk_len stop len) }
@@ -328,7 +331,7 @@ impl Reader {
 
     /// Takes a step, and returns its first token. Stops at a fault, and returns `None`.
     #[inline(always)]
-    fn take(&mut self, step: Step, text: &str) -> Option<PlacedToken>
+    fn take(&mut self, step: Step, text: &str) -> Option<(usize, Token, usize)>
         requires fits { length text.now < 2 ^ 32 }
         requires stage { self.old.stage ≡ Stage.Onward }
         requires stands { (history : History) × IsStateAfter text.now history self.old × IsStep (step_here text.now history self.old) step }
@@ -446,7 +449,7 @@ impl Reader {
 
     /// Closes a text without fault at its end. Returns a `Newline` of no bytes. A `Dedent` for each
     /// open indent becomes pending.
-    fn close(&mut self, text: &str) -> PlacedToken
+    fn close(&mut self, text: &str) -> (usize, Token, usize)
         ensures read { (history : History) → IsStateAfter text.now history self.old → step_here text.now history self.old ≡ grammar.Ends → IsRead text.now (left_here text.now history self.old) (Some result) self.new }
         ensures less { left_to_read text.now self.new self.new.stage < left_to_read text.now self.old Stage.Onward }
         ensures passed { IsPassedBy self.old.at self.old self.new × (self.new.stage ≡ Stage.Closed) }
@@ -461,7 +464,7 @@ impl Reader {
 
     /// Reads the piece at the offset, where no lexeme is pending. Returns its first lexeme; `None`
     /// if it has none.
-    fn read_piece(&mut self, text: &str) -> Result<Option<PlacedToken>, AllocError>
+    fn read_piece(&mut self, text: &str) -> Result<Option<(usize, Token, usize)>, AllocError>
         requires fits { length text.now < 2 ^ 32 }
         requires stage { self.old.stage ≡ Stage.Onward }
         requires ready { IsReady text.now self.old Stage.Onward }
@@ -583,31 +586,44 @@ impl Reader {
         self.reads.front(text[self.at..].as_bytes(), 3)
     }
 
-    /// The next word if it is a symbol of two bytes or an integer of one digit; `None` if something
-    /// else comes. The byte after it determines its end. For offsets in code, after spaces.
+    /// The value of the integer that comes next if it has one digit, and the byte after it tells so;
+    /// `None` if something else comes. For offsets in code, after spaces.
     #[inline(always)]
-    pub fn short_word(&self, front: &[u8], text: &str) -> Option<ShortWord>
+    pub fn single_digit(&self, front: &[u8], text: &str) -> Option<u8>
         requires fits { length text.now < 2 ^ 32 }
         requires ready { IsReady text.now self.now self.now.stage }
         requires code { IsAtCode text.now self.now }
         requires front { front.now ≡ take 3 (drop self.now.at text.now) }
-        ensures stands { IfSome result (λ short. IsWordHere text.now self.now (short_view short)) }
-        ensures digit { IfSome result (λ short. HasDigit short (drop self.now.at text.now)) }
+        ensures stands { IfSome result (λ digit. IsWordHere text.now self.now (record { class = class.Decimal; len = 1 })) }
+        ensures digit { IfSome result (λ digit. IsDigitAt digit (drop self.now.at text.now)) }
     {
-        short_word(front, &text[self.at..])
+        single_digit(front, &text[self.at..])
+    }
+
+    /// The symbol that comes next if it has two bytes, and the byte after it tells so; `None` if
+    /// something else comes. For offsets in code, after spaces.
+    #[inline(always)]
+    pub fn two_byte_symbol(&self, front: &[u8], text: &str) -> Option<Terminal>
+        requires fits { length text.now < 2 ^ 32 }
+        requires ready { IsReady text.now self.now self.now.stage }
+        requires code { IsAtCode text.now self.now }
+        requires front { front.now ≡ take 3 (drop self.now.at text.now) }
+        ensures stands { IfSome result (λ terminal. IsWordHere text.now self.now (record { class = class.Fixed terminal; len = 2 })) }
+    {
+        two_byte_symbol(front, &text[self.at..])
     }
 
     /// The opener of the string literal that comes next; `None` if something else comes. For
     /// offsets in code, after spaces.
     #[inline(always)]
-    pub fn text_opener(&mut self, text: &str) -> Option<TextOpener>
+    pub fn text_opener(&mut self, text: &str) -> Option<Word>
         requires fits { length text.now < 2 ^ 32 }
         requires ready { IsReady text.now self.old self.old.stage }
         requires code { IsAtCode text.now self.old }
         ensures ahead { (lexemes : List (Spanned TokenView)) (fault : Option (Spanned Fault)) → IsAhead text.now self.old self.old.stage lexemes fault → IsAhead text.now self.new self.new.stage lexemes fault }
         ensures onward { left_to_read text.now self.new self.new.stage ≤ left_to_read text.now self.old self.old.stage }
         ensures code { IsAtCode text.now self.new }
-        ensures stands { IfSome result (λ opener. IsWordHere text.now self.new (record { class = class.Opener kind.Text opener.is_raw opener.quote; len = opener.len })) }
+        ensures stands { IfSome result (IsWordHere text.now self.new) }
         ensures lookahead { HasLookedHere 2 2 self.old self.new }
     {
         text_opener(&mut self.reads, &text[self.at..])
@@ -751,7 +767,11 @@ impl Reader {
 
     /// Takes the comment of `len` bytes here. Don't use the reader after an `AllocError`.
     #[inline(always)]
-    pub fn take_comment(&mut self, len: usize, text: &str) -> Result<PlacedToken, AllocError>
+    pub fn take_comment(
+        &mut self,
+        len: usize,
+        text: &str,
+    ) -> Result<(usize, Token, usize), AllocError>
         requires fits { length text.now < 2 ^ 32 }
         requires ready { IsReady text.now self.old self.old.stage }
         requires stands { IsWordHere text.now self.old (record { class = class.Comment; len = len }) }
@@ -825,7 +845,7 @@ impl Reader {
         quote: Quote,
         body: usize,
         text: &str,
-    ) -> Result<PlacedToken, AllocError>
+    ) -> Result<(usize, Token, usize), AllocError>
         requires fits { length text.now < 2 ^ 32 }
         requires ready { IsReady text.now self.old self.old.stage }
         requires stands { IsWordHere text.now self.old (record { class = class.Opener kind.Bytes false quote; len = 2 }) }
@@ -849,7 +869,11 @@ impl Reader {
     /// Takes the start of the f-string here, whose opener is an `f` and `quote`. Don't use the
     /// reader after an `AllocError`.
     #[inline(always)]
-    pub fn take_fstring(&mut self, quote: Quote, text: &str) -> Result<PlacedToken, AllocError>
+    pub fn take_fstring(
+        &mut self,
+        quote: Quote,
+        text: &str,
+    ) -> Result<(usize, Token, usize), AllocError>
         requires fits { length text.now < 2 ^ 32 }
         requires ready { IsReady text.now self.old self.old.stage }
         requires stands { IsWordHere text.now self.old (record { class = class.Opener kind.FString false quote; len = 2 }) }
@@ -873,7 +897,7 @@ impl Reader {
 
     /// Takes the first pending comment. Don't use the reader after an `AllocError`.
     #[inline(always)]
-    pub fn next_comment(&mut self, text: &str) -> Result<PlacedToken, AllocError>
+    pub fn next_comment(&mut self, text: &str) -> Result<(usize, Token, usize), AllocError>
         requires some { self.old.pending.from < self.old.pending.to }
         requires ready { IsReady text.now self.old self.old.stage }
         ensures ahead { IfOk result (λ given. (lexemes : List (Spanned TokenView)) (fault : Option (Spanned Fault)) → IsAhead text.now self.old self.old.stage lexemes fault → IsAheadAfter text.now (Some given) self.new lexemes fault) }
@@ -885,7 +909,7 @@ impl Reader {
 
     /// Takes the first pending lexeme where no comments are pending; `None` if there is none.
     #[inline(always)]
-    pub fn next_mark(&mut self) -> Option<PlacedToken>
+    pub fn next_mark(&mut self) -> Option<(usize, Token, usize)>
         requires none { self.old.pending.to ≤ self.old.pending.from }
         ensures ahead { (text : Text) (lexemes : List (Spanned TokenView)) (fault : Option (Spanned Fault)) → IsAhead text self.old self.old.stage lexemes fault → IsAheadAfter text result self.new lexemes fault }
         ensures stays { result ≡ None → self.new ≡ self.old }
@@ -919,7 +943,11 @@ impl Reader {
     /// Takes the f-string text here, which has no escapes. An empty text yields no token: then what
     /// ends it is returned. Don't use the reader after an `AllocError`.
     #[inline(always)]
-    pub fn take_text(&mut self, found: PlainText, text: &str) -> Result<PlacedToken, AllocError>
+    pub fn take_text(
+        &mut self,
+        found: PlainText,
+        text: &str,
+    ) -> Result<(usize, Token, usize), AllocError>
         requires fits { length text.now < 2 ^ 32 }
         requires ready { IsReady text.now self.old self.old.stage }
         requires stands { IsPlainTextHere text.now self.old found }
@@ -934,7 +962,12 @@ impl Reader {
 
     /// Takes the keyword or symbol of `len` bytes here.
     #[inline(always)]
-    pub fn take_terminal(&mut self, terminal: Terminal, len: usize, text: &str) -> PlacedToken
+    pub fn take_terminal(
+        &mut self,
+        terminal: Terminal,
+        len: usize,
+        text: &str,
+    ) -> (usize, Token, usize)
         requires fits { length text.now < 2 ^ 32 }
         requires ready { IsReady text.now self.old self.old.stage }
         requires stands { IsWordHere text.now self.old (record { class = class.Fixed terminal; len = len }) }
@@ -951,7 +984,7 @@ impl Reader {
 
     /// Takes the integer of one digit here, whose value is `digit`.
     #[inline(always)]
-    pub fn take_digit(&mut self, digit: u8, text: &str) -> PlacedToken
+    pub fn take_digit(&mut self, digit: u8, text: &str) -> (usize, Token, usize)
         requires fits { length text.now < 2 ^ 32 }
         requires ready { IsReady text.now self.old self.old.stage }
         requires stands { IsWordHere text.now self.old (record { class = class.Decimal; len = 1 }) }
@@ -968,7 +1001,7 @@ impl Reader {
 
     /// Takes the bang of an f-string expression here.
     #[inline(always)]
-    pub fn take_bang(&mut self, text: &str) -> PlacedToken
+    pub fn take_bang(&mut self, text: &str) -> (usize, Token, usize)
         requires fits { length text.now < 2 ^ 32 }
         requires ready { IsReady text.now self.old self.old.stage }
         requires stands { IsBangHere text.now self.old }

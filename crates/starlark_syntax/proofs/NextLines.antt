@@ -13,7 +13,6 @@ use Rattle.starlark_grammar.specs.Words.{Text}
 use Rattle.starlark_grammar.specs.Tokens.{Fault, Spanned}
 use Rattle.starlark_syntax.specs.Recovery.{is_margin_tab, is_tab, line_end_len, margin_line, next_line, stopped_at}
 use Rattle.starlark_syntax.specs.Restarts.{IsPlaceOf}
-use Rattle.starlark_syntax.specs.declared.restarts.FaultPlace.{FaultPlace}
 
 abbrev is_other : ℕ → Bool
 is_other b = not (is_lf b)
@@ -76,16 +75,16 @@ pub no_margin_tab : (text : Text) (fault : Spanned Fault) → is_tab fault.node 
 no_margin_tab text fault other = ap (λ b. b && (fault.begin == 0 || begins_with_line_end (drop fault.begin text))) other
 
 -- where a reading stopped, by whether the fault is that of a tab in a margin
-pub stopped_is : (text : Text) (fault : Spanned Fault) (place : FaultPlace) (tab : Bool) (line at : ℕ) → IsPlaceOf fault place → is_margin_tab text fault ≡ tab
-    → line ≡ (if tab then margin_line text (place.begin + line_end_len (drop place.begin text)) else place.begin)
-    → at ≡ max line (place.end - 1) → at ≡ stopped_at text fault
+pub stopped_is : (text : Text) (fault : Spanned Fault) (first last : ℕ) (told tab : Bool) (line at : ℕ) → IsPlaceOf fault first last told → is_margin_tab text fault ≡ tab
+    → line ≡ (if tab then margin_line text (first + line_end_len (drop first text)) else first)
+    → at ≡ max line (last - 1) → at ≡ stopped_at text fault
 unfolding stopped_at
-stopped_is text fault place tab line at is test which max_is =
-    let begin : place.begin ≡ fault.begin = is.begin in
-    let end : place.end ≡ fault.end = is.end in
+stopped_is text fault first last told tab line at is test which max_is =
+    let begin : first ≡ fault.begin = is.begins in
+    let end : last ≡ fault.end = is.ends in
     let here : line ≡ (if is_margin_tab text fault then margin_line text (fault.begin + line_end_len (drop fault.begin text)) else fault.begin) =
     rw test (which ∙ ap (λ b. if tab then margin_line text (b + line_end_len (drop b text)) else b) begin) in
-    max_is ∙ max_sym line (place.end - 1) ∙ ap (λ l. max (place.end - 1) l) here ∙ ap (λ e. max (e - 1) (if is_margin_tab text fault then margin_line text (fault.begin + line_end_len (drop fault.begin text)) else fault.begin)) end
+    max_is ∙ max_sym line (last - 1) ∙ ap (λ l. max (last - 1) l) here ∙ ap (λ e. max (e - 1) (if is_margin_tab text fault then margin_line text (fault.begin + line_end_len (drop fault.begin text)) else fault.begin)) end
   where
     max_sym : (a b : ℕ) → max a b ≡ max b a
     max_sym a b = omega arith

@@ -1,6 +1,6 @@
 -- A fault that was passed.
 use Rattle.std.proofs.Common.{◌≡◌, ℕ, ◌+◌, [], drop, ap, subst, ◌∙◌, false, None, Some, IfSome}
-use Rattle.std.specs.Prelude.{Option}
+use Rattle.std.specs.Prelude.{Bool, Option}
 use Rattle.std.proofs.lemmas.Str.{IsCharBoundary-from_rest}
 use Rattle.std.specs.Str.{IsCharBoundary}
 use Rattle.starlark_base.specs.Diagnostics.{Diagnosed, place_in}
@@ -12,7 +12,6 @@ use Rattle.starlark_grammar.specs.Words.{Text}
 use Rattle.starlark_syntax.specs.Inner.Passed.{HasPassed, is_tab_kind}
 use Rattle.starlark_syntax.specs.Recovery.{is_tab, restart}
 use Rattle.starlark_syntax.specs.Restarts.{IsPlaceOf}
-use Rattle.starlark_syntax.specs.declared.restarts.FaultPlace.{FaultPlace}
 use Rattle.starlark_syntax.specs.Exceptions.{IsException}
 use Rattle.starlark_syntax.specs.Lexer.{LexerView, search_reads}
 use Rattle.starlark_syntax.specs.declared.error.kinds.ErrorKind.{ErrorKind}
@@ -44,21 +43,21 @@ tab_kind (fault.CannotParse text base) node is = cc
 tab_kind fault.UnfinishedFStringExpression node is = let same : grammar.UnfinishedFStringExpression ≡ node = cc in ap is_tab same
 
 -- what passing a fault leaves, by what was found out for it
-pub passes : (file : SourceFile) (text : Text) (begin at : ℕ) (fault : Spanned Fault) (exception given : Diagnosed ErrorKind) (place : FaultPlace) (reads : ℕ) (code_map copy : SourceFile) (span : ByteSpan) (rest : LexerView) (part later : Text)
+pub passes : (file : SourceFile) (text : Text) (begin at : ℕ) (fault : Spanned Fault) (exception given : Diagnosed ErrorKind) (first last : ℕ) (tab : Bool) (reads : ℕ) (code_map copy : SourceFile) (span : ByteSpan) (rest : LexerView) (part later : Text)
     → IsException file fault exception
-    → IfSome exception.span (λ it. (place.begin ≡ it.span.begin) × (place.end ≡ it.span.end)) → place.is_tab ≡ is_tab_kind exception.value
+    → IfSome exception.span (λ it. (first ≡ it.span.begin) × (last ≡ it.span.end)) → tab ≡ is_tab_kind exception.value
     → IfSome exception.span (λ it. code_map ≡ it.file) → copy ≡ code_map
-    → part ≡ drop begin text → ((fault : Spanned Fault) → IsPlaceOf fault place → at ≡ restart part fault) → ((fault : Spanned Fault) → IsPlaceOf fault place → AreReads 1 (search_reads part fault) 0 reads) → IsCharBoundary part at → IsCharBoundary text begin
+    → part ≡ drop begin text → ((fault : Spanned Fault) → IsPlaceOf fault first last tab → at ≡ restart part fault) → ((fault : Spanned Fault) → IsPlaceOf fault first last tab → AreReads 1 (search_reads part fault) 0 reads) → IsCharBoundary part at → IsCharBoundary text begin
     → later ≡ drop (begin + at) text → rest ≡ record { text = later; code_map = copy; yielded_count = 0; has_ended = false; reads = 0 }
-    → span ≡ record { begin = begin + place.begin; end = begin + place.end } → given ≡ record { value = exception.value; span = Some (place_in code_map span); call_stack = [] }
+    → span ≡ record { begin = begin + first; end = begin + last } → given ≡ record { value = exception.value; span = Some (place_in code_map span); call_stack = [] }
     → HasPassed file text begin fault (record { fault = given; begin = begin + at; rest = rest; reads = reads })
-passes file text begin at fault exception given place reads code_map copy span rest part later is places tab of_file copied part_is restarts searches boundary start later_is rest_is span_is given_is =
-    let bounds : (place.begin ≡ fault.begin) × (place.end ≡ fault.end) = subst (λ (d : Diagnosed ErrorKind). IfSome d.span (λ it. (place.begin ≡ it.span.begin) × (place.end ≡ it.span.end))) is.2 places in
+passes file text begin at fault exception given first last tab reads code_map copy span rest part later is places tab_is of_file copied part_is restarts searches boundary start later_is rest_is span_is given_is =
+    let bounds : (first ≡ fault.begin) × (last ≡ fault.end) = subst (λ (d : Diagnosed ErrorKind). IfSome d.span (λ it. (first ≡ it.span.begin) × (last ≡ it.span.end))) is.2 places in
     let its_file : code_map ≡ file = subst (λ (d : Diagnosed ErrorKind). IfSome d.span (λ it. code_map ≡ it.file)) is.2 of_file in
-    let its_tab : place.is_tab ≡ is_tab fault.node = tab ∙ ap (λ (d : Diagnosed ErrorKind). is_tab_kind d.value) is.2 ∙ tab_kind is.0 fault.node is.1 in
-    let its_place : IsPlaceOf fault place = record { begin = bounds.0; end = bounds.1; is_tab = its_tab } in
+    let its_tab : tab ≡ is_tab fault.node = tab_is ∙ ap (λ (d : Diagnosed ErrorKind). is_tab_kind d.value) is.2 ∙ tab_kind is.0 fault.node is.1 in
+    let its_place : IsPlaceOf fault first last tab = record { begins = bounds.0; ends = bounds.1; is_tab = its_tab } in
     let its_span : span ≡ record { begin = begin + fault.begin; end = begin + fault.end } =
-    span_is ∙ ap (λ b. record { begin = begin + b; end = begin + place.end }) bounds.0 ∙ ap (λ e. record { begin = begin + fault.begin; end = begin + e }) bounds.1 in
+    span_is ∙ ap (λ b. record { begin = begin + b; end = begin + last }) bounds.0 ∙ ap (λ e. record { begin = begin + fault.begin; end = begin + e }) bounds.1 in
     let restarted : at ≡ restart (drop begin text) fault = restarts fault its_place ∙ ap (λ (t : Text). restart t fault) part_is in
     record {
       exception = (

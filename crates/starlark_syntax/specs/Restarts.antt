@@ -1,11 +1,10 @@
 -- The place of a fault, as code tells it to find where lexing begins again.
-use Rattle.std.specs.Prelude.{◌≡◌}
+use Rattle.std.specs.Prelude.{◌≡◌, ℕ, Bool}
 use Rattle.starlark_grammar.specs.Tokens.{Fault, Spanned}
 use Rattle.starlark_syntax.specs.Recovery.{is_tab}
-use Rattle.starlark_syntax.specs.declared.restarts.FaultPlace.{FaultPlace}
 
--- the place is that of the fault
-pub record IsPlaceOf (fault : Spanned Fault) (place : FaultPlace) : Type 0 where
-  pub begin : place.begin ≡ fault.begin
-  pub end : place.end ≡ fault.end
-  pub is_tab : place.is_tab ≡ is_tab fault.node
+-- the offsets are those of the fault, and `tab` says whether it is that of a tab
+pub record IsPlaceOf (fault : Spanned Fault) (begin end : ℕ) (tab : Bool) : Type 0 where
+  pub begins : begin ≡ fault.begin
+  pub ends : end ≡ fault.end
+  pub is_tab : tab ≡ is_tab fault.node

@@ -23,7 +23,6 @@ use crate::parts::{exception_of, read_part};
 use crate::tails::{append_later, given_after, kept_of, make_room};
 use starlark_base::codemap::{CodeMap, OrMemory, SourceTooLong};
 use starlark_base::dialect::Dialect;
-use starlark_reader::PlacedToken;
 use starlark_token::tokens::Token;
 use std::alloc::{AllocError, Global};
 use std::marker::Model;
@@ -36,7 +35,7 @@ use std::marker::Model;
 #[derive(Drop)]
 pub struct LexedText<'a> {
     text: &'a str,
-    lexemes: Vec<PlacedToken>,
+    lexemes: Vec<(usize, Token, usize)>,
     fault: Option<EvalException>,
     cuts: Vec<Cut>,
     is_cut: bool,

@@ -16,10 +16,9 @@ use crate::eval_exception::EvalException;
 use crate::fault_exception::exception;
 use crate::plain_lexeme::{PlainKind, PlainLexeme, token_of};
 use starlark_base::codemap::{CodeMap, OrMemory};
-use starlark_reader::PlacedToken;
 use starlark_reader::reader::{LineEnd, Next, Reader};
 use starlark_token::tokens::Token;
-use starlark_words::scanner::{Class, LiteralKind, ShortWord, Terminal, TextOpener, Word};
+use starlark_words::scanner::{Class, LiteralKind, Terminal, Word};
 use std::alloc::Global;
 
 /// An item of a lexer: begin in bytes, token, end in bytes; or the fault, or out of memory.
@@ -108,7 +107,7 @@ pub enum FastPath {
     Passed(PlainLexeme),
     /// A keyword or symbol, which it passed.
     // With its token: a second `match` on the terminal costs 1 % of a mix.
-    Symbol(Terminal, PlacedToken),
+    Symbol(Terminal, (usize, Token, usize)),
     /// Out of memory, which ends the lexer.
     OutOfMemory,
     /// The slow path decides, unless the lexer has ended.
@@ -307,20 +306,17 @@ impl<'a> LexerState<'a> {
             return self.next_waiting();
         }
         let front = self.reader.front(self.text);
-        match self.reader.short_word(front, self.text) {
-            Some(ShortWord::Symbol(terminal)) => {
-                self.yielded_count += 1;
-                let lexeme = self.reader.take_terminal(terminal, 2, self.text);
-                self.lookahead = looked_further_in_code(&self.reader, self.looked_to);
-                return Some(Ok(lexeme));
-            }
-            Some(ShortWord::Digit(digit)) => {
-                self.yielded_count += 1;
-                let lexeme = self.reader.take_digit(digit, self.text);
-                self.lookahead = looked_further(&self.reader, self.looked_to);
-                return Some(Ok(lexeme));
-            }
-            None => {}
+        if let Some(digit) = self.reader.single_digit(front, self.text) {
+            self.yielded_count += 1;
+            let lexeme = self.reader.take_digit(digit, self.text);
+            self.lookahead = looked_further(&self.reader, self.looked_to);
+            return Some(Ok(lexeme));
+        }
+        if let Some(terminal) = self.reader.two_byte_symbol(front, self.text) {
+            self.yielded_count += 1;
+            let lexeme = self.reader.take_terminal(terminal, 2, self.text);
+            self.lookahead = looked_further_in_code(&self.reader, self.looked_to);
+            return Some(Ok(lexeme));
         }
         if let Some(quote) = self.reader.fstring_opener(front, self.text) {
             self.lookahead = Lookahead::All;
@@ -396,7 +392,17 @@ impl<'a> LexerState<'a> {
         ensures some { 0 < result → view_of self.new ≡ record (view_of self.old) { yielded_count = self.old.yielded_count + 1; reads = self.new.reader.reads } }
         ensures none { result ≡ 0 → view_of self.new ≡ record (view_of self.old) { reads = self.new.reader.reads } }
     {
-        let Some(TextOpener { is_raw, quote, len }) = self.reader.text_opener(self.text) else {
+        let Some(
+            Word {
+                class: Class::Opener {
+                    kind: LiteralKind::Text,
+                    is_raw,
+                    quote,
+                },
+                len,
+            },
+        ) = self.reader.text_opener(self.text)
+        else {
             self.lookahead = Lookahead::All;
             return 0;
         };

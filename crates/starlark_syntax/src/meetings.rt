@@ -12,7 +12,7 @@ use crate::cuts::{Begin, Cut, append_cuts, push_moved_cuts};
 use crate::lexer_state::LexerState;
 use crate::parts::Part;
 use crate::tails::{make_room, replace_lexemes};
-use starlark_reader::PlacedToken;
+use starlark_token::tokens::Token;
 use std::alloc::AllocError;
 
 /// A lexed text that lexing may meet: its bytes, and its cuts in order.
@@ -115,7 +115,7 @@ pub(crate) fn meeting_at(
 /// and moves what comes after that. The part was lexed from `begin` on. Nothing changes on
 /// `AllocError`.
 pub(crate) fn put_part(
-    lexemes: &mut Vec<PlacedToken>,
+    lexemes: &mut Vec<(usize, Token, usize)>,
     cuts: &mut Vec<Cut>,
     begin: Begin,
     part: Part,

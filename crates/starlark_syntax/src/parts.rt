@@ -15,7 +15,7 @@ use crate::lexer_state::LexerState;
 use crate::meetings::{Known, Meeting, meeting_at};
 use starlark_base::codemap::{CodeMap, FileSpan, OrMemory, Pos, Span};
 use starlark_base::diagnostic::WithDiagnostic;
-use starlark_reader::PlacedToken;
+use starlark_token::tokens::Token;
 use std::alloc::{AllocError, Global};
 
 /// The result of lexing a text: lexemes, fault, cuts, and number of reads.
@@ -24,7 +24,7 @@ use std::alloc::{AllocError, Global};
 #[derive(Drop)]
 pub struct Part {
     /// The lexemes up to the fault or the meeting, or all.
-    pub lexemes: Vec<PlacedToken>,
+    pub lexemes: Vec<(usize, Token, usize)>,
     /// The exception of the first fault, if there is one.
     pub fault: Option<EvalException>,
     /// The offsets where the text can be cut, in order.
@@ -53,7 +53,7 @@ fn push_cut(cuts: &mut Vec<Cut>, place: Option<usize>, lexemes: usize) -> Result
 fn with_end_cut(
     cuts: Vec<Cut>,
     text: &str,
-    lexemes: &[PlacedToken],
+    lexemes: &[(usize, Token, usize)],
     is_cut: bool,
 ) -> Result<Vec<Cut>, AllocError>
     requires { 0 < length lexemes.now }

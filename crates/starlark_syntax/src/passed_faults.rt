@@ -13,7 +13,7 @@ ghost use Rattle.starlark_token.specs.Lexemes.{IsWithin};
 use crate::error::{ErrorKind, ParserMessage};
 use crate::eval_exception::EvalException;
 use crate::lexemes::Lexer;
-use crate::restarts::{FaultPlace, counted_restart};
+use crate::restarts::counted_restart;
 use starlark_base::codemap::{CodeMap, FileSpan, Pos, Span};
 use starlark_base::diagnostic::WithDiagnostic;
 use starlark_base::dialect::Dialect;
@@ -34,30 +34,25 @@ pub struct Passed<'a> {
     pub reads: u64,
 }
 
-/// Whether an error is that of a tab.
-fn is_tab(kind: &ErrorKind) -> bool
-    ensures { result ≡ is_tab_kind kind.now }
+/// Whether an exception is that of a tab.
+fn is_tab(exception: &EvalException) -> bool
+    ensures { result ≡ is_tab_kind exception.now.value }
 {
     matches!(
-        kind,
+        exception.error().kind(),
         ErrorKind::Parser(ParserMessage::Lexeme(LexemeError::InvalidTab))
     )
 }
 
-/// Where the fault of an exception is.
-fn place_of(exception: &EvalException) -> FaultPlace
+/// The offsets of the span of an exception that has one: its begin and its end.
+fn offsets_of(exception: &EvalException) -> (usize, usize)
     requires { IsSome exception.now.span }
-    ensures place { IfSome exception.now.span (λ it. (result.begin ≡ it.span.begin) × (result.end ≡ it.span.end)) }
-    ensures tab { result.is_tab ≡ is_tab_kind exception.now.value }
+    ensures { IfSome exception.now.span (λ it. (result.0 ≡ it.span.begin) × (result.1 ≡ it.span.end)) }
 {
     let Some(FileSpan { span, .. }) = exception.error().span() else {
         unreachable!()
     };
-    FaultPlace {
-        begin: span.begin().get() as usize,
-        end: span.end().get() as usize,
-        is_tab: is_tab(exception.error().kind()),
-    }
+    (span.begin().get() as usize, span.end().get() as usize)
 }
 
 /// A copy of the code map of an exception's span. `AllocError` where memory runs out.
@@ -103,16 +98,17 @@ pub(crate) fn pass<'a>(
     ensures passed { IfOk result (λ passed. (file : SourceFile) (fault : Spanned Fault) → IsException file fault exception → HasPassed file text.now begin fault passed) }
     ensures order { IfOk result (λ passed. begin ≤ passed.begin) }
 {
-    let place = place_of(&exception);
+    let (fault_begin, fault_end) = offsets_of(&exception);
+    let is_tab = is_tab(&exception);
     let code_map = file_of(&exception)?;
     let mut reads = ReadCounter::new();
-    let from = begin + counted_restart(&mut reads, &text[begin..], place);
+    let from = begin + counted_restart(&mut reads, &text[begin..], fault_begin, fault_end, is_tab);
     let Ok(rest) = Lexer::new(alloc, &text[from..], &Dialect::Standard, code_map.dupe()?) else {
         unreachable!()
     };
     let span = Span::new(
-        Pos::new((begin + place.begin) as u32),
-        Pos::new((begin + place.end) as u32),
+        Pos::new((begin + fault_begin) as u32),
+        Pos::new((begin + fault_end) as u32),
     );
     let fault = placed(alloc, exception, span, &code_map)?;
     Ok(Passed {

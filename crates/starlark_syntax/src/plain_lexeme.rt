@@ -6,7 +6,7 @@ ghost use Rattle.starlark_syntax.specs.PlainLexemes.{IsPlainIn, plain_token, tok
 ghost use Rattle.starlark_token.specs.TokenViews.{Whole, token_view};
 ghost use Rattle.starlark_grammar.specs.Words.{Text};
 
-use starlark_reader::{PlacedToken, ends_expression, own_token};
+use starlark_reader::{ends_expression, own_token};
 use starlark_token::tokens::Token;
 use starlark_words::scanner::Terminal;
 use std::alloc::{AllocError, Global};
@@ -73,7 +73,7 @@ impl PlainLexeme {
 
     /// A keyword or symbol, of whose terminal the token is made.
     #[inline(always)]
-    pub(crate) fn of_symbol(terminal: Terminal, lexeme: PlacedToken) -> PlainLexeme
+    pub(crate) fn of_symbol(terminal: Terminal, lexeme: (usize, Token, usize)) -> PlainLexeme
         requires { IsTokenOf terminal (token_view lexeme.1) }
         ensures token { (value : Text) → token_view lexeme.1 ≡ Whole (token_of result.kind value) }
         ensures places { result ≡ record { kind = result.kind; begin = lexeme.0; end = lexeme.2; value_begin = lexeme.2; value_end = lexeme.2 } }

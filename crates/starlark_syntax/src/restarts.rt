@@ -14,17 +14,6 @@ ghost use Rattle.starlark_words.specs.Inner.Reads.{AreReads, more_reads};
 use starlark_reader::margin_of;
 use starlark_words::reads::ReadCounter;
 
-/// The place of a fault in a text, in bytes, and whether it is the fault of a tab.
-#[derive(Clone, Copy)]
-pub struct FaultPlace {
-    /// Offset of its first byte.
-    pub begin: usize,
-    /// Offset after its last byte.
-    pub end: usize,
-    /// Whether its error is `InvalidTab`. One in a margin is told at the line end before its line.
-    pub is_tab: bool,
-}
-
 /// Number of bytes before the first LF of a text, or all if it has none. The byte after them is
 /// read, too.
 fn before_lf_len(reads: &mut ReadCounter, text: &[u8]) -> usize
@@ -93,46 +82,54 @@ fn tab_line(reads: &mut ReadCounter, text: &str, at: usize) -> usize
 }
 
 /// An offset in the line where a fault stopped the reading of a text.
-fn stopped_at(reads: &mut ReadCounter, text: &str, place: FaultPlace) -> usize
-    requires boundary { IsCharBoundary text.now place.begin }
-    requires order { place.begin ≤ place.end }
-    requires within { place.end ≤ length text.now }
-    ensures value { (fault : Spanned Fault) → IsPlaceOf fault place → result ≡ spec.stopped_at text.now fault }
+fn stopped_at(reads: &mut ReadCounter, text: &str, begin: usize, end: usize, is_tab: bool) -> usize
+    requires boundary { IsCharBoundary text.now begin }
+    requires order { begin ≤ end }
+    requires within { end ≤ length text.now }
+    ensures value { (fault : Spanned Fault) → IsPlaceOf fault begin end is_tab → result ≡ spec.stopped_at text.now fault }
     ensures within { result ≤ length text.now }
-    ensures reads { AreReads 0 (if place.is_tab then 4 * (result - place.begin) + (spec.next_line text.now result - place.begin) + 4 else 0) reads.old reads.new }
+    ensures reads { AreReads 0 (if is_tab then 4 * (result - begin) + (spec.next_line text.now result - begin) + 4 else 0) reads.old reads.new }
 {
-    let line = if place.is_tab {
-        tab_line(reads, text, place.begin)
+    let line = if is_tab {
+        tab_line(reads, text, begin)
     } else {
-        place.begin
+        begin
     };
-    line.max(place.end.saturating_sub(1))
+    line.max(end.saturating_sub(1))
 }
 
 /// Offset where lexing begins again after a fault of a text, as `restart` returns it. The reads of
 /// bytes that this takes are counted.
-pub(crate) fn counted_restart(reads: &mut ReadCounter, text: &str, place: FaultPlace) -> usize
-    requires boundary { IsCharBoundary text.now place.begin }
-    requires order { place.begin ≤ place.end }
-    requires within { place.end ≤ length text.now }
-    ensures value { (fault : Spanned Fault) → IsPlaceOf fault place → result ≡ spec.restart text.now fault }
+pub(crate) fn counted_restart(
+    reads: &mut ReadCounter,
+    text: &str,
+    begin: usize,
+    end: usize,
+    is_tab: bool,
+) -> usize
+    requires boundary { IsCharBoundary text.now begin }
+    requires order { begin ≤ end }
+    requires within { end ≤ length text.now }
+    ensures value { (fault : Spanned Fault) → IsPlaceOf fault begin end is_tab → result ≡ spec.restart text.now fault }
     ensures boundary { IsCharBoundary text.now result }
-    ensures reads { (fault : Spanned Fault) → IsPlaceOf fault place → AreReads 1 (search_reads text.now fault) reads.old reads.new }
+    ensures reads { (fault : Spanned Fault) → IsPlaceOf fault begin end is_tab → AreReads 1 (search_reads text.now fault) reads.old reads.new }
 {
-    let at = stopped_at(reads, text, place);
+    let at = stopped_at(reads, text, begin, end, is_tab);
     next_line(reads, text, at)
 }
 
 /// Offset where lexing begins again after a fault of a text: at the start of a line, or at the end
 /// of the text.
 ///
-/// `RecoveringLexer` goes on there. It is for callers that lex each part of a text by themselves.
-pub fn restart(text: &str, place: FaultPlace) -> usize
-    requires boundary { IsCharBoundary text.now place.begin }
-    requires order { place.begin ≤ place.end }
-    requires within { place.end ≤ length text.now }
-    ensures value { (fault : Spanned Fault) → IsPlaceOf fault place → result ≡ spec.restart text.now fault }
+/// The fault is from byte `begin` to byte `end`. `is_tab` says whether its error is `InvalidTab`:
+/// one in a margin is told at the line end before its line. `RecoveringLexer` goes on at the offset
+/// that is returned. It is for callers that lex each part of a text by themselves.
+pub fn restart(text: &str, begin: usize, end: usize, is_tab: bool) -> usize
+    requires boundary { IsCharBoundary text.now begin }
+    requires order { begin ≤ end }
+    requires within { end ≤ length text.now }
+    ensures value { (fault : Spanned Fault) → IsPlaceOf fault begin end is_tab → result ≡ spec.restart text.now fault }
     ensures boundary { IsCharBoundary text.now result }
 {
-    counted_restart(&mut ReadCounter::new(), text, place)
+    counted_restart(&mut ReadCounter::new(), text, begin, end, is_tab)
 }

@@ -6,7 +6,6 @@ ghost use Rattle.starlark_token.specs.Lexemes.{lexeme_view};
 ghost use Rattle.starlark_token.specs.TokenViews.{token_view};
 
 use crate::cuts::{Begin, Cut, cuts_up_to};
-use starlark_reader::PlacedToken;
 use starlark_token::tokens::Token;
 use std::alloc::AllocError;
 
@@ -24,9 +23,9 @@ pub(crate) fn make_room<T>(list: &mut Vec<T>, kept: usize, more: usize) -> Resul
 ///
 /// It doesn't allocate: the list must have room for them.
 pub(crate) fn append_later(
-    lexemes: &mut Vec<PlacedToken>,
+    lexemes: &mut Vec<(usize, Token, usize)>,
     kept: usize,
-    more: Vec<PlacedToken>,
+    more: Vec<(usize, Token, usize)>,
     len: usize,
 )
     requires room { kept + vec_len more ≤ vec_capacity lexemes.old }
@@ -41,7 +40,7 @@ pub(crate) fn append_later(
 }
 
 /// Moves lexemes in place, from byte `from` to byte `to`.
-fn move_lexemes(lexemes: &mut [PlacedToken], from: usize, to: usize)
+fn move_lexemes(lexemes: &mut [(usize, Token, usize)], from: usize, to: usize)
     requires near { AllNear lexemes.old }
     requires after { AllAfter from lexemes.old }
     requires fits { to < 2 ^ 32 }
@@ -54,7 +53,7 @@ fn move_lexemes(lexemes: &mut [PlacedToken], from: usize, to: usize)
 }
 
 /// Moves the lexemes from index `first` on in place, from byte `from` to byte `to`.
-fn move_from(lexemes: &mut Vec<PlacedToken>, first: usize, from: usize, to: usize)
+fn move_from(lexemes: &mut Vec<(usize, Token, usize)>, first: usize, from: usize, to: usize)
     requires inside { first ≤ length lexemes.old.items }
     requires near { AllNear (drop first lexemes.old.items) }
     requires after { AllAfter from (drop first lexemes.old.items) }
@@ -67,10 +66,10 @@ fn move_from(lexemes: &mut Vec<PlacedToken>, first: usize, from: usize, to: usiz
 /// Replaces the lexemes from index `kept` up to a cut by others, moved by `len` bytes, and moves
 /// those after the cut to byte `to`. Nothing changes on `AllocError`.
 pub(crate) fn replace_lexemes(
-    lexemes: &mut Vec<PlacedToken>,
+    lexemes: &mut Vec<(usize, Token, usize)>,
     kept: usize,
     cut: Cut,
-    more: Vec<PlacedToken>,
+    more: Vec<(usize, Token, usize)>,
     len: usize,
     to: usize,
 ) -> Result<(), AllocError>
@@ -101,7 +100,7 @@ fn is_newline(token: &Token) -> bool
 }
 
 /// Index of the last `Newline` in a list of lexemes.
-pub(crate) fn last_newline(lexemes: &[PlacedToken]) -> Option<usize>
+pub(crate) fn last_newline(lexemes: &[(usize, Token, usize)]) -> Option<usize>
     ensures value { result ≡ last_newline_of (map lexeme_view lexemes.now) }
     ensures within { IfSome result (λ at. at < length lexemes.now) }
 {
@@ -133,7 +132,12 @@ pub struct Kept {
 /// If the indentation there has a tab, the last `Newline` and all lexemes after it are dropped, and
 /// the fault begins where it began. Where there is no `Newline`, all before the cut is comments,
 /// and the fault begins at the start of the text.
-pub(crate) fn kept_of(lexemes: &[PlacedToken], cuts: &[Cut], begin: Begin, has_tab: bool) -> Kept
+pub(crate) fn kept_of(
+    lexemes: &[(usize, Token, usize)],
+    cuts: &[Cut],
+    begin: Begin,
+    has_tab: bool,
+) -> Kept
     requires { begin.lexemes ≤ length lexemes.now }
     ensures plain { has_tab ≡ false → result ≡ record { lexemes = begin.lexemes; cuts = begin.cuts; fault_at = begin.at; gives_more = true } }
     ensures comments { has_tab ≡ true → last_newline_of (map lexeme_view (take begin.lexemes lexemes.now)) ≡ None → result ≡ record { lexemes = begin.lexemes; cuts = 0; fault_at = 0; gives_more = true } }
@@ -168,7 +172,10 @@ pub(crate) fn kept_of(lexemes: &[PlacedToken], cuts: &[Cut], begin: Begin, has_t
 }
 
 /// The lexemes to append to what is kept.
-pub(crate) fn given_after(lexemes: Vec<PlacedToken>, kept: Kept) -> Vec<PlacedToken>
+pub(crate) fn given_after(
+    lexemes: Vec<(usize, Token, usize)>,
+    kept: Kept,
+) -> Vec<(usize, Token, usize)>
     ensures { result.items ≡ (if kept.gives_more then lexemes.items else []) }
 {
     let mut more = lexemes;

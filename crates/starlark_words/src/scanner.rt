@@ -5,7 +5,7 @@ ghost use Rattle.std.specs.List.{prefix_len, slice_get};
 ghost use Rattle.std.specs.Option.{option_map};
 ghost use Rattle.starlark_grammar.specs.Front.{language_front};
 ghost use Rattle.starlark_words.specs.Inner.Reads.{AreReads, more_reads};
-ghost use Rattle.starlark_words.specs.Inner.Words.{HasDigit, begins_number, opener_view, short_view, word_len, word_view};
+ghost use Rattle.starlark_words.specs.Inner.Words.{IsDigitAt, begins_number, word_len, word_view};
 ghost use Rattle.starlark_grammar.specs.Pieces.{is_bang};
 ghost use Rattle.starlark_grammar.specs.Words as grammar;
 ghost use Rattle.starlark_grammar.specs.declared.class.Class.TheVariants as class;
@@ -22,7 +22,7 @@ use crate::lines::front_len;
 use crate::reads::{ReadCounter, uncounted_spaces_len};
 use first::is_name_start;
 pub use starlark_grammar::class::{Class, LiteralKind, Quote, Terminal};
-pub use word::{ShortWord, TextOpener, Word};
+pub use word::Word;
 
 /// Whether a number begins at the front of a text: with a digit, or with a point and a digit.
 fn begins_number(text: &[u8]) -> bool
@@ -141,30 +141,42 @@ pub fn word_after(reads: &mut ReadCounter, gap: usize, text: &str) -> Option<Wor
     word_by_front(reads, front, text)
 }
 
-/// The longest word at the start of a text if it is a symbol of two bytes or an integer of one
-/// digit, and the byte after it tells so. `front` is the text's first three bytes.
+/// The value of the integer at the start of a text if it has one digit, and the byte after it tells
+/// so. `front` is the text's first three bytes.
 #[inline(always)]
-pub fn short_word(front: &[u8], text: &str) -> Option<ShortWord>
+pub fn single_digit(front: &[u8], text: &str) -> Option<u8>
     requires { front.now ≡ take 3 text.now }
-    ensures word { IfSome result (λ short. Some (word_view (short_view short)) ≡ language_front text.now) }
-    ensures digit { IfSome result (λ short. HasDigit short text.now) }
-    ensures bang { IfSome result (λ short. is_bang text.now ≡ false) }
+    ensures word { IfSome result (λ digit. Some (class.Decimal, 1) ≡ language_front text.now) }
+    ensures digit { IfSome result (λ digit. IsDigitAt digit text.now) }
+    ensures bang { IfSome result (λ digit. is_bang text.now ≡ false) }
 {
     let first = *front.first()?;
     if numbers::is_digit_alone(front) {
-        return Some(ShortWord::Digit(first - b'0'));
+        Some(first - b'0')
+    } else {
+        None
     }
+}
+
+/// The symbol at the start of a text if it has two bytes, and the byte after it tells so. `front` is
+/// the text's first three bytes.
+#[inline(always)]
+pub fn two_byte_symbol(front: &[u8], text: &str) -> Option<Terminal>
+    requires { front.now ≡ take 3 text.now }
+    ensures word { IfSome result (λ terminal. Some (class.Fixed terminal, 2) ≡ language_front text.now) }
+    ensures bang { IfSome result (λ terminal. is_bang text.now ≡ false) }
+{
     match marks::mark_of_two(front) {
-        Some(Class::Fixed(terminal)) => Some(ShortWord::Symbol(terminal)),
+        Some(Class::Fixed(terminal)) => Some(terminal),
         _ => None,
     }
 }
 
 /// The longest word at the front of a text if its first two bytes open a text literal.
 #[inline(always)]
-pub fn text_opener(reads: &mut ReadCounter, text: &str) -> Option<TextOpener>
-    ensures word { IfSome result (λ opener. Some (opener_view opener) ≡ language_front text.now) }
-    ensures bang { IfSome result (λ opener. is_bang text.now ≡ false) }
+pub fn text_opener(reads: &mut ReadCounter, text: &str) -> Option<Word>
+    ensures word { IfSome result (λ word. Some (word_view word) ≡ language_front text.now) }
+    ensures bang { IfSome result (λ word. is_bang text.now ≡ false) }
     ensures reads { reads.new ≡ more_reads reads.old 2 }
 {
     let front = reads.front(text.as_bytes(), 2);

@@ -9,13 +9,13 @@ use Rattle.std.specs.Prelude.{IfSome}
 use Rattle.starlark_grammar.specs.Front.{language_front}
 use Rattle.starlark_grammar.specs.Pieces.{is_bang}
 use Rattle.starlark_grammar.specs.Words.{Text, openers, is_in_name}
-use Rattle.starlark_words.specs.Inner.Words.{is_quote, opener_view, plain_opener, quote_after, quote_of, raw_opener, text_opener}
+use Rattle.starlark_words.specs.Inner.Words.{is_quote, plain_opener, quote_after, quote_of, raw_opener, text_opener, word_view}
 use Rattle.starlark_grammar.specs.declared.class.Class.TheVariants.{Opener}
 use Rattle.starlark_grammar.specs.declared.class.LiteralKind.{LiteralKind}
 use Rattle.starlark_grammar.specs.declared.class.LiteralKind.TheVariants.{Bytes, FString}
 use Rattle.starlark_grammar.specs.declared.class.Quote.{Quote}
 use Rattle.starlark_grammar.specs.declared.class.Quote.TheVariants.{Double, Single}
-use Rattle.starlark_words.specs.declared.scanner.word.TextOpener.{TextOpener}
+use Rattle.starlark_words.specs.declared.scanner.word.Word.{Word}
 use Rattle.starlark_words.proofs.Scan.ByFirst.{front_double_quote, front_named, front_single_quote}
 use Rattle.starlark_words.proofs.Scan.Listed.{opener_of, all_pass, lookup_fails}
 use Rattle.starlark_words.proofs.Scan.Fronts.{take_behind}
@@ -65,14 +65,14 @@ quote_is_ascii b h = grind (arith, nat_tests)
 
 -- the opener of a text literal by the first bytes
 
-IsOpenerOf : TextOpener → Text → Type 0
-IsOpenerOf opener text = (Some (opener_view opener) ≡ language_front text) × (is_bang text ≡ false)
+IsOpenerOf : Word → Text → Type 0
+IsOpenerOf opener text = (Some (word_view opener) ≡ language_front text) × (is_bang text ≡ false)
 
 no_bang : (b : ℕ) (rest : Text) → (b == 33) ≡ false → is_bang (b ∷ rest) ≡ false
 no_bang b [] h = h
 no_bang b (c ∷ rest) h = rw h refl
 
-plain_front : (b : ℕ) (rest : Text) (opener : TextOpener) → option_map plain_opener (quote_of b) ≡ Some opener → IsOpenerOf opener (b ∷ rest)
+plain_front : (b : ℕ) (rest : Text) (opener : Word) → option_map plain_opener (quote_of b) ≡ Some opener → IsOpenerOf opener (b ∷ rest)
 unfolding IsOpenerOf
 plain_front b rest opener h = go (b == 39) (b == 34) refl refl
   where
@@ -80,14 +80,14 @@ plain_front b rest opener h = go (b == 39) (b == 34) refl refl
     go true double e f =
         let byte : b ≡ 39 = eqb-true b 39 e in
         let same = rw byte at h in
-        subst (λ (n : ℕ). IsOpenerOf opener (n ∷ rest)) (sym byte) (ap (option_map opener_view) (sym same) ∙ sym (front_single_quote (39 ∷ rest) refl), no_bang 39 rest refl)
+        subst (λ (n : ℕ). IsOpenerOf opener (n ∷ rest)) (sym byte) (ap (option_map word_view) (sym same) ∙ sym (front_single_quote (39 ∷ rest) refl), no_bang 39 rest refl)
     go false true e f =
         let byte : b ≡ 34 = eqb-true b 34 f in
         let same = rw byte at h in
-        subst (λ (n : ℕ). IsOpenerOf opener (n ∷ rest)) (sym byte) (ap (option_map opener_view) (sym same) ∙ sym (front_double_quote (34 ∷ rest) refl), no_bang 34 rest refl)
+        subst (λ (n : ℕ). IsOpenerOf opener (n ∷ rest)) (sym byte) (ap (option_map word_view) (sym same) ∙ sym (front_double_quote (34 ∷ rest) refl), no_bang 34 rest refl)
     go false false e f = let none = rw (e, f) at h in cc
 
-raw_front : (b : ℕ) (rest : Text) (opener : TextOpener) → ((i : ℕ) → get_or (114 ∷ b ∷ rest) i 0 < 256) → option_map raw_opener (quote_of b) ≡ Some opener → IsOpenerOf opener (114 ∷ b ∷ rest)
+raw_front : (b : ℕ) (rest : Text) (opener : Word) → ((i : ℕ) → get_or (114 ∷ b ∷ rest) i 0 < 256) → option_map raw_opener (quote_of b) ≡ Some opener → IsOpenerOf opener (114 ∷ b ∷ rest)
 unfolding IsOpenerOf openers
 raw_front b rest opener small h = go (b == 39) (b == 34) refl refl
   where
@@ -96,15 +96,15 @@ raw_front b rest opener small h = go (b == 39) (b == 34) refl refl
         let byte : b ≡ 39 = eqb-true b 39 e in
         let same = rw byte at h in
         let front = front_named (114 ∷ 39 ∷ rest) 1 (subst (λ (n : ℕ). (i : ℕ) → get_or (114 ∷ n ∷ rest) i 0 < 256) byte small) refl refl in
-        subst (λ (n : ℕ). IsOpenerOf opener (114 ∷ n ∷ rest)) (sym byte) (ap (option_map opener_view) (sym same) ∙ sym front, refl)
+        subst (λ (n : ℕ). IsOpenerOf opener (114 ∷ n ∷ rest)) (sym byte) (ap (option_map word_view) (sym same) ∙ sym front, refl)
     go false true e f =
         let byte : b ≡ 34 = eqb-true b 34 f in
         let same = rw byte at h in
         let front = front_named (114 ∷ 34 ∷ rest) 1 (subst (λ (n : ℕ). (i : ℕ) → get_or (114 ∷ n ∷ rest) i 0 < 256) byte small) refl refl in
-        subst (λ (n : ℕ). IsOpenerOf opener (114 ∷ n ∷ rest)) (sym byte) (ap (option_map opener_view) (sym same) ∙ sym front, refl)
+        subst (λ (n : ℕ). IsOpenerOf opener (114 ∷ n ∷ rest)) (sym byte) (ap (option_map word_view) (sym same) ∙ sym front, refl)
     go false false e f = let none = rw (e, f) at h in cc
 
-pub front_of_opener : (text : Text) (opener : TextOpener) → ((i : ℕ) → get_or text i 0 < 256) → text_opener text ≡ Some opener → (Some (opener_view opener) ≡ language_front text) × (is_bang text ≡ false)
+pub front_of_opener : (text : Text) (opener : Word) → ((i : ℕ) → get_or text i 0 < 256) → text_opener text ≡ Some opener → (Some (word_view opener) ≡ language_front text) × (is_bang text ≡ false)
 unfolding IsOpenerOf
 front_of_opener [] opener small h = cc
 front_of_opener (b ∷ []) opener small h = plain_front b [] opener h
@@ -117,7 +117,7 @@ front_of_opener (b ∷ c ∷ rest) opener small h = go (b == 114) refl h
         subst (λ (n : ℕ). IsOpenerOf opener (n ∷ c ∷ rest)) (sym byte) (raw_front c rest opener (subst (λ (n : ℕ). (i : ℕ) → get_or (n ∷ c ∷ rest) i 0 < 256) byte small) same)
     go false e h = plain_front b (c ∷ rest) opener (rw e at h)
 
-pub opener_found : (text : Text) (found : Option TextOpener) → ((i : ℕ) → get_or text i 0 < 256) → found ≡ text_opener text → IfSome found (λ opener. Some (opener_view opener) ≡ language_front text)
+pub opener_found : (text : Text) (found : Option Word) → ((i : ℕ) → get_or text i 0 < 256) → found ≡ text_opener text → IfSome found (λ opener. Some (word_view opener) ≡ language_front text)
 opener_found text None small h = tt
 opener_found text (Some opener) small h = (front_of_opener text opener small (sym h)).0
 

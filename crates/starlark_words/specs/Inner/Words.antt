@@ -1,5 +1,5 @@
 -- Words, and the tables and tests by which the scanner finds them.
-use Rattle.std.specs.Prelude.{◌≡◌, ℕ, ◌+◌, ◌<◌, ⊤, if◌then◌else◌, Bool, true, false, not, ◌&&◌, ◌||◌, ◌==◌, nat_eq, List, [], ◌∷◌, ◌++◌, take, length, codes, Option, None, Some, unwrap_or}
+use Rattle.std.specs.Prelude.{◌≡◌, ℕ, ◌+◌, ◌<◌, if◌then◌else◌, Bool, true, false, not, ◌&&◌, ◌||◌, ◌==◌, nat_eq, List, [], ◌∷◌, ◌++◌, take, length, codes, Option, None, Some, unwrap_or}
 use Rattle.std.specs.List.{filter, list_any}
 use Rattle.std.specs.Map.{lookup}
 use Rattle.std.specs.Option.{option_map}
@@ -7,16 +7,13 @@ use Rattle.std.specs.Str.{bytes_eq}
 use Rattle.std.specs.Char.{is_ascii_digit}
 use Rattle.starlark_grammar.specs.Words as grammar
 use Rattle.starlark_grammar.specs.declared.class.Class.{Class}
-use Rattle.starlark_grammar.specs.declared.class.Class.TheVariants.{Decimal, Fixed, Identifier, Opener, Reserved}
+use Rattle.starlark_grammar.specs.declared.class.Class.TheVariants.{Fixed, Identifier, Opener, Reserved}
 use Rattle.starlark_grammar.specs.declared.class.LiteralKind.TheVariants.{Text as OfText}
 use Rattle.starlark_grammar.specs.declared.class.Quote.{Quote}
 use Rattle.starlark_grammar.specs.declared.class.Quote.TheVariants.{Single, Double}
 use Rattle.starlark_words.specs.declared.scanner.names.Listing.{Listing}
 use Rattle.starlark_words.specs.declared.scanner.names.Listing.TheVariants.{Keyword, Not, Reserved as OfReserved}
 use Rattle.starlark_words.specs.declared.scanner.word.Word.{Word}
-use Rattle.starlark_words.specs.declared.scanner.word.ShortWord.{ShortWord}
-use Rattle.starlark_words.specs.declared.scanner.word.ShortWord.TheVariants.{Symbol, Digit}
-use Rattle.starlark_words.specs.declared.scanner.word.TextOpener.{TextOpener}
 
 -- a word at the front of a text, by its class and its length
 abbrev pub word_view : Word → Class × ℕ
@@ -86,19 +83,9 @@ begins_number [] = false
 begins_number (a ∷ []) = is_ascii_digit a
 begins_number (a ∷ b ∷ rest) = is_ascii_digit a || (a == 46 && is_ascii_digit b)
 
--- a short word, as a word
-abbrev pub short_view : ShortWord → Word
-short_view (Symbol terminal) = record { class = Fixed terminal; len = 2 }
-short_view (Digit value) = record { class = Decimal; len = 1 }
-
 -- the text begins with a digit of this value
 abbrev pub IsDigitAt : ℕ → grammar.Text → Type 0
 IsDigitAt value text = (value < 10) × (take 1 text ≡ (value + 48) ∷ [])
-
--- if the short word is a digit, the text begins with it
-abbrev pub HasDigit : ShortWord → grammar.Text → Type 0
-HasDigit (Symbol terminal) text = ⊤
-HasDigit (Digit value) text = IsDigitAt value text
 
 -- the class of a mark of two bytes, if no `=` follows, which may extend it
 abbrev pub mark_of_two : grammar.Text → Option Class
@@ -119,18 +106,15 @@ is_digit_alone (a ∷ b ∷ rest) = is_ascii_digit a && not (may_be_in_number b)
 abbrev pub quote_of : ℕ → Option Quote
 quote_of b = if b == 39 then Some Single else if b == 34 then Some Double else None
 
--- an opener of a text literal, by its class and its length
-abbrev pub opener_view : TextOpener → Class × ℕ
-opener_view opener = (Opener OfText opener.is_raw opener.quote, opener.len)
+-- the opener of a text literal, by its quote: without a prefix, and raw
+abbrev pub plain_opener : Quote → Word
+plain_opener quote = record { class = Opener OfText false quote; len = 1 }
 
-abbrev pub plain_opener : Quote → TextOpener
-plain_opener quote = record { is_raw = false; quote = quote; len = 1 }
-
-abbrev pub raw_opener : Quote → TextOpener
-raw_opener quote = record { is_raw = true; quote = quote; len = 2 }
+abbrev pub raw_opener : Quote → Word
+raw_opener quote = record { class = Opener OfText true quote; len = 2 }
 
 -- the opener of a text literal at the front of a text, by its first two bytes
-abbrev pub text_opener : grammar.Text → Option TextOpener
+abbrev pub text_opener : grammar.Text → Option Word
 text_opener [] = None
 text_opener (a ∷ []) = option_map plain_opener (quote_of a)
 text_opener (a ∷ b ∷ rest) = if a == 114 then option_map raw_opener (quote_of b) else option_map plain_opener (quote_of a)

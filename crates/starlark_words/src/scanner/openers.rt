@@ -8,7 +8,7 @@ ghost use Rattle.starlark_grammar.specs.Words as grammar;
 ghost use Rattle.starlark_grammar.specs.declared.class.Class.TheVariants as class;
 ghost use Rattle.starlark_words.specs.Inner.Words.{plain_opener, quote_after, quote_of, raw_opener, text_opener};
 
-use super::{Class, LiteralKind, Quote, TextOpener};
+use super::{Class, LiteralKind, Quote, Word};
 
 /// A byte as a quote; `None` if it is none.
 #[inline(always)]
@@ -24,13 +24,12 @@ fn quote_of(byte: u8) -> Option<Quote>
 
 /// The opener of a text literal without a prefix.
 #[inline(always)]
-fn plain_opener(quote: u8) -> Option<TextOpener>
+fn plain_opener(quote: u8) -> Option<Word>
     ensures { result ≡ option_map plain_opener (quote_of quote) }
 {
     match quote_of(quote) {
-        Some(quote) => Some(TextOpener {
-            is_raw: false,
-            quote,
+        Some(quote) => Some(Word {
+            class: opener(LiteralKind::Text, false, quote),
             len: 1,
         }),
         None => None,
@@ -39,13 +38,12 @@ fn plain_opener(quote: u8) -> Option<TextOpener>
 
 /// The opener of a raw text literal: an `r` and a quote.
 #[inline(always)]
-fn raw_opener(quote: u8) -> Option<TextOpener>
+fn raw_opener(quote: u8) -> Option<Word>
     ensures { result ≡ option_map raw_opener (quote_of quote) }
 {
     match quote_of(quote) {
-        Some(quote) => Some(TextOpener {
-            is_raw: true,
-            quote,
+        Some(quote) => Some(Word {
+            class: opener(LiteralKind::Text, true, quote),
             len: 2,
         }),
         None => None,
@@ -54,7 +52,7 @@ fn raw_opener(quote: u8) -> Option<TextOpener>
 
 /// The opener of a text literal at the front of a text, by its first two bytes.
 #[inline(always)]
-pub(crate) fn text_opener(text: &[u8]) -> Option<TextOpener>
+pub(crate) fn text_opener(text: &[u8]) -> Option<Word>
     ensures { result ≡ text_opener text.now }
 {
     let first = *text.first()?;
@@ -79,6 +77,7 @@ pub(crate) fn quote_after(letter: u8, text: &[u8]) -> Option<Quote>
 }
 
 /// The opener of a literal of the given kind.
+#[inline(always)]
 fn opener(kind: LiteralKind, is_raw: bool, quote: Quote) -> Class
     ensures { result ≡ class.Opener kind is_raw quote }
 {

@@ -8,9 +8,9 @@ use Rattle.starlark_syntax.proofs.passed_faults.pass.Goals as goal
 
 pub returns-clause-passed : goal.returns-clause-passed
 returns-clause-passed c file fault is =
-    let span : c.new-span.result ≡ record { begin = c.args.begin + c.place_of-place.result.begin; end = c.args.begin + c.place_of-place.result.end } = cc in
-    let searches : (fault : Spanned Fault) → IsPlaceOf fault c.place_of-place.result → AreReads 1 (search_reads c.range_from.result.now fault) 0 c.count.result =
+    let span : c.new-span.result ≡ record { begin = c.args.begin + c.offsets_of-fault_begin.result.0; end = c.args.begin + c.offsets_of-fault_begin.result.1 } = cc in
+    let searches : (fault : Spanned Fault) → IsPlaceOf fault c.offsets_of-fault_begin.result.0 c.offsets_of-fault_begin.result.1 c.is_tab-is_tab.result → AreReads 1 (search_reads c.range_from.result.now fault) 0 c.count.result =
     λ fault place. let read = c.counted_restart.ensures.reads fault place in (omega (arith, read.0, c.new.ensures, c.count.ensures), omega (arith, read.1, c.new.ensures, c.count.ensures)) in
-    passes file c.args.text.now c.args.begin c.counted_restart.result fault c.args.exception c.in_ok-fault.fault c.place_of-place.result c.count.result c.in_ok-code_map.code_map c.in_ok-dupe.field-0 c.new-span.result c.in-Ok.rest c.range_from.result.now c.range_from-2.result.now
-    is c.place_of-place.ensures.place c.place_of-place.ensures.tab c.in_ok-code_map.ensures c.in_ok-dupe.ensures
+    passes file c.args.text.now c.args.begin c.counted_restart.result fault c.args.exception c.in_ok-fault.fault c.offsets_of-fault_begin.result.0 c.offsets_of-fault_begin.result.1 c.is_tab-is_tab.result c.count.result c.in_ok-code_map.code_map c.in_ok-dupe.field-0 c.new-span.result c.in-Ok.rest c.range_from.result.now c.range_from-2.result.now
+    is c.offsets_of-fault_begin.ensures c.is_tab-is_tab.ensures c.in_ok-code_map.ensures c.in_ok-dupe.ensures
     c.range_from.ensures.value c.counted_restart.ensures.value searches c.counted_restart.ensures.boundary c.requires.boundary c.range_from-2.ensures.value c.in-Ok.ensures.ok span c.in_ok-fault.ensures

@@ -14,4 +14,4 @@ returns-clause-reads c fault is =
     let stopped = c.stopped_at-at.ensures.reads in
     let later = c.next_line.ensures.reads in
     let found : c.next_line.new.reads ≤ c.stopped_at-at.new.reads + (next_line text c.stopped_at-at.result - c.stopped_at-at.result + 1) = omega (arith, later.1, c.next_line.ensures.value) in
-    (omega (arith, stopped.0, later.0), within_search text fault c.args.place.begin c.stopped_at-at.result _ _ _ c.args.place.is_tab is.is_tab is.begin (c.stopped_at-at.ensures.value fault is) after stopped.1 found)
+    (omega (arith, stopped.0, later.0), within_search text fault c.args.begin c.stopped_at-at.result _ _ _ c.args.is_tab is.is_tab is.begins (c.stopped_at-at.ensures.value fault is) after stopped.1 found)

@@ -3,23 +3,23 @@ use Rattle.starlark_syntax.proofs.NextLines.{no_margin_tab, stopped_is}
 use Rattle.starlark_syntax.specs.Recovery.{is_margin_tab}
 use Rattle.starlark_reader.proofs.NextLines.{next_line_later}
 use Rattle.starlark_syntax.proofs.restarts.stopped_at.Goals as goal
-use Rattle.starlark_syntax.proofs.restarts.stopped_at.Goals.{then-place, else-place}
+use Rattle.starlark_syntax.proofs.restarts.stopped_at.Goals.{then-is_tab, else-is_tab}
 
 pub returns-clause-value : goal.returns-clause-value
 returns-clause-value c fault is =
     let text = c.args.text.now in
-    elim c.if-place.branch [
-      | then-place w ↦ stopped_is text fault c.args.place (is_margin_tab text fault) _ c.max.result is refl (w.line-is ∙ w.tab_line-line.ensures.value fault (sym is.begin) (sym is.is_tab ∙ w.if-place.true)) (omega arith)
-      | else-place w ↦ stopped_is text fault c.args.place false _ c.max.result is (no_margin_tab text fault (sym is.is_tab ∙ w.if-place.false)) w.line-is (omega arith)
+    elim c.if-is_tab.branch [
+      | then-is_tab w ↦ stopped_is text fault c.args.begin c.args.end c.args.is_tab (is_margin_tab text fault) _ c.max.result is refl (w.line-is ∙ w.tab_line-line.ensures.value fault (sym is.begins) (sym is.is_tab ∙ w.if-is_tab.true)) (omega arith)
+      | else-is_tab w ↦ stopped_is text fault c.args.begin c.args.end c.args.is_tab false _ c.max.result is (no_margin_tab text fault (sym is.is_tab ∙ w.if-is_tab.false)) w.line-is (omega arith)
     ]
 
 pub returns-clause-reads : goal.returns-clause-reads
 returns-clause-reads c =
-    elim c.if-place.branch [
-      | then-place w ↦
+    elim c.if-is_tab.branch [
+      | then-is_tab w ↦
           let tab = w.tab_line-line.ensures.reads in
           let order : w.tab_line-line.result ≤ c.max.result = omega (arith, w.line-is, c.max.ensures) in
           let later = next_line_later c.args.text.now w.tab_line-line.result c.max.result order in
-          rw w.if-place.true (omega (arith, w.reads-is, tab.0), omega (arith, w.reads-is, tab.1, later, order))
-      | else-place w ↦ rw w.if-place.false (omega (arith, w.reads-is), omega (arith, w.reads-is))
+          rw w.if-is_tab.true (omega (arith, w.reads-is, tab.0), omega (arith, w.reads-is, tab.1, later, order))
+      | else-is_tab w ↦ rw w.if-is_tab.false (omega (arith, w.reads-is), omega (arith, w.reads-is))
     ]

@@ -20,8 +20,8 @@ overflow_add-self c =
     let small : c.args.self.now.yielded_count + 1 ≤ 2 ^ 34 = omega (arith, inv.0, few) in
     search (rules, small)
 
-pub returns-in-Some-Symbol-clause-lexing : goal.returns-in-Some-Symbol-clause-lexing
-returns-in-Some-Symbol-clause-lexing c =
+pub returns-in-Some-two_byte_symbol-clause-lexing : goal.returns-in-Some-two_byte_symbol-clause-lexing
+returns-in-Some-two_byte_symbol-clause-lexing c =
     let inv = c.requires.lexing.1 c.requires.going in
     let is = c.take_terminal-lexeme.ensures.ahead _ _ (c.front-front.ensures.ahead _ _ inv.1) in
     let further = one_more (map shown_lexeme (outcome c.args.self.now.text.now).lexemes) c.args.self.now.yielded_count _ is.0 is.1 in
@@ -35,15 +35,15 @@ returns-in-Some-Symbol-clause-lexing c =
       c.requires.lexing.4,
     )
 
-pub overflow_add-self-in-Some-Digit : goal.overflow_add-self-in-Some-Digit
-overflow_add-self-in-Some-Digit c =
+pub overflow_add-self-in-Some-two_byte_symbol : goal.overflow_add-self-in-Some-two_byte_symbol
+overflow_add-self-in-Some-two_byte_symbol c =
     let inv = c.requires.lexing.1 c.requires.going in
     let few = lexemes_few c.args.self.now.text.now c.requires.lexing.0 in
     let small : c.args.self.now.yielded_count + 1 ≤ 2 ^ 34 = omega (arith, inv.0, few) in
     search (rules, small)
 
-pub returns-in-Some-Digit-clause-lexing : goal.returns-in-Some-Digit-clause-lexing
-returns-in-Some-Digit-clause-lexing c =
+pub returns-in-Some-clause-lexing : goal.returns-in-Some-clause-lexing
+returns-in-Some-clause-lexing c =
     let inv = c.requires.lexing.1 c.requires.going in
     let is = c.take_digit-lexeme.ensures.ahead _ _ (c.front-front.ensures.ahead _ _ inv.1) in
     let further = one_more (map shown_lexeme (outcome c.args.self.now.text.now).lexemes) c.args.self.now.yielded_count _ is.0 is.1 in

@@ -41,8 +41,8 @@ returns-clause-lexing c =
     let further = one_more (map shown_lexeme (outcome c.args.self.now.text.now).lexemes) c.args.self.now.yielded_count _ is.0 is.1 in
     let front = front_is c.args.self.now.text.now c.args.self.now.reader c.args.self.now.looked_to c.args.self.now.lookahead c.requires.front (c.requires.lexing.3 c.requires.going) in
     let paid = c.requires.opened.1 in
-    let opener = text_opener_len (drop c.text_opener.new.self.at c.args.self.now.text.now) c.in-Some.field-0.is_raw c.in-Some.field-0.quote c.in-Some.field-0.len c.in-Some.ensures.stands.front in
-    let read = plain_reads c.args.self.now.text.now paid.0 2 2 c.in-Some.field-0.len c.in-Ok.body c.args.self.now.reader c.text_opener.new.self c.plain_body_len.new.self c.pass_plain_text.new.self front.0.stage paid.2 c.text_opener.ensures.lookahead (omega arith, omega arith) c.in-Ok.ensures.lookahead opener
+    let opener = text_opener_len (drop c.plain_body_len.new.self.at c.args.self.now.text.now) c.in-Some-Opener.is_raw c.in-Some-Opener.quote c.in-Some-Opener.field-0.len c.plain_body_len.ensures.stands.front in
+    let read = plain_reads c.args.self.now.text.now paid.0 2 2 c.in-Some-Opener.field-0.len c.in-Ok.body c.args.self.now.reader c.text_opener.new.self c.plain_body_len.new.self c.pass_plain_text.new.self front.0.stage paid.2 c.text_opener.ensures.lookahead (omega arith, omega arith) c.in-Ok.ensures.lookahead opener
     (c.pass_plain_text.ensures.taken.1, c.pass_plain_text.ensures.taken.2) in (
       c.requires.lexing.0,
       (λ on. (omega (arith, further.0, length-map (outcome c.args.self.now.text.now).lexemes shown_lexeme), rw further.1 is.2)),
@@ -68,32 +68,32 @@ returns-in-Err-clause-lexing c =
     let other = c.in-Err.ensures.other in
     let read = here_reads c.args.self.now.text.now (paid.0 + 2) 0 (2 * c.in-Err.run' + 3) c.text_opener.new.self c.plain_body_len.new.self (c.text_opener.ensures.lookahead.1 ∙ front.0.stage) opened other.1 in
     let same = c.text_opener.ensures.lookahead.0 in
-    let stands = rw same at (sym c.in-Some.ensures.stands.front) in
-    let reach = c.requires.opened.0 _ c.in-Some.field-0.len stands in
+    let stands = rw same at (sym c.in-Some-Opener.ensures.stands.front) in
+    let reach = c.requires.opened.0 _ c.in-Some-Opener.field-0.len stands in
     let at : c.at.result ≡ c.args.self.now.reader.at = c.at.ensures ∙ other.1.0 ∙ same in (
       c.requires.lexing.0,
       (λ on. (inv.0, c.plain_body_len.ensures.ahead _ _ (c.text_opener.ensures.ahead _ _ inv.1))),
       tt,
-      (λ on. (paid.0 + 2 + (2 * c.in-Err.run' + 3), omega (arith, paid.1, reach, at, c.in-Some.len-is), read)),
-      reached c.args.self.now.text.now c.args.self.now.reader _ c.plain_body_len.new.self.at _ front.0.stage inv.1 (other.1.0 ∙ same) (omega (arith, other.0, other.1.0, same, at, c.in-Some.len-is)),
+      (λ on. (paid.0 + 2 + (2 * c.in-Err.run' + 3), omega (arith, paid.1, reach, at, c.in-Some-Opener.len-is), read)),
+      reached c.args.self.now.text.now c.args.self.now.reader _ c.plain_body_len.new.self.at _ front.0.stage inv.1 (other.1.0 ∙ same) (omega (arith, other.0, other.1.0, same, at, c.in-Some-Opener.len-is)),
     )
 
 pub overflow_add-self : goal.overflow_add-self
 overflow_add-self c =
     let line = next_line_inside c.args.self.now.text.now c.plain_body_len.new.self.at in
-    let small : c.at.result + c.in-Some.field-0.len ≤ 2 ^ 34 = omega (arith, c.in-Err.ensures.other.0, line, c.at.ensures, c.in-Some.len-is, c.requires.lexing.0) in
+    let small : c.at.result + c.in-Some-Opener.field-0.len ≤ 2 ^ 34 = omega (arith, c.in-Err.ensures.other.0, line, c.at.ensures, c.in-Some-Opener.len-is, c.requires.lexing.0) in
     search (rules, small)
 
 pub overflow_add-self-in-Err : goal.overflow_add-self-in-Err
 overflow_add-self-in-Err c =
     let line = next_line_inside c.args.self.now.text.now c.plain_body_len.new.self.at in
-    let small : c.at.result + c.in-Some.field-0.len + 1 ≤ 2 ^ 34 = omega (arith, c.in-Err.ensures.other.0, line, c.at.ensures, c.in-Some.len-is, c.requires.lexing.0) in
+    let small : c.at.result + c.in-Some-Opener.field-0.len + 1 ≤ 2 ^ 34 = omega (arith, c.in-Err.ensures.other.0, line, c.at.ensures, c.in-Some-Opener.len-is, c.requires.lexing.0) in
     search (rules, small)
 
 pub overflow_add-self-in-Err-2 : goal.overflow_add-self-in-Err-2
 overflow_add-self-in-Err-2 c =
     let line = next_line_inside c.args.self.now.text.now c.plain_body_len.new.self.at in
-    let small : c.at.result + c.in-Some.field-0.len + 1 + c.in-Err.run' ≤ 2 ^ 34 = omega (arith, c.in-Err.ensures.other.0, line, c.at.ensures, c.in-Some.len-is, c.requires.lexing.0) in
+    let small : c.at.result + c.in-Some-Opener.field-0.len + 1 + c.in-Err.run' ≤ 2 ^ 34 = omega (arith, c.in-Err.ensures.other.0, line, c.at.ensures, c.in-Some-Opener.len-is, c.requires.lexing.0) in
     search (rules, small)
 
 pub returns-clause-passed : goal.returns-clause-passed
@@ -107,15 +107,15 @@ returns-clause-passed c = λ some.
     let first = reader_boundary text c.args.self.now.reader _ _ front.0.stage inv.1 in
     let last = reader_boundary text c.pass_plain_text.new.self _ _ taken.2 is.2 in
     let value = c.pass_plain_text.ensures.value in
-    let to : c.plain_body_len.new.self.at + c.in-Some.field-0.len + c.in-Ok.body ≡ c.pass_plain_text.new.self.at - 1 = omega (arith, taken.1.0) in (
-      plain_inside text kind.String c.args.self.now.reader.at c.pass_plain_text.new.self.at (c.args.self.now.reader.at + c.in-Some.field-0.len) (c.pass_plain_text.new.self.at - 1) c.requires.lexing.0
+    let to : c.plain_body_len.new.self.at + c.in-Some-Opener.field-0.len + c.in-Ok.body ≡ c.pass_plain_text.new.self.at - 1 = omega (arith, taken.1.0) in (
+      plain_inside text kind.String c.args.self.now.reader.at c.pass_plain_text.new.self.at (c.args.self.now.reader.at + c.in-Some-Opener.field-0.len) (c.pass_plain_text.new.self.at - 1) c.requires.lexing.0
           (omega (arith, same, taken.1.0)) (omega (arith, same, taken.1.0)) first last
-          (subst (λ n. IsCharBoundary text (n + c.in-Some.field-0.len)) same value.0) (subst (IsCharBoundary text) to value.1),
+          (subst (λ n. IsCharBoundary text (n + c.in-Some-Opener.field-0.len)) same value.0) (subst (IsCharBoundary text) to value.1),
       subst (λ (lexeme : Spanned TokenView). IsAheadPast text lexeme c.pass_plain_text.new.self (left_in c.args.self.now) (outcome text).fault)
-          (string_shown text c.args.self.now.reader.at c.plain_body_len.new.self.at c.in-Some.field-0.len c.in-Ok.body c.pass_plain_text.new.self.at same taken.1.0) is,
+          (string_shown text c.args.self.now.reader.at c.plain_body_len.new.self.at c.in-Some-Opener.field-0.len c.in-Ok.body c.pass_plain_text.new.self.at same taken.1.0) is,
     )
 
 pub returns-clause-none : goal.returns-clause-none
 returns-clause-none c = λ none.
-    let opener = text_opener_len (drop c.text_opener.new.self.at c.args.self.now.text.now) c.in-Some.field-0.is_raw c.in-Some.field-0.quote c.in-Some.field-0.len c.in-Some.ensures.stands.front in
+    let opener = text_opener_len (drop c.plain_body_len.new.self.at c.args.self.now.text.now) c.in-Some-Opener.is_raw c.in-Some-Opener.quote c.in-Some-Opener.field-0.len c.plain_body_len.ensures.stands.front in
     absurd (omega (arith, opener.0, none))

@@ -1,5 +1,5 @@
 use Rattle.starlark_reader.proofs.Pieces.PieceTaken.{left_onward}
-use Rattle.starlark_reader.proofs.reader.Reader.short_word.Goals as goal
+use Rattle.starlark_reader.proofs.reader.Reader.single_digit.Goals as goal
 
 pub range_from-requires : goal.range_from-requires
 range_from-requires c = λ some.
