@@ -41,7 +41,7 @@ fn append_run(text: &mut String, run: &str, front: &[u8]) -> Result<(), AllocErr
     if text.capacity() - text.len() < run.len().saturating_add(4) {
         text.reserve(run.len().saturating_add(spare_len(front)))?;
     }
-    // Copying is a call, also of nothing: a third of the escapes follow another one.
+    // A copy is a call, even of nothing, and escapes often follow one another.
     if run.is_empty() {
         return Ok(());
     }
