@@ -354,13 +354,13 @@ mod tests {
     fn a_front_ends_where_a_statement_may_begin() {
         assert_eq!(front_of("a\nb\ncd", 8), "a\nb\ncd");
         assert_eq!(front_of("abcdefgh\ni\nj\nk", 13), "abcdefgh\ni\nj");
-        assert_eq!(
-            front_of("abcdefgh\n)\n# c\n\nj\n k", 20),
-            "abcdefgh\n)\n# c\n\nj"
-        );
-        // Before `j` a block is open, `i` is in the first half, and `é` has two bytes.
-        assert_eq!(front_of("abcdefgh\nh\ni\n  k\nj\nk", 19), "abcdefgh\nh\ni");
-        assert_eq!(front_of("h\ni\n  klmn\nj\nk", 14), "h\ni\n  klmn\nj\n");
+        let commented = "abcdefghij\n)\n# c\n\nj\n k";
+        assert_eq!(front_of(commented, 21), "abcdefghij\n)\n# c\n\nj");
+        // Before the last `j` a block is open.
+        let open = "abcdefghij\nh\ni\n  k\nj\nk";
+        assert_eq!(front_of(open, 21), "abcdefghij\nh\ni");
+        // What begins a statement is in the first half, and `é` has two bytes.
+        assert_eq!(front_of("h\ni\n  klmn\nj\nk", 13), "h\ni\n  klmn\nj\n");
         assert_eq!(front_of("abcdefghiéj", 10), "abcdefghi");
     }
 
