@@ -67,8 +67,8 @@ pub extern "C" fn starlark_lex(
 /// tells that the text may be cut.
 ///
 /// With status `FULL` and `next` above 0 the buffers have the lexemes up to the clean cut `next`,
-/// which are the first of the whole text, whatever follows the front. With any other status there is
-/// no such offset that the buffers have room for, and all is as `starlark_lex` does with the front.
+/// which are the first of the whole text, whatever follows the front. With any other status no such
+/// offset was found that the buffers have room for, and all is as `starlark_lex` does with the front.
 #[unsafe(no_mangle)]
 pub extern "C" fn starlark_lex_front(
     alloc: Global,
