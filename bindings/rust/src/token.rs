@@ -346,10 +346,10 @@ impl<'a, 'b> Value<'a, 'b> {
     fn token(self) -> Token<'a> {
         match self.record.kind {
             1 => Token::Comment(self.text_after(1)),
-            IDENTIFIER => Token::Identifier(self.compared_text()),
+            5 => Token::Identifier(self.compared_text()),
             6 => Token::Int(self.integer()),
             7 => Token::Float(self.text_after(0)),
-            STRING => Token::String(self.compared_text()),
+            8 => Token::String(self.compared_text()),
             9 => Token::Bytes(self.bytes()),
             10 => Token::FStringStart(quotes(self.record.detail)),
             11 => Token::FStringText(self.text_after(0)),
