@@ -39,8 +39,8 @@ def arms(file, name):
     """The names and numbers of an enumeration of the crate, in order of the numbers."""
     text = file.read_text()
     pairs = [(plain(variant), int(number)) for number, variant in re.findall(rf"^ +(\d+) => {name}::(\w+)", text, re.M)]
-    if name == "Token":
-        pairs += found(file, r"(?m)^        (\w+) = (\d+),$")
+    if name == "TokenKind":
+        pairs += found(file, r"(?m)^        (\w+)(?:\(.*\))? = (\d+),$")
     return sorted(pairs, key=lambda pair: pair[1])
 
 
@@ -68,7 +68,7 @@ def compared():
     records = CRATE / "specs/Records.antt"
     kind = r"(?:token_number \(?grammar|terminal_number terminal)\.(\w+)(?: \w+\))? = (\d+)"
     right = sorted(found(kinds, kind), key=lambda pair: pair[1])
-    yield "kinds", right, enumerators("KIND_"), members(PACKAGE / "kinds.py", "Kind"), arms(RUST / "token.rs", "Token")
+    yield "kinds", right, enumerators("KIND_"), members(PACKAGE / "kinds.py", "Kind"), arms(RUST / "token.rs", "TokenKind")
     fault = r"fault_number \(?grammar\.(\w+)(?: \w+\))? = (\d+)"
     right = found(records, fault)
     yield "faults", right, enumerators("FAULT_"), members(PACKAGE / "kinds.py", "FaultKind"), arms(RUST / "fault.rs", "FaultKind")

@@ -58,6 +58,7 @@ class _Places:
         self._line = 1
         self._column = 0
         self._begin = 0
+        self._shown: Optional[Tuple[int, str]] = None
 
     def place(self, at: int) -> Place:
         """The place of an offset. It costs least where it isn't before the last one."""
@@ -76,9 +77,11 @@ class _Places:
         return self._line, self._column
 
     def line(self) -> str:
-        """The line of the last place, with its line end."""
-        end = self._source.find(b"\n", self._begin)
-        return self._source[self._begin : end + 1 or None].decode()
+        """The line of the last place, with its line end. Tokens of one line share it."""
+        if self._shown is None or self._shown[0] != self._begin:
+            end = self._source.find(b"\n", self._begin)
+            self._shown = self._begin, self._source[self._begin : end + 1 or None].decode()
+        return self._shown[1]
 
 
 def _integer(digits: bytes, base: int) -> int:

@@ -191,6 +191,12 @@ class Tokens(unittest.TestCase):
         tokens = list(tokenize("'é' + '🔬'; x\n"))
         self.assertEqual([token.start for token in tokens[:5]], [(1, 0), (1, 4), (1, 6), (1, 9), (1, 11)])
 
+    def test_tokens_of_one_line_share_it(self) -> None:
+        tokens = list(tokenize("a = 1  # é\nb\n"))
+        self.assertEqual([token.line for token in tokens[:4]], ["a = 1  # é\n"] * 4)
+        self.assertTrue(all(token.line is tokens[0].line for token in tokens[:4]))
+        self.assertEqual([token.line for token in tokens if token.string == "b"], ["b\n"])
+
     def test_every_number_is_named(self) -> None:
         for kind in Kind:
             self.assertEqual(kind_name(kind).upper(), kind.name.replace("_", ""))

@@ -19,7 +19,7 @@ fn print_tokens(text: &str, out: &mut impl Write) -> Result<bool, Box<dyn Error>
     let mut is_clean = true;
     for item in RecoveringLexer::new(text)? {
         match item {
-            Ok(lexeme) => writeln!(out, "{} {:?}", place(&lines, lexeme.span), lexeme.token)?,
+            Ok(lexeme) => writeln!(out, "{} {:?}", place(&lines, lexeme.span()), lexeme.token())?,
             Err(fault) => {
                 writeln!(out, "{} {fault}", place(&lines, fault.span()))?;
                 is_clean = false;

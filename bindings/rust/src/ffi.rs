@@ -11,11 +11,21 @@ use std::alloc::{handle_alloc_error, Layout};
 pub(crate) struct LexemeRecord {
     pub begin: u32,
     pub end: u32,
+    pub head: LexemeHead,
+    pub value_begin: usize,
+    pub value_len: usize,
+}
+
+/// The kind of a lexeme, and its quotes, base or integer: three fields of a `starlark_lexeme`, one
+/// after another.
+// A type of its own, so that it is copied as one word (9 instructions a lexeme).
+#[repr(C)]
+#[derive(Clone, Copy, Debug, PartialEq, Eq, Hash)]
+pub(crate) struct LexemeHead {
+    /// The number of the kind.
     pub kind: u16,
     pub detail: u16,
     pub integer: i32,
-    pub value_begin: usize,
-    pub value_len: usize,
 }
 
 /// A fault: a `starlark_found_fault` of the header. Its offsets count from the start of what was
@@ -187,6 +197,11 @@ impl Buffers {
     /// How many bytes of values have room.
     pub(crate) fn values_capacity(&self) -> usize {
         self.values.capacity()
+    }
+
+    /// How many lexemes the buffers have.
+    pub(crate) fn lexeme_count(&self) -> usize {
+        self.lexemes.len()
     }
 
     /// The record with an index, if there is one.

@@ -1,8 +1,8 @@
 //! The lexer: an iterator over a text's lexemes.
 
-use crate::ffi::{self, Buffers, Ending, FaultRecord, LexemeRecord};
+use crate::ffi::{self, Buffers, Ending, FaultRecord};
 use crate::piece::Piece;
-use crate::{Fault, FaultKind, Span, Token, TooLong};
+use crate::{Fault, FaultKind, Lexeme, TooLong};
 use std::iter::FusedIterator;
 
 /// How many bytes of a text are lexed by one call at first. What a call fills then stays in the caches
@@ -13,15 +13,6 @@ const WINDOW: usize = 1 << 16;
 
 /// How many times larger a window gets that has no cut.
 const GROWTH: usize = 4;
-
-/// A token with its bytes in the text.
-#[derive(Clone, Debug, PartialEq, Eq, Hash)]
-pub struct Lexeme<'a> {
-    /// Its bytes. A `Dedent` and the `Newline` at the end of a text have none.
-    pub span: Span,
-    /// The token, with its value.
-    pub token: Token<'a>,
-}
 
 /// What comes after the lexemes in the buffers.
 #[derive(Clone, Copy, Debug)]
@@ -45,10 +36,10 @@ enum After {
 /// longer: at most all that is left of the text.
 ///
 /// ```
-/// use starlark_lexer::{FaultKind, Lexer, Token, TokenInt};
+/// use starlark_lexer::{FaultKind, Lexeme, Lexer, Token, TokenInt};
 ///
 /// let mut lexer = Lexer::new("x = 1 $")?;
-/// let tokens: Vec<_> = lexer.by_ref().map_while(Result::ok).map(|lexeme| lexeme.token).collect();
+/// let tokens: Vec<_> = lexer.by_ref().map_while(Result::ok).map(Lexeme::into_token).collect();
 /// let value = Token::Int(TokenInt::I32(1));
 /// assert_eq!(tokens, [Token::Identifier("x".into()), Token::Equal, value]);
 ///
@@ -65,9 +56,6 @@ pub struct Lexer<'a> {
     after: After,
     /// How many bytes of the text one call lexes.
     window: usize,
-    /// An item of which more than its record had to be looked at, until `next` returns it.
-    // Not what a call returns: then each item would lie in memory, and be copied once more.
-    item: Option<Result<Lexeme<'a>, Fault>>,
 }
 
 impl<'a> Lexer<'a> {
@@ -108,7 +96,6 @@ impl<'a> Lexer<'a> {
             index: 0,
             after: After::Text(0),
             window: WINDOW,
-            item: None,
         })
     }
 
@@ -135,26 +122,12 @@ impl<'a> Lexer<'a> {
         (record.lexemes_before == self.index).then(|| self.fault(record))
     }
 
-    /// The lexeme of a record of the piece.
-    fn lexeme(&self, record: &LexemeRecord) -> Lexeme<'a> {
-        Lexeme {
-            span: self.piece.span(record.begin, record.end),
-            token: Token::of_record(&self.piece, record),
-        }
-    }
-
-    /// Makes the lexeme of a record the item that comes next.
-    // Not inlined: with these kinds, too, in the loop of a caller each lexeme costs 10 instructions
-    // more.
-    #[inline(never)]
-    fn keep_lexeme(&mut self, record: LexemeRecord) {
-        self.item = Some(Ok(self.lexeme(&record)));
-    }
-
-    /// The next item where the buffers have no further lexeme.
+    /// Fills the buffers where they have no further lexeme. They have one then, or the error is the
+    /// fault that comes next, if there is one.
     #[cold]
-    fn next_after_buffers(&mut self) -> Option<Result<Lexeme<'a>, Fault>> {
-        loop {
+    #[inline(never)]
+    fn refill(&mut self) -> Result<(), Option<Fault>> {
+        while self.index >= self.piece.buffers.lexeme_count() {
             match self.after {
                 After::Text(from) => self.lex(from),
                 After::Piece(from) => {
@@ -163,22 +136,20 @@ impl<'a> Lexer<'a> {
                 }
                 After::Fault(record) => {
                     self.after = After::Passed(record);
-                    return Some(Err(self.fault(&record)));
+                    return Err(Some(self.fault(&record)));
                 }
-                After::Passed(_) | After::End => return None,
-            }
-            if let Some(record) = self.piece.buffers.lexeme(0) {
-                self.index = 1;
-                return Some(Ok(self.lexeme(record)));
+                After::Passed(_) | After::End => return Err(None),
             }
         }
+        Ok(())
     }
 
     /// Fills the buffers with the lexemes of the text from an offset on, or of a piece of it.
     fn lex(&mut self, from: usize) {
         self.index = 0;
         self.piece.text = &self.text[from..];
-        self.piece.from = from;
+        // A text has at most `u32::MAX` bytes.
+        self.piece.from = from as u32;
         self.after = loop {
             let front = front_of(self.piece.text, self.window);
             let is_whole = front.len() == self.piece.text.len();
@@ -203,7 +174,7 @@ impl<'a> Lexer<'a> {
     #[cold]
     fn lex_recovering(&mut self, record: &FaultRecord) {
         let at = ffi::restart(self.piece.text, record);
-        self.piece.from += at;
+        self.piece.from += at as u32;
         self.piece.text = &self.piece.text[at..];
         self.index = 0;
         self.after = After::End;
@@ -285,18 +256,16 @@ fn twice(capacity: usize, most: usize) -> usize {
 impl<'a> Iterator for Lexer<'a> {
     type Item = Result<Lexeme<'a>, Fault>;
 
-    #[inline]
+    // Always: a program with two loops over lexemes calls it otherwise, at 40 instructions a lexeme.
+    #[inline(always)]
     fn next(&mut self) -> Option<Self::Item> {
-        let Some(record) = self.piece.buffers.lexeme(self.index) else {
-            self.item = self.next_after_buffers();
-            return self.item.take();
-        };
-        self.index += 1;
-        match Token::plain_item(&self.piece, record) {
-            Some(item) => Some(item),
-            None => {
-                self.keep_lexeme(*record);
-                self.item.take()
+        loop {
+            if let Some(record) = self.piece.buffers.lexeme(self.index) {
+                self.index += 1;
+                return Some(Ok(self.piece.lexeme(record)));
+            }
+            if let Err(fault) = self.refill() {
+                return fault.map(Err);
             }
         }
     }
@@ -309,7 +278,7 @@ mod tests {
     use super::*;
 
     /// Where the pieces of a text begin, by buffers with little room at first.
-    fn pieces(text: &str, lexemes: usize, values: usize) -> Vec<usize> {
+    fn pieces(text: &str, lexemes: usize, values: usize) -> Vec<u32> {
         let mut lexer = Lexer::with_capacity(text, lexemes, values).unwrap();
         let mut begins = Vec::new();
         while lexer.next().is_some() {

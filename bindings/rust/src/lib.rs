@@ -1,11 +1,11 @@
 //! The lexer of Starlark, the language of Bazel's and Buck's files, over the proved library.
 //!
-//! A [`Lexer`] yields the lexemes of a text: each is a [`Token`] with its [`Span`]. The first
-//! [`Fault`] ends it. A [`RecoveringLexer`] goes on after faults. A [`LineIndex`] tells the line and
-//! columns of an offset.
+//! A [`Lexer`] yields the lexemes of a text: each has a [`TokenKind`], a [`Span`] and a value, and
+//! makes its [`Token`] when it is asked for. The first [`Fault`] ends it. A [`RecoveringLexer`] goes on
+//! after faults. A [`LineIndex`] tells the line and columns of an offset.
 //!
 //! ```
-//! use starlark_lexer::{Lexer, LineIndex, Token};
+//! use starlark_lexer::{Lexer, LineIndex, TokenKind};
 //!
 //! let text = "load('//a.bzl', 'a')\nb = 01\n";
 //! let lines = LineIndex::new(text);
@@ -13,8 +13,8 @@
 //! for lexeme in Lexer::new(text)? {
 //!     match lexeme {
 //!         Ok(lexeme) => {
-//!             if let Token::String(value) = lexeme.token {
-//!                 strings.push(value);
+//!             if lexeme.kind() == TokenKind::String {
+//!                 strings.push(lexeme.into_text());
 //!             }
 //!         }
 //!         Err(fault) => {
@@ -37,16 +37,19 @@
 mod fault;
 #[allow(unsafe_code)]
 mod ffi;
+mod lexeme;
 mod lexer;
 mod piece;
 mod places;
 mod recovering_lexer;
 mod span;
 mod token;
+mod value;
 
 pub use crate::fault::{Fault, FaultKind, TooLong};
-pub use crate::lexer::{Lexeme, Lexer};
+pub use crate::lexeme::Lexeme;
+pub use crate::lexer::Lexer;
 pub use crate::places::{LineIndex, Place};
 pub use crate::recovering_lexer::RecoveringLexer;
 pub use crate::span::Span;
-pub use crate::token::{FStringQuote, Token, TokenInt};
+pub use crate::token::{FStringQuote, Token, TokenInt, TokenKind};

@@ -21,7 +21,7 @@ use std::iter::FusedIterator;
 /// for item in RecoveringLexer::new(text)? {
 ///     match item {
 ///         Ok(lexeme) => {
-///             if let Token::Identifier(name) = lexeme.token {
+///             if let Token::Identifier(name) = lexeme.into_token() {
 ///                 names.push(name);
 ///             }
 ///         }

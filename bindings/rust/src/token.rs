@@ -1,10 +1,8 @@
-//! Tokens and their values.
+//! Tokens, their kinds and their values.
 
-use crate::ffi::LexemeRecord;
-use crate::piece::Piece;
-use crate::{Fault, Lexeme};
+use crate::ffi::LexemeHead;
 use std::borrow::Cow;
-use std::ops::{Range, RangeInclusive};
+use std::ops::RangeInclusive;
 
 /// An integer literal's value. It isn't negative, since a sign is a token of its own.
 #[derive(Clone, Debug, PartialEq, Eq, Hash)]
@@ -20,7 +18,16 @@ pub enum TokenInt<'a> {
     },
 }
 
-impl TokenInt<'_> {
+impl<'a> TokenInt<'a> {
+    /// The value of a lexeme's head, with digits where it is out of the range of `i32`.
+    fn new(head: LexemeHead, digits: Cow<'a, str>) -> Self {
+        if digits.is_empty() {
+            return TokenInt::I32(head.integer);
+        }
+        let radix = u32::from(head.detail);
+        TokenInt::BigInt { digits, radix }
+    }
+
     /// The value with digits of its own.
     fn into_owned(self) -> TokenInt<'static> {
         match self {
@@ -59,25 +66,55 @@ impl FStringQuote {
     }
 }
 
-/// The number of a name.
-const IDENTIFIER: u16 = 5;
-
-/// The number of a string literal.
-const STRING: u16 = 8;
-
-/// The numbers of the tokens that have no value and no text of their own.
+/// The numbers of the tokens without a value that are no symbols.
 const LAYOUT: RangeInclusive<u16> = 2..=4;
 
-/// The least number of a token of which the greater numbers are also tokens without a value.
+/// The least number from which on all are those of symbols.
 const FIRST_SYMBOL: u16 = 12;
 
-/// Declares `Token`, with the tokens that have no value and their numbers in the library. Those of
-/// the second list have all numbers from the least of them to the greatest.
+/// Declares `TokenKind` and `Token`, by the tokens with a value and those without, with their numbers
+/// in the library. The last list has all numbers from the least of them on.
 macro_rules! tokens {
     (
+        with_value { $($(#[$value_doc:meta])* $value_name:ident($value:ty) = $value_number:literal,)* }
         layout { $($(#[$layout_doc:meta])* $layout:ident = $layout_number:literal,)* }
         symbols { $($(#[$doc:meta])* $name:ident = $number:literal,)* }
     ) => {
+        /// The kind of a token. Its variants have the names of those of [`Token`].
+        ///
+        /// As a number it is the kind in the header of the library for C, which never changes.
+        ///
+        /// ```
+        /// use starlark_lexer::{Lexer, TokenKind};
+        ///
+        /// let kinds = Lexer::new("x = 1")?.map_while(Result::ok).map(|lexeme| lexeme.kind());
+        /// let wanted = [TokenKind::Identifier, TokenKind::Equal, TokenKind::Int, TokenKind::Newline];
+        /// assert!(kinds.eq(wanted));
+        /// assert_eq!(TokenKind::Identifier as u8, 5);
+        /// # Ok::<(), starlark_lexer::TooLong>(())
+        /// ```
+        #[derive(Clone, Copy, Debug, PartialEq, Eq, Hash)]
+        #[repr(u8)]
+        pub enum TokenKind {
+            $($(#[$value_doc])* $value_name = $value_number,)*
+            $($(#[$layout_doc])* $layout = $layout_number,)*
+            $($(#[$doc])* $name = $number,)*
+        }
+
+        impl TokenKind {
+            /// The kind with a number of the library.
+            // Each kind is its number: so this is a test of the range.
+            #[inline]
+            pub(crate) fn of_number(number: u16) -> Self {
+                match number {
+                    $($value_number => TokenKind::$value_name,)*
+                    $($layout_number => TokenKind::$layout,)*
+                    $($number => TokenKind::$name,)*
+                    _ => no_kind(number),
+                }
+            }
+        }
+
         /// A token. What it has is borrowed from the text where it is there byte for byte, as a
         /// name is; else, as for a string with escapes, it is owned.
         #[derive(Clone, Debug, PartialEq, Eq, Hash)]
@@ -85,81 +122,55 @@ macro_rules! tokens {
         // kind becomes its token without a table.
         #[repr(u64)]
         pub enum Token<'a> {
-            /// A comment: the text after `#`, without the line end.
-            Comment(Cow<'a, str>) = 1,
-            /// A name.
-            Identifier(Cow<'a, str>) = 5,
-            /// An integer literal.
-            Int(TokenInt<'a>) = 6,
-            /// A float literal, as it is written. `str::parse` makes an `f64` of it.
-            Float(Cow<'a, str>) = 7,
-            /// A string literal: the text with its escapes decoded.
-            String(Cow<'a, str>) = 8,
-            /// A bytes literal: the bytes with their escapes decoded.
-            Bytes(Cow<'a, [u8]>) = 9,
-            /// The opening of an f-string.
-            FStringStart(FStringQuote) = 10,
-            /// Text of an f-string outside of its expressions, with its escapes decoded.
-            FStringText(Cow<'a, str>) = 11,
+            $($(#[$value_doc])* $value_name($value) = $value_number,)*
             $($(#[$layout_doc])* $layout = $layout_number,)*
             $($(#[$doc])* $name = $number,)*
         }
 
         impl<'a> Token<'a> {
-            /// What a lexer yields for a record of a piece, if its token has no value, or one that
-            /// is in the text, as most have.
-            // Each arm makes the whole item. One that is made of a token after them is copied twice:
-            // 12 instructions a lexeme more. Comparisons in this order, and no table of all kinds: so
-            // the processor foresees more of them, and a mix takes 2 % less time.
-            #[inline]
-            pub(crate) fn plain_item(
-                piece: &Piece<'a>,
-                record: &LexemeRecord,
-            ) -> Option<Result<Lexeme<'a>, Fault>> {
-                let value = Value { piece, record };
-                let span = piece.span(record.begin, record.end);
-                let item = |token| Some(Ok(Lexeme { span, token }));
-                let number = record.kind;
-                if number >= FIRST_SYMBOL {
-                    return item(Token::symbol(number));
+            /// The kind of the token.
+            pub fn kind(&self) -> TokenKind {
+                match self {
+                    $(Token::$value_name(_) => TokenKind::$value_name,)*
+                    $(Token::$layout => TokenKind::$layout,)*
+                    $(Token::$name => TokenKind::$name,)*
                 }
-                if number == IDENTIFIER {
-                    return item(Token::Identifier(Cow::Borrowed(value.text_between(0, 0)?)));
-                }
-                if number == STRING {
-                    return item(Token::String(Cow::Borrowed(value.text_between(1, 1)?)));
-                }
-                if LAYOUT.contains(&number) {
-                    return item(Token::layout(number));
-                }
-                None
             }
 
-            /// The token of a record of a piece.
-            pub(crate) fn of_record(piece: &Piece<'a>, record: &LexemeRecord) -> Self {
-                let number = record.kind;
+            /// The token of a lexeme's head, with a text for its value.
+            // Comparisons in this order, and no table of all kinds: the processor foresees more of
+            // them (4 % of a mix).
+            #[inline]
+            pub(crate) fn new(head: LexemeHead, text: impl FnOnce() -> Cow<'a, str>) -> Self {
+                let number = head.kind;
                 if number >= FIRST_SYMBOL {
                     return Token::symbol(number);
+                }
+                if number == TokenKind::Identifier as u16 {
+                    return Token::Identifier(text());
+                }
+                if number == TokenKind::String as u16 {
+                    return Token::String(text());
                 }
                 if LAYOUT.contains(&number) {
                     return Token::layout(number);
                 }
-                Value { piece, record }.token()
+                Token::with_value(head, text())
             }
 
-            /// The token with a number of the first list.
+            /// The token with a number of the list before the last.
             #[inline]
-            fn layout(number: u16) -> Token<'a> {
+            fn layout(number: u16) -> Self {
                 match number {
                     $($layout_number => Token::$layout,)*
                     _ => no_kind(number),
                 }
             }
 
-            /// The token with a number of the second list.
+            /// The token with a number of the last list.
             // A match on nothing but these numbers: it costs no table.
             #[inline]
-            fn symbol(number: u16) -> Token<'a> {
+            fn symbol(number: u16) -> Self {
                 match number {
                     $($number => Token::$name,)*
                     _ => no_kind(number),
@@ -186,6 +197,24 @@ macro_rules! tokens {
 }
 
 tokens! {
+    with_value {
+        /// A comment: the text after `#`, without the line end.
+        Comment(Cow<'a, str>) = 1,
+        /// A name.
+        Identifier(Cow<'a, str>) = 5,
+        /// An integer literal.
+        Int(TokenInt<'a>) = 6,
+        /// A float literal, as it is written. `str::parse` makes an `f64` of it.
+        Float(Cow<'a, str>) = 7,
+        /// A string literal: the text with its escapes decoded.
+        String(Cow<'a, str>) = 8,
+        /// A bytes literal: the bytes with their escapes decoded.
+        Bytes(Cow<'a, [u8]>) = 9,
+        /// The opening of an f-string.
+        FStringStart(FStringQuote) = 10,
+        /// Text of an f-string outside of its expressions, with its escapes decoded.
+        FStringText(Cow<'a, str>) = 11,
+    }
     layout {
         /// The margin of a line opens a block.
         Indent = 2,
@@ -322,10 +351,36 @@ tokens! {
     }
 }
 
+impl<'a> Token<'a> {
+    /// The token of a lexeme's head, of a kind with a value, with a text for it.
+    #[inline(never)]
+    fn with_value(head: LexemeHead, text: Cow<'a, str>) -> Self {
+        match TokenKind::of_number(head.kind) {
+            TokenKind::Comment => Token::Comment(text),
+            TokenKind::Identifier => Token::Identifier(text),
+            TokenKind::Int => Token::Int(TokenInt::new(head, text)),
+            TokenKind::Float => Token::Float(text),
+            TokenKind::String => Token::String(text),
+            TokenKind::Bytes => Token::Bytes(bytes_of(text)),
+            TokenKind::FStringStart => Token::FStringStart(quotes(head.detail)),
+            TokenKind::FStringText => Token::FStringText(text),
+            kind => unreachable!("{kind:?} has no value"),
+        }
+    }
+}
+
 /// Panics for a number of no kind.
 #[cold]
 fn no_kind(number: u16) -> ! {
     unreachable!("the library has no kind {number}")
+}
+
+/// The bytes of a text.
+fn bytes_of(text: Cow<'_, str>) -> Cow<'_, [u8]> {
+    match text {
+        Cow::Borrowed(text) => Cow::Borrowed(text.as_bytes()),
+        Cow::Owned(text) => Cow::Owned(text.into_bytes()),
+    }
 }
 
 /// The quotes with a number of the library.
@@ -334,136 +389,33 @@ fn quotes(number: u16) -> FStringQuote {
         .unwrap_or_else(|| unreachable!("the library has no quotes {number}"))
 }
 
-/// The value of a lexeme of a piece.
-#[derive(Clone, Copy)]
-struct Value<'a, 'b> {
-    piece: &'b Piece<'a>,
-    record: &'b LexemeRecord,
-}
-
-impl<'a, 'b> Value<'a, 'b> {
-    /// The token, of a kind that has a value.
-    fn token(self) -> Token<'a> {
-        match self.record.kind {
-            1 => Token::Comment(self.text_after(1)),
-            5 => Token::Identifier(self.compared_text()),
-            6 => Token::Int(self.integer()),
-            7 => Token::Float(self.text_after(0)),
-            8 => Token::String(self.compared_text()),
-            9 => Token::Bytes(self.bytes()),
-            10 => Token::FStringStart(quotes(self.record.detail)),
-            11 => Token::FStringText(self.text_after(0)),
-            number => no_kind(number),
-        }
-    }
-
-    /// The value as a text, if it is what the lexeme has after its first `front` bytes and before its
-    /// last `back` bytes, which are the least that a lexeme of its kind has besides its value.
-    ///
-    /// Only the lengths are compared. They are equal only where the bytes are: a name is its value, as
-    /// a float is, and each part of a literal denotes its own bytes, or fewer than it has. A literal of three
-    /// quotes, or a raw one, has more besides its value; `range` finds it.
-    #[inline]
-    fn text_between(self, front: usize, back: usize) -> Option<&'a str> {
-        let (begin, end) = (self.record.begin as usize, self.record.end as usize);
-        if self.record.value_len + front + back != end - begin {
-            return None;
-        }
-        self.piece.text.get(begin + front..end - back)
-    }
-
-    /// The value as a text, which is borrowed if it is all that the lexeme has after its first `front`
-    /// bytes.
-    #[inline]
-    fn text_after(self, front: usize) -> Cow<'a, str> {
-        match self.text_between(front, 0) {
-            Some(text) => Cow::Borrowed(text),
-            None => self.compared_text(),
-        }
-    }
-
-    /// The value as a text, which is borrowed if it is before the lexeme's closing quotes.
-    fn compared_text(self) -> Cow<'a, str> {
-        match self.range().and_then(|range| self.piece.text.get(range)) {
-            Some(text) => Cow::Borrowed(text),
-            None => {
-                let text = String::from_utf8(self.buffered().to_vec());
-                Cow::Owned(text.expect("the library's values of texts are UTF-8"))
-            }
-        }
-    }
-
-    /// The value as bytes, which are borrowed if they are before the lexeme's closing quotes.
-    fn bytes(self) -> Cow<'a, [u8]> {
-        match self.range() {
-            Some(range) => Cow::Borrowed(&self.piece.text.as_bytes()[range]),
-            None => Cow::Owned(self.buffered().to_vec()),
-        }
-    }
-
-    /// The bytes of the value among those of all lexemes.
-    fn buffered(self) -> &'b [u8] {
-        self.piece.buffers.value(self.record)
-    }
-
-    /// Where the value is in the piece, byte for byte: before no, one or three closing quotes.
-    fn range(self) -> Option<Range<usize>> {
-        let text = self.piece.text.as_bytes();
-        let bytes = self.buffered();
-        [0, 1, 3].into_iter().find_map(|closing| {
-            let begin = (self.record.end as usize).checked_sub(closing + bytes.len())?;
-            let range = begin..begin + bytes.len();
-            (begin >= self.record.begin as usize && text[range.clone()] == *bytes).then_some(range)
-        })
-    }
-
-    /// The value of an integer.
-    #[inline]
-    fn integer(self) -> TokenInt<'a> {
-        if self.record.value_len == 0 {
-            return TokenInt::I32(self.record.integer);
-        }
-        TokenInt::BigInt {
-            digits: self.compared_text(),
-            radix: u32::from(self.record.detail),
-        }
-    }
-}
-
 #[cfg(test)]
 mod tests {
     use super::*;
-    use crate::ffi::{kind_name, Buffers};
-
-    /// The name of a token's variant.
-    fn name(token: &Token<'_>) -> String {
-        let debug = format!("{token:?}");
-        debug.split('(').next().unwrap_or_default().to_owned()
-    }
+    use crate::ffi::kind_name;
 
     #[test]
     fn numbers_have_the_names_of_the_library() {
-        let piece = Piece {
-            text: "",
-            from: 0,
-            buffers: Buffers::with_capacity(0, 0),
-        };
         for number in 0..u16::MAX {
             let library = kind_name(u32::from(number));
             assert_eq!(library.is_empty(), !(1..=73).contains(&number), "{number}");
             if library.is_empty() {
                 continue;
             }
-            let record = LexemeRecord {
-                begin: 0,
-                end: 0,
+            let kind = TokenKind::of_number(number);
+            assert_eq!((format!("{kind:?}"), kind as u16), (library, number));
+            let head = LexemeHead {
                 kind: number,
                 detail: 1,
                 integer: 0,
-                value_begin: 0,
-                value_len: 0,
             };
-            assert_eq!(name(&Token::of_record(&piece, &record)), library);
+            assert_eq!(Token::new(head, || Cow::Borrowed("")).kind(), kind);
         }
+    }
+
+    #[test]
+    #[should_panic(expected = "the library has no kind 74")]
+    fn a_number_of_no_kind() {
+        TokenKind::of_number(74);
     }
 }

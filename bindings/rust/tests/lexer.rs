@@ -1,17 +1,20 @@
 //! What the crate's calls do beside the stored texts: values, faults, places, long texts.
 
 use starlark_lexer::{
-    Fault, FaultKind, Lexeme, Lexer, LineIndex, Place, RecoveringLexer, Token, TokenInt, TooLong,
+    Fault, FaultKind, Lexeme, Lexer, LineIndex, Place, RecoveringLexer, Token, TokenInt, TokenKind,
+    TooLong,
 };
 use std::borrow::Cow;
+use std::collections::hash_map::DefaultHasher;
 use std::error::Error;
+use std::hash::{Hash, Hasher};
 use std::ops::Range;
 use std::thread;
 use std::time::{Duration, Instant};
 
 fn tokens(text: &str) -> Vec<Token<'_>> {
     let lexemes = Lexer::new(text).unwrap();
-    lexemes.map(|lexeme| lexeme.unwrap().token).collect()
+    lexemes.map(|lexeme| lexeme.unwrap().into_token()).collect()
 }
 
 /// The only value of a text, which is a string literal.
@@ -72,18 +75,13 @@ fn values_are_borrowed_where_the_text_has_them() {
     for text in ["'a'", "\"a\"", "'''a'''", "r'a'", "'é'", "''"] {
         assert!(matches!(string(text), Cow::Borrowed(_)), "{text}");
     }
-    for text in ["'\\n'", "'a\\\nb'", "'a\r\nb'"] {
-        if let Some(Ok(Lexeme {
-            token: Token::String(value),
-            ..
-        })) = Lexer::new(text).unwrap().next()
-        {
-            assert_eq!(
-                text.contains(&*value),
-                matches!(value, Cow::Borrowed(_)),
-                "{text:?}"
-            );
-        }
+    for text in ["'\\n'", "'a\\\nb'", "'a\rb'"] {
+        let value = string(text);
+        assert_eq!(
+            text.contains(&*value),
+            matches!(value, Cow::Borrowed(_)),
+            "{text:?}"
+        );
     }
     assert!(matches!(string("'\\n'"), Cow::Owned(_)));
     assert!(matches!(
@@ -94,6 +92,103 @@ fn values_are_borrowed_where_the_text_has_them() {
         tokens("name")[0],
         Token::Identifier(Cow::Borrowed("name"))
     ));
+}
+
+/// The first lexeme of a text.
+fn lexeme(text: &str) -> Lexeme<'_> {
+    Lexer::new(text).unwrap().next().unwrap().unwrap()
+}
+
+#[test]
+fn a_lexeme_has_its_kind_and_its_value() {
+    let lexemes = [
+        ("# a", TokenKind::Comment, " a", true),
+        ("#", TokenKind::Comment, "", true),
+        ("name", TokenKind::Identifier, "name", true),
+        ("1", TokenKind::Int, "", true),
+        ("2147483648", TokenKind::Int, "2147483648", true),
+        ("0xabcdef012", TokenKind::Int, "abcdef012", true),
+        ("0xABCDEF012", TokenKind::Int, "abcdef012", false),
+        ("1.5e3", TokenKind::Float, "1.5e3", true),
+        ("''", TokenKind::String, "", true),
+        ("'é'", TokenKind::String, "é", true),
+        ("''''''", TokenKind::String, "", true),
+        ("\"\"\"a\"\"\"", TokenKind::String, "a", true),
+        ("r'a'", TokenKind::String, "a", true),
+        ("'\\t'", TokenKind::String, "\t", false),
+        ("f'a'", TokenKind::FStringStart, "", true),
+        ("==", TokenKind::EqualEqual, "", true),
+        ("", TokenKind::Newline, "", true),
+    ];
+    for (text, kind, value, is_borrowed) in lexemes {
+        let lexeme = lexeme(text);
+        assert_eq!((lexeme.kind(), lexeme.text()), (kind, value), "{text}");
+        assert_eq!(lexeme.bytes(), value.as_bytes(), "{text}");
+        assert_eq!(lexeme.token(), lexeme.clone().into_token());
+        assert_eq!(lexeme.token().kind(), kind);
+        let found = lexeme.into_text();
+        assert_eq!(found, value);
+        assert_eq!(matches!(found, Cow::Borrowed(_)), is_borrowed, "{text}");
+    }
+}
+
+#[test]
+fn bytes_are_no_text() {
+    let literals: [(&str, &[u8], bool); 9] = [
+        ("b''", b"", true),
+        ("b''''''", b"", true),
+        ("b'a'", b"a", true),
+        ("rb'a'", b"a", true),
+        ("b'''a'''", b"a", true),
+        ("b'é'", "é".as_bytes(), true),
+        ("b'\\xff'", b"\xff", false),
+        ("b'\\xc3\\xa9'", "é".as_bytes(), false),
+        ("b'\\n\\n\\n'", b"\n\n\n", false),
+    ];
+    for (text, bytes, is_borrowed) in literals {
+        let lexeme = lexeme(text);
+        assert_eq!(lexeme.kind(), TokenKind::Bytes);
+        assert_eq!((lexeme.text(), lexeme.bytes()), ("", bytes), "{text}");
+        assert_eq!(lexeme.token(), Token::Bytes(bytes.into()));
+        assert_eq!(lexeme.clone().into_text(), "");
+        match lexeme.into_token() {
+            Token::Bytes(found) => {
+                assert_eq!(matches!(found, Cow::Borrowed(_)), is_borrowed, "{text}");
+            }
+            token => panic!("{token:?} is no bytes literal"),
+        }
+    }
+}
+
+#[test]
+fn texts_of_an_f_string_are_values() {
+    let lexemes = Lexer::new("f'a{b}\\tc'").unwrap();
+    let found: Vec<_> = lexemes
+        .map(Result::unwrap)
+        .filter(|lexeme| lexeme.kind() == TokenKind::FStringText)
+        .map(Lexeme::into_text)
+        .collect();
+    assert_eq!(found, ["a", "\tc"]);
+    assert!(matches!(found[0], Cow::Borrowed(_)));
+    assert!(matches!(found[1], Cow::Owned(_)));
+}
+
+#[test]
+fn lexemes_are_equal_by_what_they_have() {
+    fn hash(lexeme: &Lexeme<'_>) -> u64 {
+        let mut hasher = DefaultHasher::new();
+        lexeme.hash(&mut hasher);
+        hasher.finish()
+    }
+    // The first value is a part of the text, the second one isn't.
+    let (part, own) = (lexeme("r'''a'''"), lexeme("'\\u0061'"));
+    assert_eq!(part.span(), own.span());
+    assert_eq!((&part, hash(&part)), (&own, hash(&own)));
+    assert!(matches!(part.into_text(), Cow::Borrowed("a")));
+    assert!(matches!(own.into_text(), Cow::Owned(_)));
+    assert_ne!(lexeme("a"), lexeme("b"));
+    assert_ne!(lexeme("1"), lexeme("2"));
+    assert_ne!(lexeme("+"), lexeme("-"));
 }
 
 #[test]
@@ -145,7 +240,7 @@ fn recovered(text: &str) -> (Vec<Token<'_>>, Vec<(&str, FaultKind)>) {
     let mut faults = Vec::new();
     for item in RecoveringLexer::new(text).unwrap() {
         match item {
-            Ok(lexeme) => tokens.push(lexeme.token),
+            Ok(lexeme) => tokens.push(lexeme.into_token()),
             Err(fault) => faults.push((&text[fault.span().range()], fault.kind())),
         }
     }
@@ -203,7 +298,7 @@ type Found<'a> = (Range<usize>, Result<Token<'a>, (FaultKind, String)>);
 
 fn found(item: Result<Lexeme<'_>, Fault>) -> Found<'_> {
     match item {
-        Ok(lexeme) => (lexeme.span.range(), Ok(lexeme.token)),
+        Ok(lexeme) => (lexeme.span().range(), Ok(lexeme.into_token())),
         Err(fault) => {
             let message = fault.to_string();
             (fault.span().range(), Err((fault.kind(), message)))
@@ -254,8 +349,8 @@ fn a_fault_after_a_piece_is_passed() {
     let at = items.iter().position(Result::is_err).unwrap();
     assert_eq!(items[at].as_ref().unwrap_err().span().begin, begin);
     let after: Vec<_> = items[at + 1..].iter().flatten().collect();
-    assert_eq!(after[0].token, Token::Identifier("c".into()));
-    assert_eq!(after[0].span.range(), begin + 2..begin + 3);
+    assert_eq!(after[0].token(), Token::Identifier("c".into()));
+    assert_eq!(after[0].span().range(), begin + 2..begin + 3);
     assert_eq!(after.len(), 2);
 }
 
@@ -311,6 +406,36 @@ fn places_of_all_offsets() {
     }
 }
 
+#[test]
+fn places_in_long_lines() {
+    let line = "é汉🔬 = f(x)".repeat(2_000);
+    let text = format!("a\n{line}\n\n{line}");
+    let lines = LineIndex::new(&text);
+    let mut wanted = Place {
+        line: 0,
+        column: 0,
+        utf16_column: 0,
+    };
+    for (at, character) in text.char_indices() {
+        assert_eq!(lines.place(at), Some(wanted), "offset {at}");
+        for inside in 1..character.len_utf8() {
+            assert_eq!(lines.place(at + inside), None, "offset {at}");
+        }
+        if character == '\n' {
+            wanted = Place {
+                line: wanted.line + 1,
+                column: 0,
+                utf16_column: 0,
+            };
+        } else {
+            wanted.column += 1;
+            wanted.utf16_column += character.len_utf16();
+        }
+    }
+    assert_eq!(lines.place(text.len()), Some(wanted));
+    assert_eq!(lines.place(text.len() + 1), None);
+}
+
 /// A text of 1 MB with blocks, brackets over lines, comments and strings.
 fn long_text() -> String {
     let block = "def f(a, b = \"é\"):  # 汉\n    if a:\n        return [\n            a,\n            1.5,\n        ]\n";
@@ -325,24 +450,16 @@ fn a_text_of_a_megabyte_in_pieces() {
     assert!(pieces.map(Result::unwrap).eq(whole.iter().cloned()));
     assert!(whole
         .windows(2)
-        .all(|pair| pair[0].span.end <= pair[1].span.begin));
+        .all(|pair| pair[0].span().end <= pair[1].span().begin));
     for lexeme in &whole {
-        if let Token::Identifier(name) = &lexeme.token {
-            assert_eq!(&text[lexeme.span.range()], name);
+        if lexeme.kind() == TokenKind::Identifier {
+            assert_eq!(&text[lexeme.span().range()], lexeme.text());
         }
     }
-    let blocks = whole
-        .iter()
-        .filter(|lexeme| lexeme.token == Token::Def)
-        .count();
-    let opened = whole
-        .iter()
-        .filter(|lexeme| lexeme.token == Token::Indent)
-        .count();
-    let closed = whole
-        .iter()
-        .filter(|lexeme| lexeme.token == Token::Dedent)
-        .count();
+    let count = |kind| whole.iter().filter(|lexeme| lexeme.kind() == kind).count();
+    let blocks = count(TokenKind::Def);
+    let (opened, closed) = (count(TokenKind::Indent), count(TokenKind::Dedent));
+    assert_eq!(blocks, text.matches("def ").count());
     assert_eq!((opened, closed), (2 * blocks, 2 * blocks));
 }
 

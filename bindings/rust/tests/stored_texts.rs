@@ -130,12 +130,12 @@ fn value_text(token: &Token<'_>) -> Option<String> {
 /// The line that the program prints of an item.
 fn item_line(lines: &LineIndex<'_>, item: &Result<Lexeme<'_>, Fault>) -> String {
     match item {
-        Ok(Lexeme { span, token }) => {
-            let debug = format!("{token:?}");
-            let name = debug.split('(').next().unwrap_or_default();
-            let place = place_text(lines, *span);
-            let value = value_text(token).map_or_else(String::new, |value| format!(" {value}"));
-            format!("{}-{} {place} {name}{value}\n", span.begin, span.end)
+        Ok(lexeme) => {
+            let (kind, span, token) = (lexeme.kind(), lexeme.span(), lexeme.token());
+            assert_eq!((token.kind(), &token), (kind, &lexeme.clone().into_token()));
+            let place = place_text(lines, span);
+            let value = value_text(&token).map_or_else(String::new, |value| format!(" {value}"));
+            format!("{}-{} {place} {kind:?}{value}\n", span.begin, span.end)
         }
         Err(fault) => {
             let span = fault.span();
@@ -248,7 +248,7 @@ fn small_buffers_give_the_same_lexemes() {
 fn quotes_print_as_the_program_prints_them() {
     let quotes = ["f''", "f\"\"", "f''''''", "f\"\"\"\"\"\""].map(|text| {
         let first = Lexer::new(text).unwrap().next().unwrap().unwrap();
-        match first.token {
+        match first.into_token() {
             Token::FStringStart(quote) => quote,
             token => panic!("{token:?} begins no f-string"),
         }
