@@ -2,6 +2,8 @@
 pub mod Margins
 pub mod CommentLines
 pub mod Blanks
+pub mod PlainMargins
+pub mod CommentBlanks
 pub mod Pending
 pub mod Waiting
 pub mod Indents

@@ -1,16 +1,34 @@
 //! Comments of comment-only lines.
 
-ghost use Rattle.std.specs.Prelude.{◌≡◌, ◌+◌, ◌-◌, ◌<◌, ◌≤◌, ◌*◌, length, not, IfOk};
+ghost use Rattle.std.specs.Prelude.{◌≡◌, ◌+◌, ◌-◌, ◌<◌, ◌≤◌, ◌*◌, drop, length, not, true, IfOk};
 ghost use Rattle.std.specs.List.{prefix_len};
 ghost use Rattle.starlark_reader.specs.Inner.Pending.{IsComments, IsFirstComment};
 ghost use Rattle.starlark_grammar.specs.Margins as grammar;
 ghost use Rattle.starlark_words.specs.Inner.Reads.{AreReads, more_reads};
 
 use crate::lf_search::before_lf_len;
-use crate::margins::{blanks_len, line_len};
+use crate::margins::line_len;
 use starlark_token::tokens::Token;
 use starlark_words::reads::ReadCounter;
 use std::alloc::{AllocError, Global};
+
+/// Number of blanks before the comment of some comment-only lines. It
+/// reads the `#`, too.
+// By the `#` alone: that is one comparison a byte, and not three.
+#[inline(always)]
+fn before_comment_len(reads: &mut ReadCounter, lines: &[u8]) -> usize
+    requires comment { grammar.begins_comment (drop (grammar.blanks_len lines.now) lines.now) ≡ true }
+    ensures value { result ≡ grammar.blanks_len lines.now }
+    ensures within { result ≤ length lines.now }
+    ensures reads { reads.new ≡ more_reads reads.old (result + 1) }
+{
+    let mut len = 0;
+    while len < lines.len() && lines[len] != b'#' {
+        len += 1;
+    }
+    reads.count_run(len);
+    len
+}
 
 /// Length in bytes of the first line's comment: without the LF, and without one CR before it.
 ///
@@ -45,7 +63,7 @@ pub(crate) fn first_comment(
     ensures reads { IfOk result (λ found. AreReads 0 (5 * found.1) reads.old reads.new) }
 {
     let lines = &text.as_bytes()[from..to];
-    let blanks = blanks_len(reads, lines);
+    let blanks = before_comment_len(reads, lines);
     let begin = from + blanks;
     let feed = blanks + before_lf_len(reads, &lines[blanks..]);
     let len = line_len(lines, feed);

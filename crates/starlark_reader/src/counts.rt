@@ -51,14 +51,16 @@ impl Brackets {
         }
     }
 
-    /// The counts after one more token.
-    pub(crate) fn after(self, change: Change) -> Self
-        ensures { self.opened + self.closed + 1 < 2 ^ 64 → result ≡ record { opened = opens change + self.opened; closed = closes change + self.closed } }
+    /// Counts one more token.
+    #[inline(always)]
+    pub(crate) fn count(&mut self, change: Change)
+        requires { self.old.opened + self.old.closed + 1 < 2 ^ 64 }
+        ensures { self.new ≡ record { opened = opens change + self.old.opened; closed = closes change + self.old.closed } }
     {
         match change {
-            Change::OpensRound | Change::OpensSquare | Change::OpensCurly => self.add_opening(),
-            Change::ClosesRound | Change::ClosesSquare | Change::ClosesCurly => self.add_closing(),
-            _ => self,
+            Change::OpensRound | Change::OpensSquare | Change::OpensCurly => self.opened += 1,
+            Change::ClosesRound | Change::ClosesSquare | Change::ClosesCurly => self.closed += 1,
+            _ => {}
         }
     }
 }

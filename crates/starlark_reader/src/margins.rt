@@ -1,13 +1,16 @@
 //! Reads the margin at the start of a text.
 
-ghost use Rattle.std.specs.Prelude.{◌≡◌, ◌+◌, ◌*◌, ◌≤◌, ◌<◌, ◌^◌, ◌∷◌, if◌then◌else◌, drop, get_or, length, nat_eq, not, take};
+ghost use Rattle.std.specs.Prelude.{◌≡◌, ◌+◌, ◌*◌, ◌≤◌, ◌<◌, ◌^◌, ◌∷◌, if◌then◌else◌, true, false, IfSome, drop, get_or, length, nat_eq, not, take};
 ghost use Rattle.std.specs.List.{prefix_len};
-ghost use Rattle.starlark_reader.specs.Inner.Layout.{IsBlanks, IsMargin};
+ghost use Rattle.starlark_reader.specs.Inner.Layout.{IsBlanks, IsMargin, spaces_margin};
 ghost use Rattle.starlark_grammar.specs.Margins as grammar;
 ghost use Rattle.starlark_words.specs.Inner.Reads.{AreReads, more_reads};
 
 use crate::lf_search::before_lf_len;
 use starlark_words::reads::{ReadCounter, uncounted_spaces_len};
+
+/// Bytes of a margin that an unrolled loop reads.
+const UNROLLED: usize = 16;
 
 /// The blanks at the start of a line: spaces, tabs and CR.
 #[derive(Clone, Copy)]
@@ -31,18 +34,22 @@ pub struct Margin {
     pub is_content: bool,
 }
 
-/// Number of spaces, tabs and CR at the start of a text.
-pub(crate) fn blanks_len(reads: &mut ReadCounter, text: &[u8]) -> usize
-    ensures value { result ≡ grammar.blanks_len text.now }
-    ensures within { result ≤ length text.now }
-    ensures reads { reads.new ≡ more_reads reads.old (result + 1) }
-{
-    let len = text
-        .iter()
-        .take_while(|byte| matches!(**byte, b' ' | b'\t' | b'\r'))
-        .count();
-    reads.count_run(len);
-    len
+impl Margin {
+    /// A margin of `width` spaces alone, which content follows.
+    #[inline(always)]
+    pub(crate) fn of_spaces(width: usize) -> Self
+        ensures { result ≡ spaces_margin width }
+    {
+        Margin {
+            at: 0,
+            blanks: Blanks {
+                len: width,
+                width,
+                has_tab: false,
+            },
+            is_content: true,
+        }
+    }
 }
 
 /// Length of the first line of a text with its LF. `feed` is its length without that.
@@ -160,4 +167,84 @@ pub fn margin_of(reads: &mut ReadCounter, text: &str) -> Margin
         }
         at += blanks.len + line_len(remainder, before_lf_len(reads, remainder));
     }
+}
+
+/// Number of spaces at the start of a text. The caller has to count the reads.
+// Up to 16 by a loop over a constant number of bytes, which is unrolled (2 % of deep indentation).
+#[inline(always)]
+fn margin_spaces_len(text: &[u8]) -> usize
+    ensures value { result ≡ prefix_len (nat_eq 32) text.now }
+    ensures within { result ≤ length text.now }
+{
+    let mut len = 0;
+    if text.len() >= UNROLLED {
+        len = uncounted_spaces_len(&text[..UNROLLED]);
+        if len < UNROLLED {
+            return len;
+        }
+    }
+    while len < text.len() && text[len] == b' ' {
+        len += 1;
+    }
+    len
+}
+
+/// The margin of `spaces` spaces and the CR after them, if a blank line has these alone.
+#[inline(always)]
+fn blank_margin(text: &[u8], spaces: usize) -> Option<Margin>
+    requires spaces { spaces ≡ prefix_len (nat_eq 32) text.now }
+    requires inside { spaces < length text.now }
+    requires next { get_or text.now spaces 0 ≡ 13 }
+    ensures margin { IfSome result (λ found. IsMargin (grammar.margin_of text.now) found) }
+    ensures plain { IfSome result (λ found. (found.at ≡ 0) × (found.is_content ≡ false) × (found.blanks.len ≤ length text.now)) }
+{
+    let len = spaces + 1;
+    if len < text.len() && text[len] != b'\n' {
+        return None;
+    }
+    Some(Margin {
+        at: 0,
+        blanks: Blanks {
+            len,
+            width: spaces,
+            has_tab: false,
+        },
+        is_content: false,
+    })
+}
+
+/// The margin at the start of a text if it is spaces alone, or those and a CR of a blank line. The
+/// caller has to count the reads.
+#[inline(always)]
+pub(crate) fn plain_margin(text: &str) -> Option<Margin>
+    ensures margin { IfSome result (λ found. IsMargin (grammar.margin_of text.now) found) }
+    ensures within { IfSome result (λ found. found.blanks.len ≤ length text.now) }
+    ensures plain { IfSome result (λ found. found.at ≡ 0) }
+    ensures spaces { IfSome result (λ found. found.is_content ≡ true → found ≡ spaces_margin found.blanks.width) }
+{
+    let bytes = text.as_bytes();
+    let spaces = margin_spaces_len(bytes);
+    if spaces == bytes.len() {
+        return Some(Margin {
+            is_content: false,
+            ..Margin::of_spaces(spaces)
+        });
+    }
+    let next = bytes[spaces];
+    if next > b'#' {
+        return Some(Margin::of_spaces(spaces));
+    }
+    if next == b'\n' {
+        return Some(Margin {
+            is_content: false,
+            ..Margin::of_spaces(spaces)
+        });
+    }
+    if next == b'\r' {
+        return blank_margin(bytes, spaces);
+    }
+    if next == b'"' {
+        return Some(Margin::of_spaces(spaces));
+    }
+    None
 }

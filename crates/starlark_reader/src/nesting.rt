@@ -76,7 +76,7 @@ impl Nesting {
         if change == Change::Nothing {
             return;
         }
-        self.brackets = self.brackets.after(change);
+        self.brackets.count(change);
         if change == Change::EndsFString {
             self.fstrings.pop();
         } else if let Some(innermost) = self.fstrings.last_mut() {

@@ -3,13 +3,14 @@
 ghost use Rattle.std.specs.Prelude.{◌≡◌, ◌≢◌, true, false, ◌<◌, ◌≤◌, ◌+◌, ◌-◌, ◌*◌, ◌^◌, [], ℕ, None, Some, List, Option, codes, drop, length, map, nat_eq, nat_lt, take, OnErr, OnOk, IfErr, IfOk, IfSome};
 ghost use Rattle.std.specs.List.{ends_with};
 ghost use Rattle.std.specs.Str.{IsCharBoundary};
-ghost use Rattle.starlark_words.specs.Inner.Reads.{more_reads};
+ghost use Rattle.starlark_words.specs.Inner.Reads.{AreReads, more_reads};
 ghost use Rattle.starlark_reader.specs.Inner.Steps.{IsStep};
 ghost use Rattle.starlark_token.specs.Lexemes.{shown_lexeme};
 ghost use Rattle.starlark_words.specs.Inner.Literals.{IsPlainBody};
 ghost use Rattle.starlark_grammar.specs.Inner.Openings.{opening_view};
 ghost use Rattle.starlark_words.specs.Inner.Words.{IsDigitAt, word_len};
-ghost use Rattle.starlark_grammar.specs.Margins.{open_widths};
+ghost use Rattle.starlark_grammar.specs.Margins.{margin_of, open_widths};
+ghost use Rattle.starlark_reader.specs.Inner.Layout.{IsMargin, spaces_margin};
 ghost use Rattle.starlark_grammar.specs.Pieces as grammar;
 ghost use Rattle.starlark_grammar.specs.declared.class.Class.TheVariants as class;
 ghost use Rattle.starlark_grammar.specs.declared.class.LiteralKind.TheVariants as kind;
@@ -29,7 +30,7 @@ ghost use Rattle.starlark_grammar.specs.Words.{Text};
 
 use crate::indent_stack::IndentStack;
 use crate::literal::{Opening, PlainText, Step, opening_of, plain_text, quotes_of};
-use crate::margins::margin_of;
+use crate::margins::{Margin, margin_of, plain_margin};
 use crate::nesting::{LexerMode, Nesting};
 use crate::pending::{AfterComments, Pending};
 use crate::reading::code::{gap_len, is_code};
@@ -37,14 +38,14 @@ use crate::reading::terminals::token_in;
 use crate::reading::words::digit_token;
 use crate::reading::{Piece, bang_stands, is_outside, line_end_counts, piece_at};
 use crate::text_end::TextEnd;
-use crate::widths::{margin_fault, take_margin};
+use crate::widths::{keep_margin, keeps_widths, margin_fault, take_margin};
 use starlark_token::lexeme_error::LexemeError;
 use starlark_token::tokens::Token;
 use starlark_words::plain_body_len;
 use starlark_words::reads::ReadCounter;
 use starlark_words::scanner::{
     LiteralKind, Quote, Terminal, Word, bytes_opener, comment_len, fstring_opener, single_digit,
-    text_opener, two_byte_symbol, word_after,
+    text_opener, word_after,
 };
 use std::alloc::{AllocError, Global};
 use std::mem;
@@ -164,6 +165,17 @@ impl Reader {
         self.before = before;
     }
 
+    /// Advances to byte `at`, past a piece of a kind.
+    // Not by a length: so a line end takes one register fewer, and saves it.
+    #[inline(always)]
+    fn step_to(&mut self, at: usize, before: Before)
+        requires stage { self.old.stage ≡ Stage.Onward }
+        ensures { self.new ≡ record self.old { at = at; before = before; stage = Stage.Onward } }
+    {
+        self.at = at;
+        self.before = before;
+    }
+
     /// Reads the margin at the start of the text, or stops at its fault.
     fn read_first_margin(&mut self, text: &str) -> Result<(), AllocError>
         requires fits { length text.now < 2 ^ 32 }
@@ -184,6 +196,77 @@ impl Reader {
         Ok(())
     }
 
+    /// Takes the margin found after a newline of `len` bytes that counts. Returns `false`, and stops
+    /// at the fault, where the margin has one. Its reads are counted before.
+    #[inline(always)]
+    fn lay_margin(&mut self, text: &str, len: usize, margin: Margin) -> Result<bool, AllocError>
+        requires fits { length text.now < 2 ^ 32 }
+        requires stage { self.old.stage ≡ Stage.Onward }
+        requires stands { (history : History) × IsStateAfter text.now history self.old × (step_here text.now history self.old ≡ grammar.line_end len (open_widths history.widths) (drop len (drop self.old.at text.now))) }
+        requires cut { IsCharBoundary text.now (self.old.at + len) }
+        requires idle { IsIdle text.now self.old.pending }
+        requires margin { IsMargin (margin_of (drop (self.old.at + len) text.now)) margin }
+        requires within { self.old.at + len + (margin.at + margin.blanks.len) ≤ length text.now }
+        ensures read { IfOk result (λ is_laid. (history : History) → IsStateAfter text.now history self.old → step_here text.now history self.old ≡ grammar.line_end len (open_widths history.widths) (drop len (drop self.old.at text.now)) →
+            IsRead text.now (left_here text.now history self.old) (newline_if is_laid self.old.at len) self.new) }
+        ensures less { OnOk result (left_to_read text.now self.new self.new.stage < left_to_read text.now self.old Stage.Onward) }
+        ensures reads { OnOk result ((before : ℕ) → AreReads (margin.at + margin.blanks.len) (5 * margin.at + margin.blanks.len + 2) before self.old.reads → IsLineEnd len (drop self.old.at text.now) →
+            IsMarginRead text.now len (record self.old { reads = before }) self.new self.new.stage) }
+        ensures onward { IfOk result (λ is_laid. is_laid ≡ true → (self.new.stage ≡ Stage.Onward) × (self.new.nesting ≡ self.old.nesting)) }
+    {
+        let begin = self.at + len;
+        if !take_margin(&mut self.levels, &mut self.pending, begin, margin)? {
+            let (fault, end) = margin_fault(len, margin);
+            self.pending = Pending::nothing();
+            self.refuse(0, fault, end);
+            return Ok(false);
+        }
+        self.step_over(len + margin.at + margin.blanks.len, Before::Layout);
+        Ok(true)
+    }
+
+    /// Reads a newline of `len` bytes that counts, and any margin after it. Returns `false`, and
+    /// stops at the fault, where the margin has one.
+    // A call: so a newline before a plain margin saves no registers (8 % of blank lines).
+    #[inline(never)]
+    fn lay_long_margin(&mut self, len: usize, text: &str) -> Result<bool, AllocError>
+        requires fits { length text.now < 2 ^ 32 }
+        requires stage { self.old.stage ≡ Stage.Onward }
+        requires stands { (history : History) × IsStateAfter text.now history self.old × (step_here text.now history self.old ≡ grammar.line_end len (open_widths history.widths) (drop len (drop self.old.at text.now))) }
+        requires cut { IsCharBoundary text.now (self.old.at + len) }
+        requires idle { IsIdle text.now self.old.pending }
+        ensures read { IfOk result (λ is_laid. (history : History) → IsStateAfter text.now history self.old → step_here text.now history self.old ≡ grammar.line_end len (open_widths history.widths) (drop len (drop self.old.at text.now)) →
+            IsRead text.now (left_here text.now history self.old) (newline_if is_laid self.old.at len) self.new) }
+        ensures less { OnOk result (left_to_read text.now self.new self.new.stage < left_to_read text.now self.old Stage.Onward) }
+        ensures reads { OnOk result (IsLineEnd len (drop self.old.at text.now) → IsMarginRead text.now len self.old self.new self.new.stage) }
+        ensures onward { IfOk result (λ is_laid. is_laid ≡ true → (self.new.stage ≡ Stage.Onward) × (self.new.nesting ≡ self.old.nesting)) }
+    {
+        let begin = self.at + len;
+        let margin = margin_of(&mut self.reads, &text[begin..]);
+        self.lay_margin(text, len, margin)
+    }
+
+    /// Reads a newline of `len` bytes that counts, and the margin of `width` spaces alone after it,
+    /// which content follows. Returns `false`, and stops at the fault, where the margin has one.
+    #[inline(never)]
+    fn change_width(&mut self, len: usize, text: &str, width: usize) -> Result<bool, AllocError>
+        requires fits { length text.now < 2 ^ 32 }
+        requires stage { self.old.stage ≡ Stage.Onward }
+        requires stands { (history : History) × IsStateAfter text.now history self.old × (step_here text.now history self.old ≡ grammar.line_end len (open_widths history.widths) (drop len (drop self.old.at text.now))) }
+        requires cut { IsCharBoundary text.now (self.old.at + len) }
+        requires idle { IsIdle text.now self.old.pending }
+        requires margin { IsMargin (margin_of (drop (self.old.at + len) text.now)) (spaces_margin width) }
+        requires within { self.old.at + len + width ≤ length text.now }
+        ensures read { IfOk result (λ is_laid. (history : History) → IsStateAfter text.now history self.old → step_here text.now history self.old ≡ grammar.line_end len (open_widths history.widths) (drop len (drop self.old.at text.now)) →
+            IsRead text.now (left_here text.now history self.old) (newline_if is_laid self.old.at len) self.new) }
+        ensures less { OnOk result (left_to_read text.now self.new self.new.stage < left_to_read text.now self.old Stage.Onward) }
+        ensures reads { OnOk result (IsLineEnd len (drop self.old.at text.now) → IsMarginRead text.now len self.old self.new self.new.stage) }
+        ensures onward { IfOk result (λ is_laid. is_laid ≡ true → (self.new.stage ≡ Stage.Onward) × (self.new.nesting ≡ self.old.nesting)) }
+    {
+        self.reads.count_run(width + 1);
+        self.lay_margin(text, len, Margin::of_spaces(width))
+    }
+
     /// Reads a newline of `len` bytes that counts, and the margin after it. Returns `false`, and
     /// stops at the fault, where the margin has one.
     #[inline(always)]
@@ -200,14 +283,15 @@ impl Reader {
         ensures onward { IfOk result (λ is_laid. is_laid ≡ true → (self.new.stage ≡ Stage.Onward) × (self.new.nesting ≡ self.old.nesting)) }
     {
         let begin = self.at + len;
-        let margin = margin_of(&mut self.reads, &text[begin..]);
-        if !take_margin(&mut self.levels, &mut self.pending, begin, margin)? {
-            let (fault, end) = margin_fault(len, margin);
-            self.pending = Pending::nothing();
-            self.refuse(0, fault, end);
-            return Ok(false);
+        let Some(margin) = plain_margin(&text[begin..]) else {
+            return self.lay_long_margin(len, text);
+        };
+        if !keeps_widths(&self.levels, margin) {
+            return self.change_width(len, text, margin.blanks.width);
         }
-        self.step_over(len + margin.at + margin.blanks.len, Before::Layout);
+        self.reads.count_run(margin.blanks.len + 1);
+        keep_margin(&self.levels, &mut self.pending, begin, margin);
+        self.step_to(begin + margin.blanks.len, Before::Layout);
         Ok(true)
     }
 
@@ -553,8 +637,8 @@ impl Reader {
         gap
     }
 
-    /// The next word if its first two bytes determine it; `None` if something else comes. It is a
-    /// name, a symbol of one byte, an LF, or a quote. The spaces before it are passed. For offsets
+    /// The next word if its first two bytes tell its kind; `None` if something else comes. It is a
+    /// name, a symbol, an LF, or a quote. The spaces before it are passed. For offsets
     /// in code.
     #[inline(always)]
     pub fn common_word(&mut self, text: &str) -> Option<Word>
@@ -598,19 +682,6 @@ impl Reader {
         ensures digit { IfSome result (λ digit. IsDigitAt digit (drop self.now.at text.now)) }
     {
         single_digit(front, &text[self.at..])
-    }
-
-    /// The symbol that comes next if it has two bytes, and the byte after it tells so; `None` if
-    /// something else comes. For offsets in code, after spaces.
-    #[inline(always)]
-    pub fn two_byte_symbol(&self, front: &[u8], text: &str) -> Option<Terminal>
-        requires fits { length text.now < 2 ^ 32 }
-        requires ready { IsReady text.now self.now self.now.stage }
-        requires code { IsAtCode text.now self.now }
-        requires front { front.now ≡ take 3 (drop self.now.at text.now) }
-        ensures stands { IfSome result (λ terminal. IsWordHere text.now self.now (record { class = class.Fixed terminal; len = 2 })) }
-    {
-        two_byte_symbol(front, &text[self.at..])
     }
 
     /// The opener of the string literal that comes next; `None` if something else comes. For

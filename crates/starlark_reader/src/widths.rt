@@ -31,7 +31,7 @@ pub(crate) fn margin_fault(len: usize, margin: Margin) -> (LexemeError, usize)
 ///
 /// That is so if no content follows, or if it has no tab and the greatest open width.
 #[inline(always)]
-fn keeps_widths(levels: &IndentStack, margin: Margin) -> bool
+pub(crate) fn keeps_widths(levels: &IndentStack, margin: Margin) -> bool
     ensures { result ≡ keeps_widths margin levels.now }
 {
     !margin.is_content || !margin.blanks.has_tab && margin.blanks.width == levels.greatest()
@@ -74,6 +74,21 @@ fn take_width(
     };
     levels.keep_first(left);
     Ok(true)
+}
+
+/// Takes a margin that neither opens nor closes an indent, and begins at byte `begin`.
+///
+/// Its comments become pending.
+#[inline(always)]
+pub(crate) fn keep_margin(levels: &IndentStack, pending: &mut Pending, begin: usize, margin: Margin)
+    requires fits { begin + margin.at < 2 ^ 64 }
+    requires keeps { keeps_widths margin levels.now ≡ true }
+    requires idle { lexemes_after pending.old.remainder ≡ [] }
+    ensures laid { (widths : List ℕ) (seen : grammar.Margin) → levels.now ≡ grammar.open_widths widths → IsMargin seen margin →
+        IsLaid true begin seen widths levels.now levels.now pending.old.remainder pending.new.remainder }
+    ensures place { IsOfMargin begin margin.at levels.now pending.new }
+{
+    pending.wait_for_comments(begin, begin + margin.at, levels.len() == 0);
 }
 
 /// Takes a margin, which begins at byte `begin`.

@@ -22,7 +22,7 @@ use Rattle.starlark_reader.specs.Inner.Reads.{HasLookedHere, HasRead, HasReadAt,
 use Rattle.starlark_reader.specs.declared.reader.LineEnd.{LineEnd}
 use Rattle.starlark_reader.specs.declared.reader.LineEnd.TheVariants as line_end
 use Rattle.starlark_reader.specs.declared.reader.Reader.{Reader}
-use Rattle.starlark_syntax.specs.Inner.Looked.{GoesOn, HasSpared, IsFoundAfterMargin, IsFoundFurther, IsFoundFurtherInCode, IsFoundInCode, IsFoundOut, IsLooked, HasOpened, is_front, is_nothing, is_text_opener, looked_len}
+use Rattle.starlark_syntax.specs.Inner.Looked.{GoesOn, HasSpared, IsFoundAfterMargin, IsFoundFurther, IsFoundInCode, IsFoundOut, IsLooked, HasOpened, is_front, is_nothing, is_text_opener, looked_len}
 use Rattle.starlark_syntax.specs.declared.lexer_state.Lookahead.{Lookahead}
 use Rattle.starlark_syntax.specs.declared.lexer_state.Lookahead.TheVariants as lookahead
 
@@ -106,15 +106,10 @@ found_further text reader to beside lookahead.Nothing is code paid has = (code, 
 found_further text reader to beside lookahead.Front is code paid has = absurd is
 found_further text reader to beside lookahead.All is code paid has = (beside, omega (arith, paid), has)
 
-pub found_further_in_code : (text : Text) (reader : Reader) (to beside : ℕ) (it : Lookahead) → IsFoundFurtherInCode reader to it → (IsInCode reader → IsAtCode text reader) → beside ≤ 6 * to → HasRead text beside reader → IsLooked text reader to it
-found_further_in_code text reader to beside lookahead.Nothing is code paid has = (code is.1, is.0, (beside, omega (arith, paid), has))
-found_further_in_code text reader to beside lookahead.Front is code paid has = absurd is
-found_further_in_code text reader to beside lookahead.All is code paid has = (beside, omega (arith, paid), has)
-
-pub found_behind_margin : (text : Text) (reader : Reader) (to beside : ℕ) (it : Lookahead) → IsFoundAfterMargin reader to it → (reader.stage ≡ stages.Onward) × IsInCode reader → IsPending text reader.pending → beside ≤ 6 * to → HasRead text beside reader → IsLooked text reader to it
-found_behind_margin text reader to beside lookahead.Nothing is code pending paid has = (record { stage = code.0; idle = is.1 text pending; code = code.1 }, is.0, (beside, omega (arith, paid), has))
-found_behind_margin text reader to beside lookahead.Front is code pending paid has = absurd is
-found_behind_margin text reader to beside lookahead.All is code pending paid has = (beside, omega (arith, paid), has)
+pub found_behind_margin : (text : Text) (reader : Reader) (to beside : ℕ) (it : Lookahead) → IsFoundAfterMargin reader it → to ≤ reader.at → (reader.stage ≡ stages.Onward) × IsInCode reader → IsPending text reader.pending → beside ≤ 6 * to → HasRead text beside reader → IsLooked text reader to it
+found_behind_margin text reader to beside lookahead.Nothing is further code pending paid has = (record { stage = code.0; idle = is text pending; code = code.1 }, further, (beside, omega (arith, paid), has))
+found_behind_margin text reader to beside lookahead.Front is further code pending paid has = absurd is
+found_behind_margin text reader to beside lookahead.All is further code pending paid has = (beside, omega (arith, paid), has)
 
 -- a line end that counts isn't passed
 pub newline_counts : (it : LineEnd) → it ≡ line_end.Newline → it ≡ line_end.Passed → ⊥

@@ -10,7 +10,7 @@ ghost use Rattle.starlark_reader.specs.Inner.Reader.{IsReached, IsStateAfter, ha
 ghost use Rattle.starlark_syntax.specs.Inner.LexerStates.{HasAnswered, HasPassed, HasTaken, IsBegun, IsLexing, is_out_of_memory, left_in, passed_count, plain_string, view_of};
 ghost use Rattle.starlark_syntax.specs.Lexer.{is_ended_by, most_reads, yielded_by};
 ghost use Rattle.starlark_syntax.specs.PlainLexemes.{IsPlainIn};
-ghost use Rattle.starlark_syntax.specs.Inner.Looked.{HasOpened, IsFoundAfterMargin, IsFoundFurther, IsFoundFurtherInCode, IsFoundInCode, IsFoundOut, is_front, is_nothing, is_text_opener, looked_len};
+ghost use Rattle.starlark_syntax.specs.Inner.Looked.{HasOpened, IsFoundAfterMargin, IsFoundFurther, IsFoundInCode, IsFoundOut, is_front, is_nothing, is_text_opener, looked_len};
 
 use crate::eval_exception::EvalException;
 use crate::fault_exception::exception;
@@ -52,7 +52,7 @@ enum Lookahead {
     All,
 }
 
-/// Lookahead state after an operator of one byte: only the bracket depth can have changed it.
+/// Lookahead state after a keyword or symbol: only the bracket depth can have changed it.
 #[inline(always)]
 fn looked_in_code(reader: &Reader) -> Lookahead
     ensures { IsFoundInCode reader.now result }
@@ -76,24 +76,12 @@ fn looked_further(reader: &Reader, looked_to: usize) -> Lookahead
     }
 }
 
-/// Lookahead state after an operator that the fast path took after more lookahead.
+/// Lookahead state after a `Newline` of the loop: its margin may leave tokens or comments pending.
 #[inline(always)]
-fn looked_further_in_code(reader: &Reader, looked_to: usize) -> Lookahead
-    ensures { IsFoundFurtherInCode reader.now looked_to result }
+fn looked_after_margin(reader: &Reader) -> Lookahead
+    ensures { IsFoundAfterMargin reader.now result }
 {
-    if looked_to <= reader.at() && reader.is_in_code() {
-        Lookahead::Nothing
-    } else {
-        Lookahead::All
-    }
-}
-
-/// Lookahead state after a `Newline`: its margin may leave tokens or comments pending.
-#[inline(always)]
-fn looked_after_margin(reader: &Reader, looked_to: usize) -> Lookahead
-    ensures { IsFoundAfterMargin reader.now looked_to result }
-{
-    if looked_to <= reader.at() && reader.is_idle() {
+    if reader.is_idle() {
         Lookahead::Nothing
     } else {
         Lookahead::All
@@ -292,8 +280,8 @@ impl<'a> LexerState<'a> {
 
     /// Next lexeme where the first two bytes don't determine it.
     ///
-    /// By three bytes these come fast: an operator of two bytes, an integer of one digit, the start of an
-    /// f-string, a bytes literal without escapes, the `!` of an f-string's expression, and a comment.
+    /// By three bytes these come fast: an integer of one digit, the start of an f-string, a bytes
+    /// literal without escapes, the `!` of an f-string's expression, and a comment.
     #[inline(never)]
     fn next_of_all(&mut self) -> Option<Lexeme>
         requires lexing { IsLexing self.old }
@@ -310,12 +298,6 @@ impl<'a> LexerState<'a> {
             self.yielded_count += 1;
             let lexeme = self.reader.take_digit(digit, self.text);
             self.lookahead = looked_further(&self.reader, self.looked_to);
-            return Some(Ok(lexeme));
-        }
-        if let Some(terminal) = self.reader.two_byte_symbol(front, self.text) {
-            self.yielded_count += 1;
-            let lexeme = self.reader.take_terminal(terminal, 2, self.text);
-            self.lookahead = looked_further_in_code(&self.reader, self.looked_to);
             return Some(Ok(lexeme));
         }
         if let Some(quote) = self.reader.fstring_opener(front, self.text) {
@@ -421,12 +403,12 @@ impl<'a> LexerState<'a> {
         self.reader
             .pass_plain_text(is_raw, quote, len, body, self.text);
         self.yielded_count += 1;
-        self.lookahead = looked_further(&self.reader, self.looked_to);
+        self.lookahead = Lookahead::Nothing;
         len
     }
 
-    /// Passes the next lexeme if the fast path decides it: a name, a keyword, a symbol of one byte, a
-    /// newline, or a string literal without escapes.
+    /// Passes the next lexeme if the fast path decides it: a name, a keyword, a symbol, a newline, or a
+    /// string literal without escapes.
     #[inline(always)]
     pub(crate) fn next_plain(&mut self) -> FastPath
         requires { IsLexing self.old }
@@ -458,7 +440,7 @@ impl<'a> LexerState<'a> {
                     Ok(LineEnd::Passed) => {}
                     Ok(LineEnd::Newline) => {
                         self.yielded_count += 1;
-                        self.lookahead = looked_after_margin(&self.reader, self.looked_to);
+                        self.lookahead = looked_after_margin(&self.reader);
                         let kind = PlainKind::Newline;
                         return FastPath::Passed(PlainLexeme::of_kind(kind, begin, begin + len));
                     }

@@ -1,10 +1,10 @@
 -- Runs of bytes in parts, and runs that are found in sixteen bytes at once.
-use Rattle.std.proofs.Common.{◌≡◌, ℕ, ◌+◌, ◌≤◌, ◌<◌, ◌%◌, ◌^◌, Bool, true, false, cond, ◌||◌, not, eqb, List, map, length, take, drop, refl, ap, ◌∙◌, sym, bit_or, arith}
+use Rattle.std.proofs.Common.{◌≡◌, ℕ, zero, suc, zero-add, ◌+◌, ◌≤◌, ◌<◌, ◌%◌, ◌^◌, Bool, true, false, cond, ◌||◌, not, eqb, List, [], ◌∷◌, ◌*◌, map, length, take, drop, refl, ap, ◌∙◌, sym, bit_or, arith}
 use Rattle.std.proofs.lemmas.Bool.{eq-eqb, ne_eqb, cond-true, cond-false}
 use Rattle.std.proofs.lemmas.List.{length-take-le, length-map, take-append-drop}
 use Rattle.std.proofs.lemmas.List.Folds.{prefix_len-append}
-use Rattle.std.proofs.lemmas.List.Sums.{prefix_len-le-length}
-use Rattle.std.proofs.lemmas.Simd.{map-map, mask_l-mod, first_set_mask_l}
+use Rattle.std.proofs.lemmas.List.Sums.{prefix_len-drop_yes, prefix_len-le-length, prefix_len_passes}
+use Rattle.std.proofs.lemmas.Simd.{map-map, mask_l-mod, first_set_mask_l, leading_from_mask_l, trailing_mask_l}
 use Rattle.std.specs.Int.{trailing_zeros, w64}
 use Rattle.std.specs.List.{prefix_len}
 use lib.Lanes.{mask_l, top}
@@ -26,6 +26,18 @@ module _ (p : ℕ → Bool) (n : ℕ) (xs : List ℕ) (room : n ≤ length xs) w
   -- a run that goes on remainder the first n
   pub run_goes_on : prefix_len p (take n xs) ≡ n → prefix_len p xs ≡ n + prefix_len p (drop n xs)
   run_goes_on e = parts ∙ cond-true (eqb (prefix_len p (take n xs)) n) _ _ (eq-eqb (prefix_len p (take n xs)) n e)
+
+-- bytes at the start of a run
+pub run_passed : (p : ℕ → Bool) (n : ℕ) (xs : List ℕ) → n ≤ prefix_len p xs → prefix_len p xs ≡ n + prefix_len p (drop n xs)
+run_passed p zero xs few = sym (zero-add _)
+run_passed p (suc n) xs few =
+    let less : n < length xs = omega (arith, few, prefix_len-le-length p xs) in
+    let on = prefix_len-drop_yes p xs n 0 less (prefix_len_passes p xs n 0 (omega (arith, few))) in
+    let next : prefix_len p (drop (n + 1) xs) ≡ prefix_len p (drop (suc n) xs) = ap (λ i. prefix_len p (drop i xs)) one in
+    omega (arith, run_passed p n xs (omega (arith, few)), on, next)
+  where
+    one : n + 1 ≡ suc n
+    one = omega arith
 
 -- a front's run is no longer than the front
 pub run_within : (p : ℕ → Bool) (n : ℕ) (xs : List ℕ) → n ≤ length xs → prefix_len p (take n xs) ≤ n
@@ -52,3 +64,25 @@ lanes_counted p v z r long found lanes =
     let mask : mask_l (map (top 7) z) % 2 ^ 64 ≡ mask_l (map p v) =
     ap (λ l. mask_l l % 2 ^ 64) (ap (map (top 7)) lanes ∙ map-map (top 7) (λ x. lane_of (p x)) v ∙ (λ i. map (λ x. top_lane (p x) i) v)) ∙ mask_l-mod (map p v) 64 (omega (arith, length-map v p, long)) in
     found ∙ ap (λ m. cond (eqb m 0) 16 (trailing_zeros w64 m)) mask ∙ first_set_mask_l p v 16 long (omega arith)
+
+-- where a bit is set, a lane passes
+found_inside : (p : ℕ → Bool) (xs : List ℕ) → 0 < mask_l (map p xs) → prefix_len (λ x. not (p x)) xs < length xs
+found_inside p [] some = absurd (omega (arith, some))
+found_inside p (x ∷ xs) some = go (p x) some (found_inside p xs)
+  where
+    go : (passes : Bool) → 0 < cond passes 1 0 + 2 * mask_l (map p xs) → (0 < mask_l (map p xs) → prefix_len (λ y. not (p y)) xs < length xs) → cond (not passes) (1 + prefix_len (λ y. not (p y)) xs) 0 < suc (length xs)
+    go true some more = omega arith
+    go false some more = omega (arith, more (omega (arith, some)))
+
+-- no bit of the mask of lanes is set where no byte passes, and else the lowest one is the first
+-- byte that does
+pub lanes_found : (p : ℕ → Bool) (v z : List ℕ) → length v ≡ 16 → z ≡ map (λ x. lane_of (p x)) v
+    → (mask_l (map (top 7) z) % 2 ^ 64 ≡ 0 → prefix_len (λ x. not (p x)) v ≡ 16)
+    × (0 < mask_l (map (top 7) z) % 2 ^ 64 → (trailing_zeros w64 (mask_l (map (top 7) z) % 2 ^ 64) ≡ prefix_len (λ x. not (p x)) v) × (trailing_zeros w64 (mask_l (map (top 7) z) % 2 ^ 64) < 16))
+lanes_found p v z long lanes =
+    let mask : mask_l (map (top 7) z) % 2 ^ 64 ≡ mask_l (map p v) =
+    ap (λ l. mask_l l % 2 ^ 64) (ap (map (top 7)) lanes ∙ map-map (top 7) (λ x. lane_of (p x)) v ∙ (λ i. map (λ x. top_lane (p x) i) v)) ∙ mask_l-mod (map p v) 64 (omega (arith, length-map v p, long)) in
+    let first = λ (some : 0 < mask_l (map (top 7) z) % 2 ^ 64). ap (trailing_zeros w64) mask ∙ trailing_mask_l p 64 v (omega (arith, long)) (omega (arith, some, mask)) in (
+      λ none. leading_from_mask_l p v (sym mask ∙ none) ∙ long,
+      λ some. (first some, omega (arith, first some, found_inside p v (omega (arith, some, mask)), long)),
+    )

@@ -1,5 +1,5 @@
 -- The lanes that tell which bytes a name may have.
-use Rattle.std.proofs.Common.{◌≡◌, ℕ, Bool, true, false, ◌&&◌, ◌||◌, not, eqb, leb, List, map, replicate, length, refl, ap, ◌∙◌, bit_and, bit_or}
+use Rattle.std.proofs.Common.{◌≡◌, ℕ, Bool, true, false, ◌&&◌, not, eqb, leb, List, map, replicate, length, refl, ◌∙◌, bit_and, bit_or}
 use Rattle.std.proofs.lemmas.Simd.{map-map, zip2_of_maps, zip2_splat, zip2_splat_left}
 use lib.Lanes.{zip2}
 use Rattle.starlark_grammar.specs.Words.{is_in_name}

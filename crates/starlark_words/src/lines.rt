@@ -1,42 +1,76 @@
 //! Finds the first LF, or the first of another byte.
 
-ghost use Rattle.std.specs.Prelude.{◌≡◌, ◌+◌, ◌-◌, ◌*◌, ◌≤◌, drop, length, take};
+ghost use Rattle.std.specs.Prelude.{◌≡◌, ◌+◌, ◌-◌, ◌*◌, ◌≤◌, ◌<◌, drop, length, take};
+ghost use Rattle.std.specs.Int.{trailing_zeros, w64};
 ghost use Rattle.std.specs.List.{prefix_len};
-ghost use Rattle.starlark_words.specs.Inner.Reads.{AreReads, more_reads};
+ghost use Rattle.starlark_words.specs.Inner.Reads.{AreReads};
 ghost use Rattle.starlark_words.specs.Inner.Lines.{is_in_front};
 
-use crate::lanes::{LANES, lowest_bit};
+use crate::lanes::LANES;
 use crate::reads::ReadCounter;
 use std::simd::prelude::*;
 
 /// Bytes of a line that are read one by one before the first SIMD step.
 const ALONE: usize = 5;
 
-/// Number of bytes before the first LF or `other` byte, or all of them, one byte at a time.
+/// Number of bytes before the first LF or `other` byte, or all of them, one byte at a time. The
+/// caller has to count the reads.
 #[inline(always)]
-fn short_front_len(reads: &mut ReadCounter, text: &[u8], other: u8) -> usize
+fn short_front_len(text: &[u8], other: u8) -> usize
     ensures value { result ≡ prefix_len (is_in_front other) text.now }
     ensures within { result ≤ length text.now }
-    ensures reads { reads.new ≡ more_reads reads.old (result + 1) }
 {
     let mut len = 0;
     while len < text.len() && text[len] != other && text[len] != b'\n' {
         len += 1;
     }
-    reads.count_run(len);
     len
 }
 
-/// Number of bytes before the first LF or `other` byte among the 16 bytes from `at` on; 16 if none.
-/// The caller has to count the reads.
+/// The LFs and `other` bytes among the 16 bytes from `at` on, as a mask: the lowest bit is the first
+/// byte's. The caller has to count the reads.
+// A mask, since a test for 0 takes fewer instructions than a length that is compared with 16.
 #[inline(always)]
-fn lanes_front_len(text: &[u8], at: usize, other: u8) -> usize
+fn front_ends(text: &[u8], at: usize, other: u8) -> u64
     requires { at + 16 ≤ length text.now }
-    ensures value { result ≡ prefix_len (is_in_front other) (take 16 (drop at text.now)) }
+    ensures none { result ≡ 0 → prefix_len (is_in_front other) (take 16 (drop at text.now)) ≡ 16 }
+    ensures some { 0 < result → (trailing_zeros w64 result ≡ prefix_len (is_in_front other) (take 16 (drop at text.now))) × (trailing_zeros w64 result < 16) }
 {
     let lanes = u8x16::from_slice(&text[at..]);
     let ends = lanes.simd_eq(u8x16::splat(other)) | lanes.simd_eq(u8x16::splat(b'\n'));
-    lowest_bit(ends.to_bitmask())
+    ends.to_bitmask()
+}
+
+/// Number of bytes before the first LF or `other` byte of a text of 16 bytes or more, or all of
+/// them, if the first `at` bytes have none.
+///
+/// It reads 16 bytes at a time. Where fewer are left it reads the last 16 of the text.
+#[inline(always)]
+fn long_front_len(reads: &mut ReadCounter, text: &[u8], other: u8, from: usize) -> usize
+    requires long { 16 ≤ length text.now }
+    requires none { prefix_len (is_in_front other) text.now ≡ from + prefix_len (is_in_front other) (drop from text.now) }
+    requires inside { from ≤ length text.now }
+    ensures value { result ≡ prefix_len (is_in_front other) text.now }
+    ensures within { result ≤ length text.now }
+    ensures reads { AreReads (result + 1) (result + 16) reads.old reads.new }
+{
+    let mut at = from;
+    while at + LANES <= text.len() {
+        let ends = front_ends(text, at, other);
+        if ends != 0 {
+            reads.count_run_and_lanes(at);
+            return at + ends.trailing_zeros() as usize;
+        }
+        at += LANES;
+    }
+    reads.count_run_and_lanes(at);
+    let last = text.len() - LANES;
+    let ends = front_ends(text, last, other);
+    if ends == 0 {
+        text.len()
+    } else {
+        last + ends.trailing_zeros() as usize
+    }
 }
 
 /// Number of bytes before the first LF or `other` byte of a text, or all of them.
@@ -49,20 +83,14 @@ pub fn front_len(reads: &mut ReadCounter, text: &[u8], other: u8) -> usize
     ensures reads { AreReads (result + 1) (5 * (result - 1) + 2) reads.old reads.new }
 {
     if text.len() < LANES {
-        return short_front_len(reads, text, other);
+        let len = short_front_len(text, other);
+        reads.count_run(len);
+        return len;
     }
-    let mut at = short_front_len(reads, &text[..ALONE], other);
-    if at < ALONE {
-        return at;
+    let alone = short_front_len(&text[..ALONE], other);
+    if alone < ALONE {
+        reads.count_run(alone);
+        return alone;
     }
-    while at + LANES <= text.len() {
-        let len = lanes_front_len(text, at, other);
-        if len < LANES {
-            reads.count_run_and_lanes(at - ALONE);
-            return at + len;
-        }
-        at += LANES;
-    }
-    reads.count_run(at - ALONE);
-    at + short_front_len(reads, &text[at..], other)
+    long_front_len(reads, text, other, ALONE)
 }

@@ -1,6 +1,6 @@
 //! Finds the end of a name.
 
-ghost use Rattle.std.specs.Prelude.{◌≡◌, ◌≤◌, ◌+◌, ◌*◌, length, take};
+ghost use Rattle.std.specs.Prelude.{◌≡◌, ◌<◌, ◌≤◌, ◌+◌, ◌*◌, ◌^◌, length, take};
 ghost use Rattle.std.specs.List.{prefix_len, slice_get};
 ghost use Rattle.starlark_grammar.specs.Words as grammar;
 ghost use Rattle.starlark_words.specs.Inner.Reads.{AreReads};
@@ -66,41 +66,44 @@ fn lanes_name_len(text: &[u8]) -> usize
 /// Number of letters, digits and `_` at the start of a text.
 ///
 /// It reads four bytes one by one, and then 16 by SIMD: the processor can't predict the length of a
-/// longer name.
+/// longer name. Counts `passed` reads besides.
 #[inline(always)]
-fn name_len(reads: &mut ReadCounter, text: &[u8]) -> usize
+fn name_len(reads: &mut ReadCounter, passed: usize, text: &[u8]) -> usize
+    requires { passed < 2 ^ 33 }
     ensures value { result ≡ prefix_len grammar.is_in_name text.now }
     ensures within { result ≤ length text.now }
-    ensures reads { AreReads (result + 1) (5 * result + 1) reads.old reads.new }
+    ensures reads { AreReads (passed + (result + 1)) (passed + (5 * result + 1)) reads.old reads.new }
 {
     if text.len() < ALONE + LANES {
         let len = last_name_len(text);
-        reads.count_run(len);
+        reads.count_run(passed + len);
         return len;
     }
     let len = short_name_len(&text[..ALONE]);
     if len < ALONE {
-        reads.count_run(len);
+        reads.count_run(passed + len);
         return len;
     }
     let more = lanes_name_len(&text[ALONE..]);
     if more < LANES {
-        reads.count_run_and_lanes(ALONE);
+        reads.count_run_and_lanes(passed + ALONE);
         return ALONE + more;
     }
     let whole = ALONE + LANES + last_name_len(&text[ALONE + LANES..]);
-    reads.count_run(whole);
+    reads.count_run(passed + whole);
     whole
 }
 
-/// Number of letters, digits and `_` at the start of a text, and the byte after them.
+/// Number of letters, digits and `_` at the start of a text, and the byte after them. Counts `passed`
+/// reads besides.
 #[inline(always)]
-pub(crate) fn name_run(reads: &mut ReadCounter, text: &[u8]) -> (usize, Option<u8>)
+pub(crate) fn name_run(reads: &mut ReadCounter, passed: usize, text: &[u8]) -> (usize, Option<u8>)
+    requires { passed < 2 ^ 33 }
     ensures value { result.0 ≡ prefix_len grammar.is_in_name text.now }
     ensures within { result.0 ≤ length text.now }
     ensures remainder { result.1 ≡ slice_get text.now result.0 }
-    ensures reads { AreReads (result.0 + 1) (5 * result.0 + 1) reads.old reads.new }
+    ensures reads { AreReads (passed + (result.0 + 1)) (passed + (5 * result.0 + 1)) reads.old reads.new }
 {
-    let len = name_len(reads, text);
+    let len = name_len(reads, passed, text);
     (len, text.get(len).copied())
 }

@@ -20,6 +20,14 @@ pub fn uncounted_spaces_len(text: &[u8]) -> usize
     text.iter().take_while(|byte| **byte == b' ').count()
 }
 
+/// The first `most` bytes of a text, or all if it has fewer. The caller has to count the reads.
+#[inline(always)]
+pub(crate) fn uncounted_front(text: &[u8], most: usize) -> &[u8]
+    ensures { result.now ≡ take most text.now }
+{
+    &text[..most.min(text.len())]
+}
+
 /// Length in bytes of the first character of a text; 0 if the text is empty. Not counted.
 fn first_character_len(text: &str) -> usize
     ensures character { take result text.now ≡ first_character text.now }
@@ -65,7 +73,7 @@ impl ReadCounter {
 
     /// Adds to the count.
     #[inline(always)]
-    fn add(&mut self, more: usize)
+    pub(crate) fn add(&mut self, more: usize)
         ensures { self.new ≡ more_reads self.old more }
     {
         self.count = self.count.saturating_add(more as u64);
@@ -127,19 +135,6 @@ impl ReadCounter {
         ensures reads { self.new ≡ more_reads self.old most }
     {
         self.add(most);
-        &text[..most.min(text.len())]
-    }
-
-    /// The first `most` bytes of the text after a run, or all if it has fewer.
-    ///
-    /// The reads of the run are counted here: its `run` bytes, and the byte that ended it.
-    #[inline(always)]
-    pub(crate) fn front_after<'a>(&mut self, run: usize, text: &'a [u8], most: usize) -> &'a [u8]
-        requires { run + most + 1 < 2 ^ 64 }
-        ensures bytes { result.now ≡ take most text.now }
-        ensures reads { self.new ≡ more_reads self.old (run + 1 + most) }
-    {
-        self.add(run + 1 + most);
         &text[..most.min(text.len())]
     }
 

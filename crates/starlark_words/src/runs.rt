@@ -71,7 +71,7 @@ fn short_run_len(reads: &mut ReadCounter, literal: Literal, bytes: &[u8]) -> usi
 fn long_run_len(reads: &mut ReadCounter, literal: Literal, bytes: &[u8]) -> usize
     ensures value { result ≡ prefix_len (is_in_run (literal_view literal)) bytes.now }
     ensures within { result ≤ length bytes.now }
-    ensures reads { AreReads result (result + 16) reads.old reads.new }
+    ensures reads { AreReads (result + 1) (result + 16) reads.old reads.new }
 {
     let ends = Ends::of(literal);
     let mut at = 0;
@@ -101,7 +101,7 @@ fn last_run_len(reads: &mut ReadCounter, literal: Literal, bytes: &[u8]) -> usiz
 #[inline(always)]
 fn run_len(reads: &mut ReadCounter, literal: Literal, bytes: &[u8]) -> usize
     ensures value { result ≡ prefix_len (is_in_run (literal_view literal)) bytes.now }
-    ensures reads { AreReads result (2 * result + 1) reads.old reads.new }
+    ensures reads { AreReads (result + 1) (2 * result + 1) reads.old reads.new }
 {
     if bytes.len() < LANES {
         return last_run_len(reads, literal, bytes);
@@ -118,7 +118,7 @@ fn run_len(reads: &mut ReadCounter, literal: Literal, bytes: &[u8]) -> usize
 pub(crate) fn first_run<'a>(reads: &mut ReadCounter, literal: Literal, text: &'a str) -> &'a str
     ensures value { result.now ≡ take (prefix_len (is_in_run (literal_view literal)) text.now) text.now }
     ensures boundary { IsCharBoundary text.now (length result.now) }
-    ensures reads { AreReads (length result.now) (2 * length result.now + 1) reads.old reads.new }
+    ensures reads { AreReads (length result.now + 1) (2 * length result.now + 1) reads.old reads.new }
 {
     &text[..run_len(reads, literal, text.as_bytes())]
 }

@@ -19,7 +19,7 @@ mod openers;
 mod word;
 
 use crate::lines::front_len;
-use crate::reads::{ReadCounter, uncounted_spaces_len};
+use crate::reads::{ReadCounter, uncounted_front, uncounted_spaces_len};
 use first::is_name_start;
 pub use starlark_grammar::class::{Class, LiteralKind, Quote, Terminal};
 pub use word::Word;
@@ -87,35 +87,52 @@ pub fn gap_len(text: &str) -> usize
     uncounted_spaces_len(text.as_bytes())
 }
 
-/// The longest word at the front of a text if its first two bytes determine it.
+/// The longest word at the front of a text if its first two bytes tell its kind. Of a symbol that
+/// may be longer the third byte is read, too. Counts `passed` reads besides: of bytes before it, and
+/// of the first two bytes.
+// The reads are added up once, at last: each count costs four instructions (2 % of a mix).
 #[inline(always)]
-fn word_by_front(reads: &mut ReadCounter, front: &[u8], text: &str) -> Option<Word>
-    requires { front.now ≡ take 2 text.now }
+fn word_by_front(reads: &mut ReadCounter, passed: usize, text: &str) -> Option<Word>
+    requires { passed < 2 ^ 33 }
     ensures word { IfSome result (λ word. Some (word_view word) ≡ language_front text.now) }
     ensures bang { IfSome result (λ word. is_bang text.now ≡ false) }
     ensures none { result ≡ None → grammar.begins grammar.is_name_start text.now ≡ false }
-    ensures reads { AreReads (word_len result - 1) (5 * word_len result - 4) reads.old reads.new }
-    ensures same { result ≡ None → reads.new ≡ reads.old }
+    ensures reads { AreReads (passed + (word_len result - 2)) (passed + (5 * word_len result - 4)) reads.old reads.new }
+    ensures same { result ≡ None → reads.new ≡ more_reads reads.old passed }
 {
-    let first = *front.first()?;
+    let front = uncounted_front(text.as_bytes(), 2);
+    let Some(first) = front.first() else {
+        reads.add(passed);
+        return None;
+    };
+    let first = *first;
     if is_name_start(first) {
-        return Some(names::name_from(reads, text));
+        return Some(names::name_from(reads, passed, text));
     }
+    // Each arm counts and returns by itself: a `match` as the value costs each lexeme 20
+    // instructions, and after a count the first byte is loaded again.
     if marks::is_mark_alone(front) {
+        reads.add(passed);
         return marks::longest_of_one(first);
     }
-    // Each arm returns by itself: a `match` as the value costs each lexeme 20 instructions.
     if first == b'\'' {
+        reads.add(passed);
         return Some(quote_word(Quote::Single));
     }
     if first == b'"' {
+        reads.add(passed);
         return Some(quote_word(Quote::Double));
     }
+    if marks::begins_symbol(front) {
+        reads.add(passed + 1);
+        return marks::mark_from(uncounted_front(text.as_bytes(), 3));
+    }
+    reads.add(passed);
     None
 }
 
-/// The longest word at the front of a text if its first two bytes determine it: a name, a symbol of
-/// one byte, an LF, or the quote of a text literal. `None` for any other front.
+/// The longest word at the front of a text if its first two bytes tell its kind: a name, a symbol,
+/// an LF, or the quote of a text literal. `None` for any other front.
 #[inline(always)]
 pub(crate) fn common_word(reads: &mut ReadCounter, text: &str) -> Option<Word>
     ensures word { IfSome result (λ word. Some (word_view word) ≡ language_front text.now) }
@@ -124,11 +141,10 @@ pub(crate) fn common_word(reads: &mut ReadCounter, text: &str) -> Option<Word>
     ensures reads { AreReads (word_len result) ((5 * word_len result - 4) + 2) reads.old reads.new }
     ensures two { result ≡ None → reads.new ≡ more_reads reads.old 2 }
 {
-    let front = reads.front(text.as_bytes(), 2);
-    word_by_front(reads, front, text)
+    word_by_front(reads, 2, text)
 }
 
-/// The longest word after `gap` spaces if its first two bytes determine it. Counts the reads of the
+/// The longest word after `gap` spaces if its first two bytes tell its kind. Counts the reads of the
 /// spaces and of these two bytes.
 #[inline(always)]
 pub fn word_after(reads: &mut ReadCounter, gap: usize, text: &str) -> Option<Word>
@@ -137,8 +153,7 @@ pub fn word_after(reads: &mut ReadCounter, gap: usize, text: &str) -> Option<Wor
     ensures bang { IfSome result (λ word. is_bang text.now ≡ false) }
     ensures reads { AreReads (gap + word_len result) (gap + (5 * word_len result - 4) + 3) reads.old reads.new }
 {
-    let front = reads.front_after(gap, text.as_bytes(), 2);
-    word_by_front(reads, front, text)
+    word_by_front(reads, gap + 3, text)
 }
 
 /// The value of the integer at the start of a text if it has one digit, and the byte after it tells
@@ -155,20 +170,6 @@ pub fn single_digit(front: &[u8], text: &str) -> Option<u8>
         Some(first - b'0')
     } else {
         None
-    }
-}
-
-/// The symbol at the start of a text if it has two bytes, and the byte after it tells so. `front` is
-/// the text's first three bytes.
-#[inline(always)]
-pub fn two_byte_symbol(front: &[u8], text: &str) -> Option<Terminal>
-    requires { front.now ≡ take 3 text.now }
-    ensures word { IfSome result (λ terminal. Some (class.Fixed terminal, 2) ≡ language_front text.now) }
-    ensures bang { IfSome result (λ terminal. is_bang text.now ≡ false) }
-{
-    match marks::mark_of_two(front) {
-        Some(Class::Fixed(terminal)) => Some(terminal),
-        _ => None,
     }
 }
 
@@ -222,8 +223,7 @@ pub fn comment_len(reads: &mut ReadCounter, front: &[u8], text: &str) -> Option<
 }
 
 /// The longest word at the front of a text that doesn't begin with a letter or `_`; `None` if there
-/// is
-/// none. The caller has counted the reads of the first two bytes.
+/// is none. The caller has counted the reads of the first two bytes.
 pub(crate) fn unnamed_word(reads: &mut ReadCounter, text: &str) -> Option<Word>
     requires { grammar.begins grammar.is_name_start text.now ≡ false }
     ensures word { option_map word_view result ≡ language_front text.now }

@@ -29,11 +29,11 @@ none_passed text = record { inside = omega arith; few = omega arith; len = zero-
 blank_front : (b : ℕ) (bs : Text) → is_blank b ≡ true → blanks_at (b ∷ bs) ≡ b ∷ blanks_at bs
 blank_front b bs h = rw (h, one-add) refl
 
-other_front : (b : ℕ) (bs : Text) → is_blank b ≡ false → blanks_at (b ∷ bs) ≡ []
+pub other_front : (b : ℕ) (bs : Text) → is_blank b ≡ false → blanks_at (b ∷ bs) ≡ []
 other_front b bs h = rw h refl
 
 -- the byte at an offset
-at_front : (text : Text) (n b : ℕ) → n < length text → b ≡ get_or text n 0 → drop n text ≡ b ∷ drop (n + 1) text
+pub at_front : (text : Text) (n b : ℕ) → n < length text → b ≡ get_or text n 0 → drop n text ≡ b ∷ drop (n + 1) text
 at_front text n b inside e = drop-cons text n 0 inside ∙ ap (λ x. x ∷ drop (suc n) text) (sym e) ∙ ap (λ i. b ∷ drop i text) one
   where
     one : suc n ≡ n + 1

@@ -121,7 +121,7 @@ first_comment text (suc n) h line inside =
     (ap (take_while is_comment_only) all ∙ rw (passes, one-add) refl, omega arith, omega (arith, inside, there, length-drop k text))
 
 -- a comment at the start of a line is one at the start of the text
-comment_front : (line rest : Text) → is_comment_only line ≡ true → begins_comment (drop (blanks_len (line ++ rest)) (line ++ rest)) ≡ true
+pub comment_front : (line rest : Text) → is_comment_only line ≡ true → begins_comment (drop (blanks_len (line ++ rest)) (line ++ rest)) ≡ true
 comment_front [] rest h = cc
 comment_front (b ∷ bs) rest h = go (is_blank b) h (comment_front bs rest)
   where

@@ -27,6 +27,10 @@ pub record IsMargin (margin : margins.Margin) (found : Margin) : Type 0 where
   pub blanks : IsBlanks margin.blanks found.blanks
   pub is_content : found.is_content ≡ is_content margin.remainder
 
+-- a margin of `width` spaces alone, which content follows
+abbrev pub spaces_margin : ℕ → Margin
+spaces_margin width = record { at = 0; blanks = record { len = width; width = width; has_tab = false }; is_content = true }
+
 -- the greatest open width; 0 if none is open
 abbrev pub greatest_of : List ℕ → ℕ
 greatest_of levels = get_or levels (length levels - 1) 0

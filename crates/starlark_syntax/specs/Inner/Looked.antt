@@ -69,17 +69,11 @@ IsFoundFurther reader to lookahead.Nothing = to ≤ reader.at
 IsFoundFurther reader to lookahead.All = ⊤
 IsFoundFurther reader to it = ⊥
 
--- If no lookahead is spent, the reader is past all failed lookahead, and the mode is code.
-abbrev pub IsFoundFurtherInCode : Reader → (to : ℕ) → Lookahead → Type 0
-IsFoundFurtherInCode reader to lookahead.Nothing = (to ≤ reader.at) × IsInCode reader
-IsFoundFurtherInCode reader to lookahead.All = ⊤
-IsFoundFurtherInCode reader to it = ⊥
-
--- If no lookahead is spent, the reader is past all failed lookahead, and nothing is pending.
-abbrev pub IsFoundAfterMargin : Reader → (to : ℕ) → Lookahead → Type 0
-IsFoundAfterMargin reader to lookahead.Nothing = (to ≤ reader.at) × ((text : Text) → IsPending text reader.pending → IsIdle text reader.pending)
-IsFoundAfterMargin reader to lookahead.All = ⊤
-IsFoundAfterMargin reader to it = ⊥
+-- If no lookahead is spent, nothing is pending.
+abbrev pub IsFoundAfterMargin : Reader → Lookahead → Type 0
+IsFoundAfterMargin reader lookahead.Nothing = (text : Text) → IsPending text reader.pending → IsIdle text reader.pending
+IsFoundAfterMargin reader lookahead.All = ⊤
+IsFoundAfterMargin reader it = ⊥
 
 abbrev pub is_nothing : Lookahead → Bool
 is_nothing lookahead.Nothing = true

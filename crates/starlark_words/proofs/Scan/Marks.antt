@@ -1,6 +1,7 @@
 -- The longest mark at the front of a text.
-use Rattle.std.proofs.Common.{◌≡◌, ℕ, suc, ◌<◌, ◌≤◌, true, false, nat_le, [], ◌∷◌, length, get_or, refl, sym, ap, ◌∙◌, Option, None, arith}
+use Rattle.std.proofs.Common.{◌≡◌, ℕ, suc, ◌<◌, ◌≤◌, true, false, nat_le, [], ◌∷◌, length, get_or, refl, sym, ap, ◌∙◌, Option, None, Some, arith}
 use Rattle.std.proofs.lemmas.Bool.Decides.{nat_tests}
+use Rattle.std.specs.List.{slice_get}
 use Rattle.std.specs.Map.{lookup}
 use Rattle.std.specs.Option.{option_map, option_or}
 use Rattle.std.specs.Str.{bytes_eq}
@@ -59,6 +60,30 @@ front_long [] h = absurd (omega arith)
 front_long (a ∷ []) h = absurd (omega arith)
 front_long (a ∷ b ∷ []) h = absurd (omega arith)
 front_long (a ∷ b ∷ c ∷ rest) h = front_three a b c rest ∙ sym (front_three a b c [])
+
+-- no mark is at the front of nothing
+pub none_found : (text : Text) → slice_get text 0 ≡ None → longest_front mark_of text ≡ None
+unfolding longest_front
+none_found [] e = refl
+none_found (a ∷ rest) e = cc
+
+-- a mark of three bytes at the front
+pub three_found : (text : Text) (class : Class) → 3 ≤ length text → mark_of (get_or text 0 0 ∷ get_or text 1 0 ∷ get_or text 2 0 ∷ []) ≡ Some class → longest_front mark_of text ≡ Some (class, 3)
+three_found text class long h = front_long text long ∙ front_three (get_or text 0 0) (get_or text 1 0) (get_or text 2 0) [] ∙ rw h refl
+
+-- a mark of two bytes at the front, where none has three
+pub two_found : (text : Text) (class : Class) → 2 ≤ length text → (3 ≤ length text → mark_of (get_or text 0 0 ∷ get_or text 1 0 ∷ get_or text 2 0 ∷ []) ≡ None) → mark_of (get_or text 0 0 ∷ get_or text 1 0 ∷ []) ≡ Some class → longest_front mark_of text ≡ Some (class, 2)
+two_found [] class long none h = absurd (omega arith)
+two_found (a ∷ []) class long none h = absurd (omega arith)
+two_found (a ∷ b ∷ []) class long none h = front_two a b ∙ rw h refl
+two_found (a ∷ b ∷ c ∷ rest) class long none h = front_three a b c rest ∙ rw (none (omega arith), h) refl
+
+-- the mark at the front, where none has two bytes or three
+pub one_found : (text : Text) (b : ℕ) → slice_get text 0 ≡ Some b → (3 ≤ length text → mark_of (get_or text 0 0 ∷ get_or text 1 0 ∷ get_or text 2 0 ∷ []) ≡ None) → (2 ≤ length text → mark_of (get_or text 0 0 ∷ get_or text 1 0 ∷ []) ≡ None) → longest_front mark_of text ≡ longest_front mark_of (b ∷ [])
+one_found [] b e three two = cc
+one_found (a ∷ []) b e three two = let same : a ≡ b = cc in rw same refl
+one_found (a ∷ c ∷ []) b e three two = let same : a ≡ b = cc in front_two a c ∙ rw (two (omega arith)) (sym (front_one a)) ∙ ap (λ x. longest_front mark_of (x ∷ [])) same
+one_found (a ∷ c ∷ d ∷ rest) b e three two = let same : a ≡ b = cc in front_three a c d rest ∙ rw (three (omega arith), two (omega arith)) (sym (front_one a)) ∙ ap (λ x. longest_front mark_of (x ∷ [])) same
 
 pub front_empty : (text : Text) → length text < 1 → longest_front mark_of text ≡ None
 unfolding longest_front

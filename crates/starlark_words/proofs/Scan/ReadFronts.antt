@@ -3,7 +3,7 @@ use Rattle.std.proofs.Common.{◌≡◌, ℕ, ◌+◌, ◌≤◌, Bool, true, []
 use Rattle.std.specs.List.{prefix_len, slice_get}
 use Rattle.starlark_grammar.specs.Front.{longest_front}
 use Rattle.starlark_grammar.specs.Words.{Text, begins, has_base, is_in_name, is_name_start, sign_len}
-use Rattle.starlark_words.specs.Inner.Words.{begins_number, is_digit_alone, is_mark_alone, mark_of_two, quote_after, text_opener}
+use Rattle.starlark_words.specs.Inner.Words.{begins_number, begins_symbol, is_digit_alone, is_mark_alone, quote_after, text_opener}
 use Rattle.starlark_words.proofs.Scan.Marks.{front_three, mark_of}
 
 pub begins_by_one : (test : ℕ → Bool) (text : Text) → begins test (take 1 text) ≡ begins test text
@@ -54,11 +54,10 @@ digit_by_three [] = refl
 digit_by_three (a ∷ []) = refl
 digit_by_three (a ∷ b ∷ rest) = refl
 
-pub two_by_three : (text : Text) → mark_of_two (take 3 text) ≡ mark_of_two text
-two_by_three [] = refl
-two_by_three (a ∷ []) = refl
-two_by_three (a ∷ b ∷ []) = refl
-two_by_three (a ∷ b ∷ c ∷ rest) = refl
+pub symbol_by_two : (text : Text) → begins_symbol (take 2 text) ≡ begins_symbol text
+symbol_by_two [] = refl
+symbol_by_two (a ∷ []) = refl
+symbol_by_two (a ∷ b ∷ rest) = refl
 
 pub first_by_two : (text : Text) → slice_get (take 2 text) 0 ≡ slice_get text 0
 first_by_two [] = refl

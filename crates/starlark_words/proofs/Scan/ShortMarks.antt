@@ -1,5 +1,5 @@
 -- Marks of one byte or two that the byte remainder them makes no longer.
-use Rattle.std.proofs.Common.{◌≡◌, ◌≢◌, ℕ, ◌<◌, Bool, true, false, not, ◌&&◌, ◌||◌, ◌==◌, nat_eq, [], ◌∷◌, get_or, refl, sym, subst, ap, ◌∙◌, Option, None, Some}
+use Rattle.std.proofs.Common.{◌≡◌, ◌≢◌, ℕ, ◌<◌, ◌≤◌, Bool, true, false, not, ◌&&◌, ◌||◌, ◌==◌, nat_eq, [], ◌∷◌, get_or, refl, sym, subst, ap, ◌∙◌, Option, None, Some, arith}
 use Rattle.std.proofs.lemmas.Bool.{agree_below, and_parts, both_ways, not-true, eq-eqb, eqb-true}
 use Rattle.std.specs.Char.{is_ascii_digit}
 use Rattle.std.specs.List.{list_any, slice_get}
@@ -8,13 +8,15 @@ use Rattle.std.specs.Prelude.{IfSome}
 use Rattle.starlark_grammar.specs.Front.{longest_front, language_front}
 use Rattle.starlark_grammar.specs.Pieces.{is_bang}
 use Rattle.starlark_grammar.specs.Words.{Text, class_in, is_name_start, line_ends, symbols}
-use Rattle.starlark_grammar.proofs.Words.Fronts.{front_none}
-use Rattle.starlark_words.specs.Inner.Words.{begins_number, goes_on, is_lone_mark, is_mark_alone, is_symbol, mark_of_two, marks, word_view}
+use Rattle.starlark_grammar.proofs.Words.Fronts.{front_absent, front_none, front_sound}
+use Rattle.starlark_words.specs.Inner.Words.{begins_number, goes_on, is_lone_mark, is_mark_alone, is_symbol, begins_symbol, marks, word_len, word_view}
 use Rattle.starlark_words.specs.declared.scanner.word.Word.{Word}
 use Rattle.starlark_grammar.specs.declared.class.Class.{Class}
+use Rattle.starlark_grammar.specs.declared.class.Class.TheVariants.{Fixed}
+use Rattle.starlark_grammar.specs.declared.class.Terminal.TheVariants.{BangEqual}
 use Rattle.starlark_words.proofs.Scan.ByFirst.{front_mark}
 use Rattle.starlark_words.proofs.Scan.Listed.{all_pass, lookup_fails, each_byte, implied}
-use Rattle.starlark_words.proofs.Scan.Marks.{front_three, front_two, mark_is, mark_of}
+use Rattle.starlark_words.proofs.Scan.Marks.{mark_is, mark_of}
 
 -- a byte that such a mark may be
 abbrev is_one : ℕ → Bool
@@ -162,21 +164,6 @@ two_begin_mark b c class h = go (begins_mark b c) refl
         let never : Some class ≡ None = sym h ∙ none in
         cc
 
-is_none : Option Class → Bool
-is_none None = true
-is_none (Some class) = false
-
--- a word of three bytes of which the first two are a mark ends with `=`
-abbrev ends_so : Text → Bool
-ends_so (x ∷ y ∷ z ∷ word) = nat_eq 61 z || is_none (mark_of (x ∷ y ∷ []))
-ends_so word = true
-
-no_third : (b c d : ℕ) (class : Class) → nat_eq 61 d ≡ false → mark_of (b ∷ c ∷ []) ≡ Some class → mark_of (b ∷ c ∷ d ∷ []) ≡ None
-unfolding line_ends symbols is_none class_in
-no_third b c d class other h =
-    let fails : ends_so (b ∷ c ∷ d ∷ []) ≡ false = rw (other, h) refl in
-    mark_is (b ∷ c ∷ d ∷ []) ∙ rw (lookup_fails ends_so (b ∷ c ∷ d ∷ []) line_ends refl fails, lookup_fails ends_so (b ∷ c ∷ d ∷ []) symbols refl fails) refl
-
 is_not : (b k : ℕ) → is_other_start b ≡ false → is_other_start k ≡ true → b ≢ k
 is_not b k h other e = both_ways _ h (ap is_other_start e ∙ other)
 
@@ -190,20 +177,50 @@ two_at_front b c rest class small h =
     let start = not-true _ one.0 in
     (front_mark (b ∷ c ∷ rest) b refl small (is_not b 32 start refl) (is_not b 9 start refl) (is_not b 35 start refl) (is_not b 39 start refl) (is_not b 34 start refl) (not-true _ two.0) (not-true _ three.0), not-true _ three.1)
 
-pub front_of_two : (text : Text) (class : Class) → ((i : ℕ) → get_or text i 0 < 256) → mark_of_two text ≡ Some class → (language_front text ≡ Some (class, 2)) × (is_bang text ≡ false)
-front_of_two [] class small h = cc
-front_of_two (b ∷ []) class small h = cc
-front_of_two (b ∷ c ∷ []) class small h =
-    let found = two_at_front b c [] class (small 0) h in
-    (found.0 ∙ front_two b c ∙ rw h refl, found.1)
-front_of_two (b ∷ c ∷ d ∷ rest) class small h = go (nat_eq 61 d) refl h
+is_none : Option Class → Bool
+is_none None = true
+is_none (Some class) = false
+
+-- where a byte is a mark, some mark is at the front
+some_front : (b : ℕ) (rest : Text) → is_none (mark_of (b ∷ [])) ≡ false → longest_front mark_of (b ∷ rest) ≢ None
+unfolding is_none
+some_front b rest some none = let never : is_none (mark_of (b ∷ [])) ≡ true = ap is_none (front_absent mark_of (b ∷ rest) none 1 (omega arith) (omega arith)) in both_ways _ some never
+
+-- where two bytes are a mark, some mark is at the front
+some_two : (b c : ℕ) (rest : Text) (class : Class) → mark_of (b ∷ c ∷ []) ≡ Some class → longest_front mark_of (b ∷ c ∷ rest) ≢ None
+some_two b c rest class h none = let never : Some class ≡ None = sym h ∙ front_absent mark_of (b ∷ c ∷ rest) none 2 (omega arith) (omega arith) in cc
+
+symbol_is_mark : (b : ℕ) → b < 256 → is_one b ≡ true → is_none (mark_of (b ∷ [])) ≡ false
+unfolding line_ends symbols is_none class_in
+symbol_is_mark b small h = not-true _ (one_passes (λ b. not (is_none (mark_of (b ∷ [])))) b refl small h)
+
+bang_equal : mark_of (33 ∷ 61 ∷ []) ≡ Some (Fixed BangEqual)
+unfolding line_ends symbols class_in
+bang_equal = refl
+
+-- a text that begins with a symbol of two bytes or more, or with one that longer ones begin with
+pub front_symbol : (text : Text) → ((i : ℕ) → get_or text i 0 < 256) → begins_symbol text ≡ true → (language_front text ≡ longest_front (class_in marks) text) × (is_bang text ≡ false) × (longest_front (class_in marks) text ≢ None)
+front_symbol [] small h = cc
+front_symbol (x ∷ []) small h =
+    let one = symbol_is_one x (and_parts _ _ h).0 in
+    (front_marks (x ∷ []) x refl (small 0) one (no_digit x (small 0) one), one_is_no_bang x [] (small 0) one, some_front x [] (symbol_is_mark x (small 0) one))
+front_symbol (x ∷ c ∷ rest) small h = go (x == 33 && c == 61) refl h
   where
-    go : (equal : Bool) → nat_eq 61 d ≡ equal → mark_of_two (b ∷ c ∷ d ∷ rest) ≡ Some class → (language_front (b ∷ c ∷ d ∷ rest) ≡ Some (class, 2)) × (is_bang (b ∷ c ∷ d ∷ rest) ≡ false)
-    go true e h = let none = rw e at h in cc
+    go : (equal : Bool) → (x == 33 && c == 61) ≡ equal → begins_symbol (x ∷ c ∷ rest) ≡ true → (language_front (x ∷ c ∷ rest) ≡ longest_front (class_in marks) (x ∷ c ∷ rest)) × (is_bang (x ∷ c ∷ rest) ≡ false) × (longest_front (class_in marks) (x ∷ c ∷ rest) ≢ None)
+    go true e h =
+        let parts = and_parts _ _ e in
+        let mark : mark_of (x ∷ c ∷ []) ≡ Some (Fixed BangEqual) = rw (eqb-true x 33 parts.0, eqb-true c 61 parts.1) bang_equal in
+        let found = two_at_front x c rest (Fixed BangEqual) (small 0) mark in
+        (found.0, found.1, some_two x c rest (Fixed BangEqual) mark)
     go false e h =
-        let mark : mark_of (b ∷ c ∷ []) ≡ Some class = rw e at h in
-        let found = two_at_front b c (d ∷ rest) class (small 0) mark in
-        (found.0 ∙ front_three b c d rest ∙ rw (no_third b c d class e mark, mark) refl, found.1)
+        let parts = and_parts _ _ (subst (λ (l : Bool). (l || (is_symbol x && not (x == 46))) ≡ true) e h) in
+        let one = symbol_is_one x parts.0 in
+        (front_marks (x ∷ c ∷ rest) x refl (small 0) one (rw (no_digit x (small 0) one, not-true _ parts.1) refl), one_is_no_bang x (c ∷ rest) (small 0) one, some_front x (c ∷ rest) (symbol_is_mark x (small 0) one))
+
+-- a mark that was found has a byte or more
+pub some_len : (found : Option Word) (text : Text) → option_map word_view found ≡ longest_front mark_of text → longest_front mark_of text ≢ None → 1 ≤ word_len found
+some_len None text is some = absurd (some (sym is))
+some_len (Some word) text is some = (front_sound mark_of text word.class word.len (sym is)).0
 
 -- a word that was found
 pub single_word : (found : Option Word) (front : Option (Class × ℕ)) → option_map word_view found ≡ front → IfSome found (λ word. Some (word_view word) ≡ front)

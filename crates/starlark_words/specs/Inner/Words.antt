@@ -1,5 +1,5 @@
 -- Words, and the tables and tests by which the scanner finds them.
-use Rattle.std.specs.Prelude.{◌≡◌, ℕ, ◌+◌, ◌<◌, if◌then◌else◌, Bool, true, false, not, ◌&&◌, ◌||◌, ◌==◌, nat_eq, List, [], ◌∷◌, ◌++◌, take, length, codes, Option, None, Some, unwrap_or}
+use Rattle.std.specs.Prelude.{◌≡◌, ℕ, ◌+◌, ◌<◌, if◌then◌else◌, Bool, true, false, not, ◌&&◌, ◌||◌, ◌==◌, nat_eq, nat_le, List, [], ◌∷◌, ◌++◌, take, length, codes, Option, None, Some, unwrap_or}
 use Rattle.std.specs.List.{filter, list_any}
 use Rattle.std.specs.Map.{lookup}
 use Rattle.std.specs.Option.{option_map}
@@ -38,7 +38,7 @@ begin_listed_name a b len = list_any (λ row. bytes_eq (take 2 row.0) (a ∷ b �
 
 -- a name may be a keyword or a reserved word, by its first two bytes and its length: each of them passes this test
 abbrev pub may_be_listed : grammar.Text → Bool
-may_be_listed (a ∷ b ∷ rest) = begin_listed_name a b (length (a ∷ b ∷ rest))
+may_be_listed (a ∷ b ∷ rest) = nat_le (length (a ∷ b ∷ rest)) 8 && begin_listed_name a b (length (a ∷ b ∷ rest))
 may_be_listed text = false
 
 -- the class of an entry in the table of keywords and reserved words
@@ -77,6 +77,12 @@ is_mark_alone [] = false
 is_mark_alone (b ∷ []) = is_lone_mark b
 is_mark_alone (b ∷ c ∷ rest) = is_lone_mark b || (is_symbol b && not (goes_on b c))
 
+-- the text begins with `!=`, or with a symbol that begins longer ones and is no point
+abbrev pub begins_symbol : grammar.Text → Bool
+begins_symbol [] = false
+begins_symbol (a ∷ []) = is_symbol a && not (a == 46)
+begins_symbol (a ∷ b ∷ rest) = (a == 33 && b == 61) || (is_symbol a && not (a == 46))
+
 -- the text begins with a digit, or with a point and a digit
 abbrev pub begins_number : grammar.Text → Bool
 begins_number [] = false
@@ -86,11 +92,6 @@ begins_number (a ∷ b ∷ rest) = is_ascii_digit a || (a == 46 && is_ascii_digi
 -- the text begins with a digit of this value
 abbrev pub IsDigitAt : ℕ → grammar.Text → Type 0
 IsDigitAt value text = (value < 10) × (take 1 text ≡ (value + 48) ∷ [])
-
--- the class of a mark of two bytes, if no `=` follows, which may extend it
-abbrev pub mark_of_two : grammar.Text → Option Class
-mark_of_two (a ∷ b ∷ rest) = if grammar.begins (nat_eq 61) rest then None else grammar.class_in marks (a ∷ b ∷ [])
-mark_of_two text = None
 
 -- a byte that may be part of a number
 abbrev pub may_be_in_number : ℕ → Bool

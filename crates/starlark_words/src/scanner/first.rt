@@ -5,9 +5,7 @@ ghost use Rattle.starlark_grammar.specs.Words as grammar;
 ghost use Rattle.starlark_words.specs.Inner.Words.{goes_on, is_lone_mark, is_symbol};
 
 // One letter for each byte: `n` if a name may begin with it, `l` if it is a mark that begins no
-// longer
-
-// one, `s` if it is a symbol that begins longer ones.
+// longer one, `s` if it is a symbol that begins longer ones.
 static FIRST: [u8; 256] = *b"\
     ----------l---------------------\
     -----ss-llsslsss----------llsss-\

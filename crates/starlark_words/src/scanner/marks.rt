@@ -3,7 +3,7 @@
 ghost use Rattle.std.specs.Prelude.{◌≡◌, ◌≤◌, ◌∷◌, []};
 ghost use Rattle.std.specs.Option.{option_map};
 ghost use Rattle.starlark_grammar.specs.Front.{longest_front};
-ghost use Rattle.starlark_words.specs.Inner.Words.{is_mark_alone, mark_of_two, marks, word_len, word_view};
+ghost use Rattle.starlark_words.specs.Inner.Words.{begins_symbol, is_mark_alone, marks, word_len, word_view};
 ghost use Rattle.starlark_grammar.specs.Words.{class_in};
 
 use super::first::{goes_on, is_lone_mark, is_symbol};
@@ -92,6 +92,7 @@ fn double(first: u8, second: u8) -> Option<Class>
 
 /// The class of a mark of three bytes.
 #[tactic(auto, unfolding(starlark_grammar::specs::Words::class_in, starlark_grammar::specs::Words::line_ends, starlark_grammar::specs::Words::symbols))]
+#[inline(always)]
 fn triple(first: u8, second: u8, third: u8) -> Option<Class>
     ensures { result ≡ class_in marks (first ∷ second ∷ third ∷ []) }
 {
@@ -105,16 +106,15 @@ fn triple(first: u8, second: u8, third: u8) -> Option<Class>
     }
 }
 
-/// Class of the mark of two bytes at the front of a text. `None` before an `=`, which may extend
-/// it.
+/// Whether a text begins with `!=`, or with a symbol that begins longer ones and is no point.
 #[inline(always)]
-pub(crate) fn mark_of_two(text: &[u8]) -> Option<Class>
-    ensures { result ≡ mark_of_two text.now }
+pub(crate) fn begins_symbol(text: &[u8]) -> bool
+    ensures { result ≡ begins_symbol text.now }
 {
     match text {
-        [_, _, b'=', ..] => None,
-        [first, second, ..] => double(*first, *second),
-        _ => None,
+        [b'!', b'=', ..] => true,
+        [first, ..] => is_symbol(*first) && *first != b'.',
+        [] => false,
     }
 }
 
@@ -130,38 +130,23 @@ pub(crate) fn longest_of_one(first: u8) -> Option<Word>
     }
 }
 
-/// The longest mark at the front of two bytes.
-fn longest_of_two(first: u8, second: u8) -> Option<Word>
-    ensures word { option_map word_view result ≡ longest_front (class_in marks) (first ∷ second ∷ []) }
-    ensures len { word_len result ≤ 2 }
-{
-    match double(first, second) {
-        Some(class) => Some(Word { class, len: 2 }),
-        None => longest_of_one(first),
-    }
-}
-
-/// The longest mark at the front of three bytes.
-fn longest_of_three(first: u8, second: u8, third: u8) -> Option<Word>
-    ensures word { option_map word_view result ≡ longest_front (class_in marks) (first ∷ second ∷ third ∷ []) }
-    ensures len { word_len result ≤ 3 }
-{
-    match triple(first, second, third) {
-        Some(class) => Some(Word { class, len: 3 }),
-        None => longest_of_two(first, second),
-    }
-}
-
 /// The longest mark at the front of a text; `None` if there is none.
-#[inline(never)]
+// Inlined: a result in memory costs each lexeme of a mix 8 %. Each table stands in it once, since the
+// compiler drops the hint from a caller that would grow very large.
+#[inline(always)]
 pub(crate) fn mark_from(text: &[u8]) -> Option<Word>
     ensures word { option_map word_view result ≡ longest_front (class_in marks) text.now }
     ensures len { word_len result ≤ 3 }
 {
-    match text {
-        [] => None,
-        [first] => longest_of_one(*first),
-        [first, second] => longest_of_two(*first, *second),
-        [first, second, third, ..] => longest_of_three(*first, *second, *third),
+    if let [first, second, third, ..] = text {
+        if let Some(class) = triple(*first, *second, *third) {
+            return Some(Word { class, len: 3 });
+        }
     }
+    if let [first, second, ..] = text {
+        if let Some(class) = double(*first, *second) {
+            return Some(Word { class, len: 2 });
+        }
+    }
+    longest_of_one(*text.first()?)
 }

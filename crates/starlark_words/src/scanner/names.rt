@@ -1,7 +1,7 @@
 //! Words that begin with a letter or `_`: keywords, reserved words, identifiers, and openers with a
 //! prefix.
 
-ghost use Rattle.std.specs.Prelude.{◌≡◌, ◌≤◌, ◌<◌, ◌+◌, ◌-◌, ◌*◌, IfSome, Some, length, slice_get, nat_eq, take, true, unwrap_or};
+ghost use Rattle.std.specs.Prelude.{◌≡◌, ◌≤◌, ◌<◌, ◌+◌, ◌-◌, ◌*◌, ◌^◌, IfSome, Some, length, slice_get, nat_eq, take, true, unwrap_or};
 ghost use Rattle.std.specs.List.{prefix_len};
 ghost use Rattle.std.specs.Map.{lookup};
 ghost use Rattle.std.specs.Option.{option_map};
@@ -27,6 +27,9 @@ enum Listing {
 
 /// The greatest length of a literal's prefix.
 const PREFIX_LEN: usize = 2;
+
+/// The greatest length of a keyword or a reserved word. Longer names need no jump by their first byte.
+const LISTED_LEN: usize = 8;
 
 /// Whether a keyword or a reserved word of a length begins with two bytes.
 #[tactic(auto, unfolding(starlark_grammar::specs::Words::names))]
@@ -71,7 +74,9 @@ fn may_be_listed(name: &[u8]) -> bool
     ensures { result ≡ may_be_listed name.now }
 {
     match name {
-        [first, second, ..] => begin_listed_name(*first, *second, name.len()),
+        [first, second, ..] => {
+            name.len() <= LISTED_LEN && begin_listed_name(*first, *second, name.len())
+        }
         _ => false,
     }
 }
@@ -152,8 +157,7 @@ fn more_letters(name: &str) -> Listing
 }
 
 /// Entry of a name in the table of keywords: it is compared with the words of its length, frequent
-/// ones
-/// first.
+/// ones first.
 #[inline(never)]
 fn listing_of(name: &str) -> Listing
     ensures { listing_view result ≡ unwrap_or (lookup (bytes_eq name.now) grammar.names) class.Identifier }
@@ -210,16 +214,16 @@ fn prefixed_opener(text: &str, len: usize, remainder: Option<u8>) -> Option<Clas
     opener_class(&text[..len + 1])
 }
 
-/// The longest word at the front of a text that begins with a letter or `_`. The caller has counted
-/// the
-/// read of that byte.
+/// The longest word at the front of a text that begins with a letter or `_`. Counts `passed` reads
+/// besides, with that of this byte.
 #[inline(always)]
-pub(crate) fn name_from(reads: &mut ReadCounter, text: &str) -> Word
-    requires { grammar.begins grammar.is_name_start text.now ≡ true }
+pub(crate) fn name_from(reads: &mut ReadCounter, passed: usize, text: &str) -> Word
+    requires begins { grammar.begins grammar.is_name_start text.now ≡ true }
+    requires few { passed < 2 ^ 33 }
     ensures word { Some (word_view result) ≡ language_front text.now }
-    ensures reads { AreReads (result.len - 1) (5 * result.len - 4) reads.old reads.new }
+    ensures reads { AreReads (passed + (result.len - 1)) (passed + (5 * result.len - 4)) reads.old reads.new }
 {
-    let (more, remainder) = name_run(reads, &text.as_bytes()[1..]);
+    let (more, remainder) = name_run(reads, passed, &text.as_bytes()[1..]);
     let len = 1 + more;
     match prefixed_opener(text, len, remainder) {
         Some(class) => Word {

@@ -3,26 +3,30 @@ use Rattle.std.specs.Str.{IsCharBoundary}
 use Rattle.std.proofs.lemmas.List.{take_rest}
 use Rattle.starlark_token.specs.declared.tokens.Token.TheVariants as token
 use Rattle.starlark_token.specs.TokenViews.{token_view}
+use Rattle.starlark_reader.proofs.Indentation.CommentBlanks.{begins_here}
 use Rattle.starlark_reader.proofs.Indentation.CommentLines.{comment_begin, comment_lexeme, comment_value, part_before_feed}
 use Rattle.starlark_reader.proofs.Indentation.Margins.{feed_measured}
 use Rattle.starlark_reader.proofs.Indentation.Pending.{IsMeasured, measured}
 use Rattle.starlark_reader.proofs.comments.first_comment.Goals as goal
 use Rattle.starlark_reader.proofs.comments.first_comment.Goals.{After-comment_end}
 
+pub before_comment_len-blanks-requires : goal.before_comment_len-blanks-requires
+before_comment_len-blanks-requires c = record { comment = rw c.as_bytes.ensures.value (begins_here c.args.text.now c.args.from c.args.to c.requires.comments c.requires.some) }
+
 pub line_len-len-requires : goal.line_len-len-requires
-line_len-len-requires c = feed_measured _ _ _ _ c.blanks_len-blanks.ensures.value (take_rest _ c.blanks_len-blanks.result) c.before_lf_len.ensures.value
+line_len-len-requires c = feed_measured _ _ _ _ c.before_comment_len-blanks.ensures.value (take_rest _ c.before_comment_len-blanks.result) c.before_lf_len.ensures.value
 
 pub comment_end-requires : goal.comment_end-requires
-comment_end-requires c = feed_measured _ _ _ _ c.blanks_len-blanks.ensures.value (take_rest _ c.blanks_len-blanks.result) c.before_lf_len.ensures.value
+comment_end-requires c = feed_measured _ _ _ _ c.before_comment_len-blanks.ensures.value (take_rest _ c.before_comment_len-blanks.result) c.before_lf_len.ensures.value
 
 -- the lengths found in the first line
-first : (c : goal.After-comment_end) → IsMeasured c.args.text.now c.args.from c.args.to c.blanks_len-blanks.result c.comment_end.result c.line_len-len.result
+first : (c : goal.After-comment_end) → IsMeasured c.args.text.now c.args.from c.args.to c.before_comment_len-blanks.result c.comment_end.result c.line_len-len.result
 first c =
     let bytes = c.as_bytes.ensures.value in
-    let feed = feed_measured _ _ _ _ c.blanks_len-blanks.ensures.value (take_rest _ c.blanks_len-blanks.result) c.before_lf_len.ensures.value in
-    measured c.args.text.now c.args.from c.args.to (c.blanks_len-blanks.result + c.before_lf_len.result) c.line_len-len.result c.blanks_len-blanks.result c.comment_end.result c.requires.comments c.requires.some
+    let feed = feed_measured _ _ _ _ c.before_comment_len-blanks.ensures.value (take_rest _ c.before_comment_len-blanks.result) c.before_lf_len.ensures.value in
+    measured c.args.text.now c.args.from c.args.to (c.before_comment_len-blanks.result + c.before_lf_len.result) c.line_len-len.result c.before_comment_len-blanks.result c.comment_end.result c.requires.comments c.requires.some
     (rw bytes at feed) (rw bytes at c.line_len-len.ensures.line) (rw bytes at c.line_len-len.ensures.within) c.line_len-len.ensures.feed
-    (rw bytes at c.blanks_len-blanks.ensures.value) (rw bytes at c.comment_end.ensures.value)
+    (rw bytes at c.before_comment_len-blanks.ensures.value) (rw bytes at c.comment_end.ensures.value)
 
 pub overflow_add-end : goal.overflow_add-end
 overflow_add-end c =
@@ -35,7 +39,7 @@ range-requires-clause-start_le_end c = let order = (first c).order in omega (ari
 pub range-requires-clause-start_boundary : goal.range-requires-clause-start_boundary
 range-requires-clause-start_boundary c = λ some.
     let line = first c in
-    comment_begin c.args.text.now c.args.from c.line_len-len.result (c.args.from + c.blanks_len-blanks.result) c.utf8.text (omega (arith, line.inside, c.requires.comments.inside)) line.passes (ap (λ n. c.args.from + n) line.blanks)
+    comment_begin c.args.text.now c.args.from c.line_len-len.result (c.args.from + c.before_comment_len-blanks.result) c.utf8.text (omega (arith, line.inside, c.requires.comments.inside)) line.passes (ap (λ n. c.args.from + n) line.blanks)
 
 pub range-requires-clause-end_boundary : goal.range-requires-clause-end_boundary
 range-requires-clause-end_boundary c = let line = first c in subst (λ n. IsCharBoundary c.args.text.now (c.args.from + n)) (sym line.part) line.edges.1
@@ -46,20 +50,20 @@ returns-clause-comment c =
     let line = first (goal.at.returns-clause-comment c).After-comment_end in
     let there = take c.line_len-len.result (drop c.args.from c.args.text.now) in
     let said = c.in_ok-comment.ensures.ok ∙ c.range.ensures.value
-    ∙ comment_value c.args.text.now c.args.from c.line_len-len.result (c.args.from + c.blanks_len-blanks.result + 1) (c.args.from + c.comment_end.result) line.passes (ap (λ n. c.args.from + n + 1) line.blanks) (ap (λ n. c.args.from + n) line.part) in
+    ∙ comment_value c.args.text.now c.args.from c.line_len-len.result (c.args.from + c.before_comment_len-blanks.result + 1) (c.args.from + c.comment_end.result) line.passes (ap (λ n. c.args.from + n + 1) line.blanks) (ap (λ n. c.args.from + n) line.part) in
     record {
       line = there;
       first = line.first;
       whole = line.whole;
-      comment = comment_lexeme c.args.from c.blanks_len-blanks.result c.comment_end.result there _ (token.Comment c.in_ok-comment.comment) line.blanks line.part said refl;
+      comment = comment_lexeme c.args.from c.before_comment_len-blanks.result c.comment_end.result there _ (token.Comment c.in_ok-comment.comment) line.blanks line.part said refl;
       remainder = line.remainder;
     }
 
 pub returns-clause-reads : goal.returns-clause-reads
 returns-clause-reads c =
     let line = first (goal.at.returns-clause-reads c).After-comment_end in
-    let feed = feed_measured _ _ _ _ c.blanks_len-blanks.ensures.value (take_rest _ c.blanks_len-blanks.result) c.before_lf_len.ensures.value in
+    let feed = feed_measured _ _ _ _ c.before_comment_len-blanks.ensures.value (take_rest _ c.before_comment_len-blanks.result) c.before_lf_len.ensures.value in
     let some = part_before_feed (take (c.args.to - c.args.from) (drop c.args.from c.as_bytes.result.now)) in (
-      omega (arith, c.blanks_len-blanks.ensures.reads, c.before_lf_len.ensures.reads.0, c.comment_end.ensures.reads),
-      omega (arith, feed, some, line.order, c.comment_end.ensures.value, c.blanks_len-blanks.ensures.reads, c.before_lf_len.ensures.reads.1, c.comment_end.ensures.reads, c.line_len-len.ensures.feed),
+      omega (arith, c.before_comment_len-blanks.ensures.reads, c.before_lf_len.ensures.reads.0, c.comment_end.ensures.reads),
+      omega (arith, feed, some, line.order, c.comment_end.ensures.value, c.before_comment_len-blanks.ensures.reads, c.before_lf_len.ensures.reads.1, c.comment_end.ensures.reads, c.line_len-len.ensures.feed),
     )

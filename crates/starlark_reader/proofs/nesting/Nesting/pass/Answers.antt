@@ -20,7 +20,7 @@ returns-then-eq-2-clause-passes c = λ tokens node e begins h.
     let does : c.change_of-change.result ≡ change_by (Whole node) = c.change_of-change.ensures ∙ ap change_by e in
     let is : c.change_of-change.result ≡ change.EndsFString = same_true the_type (search rules) c.change_of-change.result change.EndsFString (sym c.if-eq-2.ensures) in
     let ends = ends_fstring node (sym does ∙ is) in
-    let counts : AreCounted c.after-self.result (node ∷ tokens) = counted c.change_of-change.result node tokens c.args.self.now.brackets c.after-self.result does (c.after-self.ensures c.requires.room) h.opened h.closed in
+    let counts : AreCounted c.count.new.self (node ∷ tokens) = counted c.change_of-change.result node tokens c.args.self.now.brackets c.count.new.self does c.count.ensures h.opened h.closed in
     let size = c.args.self.now.fstrings.ok.0 in
     let left = but_last c.args.self.now.fstrings.items c.pop.new.self.items c.pop.result tokens c.pop.ensures.items (λ some. c.pop.ensures.variant.1 (omega (arith, size, some))) h.fstrings in
     record {
@@ -34,7 +34,7 @@ returns-in-Some-clause-passes c = λ tokens node e begins h.
     let does : c.change_of-change.result ≡ change_by (Whole node) = c.change_of-change.ensures ∙ ap change_by e in
     let differs = same_false the_type c.change_of-change.result change.EndsFString (sym c.if-eq-2.ensures) in
     let keeps = keeps_fstrings node begins (λ ends. differs (does ∙ ends)) in
-    let counts : AreCounted c.after-self.result (node ∷ tokens) = counted c.change_of-change.result node tokens c.args.self.now.brackets c.after-self.result does (c.after-self.ensures c.requires.room) h.opened h.closed in
+    let counts : AreCounted c.count.new.self (node ∷ tokens) = counted c.change_of-change.result node tokens c.args.self.now.brackets c.count.new.self does c.count.ensures h.opened h.closed in
     let room : brackets_of tokens + 1 < 2 ^ 64 = rw (← h.opened, ← h.closed) c.requires.room in
     let size = c.args.self.now.fstrings.ok.0 in
     let some = c.in-Some.ensures.variant.0 refl in
@@ -55,7 +55,7 @@ returns-in_default-clause-passes c = λ tokens node e begins h.
     let does : c.change_of-change.result ≡ change_by (Whole node) = c.change_of-change.ensures ∙ ap change_by e in
     let differs = same_false the_type c.change_of-change.result change.EndsFString (sym c.if-eq-2.ensures) in
     let keeps = keeps_fstrings node begins (λ ends. differs (does ∙ ends)) in
-    let counts : AreCounted c.after-self.result (node ∷ tokens) = counted c.change_of-change.result node tokens c.args.self.now.brackets c.after-self.result does (c.after-self.ensures c.requires.room) h.opened h.closed in
+    let counts : AreCounted c.count.new.self (node ∷ tokens) = counted c.change_of-change.result node tokens c.args.self.now.brackets c.count.new.self does c.count.ensures h.opened h.closed in
     let size = c.args.self.now.fstrings.ok.0 in
     let none : c.args.self.now.fstrings.items ≡ [] = nothing_last c.args.self.now.fstrings.items (λ some. let held = c.in_default.ensures.variant.1 (omega (arith, size, some)) in cc) in
     let more = none_onward node tokens keeps (subst (λ (fstrings : List OpenFString). AreOpen (reverse fstrings) tokens) none h.fstrings) in

@@ -1,65 +1,65 @@
-use Rattle.std.proofs.Common.{◌≡◌, ◌+◌, ◌-◌, ◌∙◌, [], ap, arith, drop, length, refl}
+use Rattle.std.proofs.Common.{◌≡◌, ◌+◌, ◌-◌, ◌∙◌, ◌||◌, Bool, true, false, ap, arith, drop, length, refl, sym}
+use Rattle.std.specs.Prelude.{not}
 use Rattle.std.proofs.lemmas.List.{length-drop}
 use Rattle.starlark_grammar.specs.Words.{Text}
-use Rattle.starlark_reader.specs.Inner.Pending.{owed}
-use Rattle.starlark_reader.proofs.Pieces.MarginReads.{refused_reads}
 use Rattle.starlark_grammar.specs.Margins.{margin_of}
 use Rattle.starlark_token.specs.TokenViews.{token_view}
 use Rattle.starlark_token.specs.declared.tokens.Token.TheVariants as token
+use Rattle.starlark_reader.specs.declared.margins.Margin.{Margin}
 use Rattle.starlark_reader.specs.declared.reader.Reader.{Reader}
 use Rattle.starlark_reader.specs.Inner.Layout.{IsMargin}
 use Rattle.starlark_reader.specs.Inner.MarginLines.{IsOfMargin}
-use Rattle.starlark_reader.proofs.Indentation.Laid.{behind_none, end_refused, end_taken}
-use Rattle.starlark_reader.proofs.Pieces.Taken.{line_less, line_refused, line_taken}
+use Rattle.starlark_reader.proofs.Indentation.Laid.{behind_none, end_taken}
+use Rattle.starlark_reader.proofs.Pieces.Taken.{line_less, line_taken}
 use Rattle.starlark_reader.proofs.reader.Reader.lay_line_end.Goals as goal
 
-pub take_margin-requires-clause-idle : goal.take_margin-requires-clause-idle
-take_margin-requires-clause-idle c = behind_none c.args.text.now c.args.self.now.pending c.requires.idle.1
+content : (a b : Bool) → (not a || b) ≡ false → a ≡ true
+content true b h = refl
+content false b h = cc
 
-pub returns-then-not-branch-clause-read : goal.returns-then-not-branch-clause-read
-returns-then-not-branch-clause-read c = λ history kept stands.
-    let new = c.refuse.ensures in
-    let seen = margin_of (drop (c.args.self.now.at + c.args.len) c.args.text.now) in
-    let margin : IsMargin seen c.margin_of-margin.result = rw c.range_from.ensures.value at c.margin_of-margin.ensures.margin in
-    let left = rw c.if-not-branch.true at (c.in_ok-take_margin.ensures.laid history.widths seen kept.levels margin) in
-    let refused = end_refused c.args.text.now c.args.self.now.at c.args.len c.args.self.now.levels c.take_margin.new.levels history.widths c.margin_of-margin.result c.nothing-self.result kept.levels margin _ _ left (c.nothing-self.ensures c.args.text.now)
-    c.margin_fault-fault.result.0 c.margin_fault-fault.result.1 (c.margin_fault-fault.ensures seen margin) in
-    line_refused c.args.text.now history c.args.self.now c.args.len kept stands c.refuse.new.self c.margin_fault-fault.result.0 c.margin_fault-fault.result.1 (rw new refused)
-    (ap (λ (reader : Reader). reader.stage) new) (ap (λ (reader : Reader). reader.at) new) (ap (λ (reader : Reader). reader.before) new)
+pub change_width-requires-clause-margin : goal.change_width-requires-clause-margin
+change_width-requires-clause-margin c =
+    let some = content c.in-Some.margin.is_content _ (sym c.keeps_widths.ensures ∙ c.if-not-keeps_widths.true) in
+    rw (← c.in-Some.ensures.spaces some) (rw c.range_from.ensures.value at c.in-Some.ensures.margin)
+
+pub change_width-requires-clause-within : goal.change_width-requires-clause-within
+change_width-requires-clause-within c =
+    let some = content c.in-Some.margin.is_content _ (sym c.keeps_widths.ensures ∙ c.if-not-keeps_widths.true) in
+    let spaces : c.in-Some.margin.blanks.len ≡ c.in-Some.margin.blanks.width = ap (λ (margin : Margin). margin.blanks.len) (c.in-Some.ensures.spaces some) in
+    let begin = c.args.self.now.at + c.args.len in
+    let rest : length c.range_from.result.now ≡ length c.args.text.now - begin = ap (λ (t : Text). length t) c.range_from.ensures.value ∙ length-drop begin c.args.text.now in
+    omega (arith, spaces, rest, c.requires.cut.0, c.in-Some.ensures.within)
+
+pub keep_margin-requires-clause-idle : goal.keep_margin-requires-clause-idle
+keep_margin-requires-clause-idle c = behind_none c.args.text.now c.args.self.now.pending c.requires.idle.1
 
 pub returns-clause-read : goal.returns-clause-read
 unfolding token_view
 returns-clause-read c = λ history kept stands.
-    let new = c.step_over.ensures in
+    let new = c.step_to.ensures in
     let begin = c.args.self.now.at + c.args.len in
+    let margin = c.in-Some.margin in
     let seen = margin_of (drop begin c.args.text.now) in
-    let margin : IsMargin seen c.margin_of-margin.result = rw c.range_from.ensures.value at c.margin_of-margin.ensures.margin in
-    let laid = rw c.if-not-branch.false at (c.in_ok-take_margin.ensures.laid history.widths seen kept.levels margin) in
-    let taken = end_taken c.args.text.now c.args.self.now.at c.args.len c.args.self.now.levels c.take_margin.new.levels history.widths c.margin_of-margin.result c.take_margin.new.pending kept.levels margin c.utf8.text c.requires.cut c.in_ok-take_margin.ensures.place laid in
-    let of : IsOfMargin begin seen.at c.args.self.now.levels c.take_margin.new.pending = rw margin.at at c.in_ok-take_margin.ensures.place in
-    line_taken c.args.text.now history c.args.self.now c.args.len kept stands c.step_over.new.self _ token.Newline refl c.utf8.text (rw new taken) (rw new of)
-    (ap (λ (reader : Reader). reader.nesting) new) (ap (λ (reader : Reader). reader.before) new) (ap (λ (reader : Reader). reader.at) new) (ap (λ (reader : Reader). reader.stage) new)
+    let same : IsMargin seen margin = rw c.range_from.ensures.value at c.in-Some.ensures.margin in
+    let levels = c.args.self.now.levels in
+    let laid = c.keep_margin.ensures.laid history.widths seen kept.levels same in
+    let end : begin + margin.blanks.len ≡ c.args.self.now.at + (c.args.len + margin.at + margin.blanks.len) = omega (arith, c.in-Some.ensures.plain) in
+    let taken = end_taken c.args.text.now c.args.self.now.at c.args.len levels levels history.widths margin c.keep_margin.new.pending kept.levels same c.utf8.text c.requires.cut c.keep_margin.ensures.place laid in
+    let of : IsOfMargin begin seen.at levels c.keep_margin.new.pending = rw same.at at c.keep_margin.ensures.place in
+    line_taken c.args.text.now history c.args.self.now c.args.len kept stands c.step_to.new.self _ token.Newline refl c.utf8.text (rw new taken) (rw new of)
+    (ap (λ (reader : Reader). reader.nesting) new) (ap (λ (reader : Reader). reader.before) new) (ap (λ (reader : Reader). reader.at) new ∙ end) (ap (λ (reader : Reader). reader.stage) new)
 
 pub returns-clause-less : goal.returns-clause-less
 returns-clause-less c =
-    let new = c.step_over.ensures in
+    let new = c.step_to.ensures in
     let stands = c.requires.stands in
     let begin = c.args.self.now.at + c.args.len in
+    let margin = c.in-Some.margin in
     let seen = margin_of (drop begin c.args.text.now) in
-    let margin : IsMargin seen c.margin_of-margin.result = rw c.range_from.ensures.value at c.margin_of-margin.ensures.margin in
-    let laid = rw c.if-not-branch.false at (c.in_ok-take_margin.ensures.laid stands.0.widths seen stands.1.levels margin) in
-    let taken = end_taken c.args.text.now c.args.self.now.at c.args.len c.args.self.now.levels c.take_margin.new.levels stands.0.widths c.margin_of-margin.result c.take_margin.new.pending stands.1.levels margin c.utf8.text c.requires.cut c.in_ok-take_margin.ensures.place laid in
-    line_less c.args.text.now stands.0 c.args.self.now c.args.len stands.1 stands.2 c.step_over.new.self taken
-    (ap (λ (reader : Reader). reader.stage) new) (ap (λ (reader : Reader). reader.at) new)
-
-pub returns-then-not-branch-clause-reads : goal.returns-then-not-branch-clause-reads
-returns-then-not-branch-clause-reads c = λ there.
-    let text = c.args.text.now in
-    let begin = c.args.self.now.at + c.args.len in
-    let new = c.refuse.ensures in
-    let seen = margin_of (drop begin text) in
-    let margin : IsMargin seen c.margin_of-margin.result = rw c.range_from.ensures.value at c.margin_of-margin.ensures.margin in
-    let rest : length c.range_from.result.now ≡ length text - begin = ap (λ (t : Text). length t) c.range_from.ensures.value ∙ length-drop begin text in
-    let none = (c.nothing-self.ensures []).1.inside in
-    refused_reads text c.args.len c.margin_fault-fault.result.1 c.margin_of-margin.result c.margin_fault-fault.result.0 c.args.self.now c.refuse.new.self there (omega (arith, rest, c.requires.cut.0, c.margin_of-margin.ensures.within)) margin
-    (c.margin_fault-fault.ensures seen margin) (ap (λ (reader : Reader). reader.stage) new) (omega (arith, ap (λ (reader : Reader). reader.reads) new, c.margin_of-margin.ensures.reads.0), omega (arith, ap (λ (reader : Reader). reader.reads) new, c.margin_of-margin.ensures.reads.1)) (omega (arith, ap (λ (reader : Reader). owed reader.pending) new, none))
+    let same : IsMargin seen margin = rw c.range_from.ensures.value at c.in-Some.ensures.margin in
+    let levels = c.args.self.now.levels in
+    let laid = c.keep_margin.ensures.laid stands.0.widths seen stands.1.levels same in
+    let end : begin + margin.blanks.len ≡ c.args.self.now.at + (c.args.len + margin.at + margin.blanks.len) = omega (arith, c.in-Some.ensures.plain) in
+    let taken = end_taken c.args.text.now c.args.self.now.at c.args.len levels levels stands.0.widths margin c.keep_margin.new.pending stands.1.levels same c.utf8.text c.requires.cut c.keep_margin.ensures.place laid in
+    line_less c.args.text.now stands.0 c.args.self.now c.args.len stands.1 stands.2 c.step_to.new.self taken
+    (ap (λ (reader : Reader). reader.stage) new) (ap (λ (reader : Reader). reader.at) new ∙ end)

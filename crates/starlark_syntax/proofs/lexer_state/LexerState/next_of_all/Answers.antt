@@ -10,33 +10,11 @@ use Rattle.starlark_grammar.proofs.Order.Inside.{lexemes_few}
 use Rattle.starlark_reader.proofs.Pieces.ReaderReads.{begun_reads, here_reads, here_taken_reads}
 use Rattle.starlark_reader.proofs.NextLines.{next_line_inside}
 use Rattle.starlark_syntax.proofs.Reaches.{reached}
-use Rattle.starlark_syntax.proofs.LexerReads.{found_further, found_further_in_code, front_looked, goes_on, plain_reads}
+use Rattle.starlark_syntax.proofs.LexerReads.{found_further, front_looked, goes_on, plain_reads}
 use Rattle.starlark_syntax.proofs.lexer_state.LexerState.next_of_all.Goals as goal
 
 pub overflow_add-self : goal.overflow_add-self
 overflow_add-self c =
-    let inv = c.requires.lexing.1 c.requires.going in
-    let few = lexemes_few c.args.self.now.text.now c.requires.lexing.0 in
-    let small : c.args.self.now.yielded_count + 1 ≤ 2 ^ 34 = omega (arith, inv.0, few) in
-    search (rules, small)
-
-pub returns-in-Some-two_byte_symbol-clause-lexing : goal.returns-in-Some-two_byte_symbol-clause-lexing
-returns-in-Some-two_byte_symbol-clause-lexing c =
-    let inv = c.requires.lexing.1 c.requires.going in
-    let is = c.take_terminal-lexeme.ensures.ahead _ _ (c.front-front.ensures.ahead _ _ inv.1) in
-    let further = one_more (map shown_lexeme (outcome c.args.self.now.text.now).lexemes) c.args.self.now.yielded_count _ is.0 is.1 in
-    let lookahead = front_looked c.args.self.now.text.now c.args.self.now.reader c.args.self.now.looked_to c.args.self.now.lookahead (sym c.is_front.ensures ∙ c.if-not-is_front.false) (c.requires.lexing.3 c.requires.going) in
-    let paid = lookahead.3 in
-    let read = here_taken_reads c.args.self.now.text.now paid.0 3 3 2 c.args.self.now.reader c.front-front.new.self c.take_terminal-lexeme.new.self lookahead.0.stage paid.2 c.front-front.ensures.lookahead (omega (arith)) (omega (arith)) (c.take_terminal-lexeme.ensures.taken.1, c.take_terminal-lexeme.ensures.taken.2) in (
-      c.requires.lexing.0,
-      (λ on. (omega (arith, further.0, length-map (outcome c.args.self.now.text.now).lexemes shown_lexeme), rw further.1 is.2)),
-      goes_on c.looked_further_in_code-self.result _ c.requires.going,
-      (λ on. found_further_in_code c.args.self.now.text.now c.take_terminal-lexeme.new.self c.args.self.now.looked_to paid.0 c.looked_further_in_code-self.result c.looked_further_in_code-self.ensures c.take_terminal-lexeme.ensures.code (omega (arith, paid.1)) read),
-      c.requires.lexing.4,
-    )
-
-pub overflow_add-self-in-Some-two_byte_symbol : goal.overflow_add-self-in-Some-two_byte_symbol
-overflow_add-self-in-Some-two_byte_symbol c =
     let inv = c.requires.lexing.1 c.requires.going in
     let few = lexemes_few c.args.self.now.text.now c.requires.lexing.0 in
     let small : c.args.self.now.yielded_count + 1 ≤ 2 ^ 34 = omega (arith, inv.0, few) in

@@ -1,6 +1,6 @@
-use Rattle.std.proofs.Common.{◌≡◌, true, false, ap, drop, ◌∙◌, ◌||◌, ◌+◌, ◌-◌, ◌*◌, ◌≤◌, ◌^◌, arith, map, refl, rules, sym}
+use Rattle.std.proofs.Common.{◌≡◌, true, false, ap, drop, ◌∙◌, ◌||◌, ◌+◌, ◌-◌, ◌*◌, ◌≤◌, ◌^◌, arith, map, refl, rules, subst, sym}
 use Rattle.std.proofs.lemmas.List.{length-map}
-use Rattle.starlark_reader.specs.Inner.Reads.{HasLooked}
+use Rattle.starlark_reader.specs.Inner.Reads.{HasLooked, IsMarginRead}
 use Rattle.starlark_token.specs.Lexemes.{shown_lexeme}
 use Rattle.starlark_grammar.specs.Reading.{outcome}
 use Rattle.starlark_syntax.proofs.LexerItems.{one_more}
@@ -70,11 +70,14 @@ returns-in-Ok-Newline-clause-lexing c =
     let front = sym c.in-Some.ensures.stands.front in
     let inside = word_inside c.loop-self.self.text.now c.common_word.new.self _ _ _ c.in-Some.field-0.len c.common_word.ensures.code.stage ahead front in
     let margin = c.in-Ok-Newline.ensures.reads (newline_counts c.in-Ok-Newline.field-0 c.in-Ok-Newline.field-0-is) in
-    let read = margin_reads c.loop-self.self.text.now paid.0 c.in-Some.field-0.len c.loop-self.self.reader c.common_word.new.self c.take_line_end.new.self inside.1 inside.0 quick.1.stage paid.2 c.in-Some.ensures.lookahead margin in (
+    let read = margin_reads c.loop-self.self.text.now paid.0 c.in-Some.field-0.len c.loop-self.self.reader c.common_word.new.self c.take_line_end.new.self inside.1 inside.0 quick.1.stage paid.2 c.in-Some.ensures.lookahead margin in
+    let onward = c.in-Ok-Newline.ensures.onward c.in-Ok-Newline.field-0-is in
+    let laid = subst (IsMarginRead c.loop-self.self.text.now c.in-Some.field-0.len c.common_word.new.self c.take_line_end.new.self) onward.0 margin in
+    let past : c.loop-self.self.looked_to ≤ c.take_line_end.new.self.at = omega (arith, quick.2, c.in-Some.ensures.lookahead.0, laid.1) in (
       rw c.loop-self.invariant.0 c.requires.0,
       (λ on. (omega (arith, further.0, length-map (outcome c.loop-self.self.text.now).lexemes shown_lexeme), rw further.1 is.2)),
       goes_on c.looked_after_margin-self.result _ quick.0,
-      (λ on. found_behind_margin c.loop-self.self.text.now c.take_line_end.new.self c.loop-self.self.looked_to paid.0 c.looked_after_margin-self.result c.looked_after_margin-self.ensures (c.in-Ok-Newline.ensures.onward c.in-Ok-Newline.field-0-is) is.2.is_pending (omega (arith, paid.1)) read),
+      (λ on. found_behind_margin c.loop-self.self.text.now c.take_line_end.new.self c.loop-self.self.looked_to paid.0 c.looked_after_margin-self.result c.looked_after_margin-self.ensures past onward is.2.is_pending (omega (arith, paid.1)) read),
       c.loop-self.invariant.7,
     )
 

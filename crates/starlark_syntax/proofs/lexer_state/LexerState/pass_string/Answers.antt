@@ -14,7 +14,7 @@ use Rattle.starlark_grammar.proofs.Order.Inside.{lexemes_few}
 use Rattle.starlark_reader.proofs.Pieces.ReaderReads.{here_reads}
 use Rattle.starlark_reader.proofs.NextLines.{next_line_inside}
 use Rattle.starlark_syntax.proofs.Reaches.{reached}
-use Rattle.starlark_syntax.proofs.LexerReads.{found_further, front_is, goes_on, plain_reads, text_opener_len}
+use Rattle.starlark_syntax.proofs.LexerReads.{front_is, plain_reads, text_opener_len}
 use Rattle.starlark_syntax.proofs.lexer_state.LexerState.pass_string.Goals as goal
 
 pub plain_body_len-requires-clause-ready : goal.plain_body_len-requires-clause-ready
@@ -43,11 +43,14 @@ returns-clause-lexing c =
     let paid = c.requires.opened.1 in
     let opener = text_opener_len (drop c.plain_body_len.new.self.at c.args.self.now.text.now) c.in-Some-Opener.is_raw c.in-Some-Opener.quote c.in-Some-Opener.field-0.len c.plain_body_len.ensures.stands.front in
     let read = plain_reads c.args.self.now.text.now paid.0 2 2 c.in-Some-Opener.field-0.len c.in-Ok.body c.args.self.now.reader c.text_opener.new.self c.plain_body_len.new.self c.pass_plain_text.new.self front.0.stage paid.2 c.text_opener.ensures.lookahead (omega arith, omega arith) c.in-Ok.ensures.lookahead opener
-    (c.pass_plain_text.ensures.taken.1, c.pass_plain_text.ensures.taken.2) in (
+    (c.pass_plain_text.ensures.taken.1, c.pass_plain_text.ensures.taken.2) in
+    let same = c.text_opener.ensures.lookahead.0 in
+    let stands = rw same at (sym c.in-Some-Opener.ensures.stands.front) in
+    let reach = c.requires.opened.0 _ c.in-Some-Opener.field-0.len stands in (
       c.requires.lexing.0,
       (λ on. (omega (arith, further.0, length-map (outcome c.args.self.now.text.now).lexemes shown_lexeme), rw further.1 is.2)),
-      goes_on c.looked_further-self.result _ c.requires.going,
-      (λ on. found_further c.args.self.now.text.now c.pass_plain_text.new.self c.args.self.now.looked_to paid.0 c.looked_further-self.result c.looked_further-self.ensures c.pass_plain_text.ensures.code (omega (arith, paid.1)) read),
+      c.requires.going,
+      (λ on. (c.pass_plain_text.ensures.code, omega (arith, reach, same, c.in-Ok.ensures.lookahead.0, c.pass_plain_text.ensures.taken.1.0), (paid.0, omega (arith, paid.1), read))),
       c.requires.lexing.4,
     )
 
