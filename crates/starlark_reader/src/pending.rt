@@ -114,8 +114,11 @@ impl Pending {
     pub(crate) fn is_nothing(&self) -> bool
         ensures { result ≡ true → (text : Text) → pending_lexemes text self.now ≡ [] }
     {
+        if self.has_comments() {
+            return false;
+        }
         match self.remainder {
-            AfterComments::Dedents { count, .. } if count == 0 => self.from >= self.to,
+            AfterComments::Dedents { count, .. } => count == 0,
             _ => false,
         }
     }

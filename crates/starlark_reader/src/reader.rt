@@ -1,6 +1,6 @@
 //! The reader: reads a text piece by piece, and stores what later pieces depend on.
 
-ghost use Rattle.std.specs.Prelude.{◌≡◌, ◌≢◌, true, false, ◌<◌, ◌≤◌, ◌+◌, ◌-◌, ◌*◌, ◌^◌, [], ℕ, None, Some, List, Option, codes, drop, length, map, nat_eq, nat_lt, take, OnErr, OnOk, IfErr, IfOk, IfSome};
+ghost use Rattle.std.specs.Prelude.{◌≡◌, ◌≢◌, true, false, ◌<◌, ◌≤◌, ◌+◌, ◌-◌, ◌*◌, ◌^◌, [], ℕ, None, Some, List, Option, codes, drop, length, map, nat_eq, nat_lt, string_bytes, take, OnErr, OnOk, IfErr, IfOk, IfSome};
 ghost use Rattle.std.specs.List.{ends_with};
 ghost use Rattle.std.specs.Str.{IsCharBoundary};
 ghost use Rattle.starlark_words.specs.Inner.Reads.{AreReads, more_reads};
@@ -14,10 +14,10 @@ ghost use Rattle.starlark_reader.specs.Inner.Layout.{IsMargin, spaces_margin};
 ghost use Rattle.starlark_grammar.specs.Pieces as grammar;
 ghost use Rattle.starlark_grammar.specs.declared.class.Class.TheVariants as class;
 ghost use Rattle.starlark_grammar.specs.declared.class.LiteralKind.TheVariants as kind;
-ghost use Rattle.starlark_reader.specs.Inner.Pending.{IsIdle, IsPending};
+ghost use Rattle.starlark_reader.specs.Inner.Pending.{IsIdle, IsPending, pending_lexemes};
 ghost use Rattle.starlark_reader.specs.Inner.MarginCuts.{IsCutBefore};
 ghost use Rattle.starlark_reader.specs.Inner.Reads.{HasStarted, HasLooked, HasLookedHere, HasRead, HasReadAt, HasReadNext, IsMarginRead, IsPassed, IsPassedBy, IsTaken};
-ghost use Rattle.starlark_reader.specs.Inner.Reader.{CountsLineEnds, has_read_none, IsAhead, IsAheadAfter, IsAheadPast, IsAtCode, IsBangHere, IsInCode, IsInFlatMargin, IsReached, IsStateAfter, IsNext, IsOver, IsPlainTextHere, IsRead, IsReady, IsSomething, IsTokenOf, IsWordHere, before_view, left_here, left_to_read, name_lexeme, newline_if, newline_of, silent_sort, step_here, text_lexeme};
+ghost use Rattle.starlark_reader.specs.Inner.Reader.{CountsLineEnds, has_read_none, IsAhead, IsAheadAfter, IsAheadPast, IsAtCode, IsBangHere, IsInCode, IsInFlatMargin, IsReached, IsStateAfter, IsNext, IsOver, IsPlainTextHere, IsRead, IsReady, IsSomething, IsTokenOf, IsWordHere, before_margin, before_view, left_here, left_to_read, name_lexeme, newline_if, newline_of, silent_sort, step_here, text_lexeme};
 ghost use Rattle.starlark_reader.specs.Inner.Pieces.{IsAfter, IsLineEnd};
 ghost use Rattle.starlark_grammar.specs.AfterFaults.{next_line};
 ghost use Rattle.starlark_grammar.specs.Cuts.{is_layout, is_settled};
@@ -106,13 +106,42 @@ pub enum Next {
     Nothing,
 }
 
-/// The outcome of a newline: a fault in the margin after it, a `Newline` token, or nothing because
-/// the newline doesn't count.
+/// The outcome of a newline.
 #[derive(Clone, Copy)]
 pub enum LineEnd {
+    /// A fault in the margin after it.
     Fault,
+    /// A `Newline` token. Comments, an `Indent` or `Dedent`s may be pending after it.
+    Pending,
+    /// A `Newline` token. No lexeme is pending after it.
     Newline,
+    /// Nothing: the newline doesn't count.
     Passed,
+}
+
+/// The outcome of a newline, by whether the margin after it has no fault.
+#[inline(always)]
+fn before_margin(is_laid: bool) -> LineEnd
+    ensures { result ≡ before_margin is_laid }
+{
+    if is_laid {
+        LineEnd::Pending
+    } else {
+        LineEnd::Fault
+    }
+}
+
+/// A text as a `String`.
+// Most texts between expressions are empty, and a call for nothing costs 3 % of f-strings.
+#[inline(always)]
+fn owned(alloc: Global, text: &str) -> Result<String, AllocError>
+    ensures ok { IfOk result (λ value. string_bytes value ≡ text.now) }
+{
+    if text.is_empty() {
+        Ok(String::new(alloc))
+    } else {
+        String::from_str(alloc, text)
+    }
 }
 
 impl Reader {
@@ -212,7 +241,6 @@ impl Reader {
         ensures less { OnOk result (left_to_read text.now self.new self.new.stage < left_to_read text.now self.old Stage.Onward) }
         ensures reads { OnOk result ((before : ℕ) → AreReads (margin.at + margin.blanks.len) (5 * margin.at + margin.blanks.len + 2) before self.old.reads → IsLineEnd len (drop self.old.at text.now) →
             IsMarginRead text.now len (record self.old { reads = before }) self.new self.new.stage) }
-        ensures onward { IfOk result (λ is_laid. is_laid ≡ true → (self.new.stage ≡ Stage.Onward) × (self.new.nesting ≡ self.old.nesting)) }
     {
         let begin = self.at + len;
         if !take_margin(&mut self.levels, &mut self.pending, begin, margin)? {
@@ -239,7 +267,6 @@ impl Reader {
             IsRead text.now (left_here text.now history self.old) (newline_if is_laid self.old.at len) self.new) }
         ensures less { OnOk result (left_to_read text.now self.new self.new.stage < left_to_read text.now self.old Stage.Onward) }
         ensures reads { OnOk result (IsLineEnd len (drop self.old.at text.now) → IsMarginRead text.now len self.old self.new self.new.stage) }
-        ensures onward { IfOk result (λ is_laid. is_laid ≡ true → (self.new.stage ≡ Stage.Onward) × (self.new.nesting ≡ self.old.nesting)) }
     {
         let begin = self.at + len;
         let margin = margin_of(&mut self.reads, &text[begin..]);
@@ -261,38 +288,38 @@ impl Reader {
             IsRead text.now (left_here text.now history self.old) (newline_if is_laid self.old.at len) self.new) }
         ensures less { OnOk result (left_to_read text.now self.new self.new.stage < left_to_read text.now self.old Stage.Onward) }
         ensures reads { OnOk result (IsLineEnd len (drop self.old.at text.now) → IsMarginRead text.now len self.old self.new self.new.stage) }
-        ensures onward { IfOk result (λ is_laid. is_laid ≡ true → (self.new.stage ≡ Stage.Onward) × (self.new.nesting ≡ self.old.nesting)) }
     {
         self.reads.count_run(width + 1);
         self.lay_margin(text, len, Margin::of_spaces(width))
     }
 
-    /// Reads a newline of `len` bytes that counts, and the margin after it. Returns `false`, and
+    /// Reads a newline of `len` bytes that counts, and the margin after it. Returns the outcome, and
     /// stops at the fault, where the margin has one.
     #[inline(always)]
-    fn lay_line_end(&mut self, text: &str, len: usize) -> Result<bool, AllocError>
+    fn lay_line_end(&mut self, text: &str, len: usize) -> Result<LineEnd, AllocError>
         requires fits { length text.now < 2 ^ 32 }
         requires stage { self.old.stage ≡ Stage.Onward }
         requires stands { (history : History) × IsStateAfter text.now history self.old × (step_here text.now history self.old ≡ grammar.line_end len (open_widths history.widths) (drop len (drop self.old.at text.now))) }
         requires cut { IsCharBoundary text.now (self.old.at + len) }
         requires idle { IsIdle text.now self.old.pending }
-        ensures read { IfOk result (λ is_laid. (history : History) → IsStateAfter text.now history self.old → step_here text.now history self.old ≡ grammar.line_end len (open_widths history.widths) (drop len (drop self.old.at text.now)) →
-            IsRead text.now (left_here text.now history self.old) (newline_if is_laid self.old.at len) self.new) }
+        ensures read { IfOk result (λ line_end. (history : History) → IsStateAfter text.now history self.old → step_here text.now history self.old ≡ grammar.line_end len (open_widths history.widths) (drop len (drop self.old.at text.now)) →
+            IsRead text.now (left_here text.now history self.old) (newline_of line_end self.old.at len) self.new) }
         ensures less { OnOk result (left_to_read text.now self.new self.new.stage < left_to_read text.now self.old Stage.Onward) }
         ensures reads { OnOk result (IsLineEnd len (drop self.old.at text.now) → IsMarginRead text.now len self.old self.new self.new.stage) }
-        ensures onward { IfOk result (λ is_laid. is_laid ≡ true → (self.new.stage ≡ Stage.Onward) × (self.new.nesting ≡ self.old.nesting)) }
+        ensures counts { IfOk result (λ line_end. line_end ≢ LineEnd.Passed) }
+        ensures onward { IfOk result (λ line_end. line_end ≡ LineEnd.Newline → (self.new.stage ≡ Stage.Onward) × (self.new.nesting ≡ self.old.nesting) × ((text : Text) → pending_lexemes text self.new.pending ≡ [])) }
     {
         let begin = self.at + len;
         let Some(margin) = plain_margin(&text[begin..]) else {
-            return self.lay_long_margin(len, text);
+            return Ok(before_margin(self.lay_long_margin(len, text)?));
         };
         if !keeps_widths(&self.levels, margin) {
-            return self.change_width(len, text, margin.blanks.width);
+            return Ok(before_margin(self.change_width(len, text, margin.blanks.width)?));
         }
         self.reads.count_run(margin.blanks.len + 1);
         keep_margin(&self.levels, &mut self.pending, begin, margin);
         self.step_to(begin + margin.blanks.len, Before::Layout);
-        Ok(true)
+        Ok(LineEnd::Newline)
     }
 
     /// Reads a newline of `len` bytes that counts, and the margin after it. Returns its `Newline`;
@@ -313,10 +340,9 @@ impl Reader {
         ensures reads { OnOk result (IsLineEnd len (drop self.old.at text.now) → IsMarginRead text.now len self.old self.new self.new.stage) }
     {
         let begin = self.at;
-        if self.lay_line_end(text, len)? {
-            Ok(Some((begin, Token::Newline, begin + len)))
-        } else {
-            Ok(None)
+        match self.lay_line_end(text, len)? {
+            LineEnd::Fault => Ok(None),
+            _ => Ok(Some((begin, Token::Newline, begin + len))),
         }
     }
 
@@ -588,7 +614,7 @@ impl Reader {
 
     /// Whether no lexeme is pending.
     #[inline(always)]
-    pub fn is_idle(&self) -> bool
+    fn is_idle(&self) -> bool
         ensures { result ≡ true → (text : Text) → IsPending text self.now.pending → IsIdle text self.now.pending }
     {
         self.pending.is_nothing()
@@ -600,7 +626,7 @@ impl Reader {
         ensures stage { result ≡ true → self.now.stage ≡ Stage.Onward }
         ensures idle { result ≡ true → (text : Text) → IsPending text self.now.pending → IsIdle text self.now.pending }
     {
-        matches!(self.stage, Stage::Onward) && self.is_idle()
+        self.is_idle() && matches!(self.stage, Stage::Onward)
     }
 
     /// Whether the offset is in code or in an f-string expression.
@@ -781,18 +807,19 @@ impl Reader {
         true
     }
 
-    /// Takes the newline of `len` bytes here, which counts, and the margin after it. Returns
-    /// whether the margin has no fault: then the newline yields a `Newline`.
+    /// Takes the newline of `len` bytes here, which counts, and the margin after it. Returns the
+    /// outcome.
     #[inline(always)]
-    fn take_counting_line_end(&mut self, len: usize, text: &str) -> Result<bool, AllocError>
+    fn take_counting_line_end(&mut self, len: usize, text: &str) -> Result<LineEnd, AllocError>
         requires fits { length text.now < 2 ^ 32 }
         requires ready { IsReady text.now self.old self.old.stage }
         requires stands { IsWordHere text.now self.old (record { class = class.LineEnd; len = len }) }
         requires counts { CountsLineEnds self.old }
-        ensures ahead { IfOk result (λ is_laid. (lexemes : List (Spanned TokenView)) (fault : Option (Spanned Fault)) → IsAhead text.now self.old self.old.stage lexemes fault → IsAheadAfter text.now (newline_if is_laid self.old.at len) self.new lexemes fault) }
+        ensures ahead { IfOk result (λ line_end. (lexemes : List (Spanned TokenView)) (fault : Option (Spanned Fault)) → IsAhead text.now self.old self.old.stage lexemes fault → IsAheadAfter text.now (newline_of line_end self.old.at len) self.new lexemes fault) }
         ensures memory { OnErr result ((lexemes : List (Spanned TokenView)) (fault : Option (Spanned Fault)) → IsAhead text.now self.old self.old.stage lexemes fault → IsSomething lexemes fault) }
         ensures reads { OnOk result (IsMarginRead text.now len self.old self.new self.new.stage) }
-        ensures onward { IfOk result (λ is_laid. is_laid ≡ true → (self.new.stage ≡ Stage.Onward) × IsInCode self.new) }
+        ensures counts { IfOk result (λ line_end. line_end ≢ LineEnd.Passed) }
+        ensures onward { IfOk result (λ line_end. line_end ≡ LineEnd.Newline → (self.new.stage ≡ Stage.Onward) × IsInCode self.new × ((text : Text) → pending_lexemes text self.new.pending ≡ [])) }
     {
         self.lay_line_end(text, len)
     }
@@ -811,16 +838,12 @@ impl Reader {
         ensures code { IfOk result (λ line_end. line_end ≡ LineEnd.Passed → IsAtCode text.now self.new) }
         ensures taken { IfOk result (λ line_end. line_end ≡ LineEnd.Passed → IsTaken len self.old self.new) }
         ensures reads { IfOk result (λ line_end. line_end ≢ LineEnd.Passed → IsMarginRead text.now len self.old self.new self.new.stage) }
-        ensures onward { IfOk result (λ line_end. line_end ≡ LineEnd.Newline → (self.new.stage ≡ Stage.Onward) × IsInCode self.new) }
+        ensures onward { IfOk result (λ line_end. line_end ≡ LineEnd.Newline → (self.new.stage ≡ Stage.Onward) × IsInCode self.new × ((text : Text) → pending_lexemes text self.new.pending ≡ [])) }
     {
         if self.pass_line_end(len, text) {
             return Ok(LineEnd::Passed);
         }
-        if self.take_counting_line_end(len, text)? {
-            Ok(LineEnd::Newline)
-        } else {
-            Ok(LineEnd::Fault)
-        }
+        self.take_counting_line_end(len, text)
     }
 
     /// Passes the name of `len` bytes here.
@@ -1027,7 +1050,7 @@ impl Reader {
         ensures passed { OnOk result (IsPassedBy (self.old.at + (found.len + found.stop_len)) self.old self.new × (self.new.stage ≡ Stage.Onward)) }
     {
         let rest = &text[self.at..];
-        let value = String::from_str(self.alloc, &rest[..found.len])?;
+        let value = owned(self.alloc, &rest[..found.len])?;
         Ok(self.take_chunk(value, found.len, found.stop, found.stop_len, text))
     }
 

@@ -87,6 +87,7 @@ pub(crate) fn keep_margin(levels: &IndentStack, pending: &mut Pending, begin: us
     ensures laid { (widths : List ℕ) (seen : grammar.Margin) → levels.now ≡ grammar.open_widths widths → IsMargin seen margin →
         IsLaid true begin seen widths levels.now levels.now pending.old.remainder pending.new.remainder }
     ensures place { IsOfMargin begin margin.at levels.now pending.new }
+    ensures stays { pending.new.remainder ≡ pending.old.remainder }
 {
     pending.wait_for_comments(begin, begin + margin.at, levels.len() == 0);
 }

@@ -17,12 +17,12 @@ use Rattle.starlark_grammar.specs.declared.class.LiteralKind.TheVariants as kind
 use Rattle.starlark_grammar.specs.declared.class.Quote.{Quote}
 use Rattle.starlark_grammar.proofs.Words.Classes.{all_fit, language_all_fit, none_found, row_fits}
 use Rattle.starlark_reader.specs.Inner.Pending.{IsPending}
-use Rattle.starlark_reader.specs.Inner.Reader.{IsAhead, IsAtCode, IsInCode}
+use Rattle.starlark_reader.specs.Inner.Reader.{IsAhead, IsAtCode}
 use Rattle.starlark_reader.specs.Inner.Reads.{HasLookedHere, HasRead, HasReadAt, IsPassedBy}
 use Rattle.starlark_reader.specs.declared.reader.LineEnd.{LineEnd}
 use Rattle.starlark_reader.specs.declared.reader.LineEnd.TheVariants as line_end
 use Rattle.starlark_reader.specs.declared.reader.Reader.{Reader}
-use Rattle.starlark_syntax.specs.Inner.Looked.{GoesOn, HasSpared, IsFoundAfterMargin, IsFoundFurther, IsFoundInCode, IsFoundOut, IsLooked, HasOpened, is_front, is_nothing, is_text_opener, looked_len}
+use Rattle.starlark_syntax.specs.Inner.Looked.{GoesOn, HasSpared, IsFoundFurther, IsFoundInCode, IsFoundOut, IsLooked, HasOpened, is_front, is_nothing, is_text_opener, looked_len}
 use Rattle.starlark_syntax.specs.declared.lexer_state.Lookahead.{Lookahead}
 use Rattle.starlark_syntax.specs.declared.lexer_state.Lookahead.TheVariants as lookahead
 
@@ -106,14 +106,12 @@ found_further text reader to beside lookahead.Nothing is code paid has = (code, 
 found_further text reader to beside lookahead.Front is code paid has = absurd is
 found_further text reader to beside lookahead.All is code paid has = (beside, omega (arith, paid), has)
 
-pub found_behind_margin : (text : Text) (reader : Reader) (to beside : ℕ) (it : Lookahead) → IsFoundAfterMargin reader it → to ≤ reader.at → (reader.stage ≡ stages.Onward) × IsInCode reader → IsPending text reader.pending → beside ≤ 6 * to → HasRead text beside reader → IsLooked text reader to it
-found_behind_margin text reader to beside lookahead.Nothing is further code pending paid has = (record { stage = code.0; idle = is text pending; code = code.1 }, further, (beside, omega (arith, paid), has))
-found_behind_margin text reader to beside lookahead.Front is further code pending paid has = absurd is
-found_behind_margin text reader to beside lookahead.All is further code pending paid has = (beside, omega (arith, paid), has)
-
 -- a line end that counts isn't passed
 pub newline_counts : (it : LineEnd) → it ≡ line_end.Newline → it ≡ line_end.Passed → ⊥
 newline_counts it newline passed = cc
+
+pub pending_counts : (it : LineEnd) → it ≡ line_end.Pending → it ≡ line_end.Passed → ⊥
+pending_counts it pending passed = cc
 
 pub fault_counts : (it : LineEnd) → it ≡ line_end.Fault → it ≡ line_end.Passed → ⊥
 fault_counts it fault passed = cc

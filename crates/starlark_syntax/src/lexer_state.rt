@@ -10,7 +10,7 @@ ghost use Rattle.starlark_reader.specs.Inner.Reader.{IsReached, IsStateAfter, ha
 ghost use Rattle.starlark_syntax.specs.Inner.LexerStates.{HasAnswered, HasPassed, HasTaken, IsBegun, IsLexing, is_out_of_memory, left_in, passed_count, plain_string, view_of};
 ghost use Rattle.starlark_syntax.specs.Lexer.{is_ended_by, most_reads, yielded_by};
 ghost use Rattle.starlark_syntax.specs.PlainLexemes.{IsPlainIn};
-ghost use Rattle.starlark_syntax.specs.Inner.Looked.{HasOpened, IsFoundAfterMargin, IsFoundFurther, IsFoundInCode, IsFoundOut, is_front, is_nothing, is_text_opener, looked_len};
+ghost use Rattle.starlark_syntax.specs.Inner.Looked.{HasOpened, IsFoundFurther, IsFoundInCode, IsFoundOut, is_front, is_nothing, is_text_opener, looked_len};
 
 use crate::eval_exception::EvalException;
 use crate::fault_exception::exception;
@@ -70,18 +70,6 @@ fn looked_further(reader: &Reader, looked_to: usize) -> Lookahead
     ensures { IsFoundFurther reader.now looked_to result }
 {
     if looked_to <= reader.at() {
-        Lookahead::Nothing
-    } else {
-        Lookahead::All
-    }
-}
-
-/// Lookahead state after a `Newline` of the loop: its margin may leave tokens or comments pending.
-#[inline(always)]
-fn looked_after_margin(reader: &Reader) -> Lookahead
-    ensures { IsFoundAfterMargin reader.now result }
-{
-    if reader.is_idle() {
         Lookahead::Nothing
     } else {
         Lookahead::All
@@ -149,7 +137,7 @@ fn looked_len(is_text: bool, len: usize) -> usize
 fn looked_after(reader: &Reader, looked_to: usize) -> Lookahead
     ensures { IsFoundOut reader.now looked_to result }
 {
-    if looked_to <= reader.at() && reader.is_at_code() {
+    if reader.is_at_code() && looked_to <= reader.at() {
         Lookahead::Nothing
     } else {
         Lookahead::All
@@ -440,7 +428,12 @@ impl<'a> LexerState<'a> {
                     Ok(LineEnd::Passed) => {}
                     Ok(LineEnd::Newline) => {
                         self.yielded_count += 1;
-                        self.lookahead = looked_after_margin(&self.reader);
+                        let kind = PlainKind::Newline;
+                        return FastPath::Passed(PlainLexeme::of_kind(kind, begin, begin + len));
+                    }
+                    Ok(LineEnd::Pending) => {
+                        self.yielded_count += 1;
+                        self.lookahead = Lookahead::All;
                         let kind = PlainKind::Newline;
                         return FastPath::Passed(PlainLexeme::of_kind(kind, begin, begin + len));
                     }

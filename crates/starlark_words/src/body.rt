@@ -9,7 +9,7 @@ ghost use Rattle.starlark_words.specs.Inner.Reads.{AreReads};
 use super::escapes::simple_escape;
 use super::items::{Found, Literal, Stop, Value, found_at};
 use super::runs::first_run;
-use crate::reads::ReadCounter;
+use crate::reads::{ReadCounter, uncounted_front};
 use starlark_grammar::class::LiteralKind;
 use std::alloc::{AllocError, Global};
 
@@ -22,6 +22,9 @@ pub enum LiteralValue {
     Bytes(Vec<u8>),
 }
 
+/// Bytes that are read after a run, of which most items are known. They are counted with the run.
+const FRONT_LEN: usize = 3;
+
 /// Bytes to reserve beyond a run before an escape: literals with one rarely need more room.
 const SPARE_LEN: usize = 124;
 
@@ -33,12 +36,13 @@ fn spare_len(front: &[u8]) -> usize {
     }
 }
 
-/// Appends a run to a text, and reserves room for the item after it. `front` begins there.
+/// Appends a run to a text. The first run also reserves room for what comes after it, where `front`
+/// begins.
 #[inline(always)]
 fn append_run(text: &mut String, run: &str, front: &[u8]) -> Result<(), AllocError>
     ensures { OnOk result (string_bytes text.new ≡ string_bytes text.old ++ run.now) }
 {
-    if text.capacity() - text.len() < run.len().saturating_add(4) {
+    if text.capacity() == 0 {
         text.reserve(run.len().saturating_add(spare_len(front)))?;
     }
     // A copy is a call, even of nothing, and escapes often follow one another.
@@ -103,10 +107,10 @@ fn read_text_body(
     let mut value = String::new(alloc);
     let mut len = 0;
     loop {
-        let run = first_run(reads, literal, &text[len..]);
+        let run = first_run(reads, FRONT_LEN, literal, &text[len..]);
         len += run.len();
         let rest = &text[len..];
-        let front = reads.front(rest.as_bytes(), 3);
+        let front = uncounted_front(rest.as_bytes(), FRONT_LEN);
         append_run(&mut value, run, front)?;
         if let Some(character) = simple_escape(literal, front) {
             value.push(character)?;
@@ -142,11 +146,11 @@ fn read_bytes_body(
     let mut value = Vec::new(alloc);
     let mut len = 0;
     loop {
-        let run = first_run(reads, literal, &text[len..]);
+        let run = first_run(reads, FRONT_LEN, literal, &text[len..]);
         value.extend_from_slice(run.as_bytes())?;
         let at = len + run.len();
         let rest = &text[at..];
-        let front = reads.front(rest.as_bytes(), 3);
+        let front = uncounted_front(rest.as_bytes(), FRONT_LEN);
         match found_at(reads, literal, front, rest) {
             Found::Goes(item) => {
                 append_to_bytes(&mut value, item.value)?;

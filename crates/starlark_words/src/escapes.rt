@@ -12,7 +12,7 @@ ghost use Rattle.starlark_words.specs.Inner.Reads.{AreReads, more_reads};
 ghost use Rattle.starlark_grammar.specs.Words.{Text, is_octal_digit};
 
 use super::items::{Found, Item, Literal, Stop, Value, after_first, part};
-use crate::reads::ReadCounter;
+use crate::reads::{ReadCounter, uncounted_at};
 use starlark_grammar::class::LiteralKind;
 
 /// A bad escape of `len` bytes, read as a whole. Its last character has one byte.
@@ -247,15 +247,22 @@ fn is_of_bytes(kind: LiteralKind) -> bool
 }
 
 /// The escape at the start of a text, which begins with its backslash: an item, or a bad escape.
+/// `front` is the text's first three bytes, read already.
 #[inline(always)]
-pub(crate) fn escape<'a>(reads: &mut ReadCounter, kind: LiteralKind, text: &'a str) -> Found<'a>
-    requires { text.now ≡ 92 ∷ drop 1 text.now }
+pub(crate) fn escape<'a>(
+    reads: &mut ReadCounter,
+    kind: LiteralKind,
+    front: &[u8],
+    text: &'a str,
+) -> Found<'a>
+    requires begins { text.now ≡ 92 ∷ drop 1 text.now }
+    requires front { front.now ≡ take 3 text.now }
     ensures value { found_view result ≡ grammar.escape kind (drop 1 text.now) }
     ensures text { grammar.is_of_bytes kind ≡ false → IsText result }
     ensures reads { AreReads (found_len result - 2) (found_len result + 2) reads.old reads.new }
 {
     let remainder = after_first(text);
-    let Some(first) = reads.at(remainder.as_bytes(), 0) else {
+    let Some(first) = uncounted_at(front, 1) else {
         return broken(reads, 1, remainder);
     };
     let is_byte = is_of_bytes(kind);

@@ -218,7 +218,7 @@ pub(crate) fn found_at<'a>(
         return if literal.opening.is_raw {
             raw_pair(reads, literal, text)
         } else {
-            escape(reads, literal.kind, text)
+            escape(reads, literal.kind, front, text)
         };
     }
     if closes(literal.opening, front) {

@@ -1,7 +1,7 @@
 //! Finds the end of a name.
 
 ghost use Rattle.std.specs.Prelude.{◌≡◌, ◌<◌, ◌≤◌, ◌+◌, ◌*◌, ◌^◌, length, take};
-ghost use Rattle.std.specs.List.{prefix_len, slice_get};
+ghost use Rattle.std.specs.List.{prefix_len};
 ghost use Rattle.starlark_grammar.specs.Words as grammar;
 ghost use Rattle.starlark_words.specs.Inner.Reads.{AreReads};
 
@@ -68,7 +68,7 @@ fn lanes_name_len(text: &[u8]) -> usize
 /// It reads four bytes one by one, and then 16 by SIMD: the processor can't predict the length of a
 /// longer name. Counts `passed` reads besides.
 #[inline(always)]
-fn name_len(reads: &mut ReadCounter, passed: usize, text: &[u8]) -> usize
+pub(crate) fn name_len(reads: &mut ReadCounter, passed: usize, text: &[u8]) -> usize
     requires { passed < 2 ^ 33 }
     ensures value { result ≡ prefix_len grammar.is_in_name text.now }
     ensures within { result ≤ length text.now }
@@ -92,18 +92,4 @@ fn name_len(reads: &mut ReadCounter, passed: usize, text: &[u8]) -> usize
     let whole = ALONE + LANES + last_name_len(&text[ALONE + LANES..]);
     reads.count_run(passed + whole);
     whole
-}
-
-/// Number of letters, digits and `_` at the start of a text, and the byte after them. Counts `passed`
-/// reads besides.
-#[inline(always)]
-pub(crate) fn name_run(reads: &mut ReadCounter, passed: usize, text: &[u8]) -> (usize, Option<u8>)
-    requires { passed < 2 ^ 33 }
-    ensures value { result.0 ≡ prefix_len grammar.is_in_name text.now }
-    ensures within { result.0 ≤ length text.now }
-    ensures remainder { result.1 ≡ slice_get text.now result.0 }
-    ensures reads { AreReads (passed + (result.0 + 1)) (passed + (5 * result.0 + 1)) reads.old reads.new }
-{
-    let len = name_len(reads, passed, text);
-    (len, text.get(len).copied())
 }

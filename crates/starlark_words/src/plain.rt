@@ -10,8 +10,11 @@ ghost use Rattle.starlark_grammar.specs.Inner.Openings.{opening_view};
 
 use super::items::{Literal, Stop, closes, is_quote};
 use super::runs::first_run;
-use crate::reads::ReadCounter;
+use crate::reads::{ReadCounter, uncounted_front};
 use starlark_grammar::class::{LiteralKind, Opening, Quote};
+
+/// Bytes that tell what ends a text of an f-string. They are counted with its run.
+const STOP_LEN: usize = 3;
 
 /// Whether the byte at an offset of a text is the given quote.
 #[inline(always)]
@@ -59,7 +62,7 @@ pub fn plain_body_len(
         is_triple: false,
     };
     let literal = Literal { kind, opening };
-    let len = first_run(reads, literal, text).len();
+    let len = first_run(reads, 0, literal, text).len();
     let bytes = text.as_bytes();
     if !closes_run(quote, bytes, len) {
         return Err(len);
@@ -113,9 +116,9 @@ pub fn plain_chunk_len(
             is_triple: false,
         },
     };
-    let len = first_run(reads, of_one_line, text).len();
+    let len = first_run(reads, STOP_LEN, of_one_line, text).len();
     let rest = &text.as_bytes()[len..];
-    let Some(stop) = stop_by(opening, reads.front(rest, 3)) else {
+    let Some(stop) = stop_by(opening, uncounted_front(rest, STOP_LEN)) else {
         return Err(len);
     };
     Ok((len, stop))

@@ -28,6 +28,15 @@ pub(crate) fn uncounted_front(text: &[u8], most: usize) -> &[u8]
     &text[..most.min(text.len())]
 }
 
+/// The byte at an offset of a text; `None` if the text is no longer than that. The caller has to count
+/// the read.
+#[inline(always)]
+pub(crate) fn uncounted_at(text: &[u8], place: usize) -> Option<u8>
+    ensures { result ≡ slice_get text.now place }
+{
+    text.get(place).copied()
+}
+
 /// Length in bytes of the first character of a text; 0 if the text is empty. Not counted.
 fn first_character_len(text: &str) -> usize
     ensures character { take result text.now ≡ first_character text.now }

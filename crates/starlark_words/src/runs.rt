@@ -1,6 +1,6 @@
 //! Runs of a literal's body: characters without escapes, which are copied unchanged.
 
-ghost use Rattle.std.specs.Prelude.{◌≡◌, ◌≤◌, ◌+◌, ◌*◌, ℕ, length, take, true, false};
+ghost use Rattle.std.specs.Prelude.{◌≡◌, ◌<◌, ◌≤◌, ◌+◌, ◌*◌, ◌^◌, ℕ, length, take, true, false};
 ghost use Rattle.std.specs.List.{prefix_len};
 ghost use Rattle.std.specs.Str.{IsCharBoundary};
 ghost use Rattle.starlark_grammar.specs.Items as grammar;
@@ -51,18 +51,19 @@ fn is_in_run(literal: Literal, byte: u8) -> bool
     is_ordinary(byte) || !is_special(literal, byte)
 }
 
-/// Length of the run at the start of some bytes, one byte at a time.
+/// Length of the run at the start of some bytes, one byte at a time. Counts `passed` reads besides.
 #[inline(always)]
-fn short_run_len(reads: &mut ReadCounter, literal: Literal, bytes: &[u8]) -> usize
+fn short_run_len(reads: &mut ReadCounter, passed: usize, literal: Literal, bytes: &[u8]) -> usize
+    requires { passed < 2 ^ 33 }
     ensures value { result ≡ prefix_len (is_in_run (literal_view literal)) bytes.now }
     ensures within { result ≤ length bytes.now }
-    ensures reads { reads.new ≡ more_reads reads.old (result + 1) }
+    ensures reads { reads.new ≡ more_reads reads.old (passed + (result + 1)) }
 {
     let mut len = 0;
     while len < bytes.len() && is_in_run(literal, bytes[len]) {
         len += 1;
     }
-    reads.count_run(len);
+    reads.count_run(passed + len);
     len
 }
 
@@ -84,41 +85,49 @@ fn long_run_len(reads: &mut ReadCounter, literal: Literal, bytes: &[u8]) -> usiz
         at += LANES;
     }
     reads.count_run(at);
-    at + short_run_len(reads, literal, &bytes[at..])
+    at + short_run_len(reads, 0, literal, &bytes[at..])
 }
 
 /// Length of the run at the start of fewer than 16 bytes, which only the end of a text has.
 #[inline(never)]
-fn last_run_len(reads: &mut ReadCounter, literal: Literal, bytes: &[u8]) -> usize
+fn last_run_len(reads: &mut ReadCounter, passed: usize, literal: Literal, bytes: &[u8]) -> usize
+    requires { passed < 2 ^ 33 }
     ensures value { result ≡ prefix_len (is_in_run (literal_view literal)) bytes.now }
-    ensures reads { reads.new ≡ more_reads reads.old (result + 1) }
+    ensures reads { reads.new ≡ more_reads reads.old (passed + (result + 1)) }
 {
-    short_run_len(reads, literal, bytes)
+    short_run_len(reads, passed, literal, bytes)
 }
 
 /// Length of the run at the start of some bytes. It reads 16 bytes one by one, and then 16 at a
-/// time.
+/// time. Counts `passed` reads besides.
 #[inline(always)]
-fn run_len(reads: &mut ReadCounter, literal: Literal, bytes: &[u8]) -> usize
+fn run_len(reads: &mut ReadCounter, passed: usize, literal: Literal, bytes: &[u8]) -> usize
+    requires { passed < 2 ^ 33 }
     ensures value { result ≡ prefix_len (is_in_run (literal_view literal)) bytes.now }
-    ensures reads { AreReads (result + 1) (2 * result + 1) reads.old reads.new }
+    ensures reads { AreReads (passed + (result + 1)) (passed + (2 * result + 1)) reads.old reads.new }
 {
     if bytes.len() < LANES {
-        return last_run_len(reads, literal, bytes);
+        return last_run_len(reads, passed, literal, bytes);
     }
-    let len = short_run_len(reads, literal, &bytes[..LANES]);
+    let len = short_run_len(reads, passed, literal, &bytes[..LANES]);
     if len < LANES {
         return len;
     }
     LANES + long_run_len(reads, literal, &bytes[LANES..])
 }
 
-/// The run at the start of the rest of a body. It may be empty.
+/// The run at the start of the rest of a body. It may be empty. Counts `passed` reads besides.
 #[inline(always)]
-pub(crate) fn first_run<'a>(reads: &mut ReadCounter, literal: Literal, text: &'a str) -> &'a str
+pub(crate) fn first_run<'a>(
+    reads: &mut ReadCounter,
+    passed: usize,
+    literal: Literal,
+    text: &'a str,
+) -> &'a str
+    requires { passed < 2 ^ 33 }
     ensures value { result.now ≡ take (prefix_len (is_in_run (literal_view literal)) text.now) text.now }
     ensures boundary { IsCharBoundary text.now (length result.now) }
-    ensures reads { AreReads (length result.now + 1) (2 * length result.now + 1) reads.old reads.new }
+    ensures reads { AreReads (passed + (length result.now + 1)) (passed + (2 * length result.now + 1)) reads.old reads.new }
 {
-    &text[..run_len(reads, literal, text.as_bytes())]
+    &text[..run_len(reads, passed, literal, text.as_bytes())]
 }

@@ -84,7 +84,11 @@ pub fn gap_len(text: &str) -> usize
     ensures bang { 0 < result → is_bang text.now ≡ false }
     ensures within { result ≤ length text.now }
 {
-    uncounted_spaces_len(text.as_bytes())
+    let bytes = text.as_bytes();
+    if bytes.is_empty() || bytes[0] != b' ' {
+        return 0;
+    }
+    1 + uncounted_spaces_len(&bytes[1..])
 }
 
 /// The longest word at the front of a text if its first two bytes tell its kind. Of a symbol that

@@ -8,7 +8,7 @@ use Rattle.starlark_grammar.specs.Words.{Text}
 use Rattle.starlark_grammar.specs.declared.class.Class.{Class}
 use Rattle.starlark_grammar.specs.declared.class.Class.TheVariants as class
 use Rattle.starlark_grammar.specs.declared.class.LiteralKind.TheVariants as kind
-use Rattle.starlark_reader.specs.Inner.Pending.{IsIdle, IsPending}
+use Rattle.starlark_reader.specs.Inner.Pending.{IsPending}
 use Rattle.starlark_reader.specs.Inner.Reader.{IsAtCode, IsInCode}
 use Rattle.starlark_reader.specs.Inner.Reads.{HasRead}
 use Rattle.starlark_reader.specs.declared.reader.Reader.{Reader}
@@ -68,12 +68,6 @@ abbrev pub IsFoundFurther : Reader → (to : ℕ) → Lookahead → Type 0
 IsFoundFurther reader to lookahead.Nothing = to ≤ reader.at
 IsFoundFurther reader to lookahead.All = ⊤
 IsFoundFurther reader to it = ⊥
-
--- If no lookahead is spent, nothing is pending.
-abbrev pub IsFoundAfterMargin : Reader → Lookahead → Type 0
-IsFoundAfterMargin reader lookahead.Nothing = (text : Text) → IsPending text reader.pending → IsIdle text reader.pending
-IsFoundAfterMargin reader lookahead.All = ⊤
-IsFoundAfterMargin reader it = ⊥
 
 abbrev pub is_nothing : Lookahead → Bool
 is_nothing lookahead.Nothing = true

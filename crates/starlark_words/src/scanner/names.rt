@@ -1,7 +1,7 @@
 //! Words that begin with a letter or `_`: keywords, reserved words, identifiers, and openers with a
 //! prefix.
 
-ghost use Rattle.std.specs.Prelude.{◌≡◌, ◌≤◌, ◌<◌, ◌+◌, ◌-◌, ◌*◌, ◌^◌, IfSome, Some, length, slice_get, nat_eq, take, true, unwrap_or};
+ghost use Rattle.std.specs.Prelude.{◌≡◌, ◌≤◌, ◌<◌, ◌+◌, ◌-◌, ◌*◌, ◌^◌, IfSome, Some, get_or, length, nat_eq, take, true, unwrap_or};
 ghost use Rattle.std.specs.List.{prefix_len};
 ghost use Rattle.std.specs.Map.{lookup};
 ghost use Rattle.std.specs.Option.{option_map};
@@ -14,7 +14,7 @@ ghost use Rattle.starlark_grammar.specs.declared.class.Class.TheVariants as clas
 
 use super::openers::opener_class;
 use super::{Class, Terminal, Word};
-use crate::names::name_run;
+use crate::names::name_len;
 use crate::reads::ReadCounter;
 
 /// Entry of a name in the table of keywords and reserved words.
@@ -188,27 +188,26 @@ fn name_class(name: &str) -> Class
     }
 }
 
-/// Whether a byte is a quote.
+/// Whether the byte at an offset of a text is a quote.
 #[inline(always)]
-fn is_quote(byte: Option<u8>) -> bool
-    ensures { result ≡ is_quote (unwrap_or byte 0) }
+fn is_quote_at(text: &[u8], at: usize) -> bool
+    ensures { result ≡ is_quote (get_or text.now at 0) }
 {
-    matches!(byte, Some(b'\'' | b'"'))
+    matches!(text.get(at), Some(b'\'' | b'"'))
 }
 
 /// Opener at the front of a text that begins with a name of `len` bytes: that name as a prefix, and
 /// the next byte as its quote.
 #[inline(always)]
-fn prefixed_opener(text: &str, len: usize, remainder: Option<u8>) -> Option<Class>
+fn prefixed_opener(text: &str, len: usize) -> Option<Class>
     requires len { len ≡ prefix_len grammar.is_in_name text.now }
-    requires remainder { remainder ≡ slice_get text.now len }
     ensures opener { result ≡ lookup (bytes_eq (take (len + 1) text.now)) grammar.openers }
     ensures within { IfSome result (λ class. len < length text.now) }
 {
     if len > PREFIX_LEN {
         return None;
     }
-    if !is_quote(remainder) {
+    if !is_quote_at(text.as_bytes(), len) {
         return None;
     }
     opener_class(&text[..len + 1])
@@ -223,9 +222,9 @@ pub(crate) fn name_from(reads: &mut ReadCounter, passed: usize, text: &str) -> W
     ensures word { Some (word_view result) ≡ language_front text.now }
     ensures reads { AreReads (passed + (result.len - 1)) (passed + (5 * result.len - 4)) reads.old reads.new }
 {
-    let (more, remainder) = name_run(reads, passed, &text.as_bytes()[1..]);
+    let more = name_len(reads, passed, &text.as_bytes()[1..]);
     let len = 1 + more;
-    match prefixed_opener(text, len, remainder) {
+    match prefixed_opener(text, len) {
         Some(class) => Word {
             class,
             len: len + 1,

@@ -39,7 +39,7 @@ loop-value-preserved c =
     record {
       front = subst (λ (t : Text). IsFront (literal_view c.args.literal) c.args.text.now (c.loop-value.len + length c.first_run-run.result.now + c.in-Goes.item.len) t) (sym (c.in_ok-append_to_bytes-in-Goes.ensures ∙ ap (λ (t : Text). t ++ value_view c.in-Goes.item.value) so_far)) more;
       boundary = item_boundary (literal_view c.args.literal) c.args.text.now (c.loop-value.len + length c.first_run-run.result.now) (c.loop-value.value.items ++ c.first_run-run.result.now) c.range_from-rest.result.now item after found;
-      reads = item_reads c.loop-value.len (length c.first_run-run.result.now) c.in-Goes.item.len _ _ _ _ _ (item_inside (literal_view c.args.literal) c.args.text.now (c.loop-value.len + length c.first_run-run.result.now) (c.loop-value.value.items ++ c.first_run-run.result.now) c.range_from-rest.result.now item after found).0 c.loop-value.invariant.reads c.first_run-run.ensures.reads c.front-front.ensures.reads c.in-Goes.ensures.reads;
+      reads = item_reads c.loop-value.len (length c.first_run-run.result.now) c.in-Goes.item.len _ _ _ _ (item_inside (literal_view c.args.literal) c.args.text.now (c.loop-value.len + length c.first_run-run.result.now) (c.loop-value.value.items ++ c.first_run-run.result.now) c.range_from-rest.result.now item after found).0 c.loop-value.invariant.reads c.first_run-run.ensures.reads c.in-Goes.ensures.reads;
     }
 
 pub returns-in-Stops-clause-body : goal.returns-in-Stops-clause-body

@@ -19,7 +19,7 @@ pub loop-value-smaller-in-Some : goal.loop-value-smaller-in-Some
 loop-value-smaller-in-Some c =
     let after = after_run (literal_view c.args.literal) c.args.text.now c.range_from.result.now c.loop-value.len (string_bytes c.loop-value.value) c.first_run-run.result.now c.range_from-rest.result.now c.utf8.text c.loop-value.invariant.boundary c.loop-value.invariant.front c.range_from.ensures.value c.first_run-run.ensures.value c.first_run-run.ensures.boundary c.range_from-rest.ensures.value in
     let item : grammar.Item = record { len = 2; value = encode_utf8 c.in-Some.character } in
-    let read : c.front-front.result.now ≡ take 3 c.range_from-rest.result.now = c.front-front.ensures.bytes ∙ ap (take 3) c.as_bytes.ensures.value in
+    let read : c.uncounted_front-front.result.now ≡ take 3 c.range_from-rest.result.now = c.uncounted_front-front.ensures ∙ ap (take 3) c.as_bytes.ensures.value in
     let found : grammar.found_at (literal_view c.args.literal) c.range_from-rest.result.now ≡ grammar.Goes item = c.in-Some.ensures c.range_from-rest.result.now read in
     omega (arith, (item_inside (literal_view c.args.literal) c.args.text.now (c.loop-value.len + length c.first_run-run.result.now) ((string_bytes c.loop-value.value) ++ c.first_run-run.result.now) c.range_from-rest.result.now item after found).1)
 
@@ -27,13 +27,13 @@ pub loop-value-preserved-in-Some : goal.loop-value-preserved-in-Some
 loop-value-preserved-in-Some c =
     let after = after_run (literal_view c.args.literal) c.args.text.now c.range_from.result.now c.loop-value.len (string_bytes c.loop-value.value) c.first_run-run.result.now c.range_from-rest.result.now c.utf8.text c.loop-value.invariant.boundary c.loop-value.invariant.front c.range_from.ensures.value c.first_run-run.ensures.value c.first_run-run.ensures.boundary c.range_from-rest.ensures.value in
     let item : grammar.Item = record { len = 2; value = encode_utf8 c.in-Some.character } in
-    let read : c.front-front.result.now ≡ take 3 c.range_from-rest.result.now = c.front-front.ensures.bytes ∙ ap (take 3) c.as_bytes.ensures.value in
+    let read : c.uncounted_front-front.result.now ≡ take 3 c.range_from-rest.result.now = c.uncounted_front-front.ensures ∙ ap (take 3) c.as_bytes.ensures.value in
     let found : grammar.found_at (literal_view c.args.literal) c.range_from-rest.result.now ≡ grammar.Goes item = c.in-Some.ensures c.range_from-rest.result.now read in
     let more = front_item (literal_view c.args.literal) c.args.text.now (c.loop-value.len + length c.first_run-run.result.now) ((string_bytes c.loop-value.value) ++ c.first_run-run.result.now) c.range_from-rest.result.now item after found in
     record {
       front = subst (λ (t : Text). IsFront (literal_view c.args.literal) c.args.text.now (c.loop-value.len + length c.first_run-run.result.now + 2) t) (sym (c.in_ok-push.ensures.bytes ∙ ap (λ (t : Text). t ++ encode_utf8 c.in-Some.character) c.in_ok-append_run.ensures)) more;
       boundary = item_boundary (literal_view c.args.literal) c.args.text.now (c.loop-value.len + length c.first_run-run.result.now) ((string_bytes c.loop-value.value) ++ c.first_run-run.result.now) c.range_from-rest.result.now item after found;
-      reads = short_reads c.loop-value.len (length c.first_run-run.result.now) _ _ _ _ c.loop-value.invariant.reads c.first_run-run.ensures.reads c.front-front.ensures.reads;
+      reads = short_reads c.loop-value.len (length c.first_run-run.result.now) _ _ _ c.loop-value.invariant.reads c.first_run-run.ensures.reads;
     }
 
 pub overflow_add-len-in-Goes : goal.overflow_add-len-in-Goes
@@ -59,7 +59,7 @@ loop-value-preserved c =
     record {
       front = subst (λ (t : Text). IsFront (literal_view c.args.literal) c.args.text.now (c.loop-value.len + length c.first_run-run.result.now + c.in-Goes.item.len) t) (sym (c.in_ok-append_to_text-in-Goes.ensures ∙ ap (λ (t : Text). t ++ value_view c.in-Goes.item.value) c.in_ok-append_run.ensures)) more;
       boundary = item_boundary (literal_view c.args.literal) c.args.text.now (c.loop-value.len + length c.first_run-run.result.now) ((string_bytes c.loop-value.value) ++ c.first_run-run.result.now) c.range_from-rest.result.now item after found;
-      reads = item_reads c.loop-value.len (length c.first_run-run.result.now) c.in-Goes.item.len _ _ _ _ _ (item_inside (literal_view c.args.literal) c.args.text.now (c.loop-value.len + length c.first_run-run.result.now) ((string_bytes c.loop-value.value) ++ c.first_run-run.result.now) c.range_from-rest.result.now item after found).0 c.loop-value.invariant.reads c.first_run-run.ensures.reads c.front-front.ensures.reads c.in-Goes.ensures.reads;
+      reads = item_reads c.loop-value.len (length c.first_run-run.result.now) c.in-Goes.item.len _ _ _ _ (item_inside (literal_view c.args.literal) c.args.text.now (c.loop-value.len + length c.first_run-run.result.now) ((string_bytes c.loop-value.value) ++ c.first_run-run.result.now) c.range_from-rest.result.now item after found).0 c.loop-value.invariant.reads c.first_run-run.ensures.reads c.in-Goes.ensures.reads;
     }
 
 pub returns-in-Stops-clause-body : goal.returns-in-Stops-clause-body

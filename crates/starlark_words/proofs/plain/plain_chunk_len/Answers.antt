@@ -9,13 +9,12 @@ pub returns-clause-plain : goal.returns-clause-plain
 returns-clause-plain c =
     let len = length c.first_run-len.result.now in
     plain_chunk (opening_view c.args.opening) c.args.text.now c.first_run-len.result.now _ c.utf8.text c.first_run-len.ensures.value c.first_run-len.ensures.boundary
-    (c.in-Some.ensures (drop len c.args.text.now) (c.front.ensures.bytes ∙ ap (take 3) (take_rest c.as_bytes.result.now len ∙ ap (drop len) c.as_bytes.ensures.value)))
+    (c.in-Some.ensures (drop len c.args.text.now) (c.uncounted_front.ensures ∙ ap (take 3) (take_rest c.as_bytes.result.now len ∙ ap (drop len) c.as_bytes.ensures.value)))
 
 pub returns-in_default-clause-other : goal.returns-in_default-clause-other
 returns-in_default-clause-other c =
     let read = c.first_run-len.ensures.reads in
-    let more = c.front.ensures.reads in
-    (run_on_line OfFString (opening_view c.args.opening) c.args.text.now c.first_run-len.result.now c.first_run-len.ensures.value, (omega (arith, read.0, more), omega (arith, read.1, more)))
+    (run_on_line OfFString (opening_view c.args.opening) c.args.text.now c.first_run-len.result.now c.first_run-len.ensures.value, (omega (arith, read.0), omega (arith, read.1)))
 
 pub returns-clause-line : goal.returns-clause-line
 returns-clause-line c = run_on_line OfFString (opening_view c.args.opening) c.args.text.now c.first_run-len.result.now c.first_run-len.ensures.value

@@ -9,7 +9,9 @@ use Rattle.starlark_reader.specs.declared.margins.Margin.{Margin}
 use Rattle.starlark_reader.specs.declared.reader.Reader.{Reader}
 use Rattle.starlark_reader.specs.Inner.Layout.{IsMargin}
 use Rattle.starlark_reader.specs.Inner.MarginLines.{IsOfMargin}
+use Rattle.starlark_reader.specs.Inner.Pending.{lexemes_after, pending_lexemes}
 use Rattle.starlark_reader.proofs.Indentation.Laid.{behind_none, end_taken}
+use Rattle.starlark_reader.proofs.Indentation.Waiting.{nothing_left}
 use Rattle.starlark_reader.proofs.Pieces.Taken.{line_less, line_taken}
 use Rattle.starlark_reader.proofs.reader.Reader.lay_line_end.Goals as goal
 
@@ -63,3 +65,11 @@ returns-clause-less c =
     let taken = end_taken c.args.text.now c.args.self.now.at c.args.len levels levels stands.0.widths margin c.keep_margin.new.pending stands.1.levels same c.utf8.text c.requires.cut c.keep_margin.ensures.place laid in
     line_less c.args.text.now stands.0 c.args.self.now c.args.len stands.1 stands.2 c.step_to.new.self taken
     (ap (λ (reader : Reader). reader.stage) new) (ap (λ (reader : Reader). reader.at) new ∙ end)
+
+pub returns-clause-onward : goal.returns-clause-onward
+returns-clause-onward c = λ newline.
+    let new = c.step_to.ensures in
+    let place = c.keep_margin.ensures.place in
+    let remainder = ap lexemes_after c.keep_margin.ensures.stays ∙ behind_none c.args.text.now c.args.self.now.pending c.requires.idle.1 in
+    let idle = λ (text : Text). nothing_left text c.keep_margin.new.pending (omega (arith, place.from, place.to, c.in-Some.ensures.plain)) remainder in
+    (ap (λ (reader : Reader). reader.stage) new, ap (λ (reader : Reader). reader.nesting) new, λ text. ap (λ (reader : Reader). pending_lexemes text reader.pending) new ∙ idle text)

@@ -1,4 +1,4 @@
-use Rattle.std.proofs.Common.{◌+◌, ap, arith, refl}
+use Rattle.std.proofs.Common.{ap, arith, refl}
 use Rattle.starlark_reader.specs.Inner.Pending.{owed}
 use Rattle.starlark_reader.specs.declared.reader.Reader.{Reader}
 use Rattle.starlark_reader.proofs.Pieces.PieceTaken.{left_onward, name_changes, name_here, onward_past, token_inside, token_passed}

@@ -8,7 +8,7 @@ use Rattle.starlark_reader.proofs.Pieces.NextLexeme.{onward_something}
 use Rattle.starlark_reader.proofs.Pieces.PieceTaken.{counting_line_end, left_onward, onward_ahead}
 use Rattle.starlark_reader.proofs.Indentation.Waiting.{after_error}
 use Rattle.std.proofs.lemmas.Result.{IfOk-weaker, on_ok_weaker}
-use Rattle.starlark_reader.specs.Inner.Reader.{newline_if}
+use Rattle.starlark_reader.specs.Inner.Reader.{newline_of}
 use Rattle.starlark_reader.proofs.reader.Reader.take_counting_line_end.Goals as goal
 
 pub lay_line_end-requires-clause-stands : goal.lay_line_end-requires-clause-stands
@@ -23,8 +23,8 @@ lay_line_end-requires-clause-cut c =
     boundary_shift c.args.text.now c.args.self.now.at c.args.len left.1.boundary (word_cut (drop c.args.self.now.at c.args.text.now) class.LineEnd c.args.len rest (sym c.requires.stands.front))
 
 pub returns-clause-ahead : goal.returns-clause-ahead
-returns-clause-ahead c = IfOk-weaker c.lay_line_end.result _ _ (λ is_laid read lexemes fault ahead.
-    onward_ahead c.args.text.now c.args.self.now (newline_if is_laid c.args.self.now.at c.args.len) c.lay_line_end.new.self lexemes fault (λ history kept.
+returns-clause-ahead c = IfOk-weaker c.lay_line_end.result _ _ (λ line_end read lexemes fault ahead.
+    onward_ahead c.args.text.now c.args.self.now (newline_of line_end c.args.self.now.at c.args.len) c.lay_line_end.new.self lexemes fault (λ history kept.
     read history kept (counting_line_end c.args.text.now history c.args.self.now c.args.len kept c.requires.stands c.requires.counts))
     c.requires.stands.idle (left_onward c.args.text.now c.args.self.now lexemes fault c.requires.stands.stage ahead)) c.lay_line_end.ensures.read
 

@@ -1,13 +1,14 @@
 use Rattle.std.proofs.Common.{◌≡◌, true, false, ap, drop, ◌∙◌, ◌||◌, ◌+◌, ◌-◌, ◌*◌, ◌≤◌, ◌^◌, arith, map, refl, rules, subst, sym}
 use Rattle.std.proofs.lemmas.List.{length-map}
 use Rattle.starlark_reader.specs.Inner.Reads.{HasLooked, IsMarginRead}
+use Rattle.starlark_reader.specs.Inner.Reader.{IsAtCode}
 use Rattle.starlark_token.specs.Lexemes.{shown_lexeme}
 use Rattle.starlark_grammar.specs.Reading.{outcome}
 use Rattle.starlark_syntax.proofs.LexerItems.{one_more}
 use Rattle.starlark_grammar.proofs.Order.Inside.{lexemes_few}
 use Rattle.starlark_reader.proofs.Pieces.ReaderReads.{looked_reads, margin_reads, taken_reads}
 use Rattle.starlark_reader.proofs.Pieces.PieceTaken.{left_onward}
-use Rattle.starlark_syntax.proofs.LexerReads.{fault_counts, found_behind_margin, found_in_code, goes_on, newline_counts, look_paid, nothing_kept, nothing_looked, same_word, word_inside, word_opened}
+use Rattle.starlark_syntax.proofs.LexerReads.{fault_counts, found_in_code, goes_on, newline_counts, look_paid, pending_counts, nothing_kept, nothing_looked, same_word, word_inside, word_opened}
 use Rattle.starlark_syntax.proofs.Reaches.{reached, word_line}
 use Rattle.starlark_syntax.proofs.RestartReads.{next_line_after}
 use Rattle.starlark_syntax.specs.Inner.LexerStates.{IsLexing}
@@ -60,24 +61,49 @@ overflow_add-self-in-Ok-Newline c =
     let small : c.args.self.now.yielded_count + 1 ≤ 2 ^ 34 = omega (arith, inv.0, few) in
     rw c.loop-self.invariant.2 (search (rules, small))
 
+pub overflow_add-self-in-Ok-Pending : goal.overflow_add-self-in-Ok-Pending
+overflow_add-self-in-Ok-Pending c =
+    let inv = c.requires.1 (sym c.loop-self.invariant.3 ∙ (nothing_looked c.loop-self.self.text.now c.loop-self.self.reader c.loop-self.self.looked_to c.loop-self.self.has_ended c.loop-self.self.lookahead (sym c.is_nothing.ensures ∙ c.loop-self-test.true) c.loop-self.invariant.5 c.loop-self.invariant.6).0) in
+    let few = lexemes_few c.args.self.now.text.now c.requires.0 in
+    let small : c.args.self.now.yielded_count + 1 ≤ 2 ^ 34 = omega (arith, inv.0, few) in
+    rw c.loop-self.invariant.2 (search (rules, small))
+
 pub returns-in-Ok-Newline-clause-lexing : goal.returns-in-Ok-Newline-clause-lexing
 returns-in-Ok-Newline-clause-lexing c =
-    let is = rw c.in-Ok-Newline.field-0-is at (c.in-Ok-Newline.ensures.ahead _ _ (c.common_word.ensures.ahead _ _ (c.loop-self.invariant.4 (nothing_looked c.loop-self.self.text.now c.loop-self.self.reader c.loop-self.self.looked_to c.loop-self.self.has_ended c.loop-self.self.lookahead (sym c.is_nothing.ensures ∙ c.loop-self-test.true) c.loop-self.invariant.5 c.loop-self.invariant.6).0))) in
-    let further = one_more (map shown_lexeme (outcome c.loop-self.self.text.now).lexemes) c.loop-self.self.yielded_count _ is.0 is.1 in
     let quick = (nothing_looked c.loop-self.self.text.now c.loop-self.self.reader c.loop-self.self.looked_to c.loop-self.self.has_ended c.loop-self.self.lookahead (sym c.is_nothing.ensures ∙ c.loop-self-test.true) c.loop-self.invariant.5 c.loop-self.invariant.6) in
     let paid = quick.3 in
     let ahead = c.common_word.ensures.ahead _ _ (c.loop-self.invariant.4 quick.0) in
+    let is = rw c.in-Ok-Newline.field-0-is at (c.in-Ok-Newline.ensures.ahead _ _ ahead) in
+    let further = one_more (map shown_lexeme (outcome c.loop-self.self.text.now).lexemes) c.loop-self.self.yielded_count _ is.0 is.1 in
     let front = sym c.in-Some.ensures.stands.front in
     let inside = word_inside c.loop-self.self.text.now c.common_word.new.self _ _ _ c.in-Some.field-0.len c.common_word.ensures.code.stage ahead front in
     let margin = c.in-Ok-Newline.ensures.reads (newline_counts c.in-Ok-Newline.field-0 c.in-Ok-Newline.field-0-is) in
     let read = margin_reads c.loop-self.self.text.now paid.0 c.in-Some.field-0.len c.loop-self.self.reader c.common_word.new.self c.take_line_end.new.self inside.1 inside.0 quick.1.stage paid.2 c.in-Some.ensures.lookahead margin in
     let onward = c.in-Ok-Newline.ensures.onward c.in-Ok-Newline.field-0-is in
     let laid = subst (IsMarginRead c.loop-self.self.text.now c.in-Some.field-0.len c.common_word.new.self c.take_line_end.new.self) onward.0 margin in
-    let past : c.loop-self.self.looked_to ≤ c.take_line_end.new.self.at = omega (arith, quick.2, c.in-Some.ensures.lookahead.0, laid.1) in (
+    let past : c.loop-self.self.looked_to ≤ c.take_line_end.new.self.at = omega (arith, quick.2, c.in-Some.ensures.lookahead.0, laid.1) in
+    let code : IsAtCode c.loop-self.self.text.now c.take_line_end.new.self = record { stage = onward.0; idle = (is.2.is_pending, onward.2 c.loop-self.self.text.now); code = onward.1 } in (
       rw c.loop-self.invariant.0 c.requires.0,
       (λ on. (omega (arith, further.0, length-map (outcome c.loop-self.self.text.now).lexemes shown_lexeme), rw further.1 is.2)),
-      goes_on c.looked_after_margin-self.result _ quick.0,
-      (λ on. found_behind_margin c.loop-self.self.text.now c.take_line_end.new.self c.loop-self.self.looked_to paid.0 c.looked_after_margin-self.result c.looked_after_margin-self.ensures past onward is.2.is_pending (omega (arith, paid.1)) read),
+      c.loop-self.invariant.5,
+      (λ on. nothing_kept c.loop-self.self.text.now c.take_line_end.new.self c.loop-self.self.looked_to paid.0 c.loop-self.self.lookahead (sym c.is_nothing.ensures ∙ c.loop-self-test.true) code past (omega (arith, paid.1)) read),
+      c.loop-self.invariant.7,
+    )
+
+pub returns-in-Ok-Pending-clause-lexing : goal.returns-in-Ok-Pending-clause-lexing
+returns-in-Ok-Pending-clause-lexing c =
+    let quick = (nothing_looked c.loop-self.self.text.now c.loop-self.self.reader c.loop-self.self.looked_to c.loop-self.self.has_ended c.loop-self.self.lookahead (sym c.is_nothing.ensures ∙ c.loop-self-test.true) c.loop-self.invariant.5 c.loop-self.invariant.6) in
+    let paid = quick.3 in
+    let ahead = c.common_word.ensures.ahead _ _ (c.loop-self.invariant.4 quick.0) in
+    let is = rw c.in-Ok-Pending.field-0-is at (c.in-Ok-Pending.ensures.ahead _ _ ahead) in
+    let further = one_more (map shown_lexeme (outcome c.loop-self.self.text.now).lexemes) c.loop-self.self.yielded_count _ is.0 is.1 in
+    let inside = word_inside c.loop-self.self.text.now c.common_word.new.self _ _ _ c.in-Some.field-0.len c.common_word.ensures.code.stage ahead (sym c.in-Some.ensures.stands.front) in
+    let margin = c.in-Ok-Pending.ensures.reads (pending_counts c.in-Ok-Pending.field-0 c.in-Ok-Pending.field-0-is) in
+    let read = margin_reads c.loop-self.self.text.now paid.0 c.in-Some.field-0.len c.loop-self.self.reader c.common_word.new.self c.take_line_end.new.self inside.1 inside.0 quick.1.stage paid.2 c.in-Some.ensures.lookahead margin in (
+      rw c.loop-self.invariant.0 c.requires.0,
+      (λ on. (omega (arith, further.0, length-map (outcome c.loop-self.self.text.now).lexemes shown_lexeme), rw further.1 is.2)),
+      tt,
+      (λ on. (paid.0, omega (arith, paid.1), read)),
       c.loop-self.invariant.7,
     )
 
@@ -157,6 +183,14 @@ returns-in-Ok-Newline-clause-passed c = λ going.
     let is = rw c.in-Ok-Newline.field-0-is at (c.in-Ok-Newline.ensures.ahead _ _ ahead) in
     let same = same_text c.args.self.now c.loop-self.self c.loop-self.self c.loop-self.invariant refl refl refl in
     rw (c.of_kind.ensures, c.at-begin.ensures) (newline_passed c.args.self.now c.loop-self.self c.common_word.new.self c.take_line_end.new.self c.in-Some.field-0.len same (rw c.loop-self.invariant.0 c.requires.0) c.common_word.ensures.code.stage ahead c.in-Ok-Newline.ensures.cut is)
+
+pub returns-in-Ok-Pending-clause-passed : goal.returns-in-Ok-Pending-clause-passed
+returns-in-Ok-Pending-clause-passed c = λ going.
+    let quick = (nothing_looked c.loop-self.self.text.now c.loop-self.self.reader c.loop-self.self.looked_to c.loop-self.self.has_ended c.loop-self.self.lookahead (sym c.is_nothing.ensures ∙ c.loop-self-test.true) c.loop-self.invariant.5 c.loop-self.invariant.6) in
+    let ahead = c.common_word.ensures.ahead _ _ (c.loop-self.invariant.4 quick.0) in
+    let is = rw c.in-Ok-Pending.field-0-is at (c.in-Ok-Pending.ensures.ahead _ _ ahead) in
+    let same = same_text c.args.self.now c.loop-self.self c.loop-self.self c.loop-self.invariant refl refl refl in
+    rw (c.of_kind-in-Ok-Pending.ensures, c.at-begin.ensures) (newline_passed c.args.self.now c.loop-self.self c.common_word.new.self c.take_line_end.new.self c.in-Some.field-0.len same (rw c.loop-self.invariant.0 c.requires.0) c.common_word.ensures.code.stage ahead c.in-Ok-Pending.ensures.cut is)
 
 pub pass_string-opener-requires : goal.pass_string-opener-requires
 pass_string-opener-requires c =

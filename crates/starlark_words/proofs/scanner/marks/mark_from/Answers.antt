@@ -1,4 +1,4 @@
-use Rattle.std.proofs.Common.{◌≡◌, ◌≤◌, ◌∷◌, [], ℕ, None, arith, get_or, length, refl, sym, ◌∙◌}
+use Rattle.std.proofs.Common.{◌≡◌, ◌≤◌, ◌∷◌, [], None, arith, get_or, length, refl, sym, ◌∙◌}
 use Rattle.starlark_words.proofs.Scan.Marks.{mark_of, none_found, one_found, three_found, two_found}
 use Rattle.starlark_words.proofs.scanner.marks.mark_from.Goals.{in_default, in-len3-up+in_default-triple, in_default-text, in-len2-up+in_default-double}
 use Rattle.starlark_words.proofs.scanner.marks.mark_from.Goals as goal

@@ -14,15 +14,15 @@ whole text bytes more begins same run = ap (λ n. 1 + n) (run ∙ ap (λ (t : Te
 
 pub returns-in-Some-clause-word : goal.returns-in-Some-clause-word
 returns-in-Some-clause-word c =
-    let n = whole c.args.text.now _ c.name_run-more.result.0 c.requires.begins c.as_bytes.ensures.value (rw take_rest at c.name_run-more.ensures.value) in
-    rw (front_named c.args.text.now (1 + c.name_run-more.result.0) (λ i. omega (arith, c.type_inv.text i)) c.requires.begins n, ← c.prefixed_opener.ensures.opener, c.in-Some.is) refl
+    let n = whole c.args.text.now _ c.name_len-more.result c.requires.begins c.as_bytes.ensures.value (rw take_rest at c.name_len-more.ensures.value) in
+    rw (front_named c.args.text.now (1 + c.name_len-more.result) (λ i. omega (arith, c.type_inv.text i)) c.requires.begins n, ← c.prefixed_opener.ensures.opener, c.in-Some.is) refl
 
 pub range-requires-clause-end_boundary : goal.range-requires-clause-end_boundary
 range-requires-clause-end_boundary c =
-    let n = whole c.args.text.now _ c.name_run-more.result.0 c.requires.begins c.as_bytes.ensures.value (rw take_rest at c.name_run-more.ensures.value) in
+    let n = whole c.args.text.now _ c.name_len-more.result c.requires.begins c.as_bytes.ensures.value (rw take_rest at c.name_len-more.ensures.value) in
     rw n (boundary_after_run _ c.args.text.now c.utf8.text in_name_is_ascii)
 
 pub returns-in-None-clause-word : goal.returns-in-None-clause-word
 returns-in-None-clause-word c =
-    let n = whole c.args.text.now _ c.name_run-more.result.0 c.requires.begins c.as_bytes.ensures.value (rw take_rest at c.name_run-more.ensures.value) in
-    rw (c.name_class.ensures, c.range.ensures.value, sub-zero, front_named c.args.text.now (1 + c.name_run-more.result.0) (λ i. omega (arith, c.type_inv.text i)) c.requires.begins n, ← c.prefixed_opener.ensures.opener, c.in-None.is) refl
+    let n = whole c.args.text.now _ c.name_len-more.result c.requires.begins c.as_bytes.ensures.value (rw take_rest at c.name_len-more.ensures.value) in
+    rw (c.name_class.ensures, c.range.ensures.value, sub-zero, front_named c.args.text.now (1 + c.name_len-more.result) (λ i. omega (arith, c.type_inv.text i)) c.requires.begins n, ← c.prefixed_opener.ensures.opener, c.in-None.is) refl
