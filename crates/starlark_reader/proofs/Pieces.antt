@@ -1,5 +1,6 @@
 -- What a reader stores, takes and yields.
 pub mod LineEnds
+pub mod Numbers
 pub mod PieceReads
 pub mod SearchReads
 pub mod MarginReads

@@ -1,6 +1,6 @@
 //! Reads the margin at the start of a text.
 
-ghost use Rattle.std.specs.Prelude.{◌≡◌, ◌+◌, ◌*◌, ◌≤◌, ◌<◌, ◌^◌, ◌∷◌, if◌then◌else◌, true, false, IfSome, drop, get_or, length, nat_eq, not, take};
+ghost use Rattle.std.specs.Prelude.{◌≡◌, ◌+◌, ◌*◌, ◌≤◌, ◌<◌, ◌^◌, ◌∷◌, if◌then◌else◌, true, false, IfSome, drop, get_or, length, min, nat_eq, not, take};
 ghost use Rattle.std.specs.List.{prefix_len};
 ghost use Rattle.starlark_reader.specs.Inner.Layout.{IsBlanks, IsMargin, spaces_margin};
 ghost use Rattle.starlark_grammar.specs.Margins as grammar;
@@ -58,7 +58,7 @@ pub(crate) fn line_len(text: &[u8], feed: usize) -> usize
     ensures line { 0 < length text.now → grammar.lines text.now ≡ take result text.now ∷ grammar.lines (drop result text.now) }
     ensures within { result ≤ length text.now }
     ensures feed { feed ≤ result }
-    ensures few { result ≤ feed + 1 }
+    ensures value { result ≡ min (feed + 1) (length text.now) }
 {
     if feed < text.len() { feed + 1 } else { feed }
 }
@@ -108,17 +108,18 @@ fn blanks_in_front(text: &[u8]) -> Blanks
     }
 }
 
-/// The blanks at the start of a text, with their reads counted.
+/// The blanks at the start of a text, with their reads counted, and `passed` reads besides.
 ///
 /// The byte after them counts twice, since the caller reads it again.
 #[inline(always)]
-fn blanks_of(reads: &mut ReadCounter, text: &[u8]) -> Blanks
+fn blanks_of(reads: &mut ReadCounter, passed: usize, text: &[u8]) -> Blanks
+    requires { passed < 2 ^ 33 }
     ensures value { IsBlanks (take (grammar.blanks_len text.now) text.now) result }
     ensures within { result.len ≤ length text.now }
-    ensures reads { reads.new ≡ more_reads reads.old (result.len + 2) }
+    ensures reads { reads.new ≡ more_reads reads.old (passed + (result.len + 2)) }
 {
     let blanks = blanks_in_front(text);
-    reads.count_run(blanks.len + 1);
+    reads.count_run(passed + blanks.len + 1);
     blanks
 }
 
@@ -144,7 +145,7 @@ pub fn margin_of(reads: &mut ReadCounter, text: &str) -> Margin
     ensures reads { AreReads (result.at + result.blanks.len) (5 * result.at + result.blanks.len + 2) reads.old reads.new }
 {
     let bytes = text.as_bytes();
-    let blanks = blanks_of(reads, bytes);
+    let blanks = blanks_of(reads, 0, bytes);
     let remainder = &bytes[blanks.len..];
     if !begins_comment(remainder) {
         return Margin {
@@ -153,10 +154,15 @@ pub fn margin_of(reads: &mut ReadCounter, text: &str) -> Margin
             is_content: is_content(remainder),
         };
     }
-    let mut at = blanks.len + line_len(remainder, before_lf_len(reads, remainder));
+    let mut at = blanks.len + line_len(remainder, before_lf_len(reads, 0, remainder));
     loop {
         let line = &bytes[at..];
-        let blanks = blanks_of(reads, line);
+        // First, since most have no blanks in front (1 % of comments).
+        if begins_comment(line) {
+            at += line_len(line, before_lf_len(reads, 1, line));
+            continue;
+        }
+        let blanks = blanks_of(reads, 1, line);
         let remainder = &line[blanks.len..];
         if !begins_comment(remainder) {
             return Margin {
@@ -165,7 +171,7 @@ pub fn margin_of(reads: &mut ReadCounter, text: &str) -> Margin
                 is_content: is_content(remainder),
             };
         }
-        at += blanks.len + line_len(remainder, before_lf_len(reads, remainder));
+        at += blanks.len + line_len(remainder, before_lf_len(reads, 0, remainder));
     }
 }
 

@@ -8,7 +8,7 @@ ghost use Rattle.starlark_reader.specs.Inner.Steps.{IsStep};
 ghost use Rattle.starlark_token.specs.Lexemes.{shown_lexeme};
 ghost use Rattle.starlark_words.specs.Inner.Literals.{IsPlainBody};
 ghost use Rattle.starlark_grammar.specs.Inner.Openings.{opening_view};
-ghost use Rattle.starlark_words.specs.Inner.Words.{IsDigitAt, word_len};
+ghost use Rattle.starlark_words.specs.Inner.Words.{IsDigitAt, begins_plain_number, is_number, word_len};
 ghost use Rattle.starlark_grammar.specs.Margins.{margin_of, open_widths};
 ghost use Rattle.starlark_reader.specs.Inner.Layout.{IsMargin, spaces_margin};
 ghost use Rattle.starlark_grammar.specs.Pieces as grammar;
@@ -35,7 +35,7 @@ use crate::nesting::{LexerMode, Nesting};
 use crate::pending::{AfterComments, Pending};
 use crate::reading::code::{gap_len, is_code};
 use crate::reading::terminals::token_in;
-use crate::reading::words::digit_token;
+use crate::reading::words::{digit_token, number_token};
 use crate::reading::{Piece, bang_stands, is_outside, line_end_counts, piece_at};
 use crate::text_end::TextEnd;
 use crate::widths::{keep_margin, keeps_widths, margin_fault, take_margin};
@@ -44,8 +44,8 @@ use starlark_token::tokens::Token;
 use starlark_words::plain_body_len;
 use starlark_words::reads::ReadCounter;
 use starlark_words::scanner::{
-    LiteralKind, Quote, Terminal, Word, bytes_opener, comment_len, fstring_opener, single_digit,
-    text_opener, word_after,
+    LiteralKind, Quote, Terminal, Word, begins_plain_number, bytes_opener, comment_len,
+    fstring_opener, plain_number, single_digit, text_opener, word_after,
 };
 use std::alloc::{AllocError, Global};
 use std::mem;
@@ -206,6 +206,8 @@ impl Reader {
     }
 
     /// Reads the margin at the start of the text, or stops at its fault.
+    // A call: else each call of `next` saves what the loops over the margin's lines need.
+    #[inline(never)]
     fn read_first_margin(&mut self, text: &str) -> Result<(), AllocError>
         requires fits { length text.now < 2 ^ 32 }
         requires ready { IsReady text.now self.old Stage.Begin }
@@ -710,6 +712,32 @@ impl Reader {
         single_digit(front, &text[self.at..])
     }
 
+    /// Whether a number comes next that begins with a digit and isn't a 0 before more digits. For
+    /// offsets in code, after spaces.
+    #[inline(always)]
+    pub fn number_stands(&self, front: &[u8], text: &str) -> bool
+        requires front { front.now ≡ take 3 (drop self.now.at text.now) }
+        ensures { result ≡ begins_plain_number (drop self.now.at text.now) }
+    {
+        begins_plain_number(front)
+    }
+
+    /// The number that comes next, which begins with a digit.
+    #[inline(always)]
+    pub fn number(&mut self, front: &[u8], text: &str) -> Word
+        requires fits { length text.now < 2 ^ 32 }
+        requires ready { IsReady text.now self.old self.old.stage }
+        requires code { IsAtCode text.now self.old }
+        requires front { front.now ≡ take 3 (drop self.old.at text.now) }
+        requires number { begins_plain_number (drop self.old.at text.now) ≡ true }
+        ensures ahead { (lexemes : List (Spanned TokenView)) (fault : Option (Spanned Fault)) → IsAhead text.now self.old self.old.stage lexemes fault → IsAhead text.now self.new self.new.stage lexemes fault }
+        ensures stands { IsWordHere text.now self.new result }
+        ensures class { is_number result.class ≡ true }
+        ensures lookahead { HasLookedHere (result.len - 2) (5 * result.len) self.old self.new }
+    {
+        plain_number(&mut self.reads, front, &text[self.at..])
+    }
+
     /// The opener of the string literal that comes next; `None` if something else comes. For
     /// offsets in code, after spaces.
     #[inline(always)]
@@ -1091,6 +1119,31 @@ impl Reader {
         let token = digit_token(digit);
         self.pass_token(&token, 1, text);
         (begin, token, begin + 1)
+    }
+
+    /// Takes the number here, which begins with a digit and isn't a 0 before more digits. Don't use
+    /// the reader after an `AllocError`.
+    #[inline(always)]
+    pub fn take_number(
+        &mut self,
+        word: Word,
+        text: &str,
+    ) -> Result<(usize, Token, usize), AllocError>
+        requires fits { length text.now < 2 ^ 32 }
+        requires ready { IsReady text.now self.old self.old.stage }
+        requires stands { IsWordHere text.now self.old word }
+        requires class { is_number word.class ≡ true }
+        requires number { begins_plain_number (drop self.old.at text.now) ≡ true }
+        ensures ahead { IfOk result (λ given. (lexemes : List (Spanned TokenView)) (fault : Option (Spanned Fault)) → IsAhead text.now self.old self.old.stage lexemes fault → IsAheadAfter text.now (Some given) self.new lexemes fault) }
+        ensures memory { OnErr result ((lexemes : List (Spanned TokenView)) (fault : Option (Spanned Fault)) → IsAhead text.now self.old self.old.stage lexemes fault → IsSomething lexemes fault) }
+        ensures code { OnOk result (IsAtCode text.now self.new) }
+        ensures taken { OnOk result (IsTaken word.len self.old self.new) }
+    {
+        let begin = self.at;
+        let rest = &text[begin..];
+        let token = number_token(self.alloc, word.class, &rest[..word.len])?;
+        self.pass_token(&token, word.len, text);
+        Ok((begin, token, begin + word.len))
     }
 
     /// Takes the bang of an f-string expression here.

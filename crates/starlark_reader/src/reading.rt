@@ -160,10 +160,9 @@ fn word_piece(
         Class::Reserved => Ok(Piece::Lexed(words::reserved(alloc, front)?)),
         Class::Identifier => Ok(Piece::Lexed(words::identifier(alloc, front)?)),
         Class::Decimal => Ok(Piece::Lexed(words::decimal(reads, alloc, front)?)),
-        Class::Hexadecimal => Ok(Piece::Lexed(words::hexadecimal(alloc, front)?)),
-        Class::Octal => Ok(Piece::Lexed(words::octal(alloc, front)?)),
-        Class::Binary => Ok(Piece::Lexed(words::binary(alloc, front)?)),
-        Class::Float => Ok(Piece::Lexed(words::float(alloc, front)?)),
+        Class::Hexadecimal | Class::Octal | Class::Binary | Class::Float => {
+            Ok(Piece::Lexed(words::number(alloc, class, front)?))
+        }
         Class::Fixed(terminal) => Ok(Piece::Lexed(Step::Token {
             token: terminal_token(place, terminal),
             len,

@@ -268,8 +268,8 @@ impl<'a> LexerState<'a> {
 
     /// Next lexeme where the first two bytes don't determine it.
     ///
-    /// By three bytes these come fast: an integer of one digit, the start of an f-string, a bytes
-    /// literal without escapes, the `!` of an f-string's expression, and a comment.
+    /// By three bytes these come fast: a number, the start of an f-string, a bytes literal without
+    /// escapes, the `!` of an f-string's expression, and a comment.
     #[inline(never)]
     fn next_of_all(&mut self) -> Option<Lexeme>
         requires lexing { IsLexing self.old }
@@ -287,6 +287,21 @@ impl<'a> LexerState<'a> {
             let lexeme = self.reader.take_digit(digit, self.text);
             self.lookahead = looked_further(&self.reader, self.looked_to);
             return Some(Ok(lexeme));
+        }
+        if self.reader.number_stands(front, self.text) {
+            let word = self.reader.number(front, self.text);
+            return match self.reader.take_number(word, self.text) {
+                Ok(lexeme) => {
+                    self.yielded_count += 1;
+                    self.lookahead = looked_further(&self.reader, self.looked_to);
+                    Some(Ok(lexeme))
+                }
+                Err(_) => {
+                    self.has_ended = true;
+                    self.lookahead = Lookahead::All;
+                    Some(Err(OrMemory::Memory))
+                }
+            };
         }
         if let Some(quote) = self.reader.fstring_opener(front, self.text) {
             self.lookahead = Lookahead::All;

@@ -1,11 +1,11 @@
 //! Parses integers in a base.
 
-ghost use Rattle.std.specs.Prelude.{◌≡◌, ◌≤◌, nat_eq, slice_index, string_bytes, OnErr, IfOk, IsSomeAnd};
+ghost use Rattle.std.specs.Prelude.{◌≡◌, ◌≤◌, nat_eq, slice_index, string_bytes, true, OnErr, Some, IfOk, IsSomeAnd};
 ghost use Rattle.std.specs.Char.{is_digit};
 ghost use Rattle.std.specs.List.{list_all, prefix_len};
 ghost use Rattle.std.specs.Option.{option_map};
 ghost use Rattle.starlark_grammar.specs.Numbers as grammar;
-ghost use Rattle.starlark_grammar.specs.Numbers.{integer_in};
+ghost use Rattle.starlark_grammar.specs.Numbers.{integer_in, is_number};
 ghost use Rattle.starlark_token.specs.TokenInts.{IsBig, integer_view};
 ghost use Rattle.starlark_grammar.specs.Words.{is_run, is_sign, unsigned};
 
@@ -83,6 +83,24 @@ fn is_negative(text: &[u8]) -> bool
     matches!(text, [b'-', ..])
 }
 
+/// The value of a text that is an integer in a base from 2 to 36.
+///
+/// It allocates only for a number out of the range of `i32`. `AllocError` where memory runs out.
+pub fn number_of(alloc: Global, text: &str, base: u32) -> Result<TokenInt, AllocError>
+    requires least { 2 ≤ base }
+    requires most { base ≤ 36 }
+    requires number { is_number base text.now ≡ true }
+    ensures value { IfOk result (λ number. Some (integer_view number) ≡ integer_in base text.now) }
+    ensures memory { OnErr result (IsSomeAnd (integer_in base text.now) IsBig) }
+{
+    if let Ok(value) = i32::from_str_radix(text, base) {
+        return Ok(TokenInt::I32(value));
+    }
+    let plain = plain_digits(alloc, unsigned(text))?;
+    let number = BigInt::from_parts(alloc, is_negative(text.as_bytes()), plain, base)?;
+    Ok(TokenInt::BigInt(number))
+}
+
 /// Parses an integer in a base from 2 to 36; `None` where the text is no integer.
 ///
 /// It allocates only for a number out of the range of `i32`. `AllocError` where memory runs out.
@@ -92,14 +110,8 @@ pub fn number_in(alloc: Global, text: &str, base: u32) -> Result<Option<TokenInt
     ensures value { IfOk result (λ number. option_map integer_view number ≡ integer_in base text.now) }
     ensures memory { OnErr result (IsSomeAnd (integer_in base text.now) IsBig) }
 {
-    let digits = unsigned(text);
-    if !is_numeral(digits.as_bytes(), base) {
+    if !is_numeral(unsigned(text).as_bytes(), base) {
         return Ok(None);
     }
-    if let Ok(value) = i32::from_str_radix(text, base) {
-        return Ok(Some(TokenInt::I32(value)));
-    }
-    let plain = plain_digits(alloc, digits)?;
-    let number = BigInt::from_parts(alloc, is_negative(text.as_bytes()), plain, base)?;
-    Ok(Some(TokenInt::BigInt(number)))
+    Ok(Some(number_of(alloc, text, base)?))
 }

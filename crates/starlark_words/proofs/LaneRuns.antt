@@ -1,4 +1,4 @@
--- Runs of bytes in parts, and runs that are found in sixteen bytes at once.
+-- Runs of bytes in parts, and runs that are found in some bytes at once.
 use Rattle.std.proofs.Common.{◌≡◌, ℕ, zero, suc, zero-add, ◌+◌, ◌≤◌, ◌<◌, ◌%◌, ◌^◌, Bool, true, false, cond, ◌||◌, not, eqb, List, [], ◌∷◌, ◌*◌, map, length, take, drop, refl, ap, ◌∙◌, sym, bit_or, arith}
 use Rattle.std.proofs.lemmas.Bool.{eq-eqb, ne_eqb, cond-true, cond-false}
 use Rattle.std.proofs.lemmas.List.{length-take-le, length-map, take-append-drop}
@@ -76,13 +76,13 @@ found_inside p (x ∷ xs) some = go (p x) some (found_inside p xs)
 
 -- no bit of the mask of lanes is set where no byte passes, and else the lowest one is the first
 -- byte that does
-pub lanes_found : (p : ℕ → Bool) (v z : List ℕ) → length v ≡ 16 → z ≡ map (λ x. lane_of (p x)) v
-    → (mask_l (map (top 7) z) % 2 ^ 64 ≡ 0 → prefix_len (λ x. not (p x)) v ≡ 16)
-    × (0 < mask_l (map (top 7) z) % 2 ^ 64 → (trailing_zeros w64 (mask_l (map (top 7) z) % 2 ^ 64) ≡ prefix_len (λ x. not (p x)) v) × (trailing_zeros w64 (mask_l (map (top 7) z) % 2 ^ 64) < 16))
-lanes_found p v z long lanes =
+pub lanes_found : (n : ℕ) (p : ℕ → Bool) (v z : List ℕ) → n ≤ 64 → length v ≡ n → z ≡ map (λ x. lane_of (p x)) v
+    → (mask_l (map (top 7) z) % 2 ^ 64 ≡ 0 → prefix_len (λ x. not (p x)) v ≡ n)
+    × (0 < mask_l (map (top 7) z) % 2 ^ 64 → (trailing_zeros w64 (mask_l (map (top 7) z) % 2 ^ 64) ≡ prefix_len (λ x. not (p x)) v) × (trailing_zeros w64 (mask_l (map (top 7) z) % 2 ^ 64) < n))
+lanes_found n p v z few long lanes =
     let mask : mask_l (map (top 7) z) % 2 ^ 64 ≡ mask_l (map p v) =
-    ap (λ l. mask_l l % 2 ^ 64) (ap (map (top 7)) lanes ∙ map-map (top 7) (λ x. lane_of (p x)) v ∙ (λ i. map (λ x. top_lane (p x) i) v)) ∙ mask_l-mod (map p v) 64 (omega (arith, length-map v p, long)) in
-    let first = λ (some : 0 < mask_l (map (top 7) z) % 2 ^ 64). ap (trailing_zeros w64) mask ∙ trailing_mask_l p 64 v (omega (arith, long)) (omega (arith, some, mask)) in (
+    ap (λ l. mask_l l % 2 ^ 64) (ap (map (top 7)) lanes ∙ map-map (top 7) (λ x. lane_of (p x)) v ∙ (λ i. map (λ x. top_lane (p x) i) v)) ∙ mask_l-mod (map p v) 64 (omega (arith, length-map v p, long, few)) in
+    let first = λ (some : 0 < mask_l (map (top 7) z) % 2 ^ 64). ap (trailing_zeros w64) mask ∙ trailing_mask_l p 64 v (omega (arith, long, few)) (omega (arith, some, mask)) in (
       λ none. leading_from_mask_l p v (sym mask ∙ none) ∙ long,
       λ some. (first some, omega (arith, first some, found_inside p v (omega (arith, some, mask)), long)),
     )

@@ -43,7 +43,7 @@ fn append_run(text: &mut String, run: &str, front: &[u8]) -> Result<(), AllocErr
     ensures { OnOk result (string_bytes text.new ≡ string_bytes text.old ++ run.now) }
 {
     if text.capacity() == 0 {
-        text.reserve(run.len().saturating_add(spare_len(front)))?;
+        text.reserve_exact(run.len().saturating_add(spare_len(front)))?;
     }
     // A copy is a call, even of nothing, and escapes often follow one another.
     if run.is_empty() {

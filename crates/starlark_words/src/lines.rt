@@ -1,16 +1,16 @@
 //! Finds the first LF, or the first of another byte.
 
-ghost use Rattle.std.specs.Prelude.{◌≡◌, ◌+◌, ◌-◌, ◌*◌, ◌≤◌, ◌<◌, drop, length, take};
+ghost use Rattle.std.specs.Prelude.{◌≡◌, ◌+◌, ◌-◌, ◌≤◌, ◌<◌, ◌^◌, drop, length, take};
 ghost use Rattle.std.specs.Int.{trailing_zeros, w64};
 ghost use Rattle.std.specs.List.{prefix_len};
 ghost use Rattle.starlark_words.specs.Inner.Reads.{AreReads};
-ghost use Rattle.starlark_words.specs.Inner.Lines.{is_in_front};
+ghost use Rattle.starlark_words.specs.Inner.Lines.{is_in_front, most_front_reads};
 
 use crate::lanes::LANES;
 use crate::reads::ReadCounter;
 use std::simd::prelude::*;
 
-/// Bytes of a line that are read one by one before the first SIMD step.
+/// Bytes of a line before its first step of 16: its first one, and the four after that.
 const ALONE: usize = 5;
 
 /// Number of bytes before the first LF or `other` byte, or all of them, one byte at a time. The
@@ -27,8 +27,8 @@ fn short_front_len(text: &[u8], other: u8) -> usize
     len
 }
 
-/// The LFs and `other` bytes among the 16 bytes from `at` on, as a mask: the lowest bit is the first
-/// byte's. The caller has to count the reads.
+/// The LFs and `other` bytes among the 16 bytes from `at` on, as a mask: the lowest bit is the
+/// first byte's. The caller has to count the reads.
 // A mask, since a test for 0 takes fewer instructions than a length that is compared with 16.
 #[inline(always)]
 fn front_ends(text: &[u8], at: usize, other: u8) -> u64
@@ -41,29 +41,50 @@ fn front_ends(text: &[u8], at: usize, other: u8) -> u64
     ends.to_bitmask()
 }
 
-/// Number of bytes before the first LF or `other` byte of a text of 16 bytes or more, or all of
-/// them, if the first `at` bytes have none.
-///
-/// It reads 16 bytes at a time. Where fewer are left it reads the last 16 of the text.
+/// The LFs and `other` bytes among the four bytes from `at` on, as a mask: the lowest bit is the
+/// first byte's. The caller has to count the reads.
 #[inline(always)]
-fn long_front_len(reads: &mut ReadCounter, text: &[u8], other: u8, from: usize) -> usize
+fn four_ends(text: &[u8], at: usize, other: u8) -> u64
+    requires { at + 4 ≤ length text.now }
+    ensures none { result ≡ 0 → prefix_len (is_in_front other) (take 4 (drop at text.now)) ≡ 4 }
+    ensures some { 0 < result → (trailing_zeros w64 result ≡ prefix_len (is_in_front other) (take 4 (drop at text.now))) × (trailing_zeros w64 result < 4) }
+{
+    let lanes = u8x4::from_slice(&text[at..]);
+    let ends = lanes.simd_eq(u8x4::splat(other)) | lanes.simd_eq(u8x4::splat(b'\n'));
+    ends.to_bitmask()
+}
+
+/// Number of bytes before the first LF or `other` byte of a text of 16 bytes or more, or all of
+/// them, if the first `from` bytes have none.
+///
+/// It reads 16 bytes at a time. Where fewer are left it reads the last 16 of the text. Counts
+/// `passed` reads besides.
+#[inline(always)]
+fn long_front_len(
+    reads: &mut ReadCounter,
+    passed: usize,
+    text: &[u8],
+    other: u8,
+    from: usize,
+) -> usize
+    requires fits { passed + length text.now < 2 ^ 64 - 16 }
     requires long { 16 ≤ length text.now }
     requires none { prefix_len (is_in_front other) text.now ≡ from + prefix_len (is_in_front other) (drop from text.now) }
     requires inside { from ≤ length text.now }
     ensures value { result ≡ prefix_len (is_in_front other) text.now }
     ensures within { result ≤ length text.now }
-    ensures reads { AreReads (result + 1) (result + 16) reads.old reads.new }
+    ensures reads { AreReads (passed + (result + 1)) (passed + (result + 16)) reads.old reads.new }
 {
     let mut at = from;
     while at + LANES <= text.len() {
         let ends = front_ends(text, at, other);
         if ends != 0 {
-            reads.count_run_and_lanes(at);
+            reads.count_run_and_lanes(passed + at);
             return at + ends.trailing_zeros() as usize;
         }
         at += LANES;
     }
-    reads.count_run_and_lanes(at);
+    reads.count_run_and_lanes(passed + at);
     let last = text.len() - LANES;
     let ends = front_ends(text, last, other);
     if ends == 0 {
@@ -75,22 +96,28 @@ fn long_front_len(reads: &mut ReadCounter, text: &[u8], other: u8, from: usize) 
 
 /// Number of bytes before the first LF or `other` byte of a text, or all of them.
 ///
-/// It reads five bytes one by one, and then 16 at a time.
+/// It reads the first byte, the next four together, and then 16 at a time. Counts `passed` reads
+/// besides.
 #[inline(always)]
-pub fn front_len(reads: &mut ReadCounter, text: &[u8], other: u8) -> usize
+pub fn front_len(reads: &mut ReadCounter, passed: usize, text: &[u8], other: u8) -> usize
+    requires { passed + length text.now < 2 ^ 64 - 16 }
     ensures value { result ≡ prefix_len (is_in_front other) text.now }
     ensures within { result ≤ length text.now }
-    ensures reads { AreReads (result + 1) (5 * (result - 1) + 2) reads.old reads.new }
+    ensures reads { AreReads (passed + (result + 1)) (passed + most_front_reads result text.now) reads.old reads.new }
 {
     if text.len() < LANES {
         let len = short_front_len(text, other);
-        reads.count_run(len);
+        reads.count_run(passed + len);
         return len;
     }
-    let alone = short_front_len(&text[..ALONE], other);
-    if alone < ALONE {
-        reads.count_run(alone);
-        return alone;
+    if text[0] == other || text[0] == b'\n' {
+        reads.count_run(passed);
+        return 0;
     }
-    long_front_len(reads, text, other, ALONE)
+    let ends = four_ends(text, 1, other);
+    if ends != 0 {
+        reads.count_run(passed + 4);
+        return 1 + ends.trailing_zeros() as usize;
+    }
+    long_front_len(reads, passed, text, other, ALONE)
 }

@@ -106,15 +106,6 @@ impl ReadCounter {
         self.add(len + LANES);
     }
 
-    /// Whether the last byte of a text is a CR.
-    pub fn ends_with_return(&mut self, text: &[u8]) -> bool
-        ensures value { result ≡ (get_or text.now (length text.now - 1) 0 == 13) }
-        ensures reads { self.new ≡ more_reads self.old 1 }
-    {
-        self.add(1);
-        matches!(text, [.., b'\r'])
-    }
-
     /// The byte at an offset of a text; `None` if the text is no longer than that.
     #[inline(always)]
     pub fn at(&mut self, text: &[u8], place: usize) -> Option<u8>

@@ -5,7 +5,7 @@ ghost use Rattle.std.specs.List.{prefix_len, slice_get};
 ghost use Rattle.std.specs.Option.{option_map};
 ghost use Rattle.starlark_grammar.specs.Front.{language_front};
 ghost use Rattle.starlark_words.specs.Inner.Reads.{AreReads, more_reads};
-ghost use Rattle.starlark_words.specs.Inner.Words.{IsDigitAt, begins_number, word_len, word_view};
+ghost use Rattle.starlark_words.specs.Inner.Words.{IsDigitAt, begins_number, begins_plain_number, is_number, word_len, word_view};
 ghost use Rattle.starlark_grammar.specs.Pieces.{is_bang};
 ghost use Rattle.starlark_grammar.specs.Words as grammar;
 ghost use Rattle.starlark_grammar.specs.declared.class.Class.TheVariants as class;
@@ -177,6 +177,29 @@ pub fn single_digit(front: &[u8], text: &str) -> Option<u8>
     }
 }
 
+/// Whether a text begins with a digit, and not with a 0 before another digit, which is a fault.
+/// `front` is the text's first three bytes.
+#[inline(always)]
+pub fn begins_plain_number(front: &[u8]) -> bool
+    ensures { (text : grammar.Text) → front.now ≡ take 3 text → result ≡ begins_plain_number text }
+{
+    numbers::begins_plain_number(front)
+}
+
+/// The number at the start of a text that begins with a digit. `front` is the text's first three
+/// bytes, whose reads the caller has counted.
+#[inline(always)]
+pub fn plain_number(reads: &mut ReadCounter, front: &[u8], text: &str) -> Word
+    requires number { begins_plain_number text.now ≡ true }
+    requires front { front.now ≡ take 3 text.now }
+    ensures word { Some (word_view result) ≡ language_front text.now }
+    ensures class { is_number result.class ≡ true }
+    ensures bang { is_bang text.now ≡ false }
+    ensures reads { AreReads (result.len - 2) (5 * result.len) reads.old reads.new }
+{
+    numbers::number_from(reads, front, text.as_bytes())
+}
+
 /// The longest word at the front of a text if its first two bytes open a text literal.
 #[inline(always)]
 pub fn text_opener(reads: &mut ReadCounter, text: &str) -> Option<Word>
@@ -221,7 +244,7 @@ pub fn comment_len(reads: &mut ReadCounter, front: &[u8], text: &str) -> Option<
     ensures none { result ≡ None → reads.new ≡ reads.old }
 {
     match front {
-        [b'#', ..] => Some(front_len(reads, text.as_bytes(), b'\r')),
+        [b'#', ..] => Some(front_len(reads, 0, text.as_bytes(), b'\r')),
         _ => None,
     }
 }

@@ -185,6 +185,21 @@ one_passed text line remainder at n blanks passed e same f h split inside =
       },
     )
 
+-- a comment-only line that has no blanks in front
+pub front_passed : (text line : Text) (at n : ℕ) → ArePassed text at → line ≡ drop at text → begins_comment line ≡ true
+    → (0 < length line → lines line ≡ take n line ∷ lines (drop n line)) → n ≤ length line → (at < at + n) × ArePassed text (at + n)
+front_passed text line at n passed e h split inside = rw zero-add at (one_passed text line line at n none passed e (no_blanks line h) refl h split inside)
+  where
+    none : Blanks
+    none = record { len = 0; width = 0; has_tab = false }
+
+    no_blank : (b : ℕ) → begins_comment (b ∷ []) ≡ true → is_blank b ≡ false
+    no_blank b k = grind (arith, nat_tests)
+
+    no_blanks : (line : Text) → begins_comment line ≡ true → IsBlanks (take (blanks_len line) line) (record { len = 0; width = 0; has_tab = false })
+    no_blanks [] k = absurd (false≢true k)
+    no_blanks (b ∷ bs) k = let other : is_blank b ≡ false = no_blank b k in rw other (record { len = refl; width = refl; has_tab = refl })
+
 pub last_passed : (text line remainder : Text) (at : ℕ) (found : Blanks) (content : Bool) → ArePassed text at → line ≡ drop at text → IsBlanks (take (blanks_len line) line) found → remainder ≡ drop found.len line → begins_comment remainder ≡ false → content ≡ is_content remainder
     → IsMargin (margin_of text) (record { at = at; blanks = found; is_content = content })
 unfolding margin_of

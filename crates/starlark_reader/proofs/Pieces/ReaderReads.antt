@@ -109,6 +109,10 @@ here_taken_reads text beside least most len old mid new onward has lookahead eno
     subst (HasReadAt text beside new) (sym passed.1)
     (omega (arith, enough, lookahead.0, lookahead.3.0, on.0, passed.0.0, passed.0.1), omega (arith, few, lookahead.0, lookahead.2, lookahead.3.1, on.1, passed.0.0, passed.0.1, passed.0.2))
 
+-- the reads of two peeks together
+pub looked_twice : (least most more_least more_most : ℕ) (old mid new : Reader) → HasLookedHere least most old mid → HasLookedHere more_least more_most mid new → HasLookedHere (least + more_least) (most + more_most) old new
+looked_twice least most more_least more_most old mid new first second = (second.0 ∙ first.0, second.1 ∙ first.1, omega (arith, first.2, second.2), (omega (arith, first.3.0, second.3.0), omega (arith, first.3.1, second.3.1)))
+
 -- lookahead at an f-string's opener is part of the reads of its start
 pub begun_reads : (text : Text) (beside : ℕ) (old mid new : Reader) → old.stage ≡ stages.Onward → HasRead text beside old → HasLookedHere 3 3 old mid → HasStarted mid new → HasRead text beside new
 begun_reads text beside old mid new onward has lookahead begun =

@@ -1,9 +1,12 @@
 -- Steps of the code, as the grammar sees them.
-use Rattle.std.specs.Prelude.{◌≡◌, ℕ, ◌+◌, ◌++◌, ◌∷◌, [], false, Some, string_bytes, take}
+use Rattle.std.specs.Prelude.{◌≡◌, ℕ, ◌+◌, ◌++◌, ◌∷◌, [], false, Some, drop, string_bytes, take}
 use Rattle.std.specs.Str.{IsCharBoundary}
 use Rattle.starlark_grammar.specs.Words.{Text}
 use Rattle.starlark_grammar.specs.Tokens as grammar
 use Rattle.starlark_grammar.specs.Pieces as pieces
+use Rattle.starlark_grammar.specs.Numbers.{integer_of}
+use Rattle.starlark_grammar.specs.declared.class.Class.{Class}
+use Rattle.starlark_grammar.specs.declared.class.Class.TheVariants as class
 use Rattle.starlark_token.specs.TokenViews.{Whole, token_view}
 use Rattle.starlark_token.specs.Lexemes.{fault_view}
 use Rattle.starlark_reader.specs.Inner.TextEnds.{text_end_node}
@@ -18,6 +21,14 @@ use Rattle.starlark_reader.specs.declared.literal.pieces.Step.TheVariants as ste
 -- the step of an f-string text of `text_len` bytes, its value, and the `len` bytes that end it
 abbrev pub text_step : ℕ → Text → TextEnd → ℕ → pieces.Step
 text_step text_len value stop len = pieces.piece (text_len + len) (pieces.chunk_text text_len value ++ record { begin = text_len; node = text_end_node stop; end = text_len + len } ∷ [])
+
+-- the token of a number, by its class
+abbrev pub number_of : Class → Text → grammar.Token
+number_of class.Decimal word = grammar.Int (integer_of 10 word)
+number_of class.Hexadecimal word = grammar.Int (integer_of 16 (drop 2 word))
+number_of class.Octal word = grammar.Int (integer_of 8 (drop 2 word))
+number_of class.Binary word = grammar.Int (integer_of 2 (drop 2 word))
+number_of it word = grammar.Float word
 
 -- the step of the grammar is the one read: a token that begins no f-string, an f-string text, or a
 -- fault

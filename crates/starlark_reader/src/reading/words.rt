@@ -1,23 +1,26 @@
 //! Words with many spellings, as tokens or faults.
 
-ghost use Rattle.std.specs.Prelude.{◌≡◌, ◌≤◌, ◌<◌, ◌+◌, ◌∷◌, [], Some, drop, length, true, IfOk};
+ghost use Rattle.std.specs.Prelude.{◌≡◌, ◌≤◌, ◌<◌, ◌+◌, ◌∷◌, [], Some, drop, false, length, true, IfOk};
 ghost use Rattle.std.specs.Char.{is_digit};
 ghost use Rattle.starlark_words.specs.Inner.Reads.{more_reads};
+ghost use Rattle.starlark_words.specs.Inner.Words.{is_number};
 ghost use Rattle.starlark_reader.specs.Inner.Reads.{IsOfWord, IsTabFault};
-ghost use Rattle.starlark_reader.specs.Inner.Steps.{IsStep};
+ghost use Rattle.starlark_reader.specs.Inner.Steps.{IsStep, number_of};
 ghost use Rattle.starlark_grammar.specs.Numbers.{integer_of};
 ghost use Rattle.starlark_grammar.specs.Pieces as grammar;
 ghost use Rattle.starlark_grammar.specs.Tokens as tokens;
 ghost use Rattle.starlark_grammar.specs.declared.class.Class.TheVariants as class;
+ghost use Rattle.starlark_grammar.specs.declared.class.Class.TheVariants.{Decimal};
 ghost use Rattle.starlark_grammar.specs.Words.{Text, class_in, is_run, language};
 ghost use Rattle.starlark_token.specs.TokenViews.{Whole, token_view};
 
 use crate::literal::Step;
 use starlark_token::lexeme_error::LexemeError;
-use starlark_token::number_text::number_in;
+use starlark_token::number_text;
 use starlark_token::token_int::TokenInt;
 use starlark_token::tokens::Token;
 use starlark_words::reads::ReadCounter;
+use starlark_words::scanner::Class;
 use std::alloc::{AllocError, Global};
 
 /// The token of a comment, whose value leaves out the `#`.
@@ -68,32 +71,44 @@ pub(crate) fn identifier(alloc: Global, word: &str) -> Result<Step, AllocError>
     })
 }
 
-/// The token of a float, whose value is its text.
-pub(crate) fn float(alloc: Global, word: &str) -> Result<Step, AllocError>
-    ensures step { IfOk result (IsStep (grammar.token (length word.now) (tokens.Float word.now))) }
-    ensures word { IfOk result (IsOfWord (length word.now)) }
-{
-    Ok(Step::Token {
-        token: Token::Float(String::from_str(alloc, word)?),
-        len: word.len(),
-    })
-}
-
-/// The token of an integer of `len` bytes, from its digits in a base.
-fn integer(alloc: Global, digits: &str, base: u32, len: usize) -> Result<Step, AllocError>
+/// The token of an integer, from its digits in a base.
+fn integer(alloc: Global, digits: &str, base: u32) -> Result<Token, AllocError>
     requires least { 2 ≤ base }
     requires most { base ≤ 36 }
     requires digits { is_run (λ b. is_digit b base) digits.now ≡ true }
-    ensures step { IfOk result (IsStep (grammar.token len (tokens.Int (integer_of base digits.now)))) }
-    ensures word { IfOk result (IsOfWord (len)) }
+    ensures { IfOk result (λ token. token_view token ≡ Whole (tokens.Int (integer_of base digits.now))) }
 {
-    match number_in(alloc, digits, base)? {
-        Some(number) => Ok(Step::Token {
-            token: Token::Int(number),
-            len,
-        }),
-        None => unreachable!(),
+    Ok(Token::Int(number_text::number_of(alloc, digits, base)?))
+}
+
+/// The token of a number, by its class.
+#[inline(always)]
+pub(crate) fn number_token(alloc: Global, class: Class, word: &str) -> Result<Token, AllocError>
+    requires number { is_number class ≡ true }
+    requires known { class_in language word.now ≡ Some class }
+    ensures { IfOk result (λ token. token_view token ≡ Whole (number_of class word.now)) }
+{
+    match class {
+        Class::Decimal => integer(alloc, word, 10),
+        Class::Hexadecimal => integer(alloc, &word[2..], 16),
+        Class::Octal => integer(alloc, &word[2..], 8),
+        Class::Binary => integer(alloc, &word[2..], 2),
+        _ => Ok(Token::Float(String::from_str(alloc, word)?)),
     }
+}
+
+/// The step of a number that isn't a 0 before more digits.
+pub(crate) fn number(alloc: Global, class: Class, word: &str) -> Result<Step, AllocError>
+    requires number { is_number class ≡ true }
+    requires known { class_in language word.now ≡ Some class }
+    requires plain { class ≡ Decimal → grammar.starts_zero word.now ≡ false }
+    ensures step { IfOk result (λ step. (s : grammar.Situation) (remainder : Text) → IsStep (grammar.word_step s class word.now remainder) step) }
+    ensures word { IfOk result (IsOfWord (length word.now)) }
+{
+    Ok(Step::Token {
+        token: number_token(alloc, class, word)?,
+        len: word.len(),
+    })
 }
 
 /// The token of an integer of one digit, from its value. It doesn't allocate.
@@ -130,32 +145,5 @@ pub(crate) fn decimal(
             end: word.len(),
         });
     }
-    integer(alloc, word, 10, word.len())
-}
-
-/// The token of a hexadecimal integer.
-pub(crate) fn hexadecimal(alloc: Global, word: &str) -> Result<Step, AllocError>
-    requires { class_in language word.now ≡ Some class.Hexadecimal }
-    ensures step { IfOk result (IsStep (grammar.token (length word.now) (tokens.Int (integer_of 16 (drop 2 word.now))))) }
-    ensures word { IfOk result (IsOfWord (length word.now)) }
-{
-    integer(alloc, &word[2..], 16, word.len())
-}
-
-/// The token of an octal integer.
-pub(crate) fn octal(alloc: Global, word: &str) -> Result<Step, AllocError>
-    requires { class_in language word.now ≡ Some class.Octal }
-    ensures step { IfOk result (IsStep (grammar.token (length word.now) (tokens.Int (integer_of 8 (drop 2 word.now))))) }
-    ensures word { IfOk result (IsOfWord (length word.now)) }
-{
-    integer(alloc, &word[2..], 8, word.len())
-}
-
-/// The token of a binary integer.
-pub(crate) fn binary(alloc: Global, word: &str) -> Result<Step, AllocError>
-    requires { class_in language word.now ≡ Some class.Binary }
-    ensures step { IfOk result (IsStep (grammar.token (length word.now) (tokens.Int (integer_of 2 (drop 2 word.now))))) }
-    ensures word { IfOk result (IsOfWord (length word.now)) }
-{
-    integer(alloc, &word[2..], 2, word.len())
+    number(alloc, Class::Decimal, word)
 }

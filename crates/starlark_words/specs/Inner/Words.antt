@@ -7,7 +7,7 @@ use Rattle.std.specs.Str.{bytes_eq}
 use Rattle.std.specs.Char.{is_ascii_digit}
 use Rattle.starlark_grammar.specs.Words as grammar
 use Rattle.starlark_grammar.specs.declared.class.Class.{Class}
-use Rattle.starlark_grammar.specs.declared.class.Class.TheVariants.{Fixed, Identifier, Opener, Reserved}
+use Rattle.starlark_grammar.specs.declared.class.Class.TheVariants.{Binary, Decimal, Fixed, Float, Hexadecimal, Identifier, Octal, Opener, Reserved}
 use Rattle.starlark_grammar.specs.declared.class.LiteralKind.TheVariants.{Text as OfText}
 use Rattle.starlark_grammar.specs.declared.class.Quote.{Quote}
 use Rattle.starlark_grammar.specs.declared.class.Quote.TheVariants.{Single, Double}
@@ -31,15 +31,6 @@ marks = grammar.listed grammar.line_ends ++ grammar.listed grammar.symbols
 -- a single or a double quote
 abbrev pub is_quote : ℕ → Bool
 is_quote b = b == 39 || b == 34
-
--- whether a keyword or a reserved word of a length begins with two bytes
-abbrev pub begin_listed_name : ℕ → ℕ → ℕ → Bool
-begin_listed_name a b len = list_any (λ row. bytes_eq (take 2 row.0) (a ∷ b ∷ []) && length row.0 == len) grammar.names
-
--- a name may be a keyword or a reserved word, by its first two bytes and its length: each of them passes this test
-abbrev pub may_be_listed : grammar.Text → Bool
-may_be_listed (a ∷ b ∷ rest) = nat_le (length (a ∷ b ∷ rest)) 8 && begin_listed_name a b (length (a ∷ b ∷ rest))
-may_be_listed text = false
 
 -- the class of an entry in the table of keywords and reserved words
 abbrev pub listing_view : Listing → Class
@@ -88,6 +79,21 @@ abbrev pub begins_number : grammar.Text → Bool
 begins_number [] = false
 begins_number (a ∷ []) = is_ascii_digit a
 begins_number (a ∷ b ∷ rest) = is_ascii_digit a || (a == 46 && is_ascii_digit b)
+
+-- the text begins with a digit, and not with a 0 and another digit
+abbrev pub begins_plain_number : grammar.Text → Bool
+begins_plain_number [] = false
+begins_plain_number (a ∷ []) = is_ascii_digit a
+begins_plain_number (a ∷ b ∷ rest) = is_ascii_digit a && not (a == 48 && is_ascii_digit b)
+
+-- whether words of a class are numbers
+abbrev pub is_number : Class → Bool
+is_number Decimal = true
+is_number Hexadecimal = true
+is_number Octal = true
+is_number Binary = true
+is_number Float = true
+is_number class = false
 
 -- the text begins with a digit of this value
 abbrev pub IsDigitAt : ℕ → grammar.Text → Type 0

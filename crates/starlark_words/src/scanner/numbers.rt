@@ -1,11 +1,11 @@
 //! Numbers: the class and the length of the one at the front of a text.
 
-ghost use Rattle.std.specs.Prelude.{◌≡◌, ◌≤◌, ◌<◌, ◌+◌, ◌-◌, ◌*◌, ◌^◌, ◌==◌, if◌then◌else◌, Some, None, length, take, true};
+ghost use Rattle.std.specs.Prelude.{◌≡◌, ◌≤◌, ◌<◌, ◌+◌, ◌-◌, ◌*◌, ◌^◌, ◌==◌, if◌then◌else◌, IfSome, Some, None, length, take, true};
 ghost use Rattle.std.specs.Option.{option_map};
 ghost use Rattle.starlark_grammar.specs.Front.{language_front, longest_front};
 ghost use Rattle.starlark_grammar.specs.Lengths.{longest_len};
 ghost use Rattle.starlark_words.specs.Inner.Reads.{AreReads, more_reads};
-ghost use Rattle.starlark_words.specs.Inner.Words.{begins_number, is_digit_alone, may_be_in_number, word_len, word_view};
+ghost use Rattle.starlark_words.specs.Inner.Words.{begins_number, begins_plain_number, is_digit_alone, is_number, may_be_in_number, word_len, word_view};
 ghost use Rattle.starlark_grammar.specs.Words as grammar;
 
 use super::first::is_name_start;
@@ -146,6 +146,7 @@ fn based_word(class: Class, digits: usize) -> Option<Word>
 fn based_front(reads: &mut ReadCounter, front: &[u8], text: &[u8]) -> Option<Word>
     requires { front.now ≡ take 3 text.now }
     ensures value { option_map word_view result ≡ longest_front (grammar.class_in grammar.based) text.now }
+    ensures class { IfSome result (λ word. is_number word.class ≡ true) }
     ensures reads { AreReads (word_len result - 2) (word_len result) reads.old reads.new }
 {
     let digit = *front.get(2)?;
@@ -181,13 +182,27 @@ pub(crate) fn is_digit_alone(text: &[u8]) -> bool
     }
 }
 
+/// Whether a text begins with a digit, and not with a 0 before another digit.
+#[inline(always)]
+pub(crate) fn begins_plain_number(text: &[u8]) -> bool
+    ensures { result ≡ begins_plain_number text.now }
+{
+    match text {
+        [] => false,
+        [first] => first.is_ascii_digit(),
+        [first, second, ..] => {
+            first.is_ascii_digit() && !(*first == b'0' && second.is_ascii_digit())
+        }
+    }
+}
+
 /// The longest number at the front of a text that begins with one. The caller has counted the reads
-/// of
-/// the first three bytes.
+/// of the first three bytes.
 pub(crate) fn number_from(reads: &mut ReadCounter, front: &[u8], text: &[u8]) -> Word
     requires number { begins_number text.now ≡ true }
     requires front { front.now ≡ take 3 text.now }
     ensures word { Some (word_view result) ≡ language_front text.now }
+    ensures class { is_number result.class ≡ true }
     ensures reads { AreReads (result.len - 2) (5 * result.len) reads.old reads.new }
 {
     if let Some(word) = based_front(reads, front, text) {

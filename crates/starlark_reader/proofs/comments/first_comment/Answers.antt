@@ -64,6 +64,6 @@ returns-clause-reads c =
     let line = first (goal.at.returns-clause-reads c).After-comment_end in
     let feed = feed_measured _ _ _ _ c.before_comment_len-blanks.ensures.value (take_rest _ c.before_comment_len-blanks.result) c.before_lf_len.ensures.value in
     let some = part_before_feed (take (c.args.to - c.args.from) (drop c.args.from c.as_bytes.result.now)) in (
-      omega (arith, c.before_comment_len-blanks.ensures.reads, c.before_lf_len.ensures.reads.0, c.comment_end.ensures.reads),
-      omega (arith, feed, some, line.order, c.comment_end.ensures.value, c.before_comment_len-blanks.ensures.reads, c.before_lf_len.ensures.reads.1, c.comment_end.ensures.reads, c.line_len-len.ensures.feed),
+      omega (arith, c.before_lf_len.ensures.reads.0),
+      omega (arith, feed, some, line.order, c.comment_end.ensures.value, c.before_lf_len.ensures.reads.1, c.line_len-len.ensures.value),
     )

@@ -12,3 +12,6 @@ returns-else-feed-text-clause-line c = λ some. line_whole c.args.text.now c.arg
 
 pub returns-else-feed-text-clause-within : goal.returns-else-feed-text-clause-within
 returns-else-feed-text-clause-within c = omega (arith, c.requires, prefix_len-le-length (λ b. not (is_lf b)) c.args.text.now)
+
+pub returns-else-feed-text-clause-value : goal.returns-else-feed-text-clause-value
+returns-else-feed-text-clause-value c = omega (arith, c.requires, prefix_len-le-length (λ b. not (is_lf b)) c.args.text.now, c.if-feed-text.false)

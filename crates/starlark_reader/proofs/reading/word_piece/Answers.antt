@@ -15,6 +15,9 @@ returns-in-Opener-clause-piece c = if_ok _ _ c.opener.result (λ piece is s text
 pub returns-in_ok-decimal-in-Decimal-clause-piece : goal.returns-in_ok-decimal-in-Decimal-clause-piece
 returns-in_ok-decimal-in-Decimal-clause-piece c = λ s text place balanced cut edge. rw c.in-Decimal.is (c.in_ok-decimal-in-Decimal.ensures.step s c.args.remainder.now)
 
+pub returns-in_ok-number-in-Hexadecimal-clause-piece : goal.returns-in_ok-number-in-Hexadecimal-clause-piece
+returns-in_ok-number-in-Hexadecimal-clause-piece c = λ s text place balanced cut edge. c.in_ok-number-in-Hexadecimal.ensures.step s c.args.remainder.now
+
 pub returns-in-LineEnd-clause-line_end : goal.returns-in-LineEnd-clause-line_end
 returns-in-LineEnd-clause-line_end c =
     let front = c.args.front.now in

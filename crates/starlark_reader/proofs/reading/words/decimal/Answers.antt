@@ -1,11 +1,9 @@
-use Rattle.std.proofs.Common.{◌≡◌, [], ◌∷◌, true, false, ap, refl, sym, take, arith, ◌∙◌}
+use Rattle.std.proofs.Common.{◌≡◌, [], ◌∷◌, true, ap, refl, sym, take, arith, ◌∙◌}
 use Rattle.std.proofs.lemmas.Bool.Decides.{nat_tests}
 use Rattle.std.specs.Prelude.{Some}
 use Rattle.starlark_grammar.specs.Pieces as grammar
 use Rattle.starlark_grammar.specs.Tokens.{StartsZero}
-use Rattle.starlark_grammar.proofs.Words.Classes.{decimal_digits}
 use Rattle.starlark_grammar.specs.Words.{Text}
-use Rattle.starlark_reader.proofs.Literals.Pieces.{if_ok}
 use Rattle.starlark_reader.proofs.reading.words.decimal.Goals as goal
 
 -- two bytes determine whether a number has a leading 0 before more digits
@@ -19,10 +17,5 @@ returns-then-starts_zero-clause-step c = λ s remainder.
     let zero : grammar.starts_zero c.args.word.now ≡ true = sym (zero_by_two c.args.word.now) ∙ sym (ap grammar.starts_zero (c.front.ensures.bytes ∙ ap (take 2) c.as_bytes.ensures.value)) ∙ sym c.starts_zero.ensures ∙ c.if-starts_zero.true in
     (StartsZero c.args.word.now, ap (λ text. Some (StartsZero text)) c.in_ok-from_str.ensures.ok, rw zero refl)
 
-pub integer-requires-clause-digits : goal.integer-requires-clause-digits
-integer-requires-clause-digits c = decimal_digits c.args.word.now c.requires
-
-pub returns-clause-step : goal.returns-clause-step
-returns-clause-step c =
-    let zero : grammar.starts_zero c.args.word.now ≡ false = sym (zero_by_two c.args.word.now) ∙ sym (ap grammar.starts_zero (c.front.ensures.bytes ∙ ap (take 2) c.as_bytes.ensures.value)) ∙ sym c.starts_zero.ensures ∙ c.if-starts_zero.false in
-    if_ok _ _ c.integer.result (λ step is s remainder. rw zero is) c.integer.ensures.step
+pub number-requires-clause-plain : goal.number-requires-clause-plain
+number-requires-clause-plain c = λ is. sym (zero_by_two c.args.word.now) ∙ sym (ap grammar.starts_zero (c.front.ensures.bytes ∙ ap (take 2) c.as_bytes.ensures.value)) ∙ sym c.starts_zero.ensures ∙ c.if-starts_zero.false

@@ -1,22 +1,28 @@
-use Rattle.std.proofs.Common.{◌≡◌, Option, Some, None, ap, arith, refl, sym, ◌∙◌}
-use Rattle.std.specs.Option.{option_map}
-use Rattle.starlark_grammar.specs.Numbers.{Integer, integer_of}
-use Rattle.starlark_token.specs.TokenInts.{integer_view}
+use Rattle.std.proofs.Common.{◌≡◌, Some, None, true, false, ap, refl, sym, ◌∙◌}
+use Rattle.std.specs.Prelude.{ℕ}
+use Rattle.starlark_grammar.specs.Numbers.{Integer, integer_in, integer_of, is_number}
 use Rattle.starlark_grammar.specs.Tokens.{Int}
+use Rattle.starlark_grammar.specs.Words.{Text}
+use Rattle.starlark_token.specs.TokenInts.{integer_view}
 use Rattle.starlark_token.specs.TokenViews.{Whole, token_view}
 use Rattle.starlark_grammar.proofs.Words.Classes.{digits_are_number}
 use Rattle.starlark_reader.proofs.reading.words.integer.Goals as goal
 
-pub unreachable-requires : goal.unreachable-requires
-unreachable-requires c =
-    let number = digits_are_number c.args.base c.args.digits.now c.requires.most c.requires.digits in
-    let none : ◌≡◌ {A = Option Integer} None (Some (integer_of c.args.base c.args.digits.now)) = sym (ap (option_map integer_view) c.in-None.is) ∙ c.in_ok-number.ensures.value ∙ number in
-    grind arith
+-- a text that writes an integer is a number
+writes_number : (base : ℕ) (text : Text) (it : Integer) → integer_in base text ≡ Some it → is_number base text ≡ true
+unfolding integer_in
+writes_number base text it is = go (is_number base text) refl
+  where
+    go : (number : _) → is_number base text ≡ number → number ≡ true
+    go true e = refl
+    go false e = let none : ◌≡◌ {A = _} None (Some it) = rw e at is in cc
 
-pub returns-clause-step : goal.returns-clause-step
+pub number_of-requires-clause-number : goal.number_of-requires-clause-number
+number_of-requires-clause-number c = writes_number c.args.base c.args.digits.now _ (digits_are_number c.args.base c.args.digits.now c.requires.most c.requires.digits)
+
+pub returns : goal.returns
 unfolding token_view
-returns-clause-step c =
-    let number = digits_are_number c.args.base c.args.digits.now c.requires.most c.requires.digits in
-    let found : Some (integer_view c.in-Some.number) ≡ Some (integer_of c.args.base c.args.digits.now) = sym (ap (option_map integer_view) c.in-Some.is) ∙ c.in_ok-number.ensures.value ∙ number in
-    let same : integer_view c.in-Some.number ≡ integer_of c.args.base c.args.digits.now = cc in
-    (Int (integer_of c.args.base c.args.digits.now), ap (λ value. Whole (Int value)) same, refl, refl)
+returns c =
+    let both : Some (integer_view c.in_ok-number_of.field-0) ≡ Some (integer_of c.args.base c.args.digits.now) = c.in_ok-number_of.ensures.value ∙ digits_are_number c.args.base c.args.digits.now c.requires.most c.requires.digits in
+    let same : integer_view c.in_ok-number_of.field-0 ≡ integer_of c.args.base c.args.digits.now = cc in
+    ap (λ value. Whole (Int value)) same

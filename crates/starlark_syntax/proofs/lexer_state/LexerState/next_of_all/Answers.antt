@@ -1,4 +1,4 @@
-use Rattle.std.proofs.Common.{◌≡◌, Some, false, drop, sym, ◌∙◌, ◌*◌, ◌+◌, ◌≤◌, ◌^◌, arith, map, refl, rules}
+use Rattle.std.proofs.Common.{◌≡◌, Some, false, drop, sym, ◌∙◌, ◌*◌, ◌+◌, ◌-◌, ◌≤◌, ◌^◌, arith, map, refl, rules}
 use Rattle.std.proofs.lemmas.List.{length-map}
 use Rattle.starlark_token.specs.Lexemes.{shown_lexeme}
 use Rattle.starlark_grammar.specs.Front.{language_front}
@@ -7,7 +7,7 @@ use Rattle.starlark_grammar.specs.declared.class.Class.TheVariants as class
 use Rattle.starlark_grammar.specs.declared.class.LiteralKind.TheVariants as kind
 use Rattle.starlark_syntax.proofs.LexerItems.{one_more}
 use Rattle.starlark_grammar.proofs.Order.Inside.{lexemes_few}
-use Rattle.starlark_reader.proofs.Pieces.ReaderReads.{begun_reads, here_reads, here_taken_reads}
+use Rattle.starlark_reader.proofs.Pieces.ReaderReads.{begun_reads, here_reads, here_taken_reads, looked_twice}
 use Rattle.starlark_reader.proofs.NextLines.{next_line_inside}
 use Rattle.starlark_syntax.proofs.Reaches.{reached}
 use Rattle.starlark_syntax.proofs.LexerReads.{found_further, front_looked, goes_on, plain_reads}
@@ -45,11 +45,36 @@ overflow_add-self-in-Ok c =
 pub returns-in-Ok-clause-lexing : goal.returns-in-Ok-clause-lexing
 returns-in-Ok-clause-lexing c =
     let inv = c.requires.lexing.1 c.requires.going in
-    let is = c.in-Ok.ensures.ahead _ _ (c.front-front.ensures.ahead _ _ inv.1) in
+    let is = c.in-Ok.ensures.ahead _ _ (c.number-word.ensures.ahead _ _ (c.front-front.ensures.ahead _ _ inv.1)) in
     let further = one_more (map shown_lexeme (outcome c.args.self.now.text.now).lexemes) c.args.self.now.yielded_count _ is.0 is.1 in
     let lookahead = front_looked c.args.self.now.text.now c.args.self.now.reader c.args.self.now.looked_to c.args.self.now.lookahead (sym c.is_front.ensures ∙ c.if-not-is_front.false) (c.requires.lexing.3 c.requires.going) in
     let paid = lookahead.3 in
-    let read = begun_reads c.args.self.now.text.now paid.0 c.args.self.now.reader c.front-front.new.self c.take_fstring.new.self lookahead.0.stage paid.2 c.front-front.ensures.lookahead c.in-Ok.ensures.begun in (
+    let both = looked_twice 3 3 _ _ c.args.self.now.reader c.front-front.new.self c.number-word.new.self c.front-front.ensures.lookahead c.number-word.ensures.lookahead in
+    let some = c.in-Ok.ensures.taken.0 in
+    let read = here_taken_reads c.args.self.now.text.now paid.0 (3 + (c.number-word.result.len - 2)) (3 + 5 * c.number-word.result.len) c.number-word.result.len c.args.self.now.reader c.number-word.new.self c.take_number.new.self lookahead.0.stage paid.2 both
+    (omega (arith)) (omega (arith, some)) (c.in-Ok.ensures.taken.1, c.in-Ok.ensures.taken.2) in (
+      c.requires.lexing.0,
+      (λ on. (omega (arith, further.0, length-map (outcome c.args.self.now.text.now).lexemes shown_lexeme), rw further.1 is.2)),
+      goes_on c.looked_further-self-in-Ok.result _ c.requires.going,
+      (λ on. found_further c.args.self.now.text.now c.take_number.new.self c.args.self.now.looked_to paid.0 c.looked_further-self-in-Ok.result c.looked_further-self-in-Ok.ensures c.in-Ok.ensures.code (omega (arith, paid.1)) read),
+      c.requires.lexing.4,
+    )
+
+pub overflow_add-self-in-Ok-take_fstring : goal.overflow_add-self-in-Ok-take_fstring
+overflow_add-self-in-Ok-take_fstring c =
+    let inv = c.requires.lexing.1 c.requires.going in
+    let few = lexemes_few c.args.self.now.text.now c.requires.lexing.0 in
+    let small : c.args.self.now.yielded_count + 1 ≤ 2 ^ 34 = omega (arith, inv.0, few) in
+    search (rules, small)
+
+pub returns-in-Ok-take_fstring-clause-lexing : goal.returns-in-Ok-take_fstring-clause-lexing
+returns-in-Ok-take_fstring-clause-lexing c =
+    let inv = c.requires.lexing.1 c.requires.going in
+    let is = c.in-Ok-take_fstring.ensures.ahead _ _ (c.front-front.ensures.ahead _ _ inv.1) in
+    let further = one_more (map shown_lexeme (outcome c.args.self.now.text.now).lexemes) c.args.self.now.yielded_count _ is.0 is.1 in
+    let lookahead = front_looked c.args.self.now.text.now c.args.self.now.reader c.args.self.now.looked_to c.args.self.now.lookahead (sym c.is_front.ensures ∙ c.if-not-is_front.false) (c.requires.lexing.3 c.requires.going) in
+    let paid = lookahead.3 in
+    let read = begun_reads c.args.self.now.text.now paid.0 c.args.self.now.reader c.front-front.new.self c.take_fstring.new.self lookahead.0.stage paid.2 c.front-front.ensures.lookahead c.in-Ok-take_fstring.ensures.begun in (
       c.requires.lexing.0,
       (λ on. (omega (arith, further.0, length-map (outcome c.args.self.now.text.now).lexemes shown_lexeme), rw further.1 is.2)),
       tt,
