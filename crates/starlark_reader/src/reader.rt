@@ -928,8 +928,8 @@ impl Reader {
         ensures ahead { (lexemes : List (Spanned TokenView)) (fault : Option (Spanned Fault)) → IsAhead text.now self.old self.old.stage lexemes fault → IsAhead text.now self.new self.new.stage lexemes fault }
         ensures stands { IsWordHere text.now self.new (record { class = class.Opener kind is_raw quote; len = len }) }
         ensures plain { IfOk result (λ body. IsPlainBody kind is_raw quote (drop len (drop self.new.at text.now)) body) }
-        ensures lookahead { IfOk result (λ body. HasLookedHere (body + 1) (2 * body + 3) self.old self.new) }
-        ensures other { IfErr result (λ run. (self.new.at + len + run ≤ next_line text.now self.new.at) × HasLookedHere 0 (2 * run + 3) self.old self.new) }
+        ensures lookahead { IfOk result (λ body. HasLookedHere (body + 1) (6 * body + 3) self.old self.new) }
+        ensures other { IfErr result (λ run. (self.new.at + len + run ≤ next_line text.now self.new.at) × HasLookedHere 0 (6 * run + 3) self.old self.new) }
     {
         let rest = &text[self.at..];
         plain_body_len(&mut self.reads, kind, is_raw, quote, &rest[len..])
@@ -1050,8 +1050,8 @@ impl Reader {
         ensures code { IsAtCode text.now self.old → IsAtCode text.now self.new }
         ensures stands { IfOk result (λ found. IsPlainTextHere text.now self.new found) }
         ensures some { IfOk result (λ found. (0 < found.stop_len) × (found.stop_len ≤ 3)) }
-        ensures lookahead { IfOk result (λ found. HasLookedHere (found.len + 3) (2 * found.len + 4) self.old self.new) }
-        ensures other { IfErr result (λ run. (self.new.at + run ≤ next_line text.now self.new.at) × HasLookedHere 0 (2 * run + 4) self.old self.new) }
+        ensures lookahead { IfOk result (λ found. HasLookedHere (found.len + 3) (6 * found.len + 4) self.old self.new) }
+        ensures other { IfErr result (λ run. (self.new.at + run ≤ next_line text.now self.new.at) × HasLookedHere 0 (6 * run + 4) self.old self.new) }
     {
         if !self.reads_on() {
             return Err(0);

@@ -169,7 +169,7 @@ text_opener_len text is_raw quote len front =
 
 -- a plain literal, of which the opener and the body were looked at
 pub plain_reads : (text : Text) (beside least most len body : ℕ) (old mid remainder new : Reader) → old.stage ≡ stages.Onward → HasRead text beside old → HasLookedHere least most old mid → (2 ≤ least) × (most ≤ 3)
-    → HasLookedHere (body + 1) (2 * body + 3) mid remainder → (1 ≤ len) × (len ≤ 2) → IsPassedBy (remainder.at + (len + body + 1)) remainder new × (new.stage ≡ stages.Onward) → HasRead text beside new
+    → HasLookedHere (body + 1) (6 * body + 3) mid remainder → (1 ≤ len) × (len ≤ 2) → IsPassedBy (remainder.at + (len + body + 1)) remainder new × (new.stage ≡ stages.Onward) → HasRead text beside new
 plain_reads text beside least most len body old mid remainder new onward has opened few lookahead short passed =
     let on : HasReadAt text beside old stages.Onward = subst (HasReadAt text beside old) onward has in
     subst (HasReadAt text beside new) (sym passed.1)

@@ -53,8 +53,8 @@ pub fn plain_body_len(
     text: &str,
 ) -> Result<usize, usize>
     ensures plain { IfOk result (λ len. IsPlainBody kind is_raw quote text.now len) }
-    ensures reads { IfOk result (λ len. AreReads (len + 1) (2 * len + 3) reads.old reads.new) }
-    ensures other { IfErr result (λ run. (run ≤ next_line text.now 0) × AreReads 0 (2 * run + 3) reads.old reads.new) }
+    ensures reads { IfOk result (λ len. AreReads (len + 1) (6 * len + 3) reads.old reads.new) }
+    ensures other { IfErr result (λ run. (run ≤ next_line text.now 0) × AreReads 0 (6 * run + 3) reads.old reads.new) }
 {
     let opening = Opening {
         is_raw,
@@ -105,8 +105,8 @@ pub fn plain_chunk_len(
 ) -> Result<(usize, Stop), usize>
     ensures plain { IfOk result (λ found. IsPlainChunk (opening_view opening) text.now found.0 (stop_view found.1)) }
     ensures line { IfOk result (λ found. found.0 ≤ next_line text.now 0) }
-    ensures reads { IfOk result (λ found. AreReads (found.0 + 3) (2 * found.0 + 4) reads.old reads.new) }
-    ensures other { IfErr result (λ run. (run ≤ next_line text.now 0) × AreReads 0 (2 * run + 4) reads.old reads.new) }
+    ensures reads { IfOk result (λ found. AreReads (found.0 + 3) (6 * found.0 + 4) reads.old reads.new) }
+    ensures other { IfErr result (λ run. (run ≤ next_line text.now 0) × AreReads 0 (6 * run + 4) reads.old reads.new) }
 {
     let of_one_line = Literal {
         kind: LiteralKind::FString,

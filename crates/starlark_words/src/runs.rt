@@ -51,19 +51,22 @@ fn is_in_run(literal: Literal, byte: u8) -> bool
     is_ordinary(byte) || !is_special(literal, byte)
 }
 
-/// Length of the run at the start of some bytes, one byte at a time. Counts `passed` reads besides.
+/// Bytes of a run that are read one by one before its first SIMD step.
+// Of a run of two bytes, which is often followed by an escape, a step would read more than nine a
+// byte: the bound has no room for that.
+const ALONE: usize = 3;
+
+/// Length of the run at the start of some bytes, one byte at a time. The caller has to count the
+/// reads.
 #[inline(always)]
-fn short_run_len(reads: &mut ReadCounter, passed: usize, literal: Literal, bytes: &[u8]) -> usize
-    requires { passed < 2 ^ 33 }
+fn short_run_len(literal: Literal, bytes: &[u8]) -> usize
     ensures value { result ≡ prefix_len (is_in_run (literal_view literal)) bytes.now }
     ensures within { result ≤ length bytes.now }
-    ensures reads { reads.new ≡ more_reads reads.old (passed + (result + 1)) }
 {
     let mut len = 0;
     while len < bytes.len() && is_in_run(literal, bytes[len]) {
         len += 1;
     }
-    reads.count_run(passed + len);
     len
 }
 
@@ -84,8 +87,9 @@ fn long_run_len(reads: &mut ReadCounter, literal: Literal, bytes: &[u8]) -> usiz
         }
         at += LANES;
     }
-    reads.count_run(at);
-    at + short_run_len(reads, 0, literal, &bytes[at..])
+    let len = at + short_run_len(literal, &bytes[at..]);
+    reads.count_run(len);
+    len
 }
 
 /// Length of the run at the start of fewer than 16 bytes, which only the end of a text has.
@@ -95,21 +99,29 @@ fn last_run_len(reads: &mut ReadCounter, passed: usize, literal: Literal, bytes:
     ensures value { result ≡ prefix_len (is_in_run (literal_view literal)) bytes.now }
     ensures reads { reads.new ≡ more_reads reads.old (passed + (result + 1)) }
 {
-    short_run_len(reads, passed, literal, bytes)
+    let len = short_run_len(literal, bytes);
+    reads.count_run(passed + len);
+    len
 }
 
-/// Length of the run at the start of some bytes. It reads 16 bytes one by one, and then 16 at a
-/// time. Counts `passed` reads besides.
+/// Length of the run at the start of some bytes. It reads three bytes one by one, and then 16 at a
+/// time: the processor can't predict the length of a longer run. Counts `passed` reads besides.
 #[inline(always)]
 fn run_len(reads: &mut ReadCounter, passed: usize, literal: Literal, bytes: &[u8]) -> usize
     requires { passed < 2 ^ 33 }
     ensures value { result ≡ prefix_len (is_in_run (literal_view literal)) bytes.now }
-    ensures reads { AreReads (passed + (result + 1)) (passed + (2 * result + 1)) reads.old reads.new }
+    ensures reads { AreReads (passed + (result + 1)) (passed + (6 * result + 1)) reads.old reads.new }
 {
     if bytes.len() < LANES {
         return last_run_len(reads, passed, literal, bytes);
     }
-    let len = short_run_len(reads, passed, literal, &bytes[..LANES]);
+    let front = short_run_len(literal, &bytes[..ALONE]);
+    if front < ALONE {
+        reads.count_run(passed + front);
+        return front;
+    }
+    let len = lanes_run_len(Ends::of(literal), bytes, 0);
+    reads.add(passed + ALONE + LANES);
     if len < LANES {
         return len;
     }
@@ -127,7 +139,7 @@ pub(crate) fn first_run<'a>(
     requires { passed < 2 ^ 33 }
     ensures value { result.now ≡ take (prefix_len (is_in_run (literal_view literal)) text.now) text.now }
     ensures boundary { IsCharBoundary text.now (length result.now) }
-    ensures reads { AreReads (passed + (length result.now + 1)) (passed + (2 * length result.now + 1)) reads.old reads.new }
+    ensures reads { AreReads (passed + (length result.now + 1)) (passed + (6 * length result.now + 1)) reads.old reads.new }
 {
     &text[..run_len(reads, passed, literal, text.as_bytes())]
 }

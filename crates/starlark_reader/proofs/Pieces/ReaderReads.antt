@@ -89,8 +89,8 @@ here_reads text beside least most old new onward has lookahead =
 
 -- the run that was peeked is in the reader's line, where something else follows
 pub other_reads : {A : Type 0} (text rest : Text) (from extra reads : ℕ) (reader : Reader) (found : Result A ℕ) → from + next_line rest 0 ≤ next_line text reader.at
-    → IfErr found (λ run. (run ≤ next_line rest 0) × AreReads 0 (2 * run + extra) reader.reads reads)
-    → IfErr found (λ run. (from + run ≤ next_line text reader.at) × HasLookedHere 0 (2 * run + extra) reader (record reader { reads = reads }))
+    → IfErr found (λ run. (run ≤ next_line rest 0) × AreReads 0 (6 * run + extra) reader.reads reads)
+    → IfErr found (λ run. (from + run ≤ next_line text reader.at) × HasLookedHere 0 (6 * run + extra) reader (record reader { reads = reads }))
 other_reads text rest from extra reads reader (Ok value) line other = tt
 other_reads text rest from extra reads reader (Err run) line other = (omega (arith, line, other.0), (refl, refl, omega arith, other.1))
 

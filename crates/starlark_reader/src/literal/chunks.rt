@@ -93,8 +93,8 @@ pub(crate) fn plain_text(
 ) -> Result<PlainText, usize>
     ensures plain { IfOk result (IsPlainText opening text.now) }
     ensures some { IfOk result (λ found. (0 < found.stop_len) × (found.stop_len ≤ 3)) }
-    ensures reads { IfOk result (λ found. AreReads (found.len + 3) (2 * found.len + 4) reads.old reads.new) }
-    ensures other { IfErr result (λ run. (run ≤ next_line text.now 0) × AreReads 0 (2 * run + 4) reads.old reads.new) }
+    ensures reads { IfOk result (λ found. AreReads (found.len + 3) (6 * found.len + 4) reads.old reads.new) }
+    ensures other { IfErr result (λ run. (run ≤ next_line text.now 0) × AreReads 0 (6 * run + 4) reads.old reads.new) }
 {
     let (len, stop) = plain_chunk_len(reads, opening, text)?;
     match stop {

@@ -1,5 +1,5 @@
 -- The table is compared with the definition byte by byte.
-use Rattle.std.proofs.Common.{◌≡◌, ℕ, ◌<◌, ◌==◌, ◌&&◌, Bool, Option, None, Some, true, false, not, get_or, nat_eq, refl, sym, ap, arith, ◌∙◌}
+use Rattle.std.proofs.Common.{◌≡◌, ℕ, ◌<◌, ◌==◌, ◌&&◌, Bool, Option, None, Some, true, not, get_or, nat_eq, refl, sym, ap, arith, ◌∙◌}
 use Rattle.std.proofs.lemmas.Bool.{and_parts, eqb-true, ltb-true}
 use Rattle.std.specs.Map.{lookup}
 use Rattle.std.specs.Prelude.{nat_lt}

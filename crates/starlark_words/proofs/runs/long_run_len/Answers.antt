@@ -38,8 +38,8 @@ loop-at-preserved c =
       reads = c.loop-at.invariant.reads;
     }
 
-pub overflow_add-result-2 : goal.overflow_add-result-2
-overflow_add-result-2 c =
+pub overflow_add-len : goal.overflow_add-len
+overflow_add-len c =
     let within = prefix_len-le-length (is_in_run (literal_view c.args.literal)) (take (length c.args.bytes.now - c.loop-at.at) (drop c.loop-at.at c.args.bytes.now)) in
     let fits = length-take-le (length c.args.bytes.now - c.loop-at.at) (drop c.loop-at.at c.args.bytes.now) (omega (arith, length-drop c.loop-at.at c.args.bytes.now)) in
     let inside : c.loop-at.at + c.short_run_len.result ≤ length c.args.bytes.now = omega (arith, within, fits, c.short_run_len.ensures.value, c.loop-at.invariant.within) in
@@ -59,4 +59,4 @@ returns-then-len-lt-LANES-clause-reads c =
 pub returns-clause-reads : goal.returns-clause-reads
 returns-clause-reads c =
     let same = c.loop-at.invariant.reads in
-    (omega (arith, same, c.count_run.ensures, c.short_run_len.ensures.reads), omega (arith, same, c.count_run.ensures, c.short_run_len.ensures.reads))
+    (omega (arith, same, c.count_run.ensures), omega (arith, same, c.count_run.ensures))

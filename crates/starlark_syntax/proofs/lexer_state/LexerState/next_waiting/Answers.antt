@@ -67,7 +67,7 @@ returns-in-Ok-take_text-clause-lexing c =
     let marked = c.in_default.ensures.reads c.args.self.now.text.now paid.0 paid.2 in
     let found = c.in-Ok-plain_text.found in
     let some = c.in-Ok-plain_text.ensures.some in
-    let read = here_taken_reads c.args.self.now.text.now paid.0 (found.len + 3) (2 * found.len + 4) (found.len + found.stop_len) c.next_mark.new.self c.plain_text.new.self c.take_text.new.self (c.reads_on.ensures.stage c.if-not-reads_on.false) marked c.in-Ok-plain_text.ensures.lookahead
+    let read = here_taken_reads c.args.self.now.text.now paid.0 (found.len + 3) (6 * found.len + 4) (found.len + found.stop_len) c.next_mark.new.self c.plain_text.new.self c.take_text.new.self (c.reads_on.ensures.stage c.if-not-reads_on.false) marked c.in-Ok-plain_text.ensures.lookahead
     (omega (arith, some.1)) (omega (arith, some.0)) c.in-Ok-take_text.ensures.passed in (
       c.requires.lexing.0,
       (λ on. (omega (arith, further.0, length-map (outcome c.args.self.now.text.now).lexemes shown_lexeme), rw further.1 is.2)),
