@@ -1,7 +1,7 @@
 -- Runs of bytes in parts, and runs that are found in some bytes at once.
 use Rattle.std.proofs.Common.{◌≡◌, ℕ, zero, suc, zero-add, ◌+◌, ◌≤◌, ◌<◌, ◌%◌, ◌^◌, Bool, true, false, cond, ◌||◌, not, eqb, List, [], ◌∷◌, ◌*◌, map, length, take, drop, refl, ap, ◌∙◌, sym, bit_or, arith}
 use Rattle.std.proofs.lemmas.Bool.{eq-eqb, ne_eqb, cond-true, cond-false}
-use Rattle.std.proofs.lemmas.List.{length-take-le, length-map, take-append-drop}
+use Rattle.std.proofs.lemmas.List.{length-take-le, length-drop, length-map, take-append-drop, drop-drop}
 use Rattle.std.proofs.lemmas.List.Folds.{prefix_len-append}
 use Rattle.std.proofs.lemmas.List.Sums.{prefix_len-drop_yes, prefix_len-le-length, prefix_len_passes}
 use Rattle.std.proofs.lemmas.Simd.{map-map, mask_l-mod, first_set_mask_l, leading_from_mask_l, trailing_mask_l}
@@ -26,6 +26,19 @@ module _ (p : ℕ → Bool) (n : ℕ) (xs : List ℕ) (room : n ≤ length xs) w
   -- a run that goes on remainder the first n
   pub run_goes_on : prefix_len p (take n xs) ≡ n → prefix_len p xs ≡ n + prefix_len p (drop n xs)
   run_goes_on e = parts ∙ cond-true (eqb (prefix_len p (take n xs)) n) _ _ (eq-eqb (prefix_len p (take n xs)) n e)
+
+-- A run that is known up to an offset, and the n bytes from there on.
+module _ (p : ℕ → Bool) (n at : ℕ) (xs : List ℕ) (known : prefix_len p xs ≡ at + prefix_len p (drop at xs)) (room : at + n ≤ length xs) where
+  remaining : n ≤ length (drop at xs)
+  remaining = omega (arith, length-drop at xs, room)
+
+  -- it ends among them
+  pub step_ends : prefix_len p (take n (drop at xs)) < n → prefix_len p xs ≡ at + prefix_len p (take n (drop at xs))
+  step_ends less = omega (arith, known, run_ends p n (drop at xs) remaining less)
+
+  -- it goes on after them
+  pub step_goes_on : prefix_len p (take n (drop at xs)) ≡ n → prefix_len p xs ≡ at + n + prefix_len p (drop (at + n) xs)
+  step_goes_on whole = omega (arith, known, run_goes_on p n (drop at xs) remaining whole, ap (prefix_len p) (drop-drop n at xs))
 
 -- bytes at the start of a run
 pub run_passed : (p : ℕ → Bool) (n : ℕ) (xs : List ℕ) → n ≤ prefix_len p xs → prefix_len p xs ≡ n + prefix_len p (drop n xs)

@@ -1,17 +1,16 @@
-use Rattle.std.proofs.Common.{◌≡◌, ◌+◌, ◌-◌, ◌≤◌, ap, drop, length, arith}
+use Rattle.std.proofs.Common.{◌≡◌, ◌+◌, ◌-◌, ap, drop, length, arith}
 use Rattle.std.specs.Int.{trailing_zeros, w64}
-use Rattle.std.proofs.lemmas.List.{length-drop, drop-drop, take_all}
+use Rattle.std.proofs.lemmas.List.{length-drop, take_all}
 use Rattle.std.specs.List.{prefix_len}
 use Rattle.starlark_words.specs.Inner.Lines.{is_in_front}
-use Rattle.starlark_words.proofs.LaneRuns.{run_ends, run_goes_on, run_passed}
+use Rattle.starlark_words.proofs.LaneRuns.{run_passed, step_ends, step_goes_on}
 use Rattle.starlark_words.proofs.lines.long_front_len.Goals as goal
 
 pub returns-then-ends-ne0-clause-value : goal.returns-then-ends-ne0-clause-value
 returns-then-ends-ne0-clause-value c =
-    let room : 16 ≤ length (drop c.loop-at.at c.args.text.now) = omega (arith, length-drop c.loop-at.at c.args.text.now, c.loop-at-test.true) in
     let found = c.front_ends-ends.ensures.some (omega (arith, c.if-ends-ne0.true)) in
-    let ends = run_ends (is_in_front c.args.other) 16 (drop c.loop-at.at c.args.text.now) room (omega (arith, found.0, found.1)) in
-    omega (arith, found.0, ends, c.loop-at.invariant.value)
+    let ends = step_ends (is_in_front c.args.other) 16 c.loop-at.at c.args.text.now c.loop-at.invariant.value c.loop-at-test.true (omega (arith, found.0, found.1)) in
+    omega (arith, found.0, ends)
 
 pub returns-then-ends-ne0-clause-within : goal.returns-then-ends-ne0-clause-within
 returns-then-ends-ne0-clause-within c =
@@ -25,13 +24,10 @@ returns-then-ends-ne0-clause-reads c =
 
 pub loop-at-preserved : goal.loop-at-preserved
 loop-at-preserved c =
-    let room : 16 ≤ length (drop c.loop-at.at c.args.text.now) = omega (arith, length-drop c.loop-at.at c.args.text.now, c.loop-at-test.true) in
     let none = c.front_ends-ends.ensures.none (omega (arith, c.if-ends-ne0.false)) in
-    let on = run_goes_on (is_in_front c.args.other) 16 (drop c.loop-at.at c.args.text.now) room none in
-    let rest : drop 16 (drop c.loop-at.at c.args.text.now) ≡ drop (c.loop-at.at + 16) c.args.text.now = drop-drop 16 c.loop-at.at c.args.text.now in
     record {
       within = c.loop-at-test.true;
-      value = omega (arith, c.loop-at.invariant.value, on, ap (prefix_len (is_in_front c.args.other)) rest);
+      value = step_goes_on (is_in_front c.args.other) 16 c.loop-at.at c.args.text.now c.loop-at.invariant.value c.loop-at-test.true none;
       reads = c.loop-at.invariant.reads;
     }
 

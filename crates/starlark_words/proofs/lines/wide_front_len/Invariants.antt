@@ -1,0 +1,14 @@
+use Rattle.std.proofs.Common.{length, ◌+◌, ◌-◌, ◌≡◌, ◌≤◌, drop}
+use Rattle.std.specs.List.{prefix_len}
+use Rattle.starlark_words.specs.Inner.Lines.{is_in_front}
+use Rattle.starlark_words.proofs.lines.wide_front_len.Given as goal
+
+abbrev pub invariant-loop-at : goal.invariant-loop-at
+invariant-loop-at l = record {
+  within : l.at ≤ length l.text;
+  value : prefix_len (is_in_front l.other) l.text ≡ l.at + prefix_len (is_in_front l.other) (drop l.at l.text);
+  reads : l.reads ≡ l.fn.reads;
+}
+
+abbrev pub decreases-loop-at : goal.decreases-loop-at
+decreases-loop-at l = length l.text + 1 - l.at
