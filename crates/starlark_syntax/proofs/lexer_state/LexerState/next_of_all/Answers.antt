@@ -96,7 +96,7 @@ next_of_reader-requires-clause-lexing c =
     let paid = lookahead.3 in
     let short = here_reads c.args.self.now.text.now paid.0 3 3 c.args.self.now.reader c.front-front.new.self lookahead.0.stage paid.2 c.front-front.ensures.lookahead in
     let other = c.in-Err-plain_body_len.ensures.other in
-    let read = here_reads c.args.self.now.text.now (paid.0 + 3) 0 (2 * c.in-Err-plain_body_len.run' + 3) c.front-front.new.self c.plain_body_len.new.self (c.front-front.ensures.lookahead.1 ∙ lookahead.0.stage) short other.1 in
+    let read = here_reads c.args.self.now.text.now (paid.0 + 3) 0 (6 * c.in-Err-plain_body_len.run' + 3) c.front-front.new.self c.plain_body_len.new.self (c.front-front.ensures.lookahead.1 ∙ lookahead.0.stage) short other.1 in
     let same = c.front-front.ensures.lookahead.0 in
     let stands : language_front (drop c.args.self.now.reader.at c.args.self.now.text.now) ≡ Some (class.Opener kind.Bytes false c.in-Some-bytes_opener.quote, 2) = rw same at (sym c.in-Some-bytes_opener.ensures.stands.front) in
     let reach = lookahead.2 _ 2 stands (omega arith) refl in
@@ -104,7 +104,7 @@ next_of_reader-requires-clause-lexing c =
       c.requires.lexing.0,
       (λ on. (inv.0, c.plain_body_len.ensures.ahead _ _ (c.front-front.ensures.ahead _ _ inv.1))),
       tt,
-      (λ on. (paid.0 + 3 + (2 * c.in-Err-plain_body_len.run' + 3), omega (arith, paid.1, reach, at), read)),
+      (λ on. (paid.0 + 3 + (6 * c.in-Err-plain_body_len.run' + 3), omega (arith, paid.1, reach, at), read)),
       reached c.args.self.now.text.now c.args.self.now.reader _ c.plain_body_len.new.self.at _ lookahead.0.stage inv.1 (other.1.0 ∙ same) (omega (arith, other.0, other.1.0, same, at)),
     )
 

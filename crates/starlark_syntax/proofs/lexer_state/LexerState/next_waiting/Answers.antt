@@ -87,8 +87,8 @@ next_of_reader-requires-in-Err-plain_text-clause-lexing c =
     let inside = (left_onward c.args.self.now.text.now c.next_mark.new.self _ _ (c.reads_on.ensures.stage c.if-not-reads_on.false) ahead).is_left.1.inside in
     let remainder : c.args.self.now.looked_to ≤ c.next_mark.new.self.at = omega (arith, c.if-at-self.false, c.at.ensures) in
     let at : c.at-in-Err-plain_text.result ≡ c.next_mark.new.self.at = c.at-in-Err-plain_text.ensures ∙ here.0 in
-    let read = here_reads c.args.self.now.text.now paid.0 0 (2 * c.in-Err-plain_text.run' + 4) c.next_mark.new.self c.plain_text.new.self (c.reads_on.ensures.stage c.if-not-reads_on.false) marked here in
-    (c.requires.lexing.0, (λ on. (inv.0, c.plain_text.ensures.ahead _ _ ahead)), tt, (λ on. (paid.0 + (2 * c.in-Err-plain_text.run' + 4), omega (arith, paid.1, remainder, at), read)), reached c.args.self.now.text.now c.next_mark.new.self _ c.plain_text.new.self.at _ (c.reads_on.ensures.stage c.if-not-reads_on.false) ahead here.0 (omega (arith, at, other.0, here.0)))
+    let read = here_reads c.args.self.now.text.now paid.0 0 (6 * c.in-Err-plain_text.run' + 4) c.next_mark.new.self c.plain_text.new.self (c.reads_on.ensures.stage c.if-not-reads_on.false) marked here in
+    (c.requires.lexing.0, (λ on. (inv.0, c.plain_text.ensures.ahead _ _ ahead)), tt, (λ on. (paid.0 + (6 * c.in-Err-plain_text.run' + 4), omega (arith, paid.1, remainder, at), read)), reached c.args.self.now.text.now c.next_mark.new.self _ c.plain_text.new.self.at _ (c.reads_on.ensures.stage c.if-not-reads_on.false) ahead here.0 (omega (arith, at, other.0, here.0)))
 
 pub overflow_add-self-in-Err-plain_text : goal.overflow_add-self-in-Err-plain_text
 overflow_add-self-in-Err-plain_text c =

@@ -69,7 +69,7 @@ returns-in-Err-clause-lexing c =
     let paid = c.requires.opened.1 in
     let opened = here_reads c.args.self.now.text.now paid.0 2 2 c.args.self.now.reader c.text_opener.new.self front.0.stage paid.2 c.text_opener.ensures.lookahead in
     let other = c.in-Err.ensures.other in
-    let read = here_reads c.args.self.now.text.now (paid.0 + 2) 0 (2 * c.in-Err.run' + 3) c.text_opener.new.self c.plain_body_len.new.self (c.text_opener.ensures.lookahead.1 ∙ front.0.stage) opened other.1 in
+    let read = here_reads c.args.self.now.text.now (paid.0 + 2) 0 (6 * c.in-Err.run' + 3) c.text_opener.new.self c.plain_body_len.new.self (c.text_opener.ensures.lookahead.1 ∙ front.0.stage) opened other.1 in
     let same = c.text_opener.ensures.lookahead.0 in
     let stands = rw same at (sym c.in-Some-Opener.ensures.stands.front) in
     let reach = c.requires.opened.0 _ c.in-Some-Opener.field-0.len stands in
@@ -77,7 +77,7 @@ returns-in-Err-clause-lexing c =
       c.requires.lexing.0,
       (λ on. (inv.0, c.plain_body_len.ensures.ahead _ _ (c.text_opener.ensures.ahead _ _ inv.1))),
       tt,
-      (λ on. (paid.0 + 2 + (2 * c.in-Err.run' + 3), omega (arith, paid.1, reach, at, c.in-Some-Opener.len-is), read)),
+      (λ on. (paid.0 + 2 + (6 * c.in-Err.run' + 3), omega (arith, paid.1, reach, at, c.in-Some-Opener.len-is), read)),
       reached c.args.self.now.text.now c.args.self.now.reader _ c.plain_body_len.new.self.at _ front.0.stage inv.1 (other.1.0 ∙ same) (omega (arith, other.0, other.1.0, same, at, c.in-Some-Opener.len-is)),
     )
 
