@@ -16,7 +16,7 @@ ghost use Rattle.starlark_token.specs.TokenViews.{token_view};
 
 use crate::endings::{Ending, Filled};
 use crate::kinds::number_of_plain;
-use crate::progress::{Progress, Stop, is_plain_newline, want, want_lexeme, want_plain};
+use crate::progress::{Progress, Stop, is_last_of_line, want, want_lexeme, want_plain};
 use crate::records::{
     FaultRecord, LexemeRecord, bytes_of, bytes_of_fault, bytes_of_plain, number_of_fault,
     plain_record_at, record_at,
@@ -411,7 +411,7 @@ pub fn fill(
             if let Err(passed) = take_plain(lexemes, values, &mut progress, text, plain) {
                 return (overflow(text, lexer, progress, passed), progress.stop);
             }
-            stop_after(&mut progress, is_plain_newline(plain), text, lexer);
+            stop_after(&mut progress, is_last_of_line(plain), text, lexer);
             continue;
         }
         match lexer.next() {

@@ -121,6 +121,7 @@ pub fn number_of_plain(kind: PlainKind) -> u16
     ensures { (value : Text) → result ≡ token_number (token_of kind value) }
 {
     match kind {
+        PlainKind::Comment => 1,
         PlainKind::Newline => 4,
         PlainKind::Identifier => 5,
         PlainKind::String => 8,

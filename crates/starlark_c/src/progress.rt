@@ -51,10 +51,11 @@ pub fn want_lexeme(filled: Filled, lexeme: (usize, Token, usize)) -> Filled
     want(filled, &lexeme.1)
 }
 
-/// Whether a plain lexeme is a `Newline`: no other one is the last before a cut.
+/// Whether a plain lexeme is the last of its line, and so can be the last before a cut: a `Newline`,
+/// or the comment of a comment-only line.
 #[inline(always)]
-pub fn is_plain_newline(plain: PlainLexeme) -> bool {
-    matches!(plain.kind, PlainKind::Newline)
+pub fn is_last_of_line(plain: PlainLexeme) -> bool {
+    matches!(plain.kind, PlainKind::Newline | PlainKind::Comment)
 }
 
 impl Stop {
@@ -82,7 +83,7 @@ impl Progress {
     }
 
     /// Makes an offset, up to which the buffers are filled, the last one where the text may be cut.
-    // Not inlined: else each lexeme, and not each `Newline`, chooses between two stops.
+    // Not inlined: else each lexeme, and not each last one of a line, chooses between two stops.
     #[inline(never)]
     pub fn set_stop(&mut self, at: usize)
         ensures { self.new ≡ record self.old { stop = record { at = at; filled = self.old.filled; is_front = self.old.stop.is_front } } }

@@ -1,6 +1,6 @@
 //! Comments of comment-only lines.
 
-ghost use Rattle.std.specs.Prelude.{◌≡◌, ◌==◌, ◌+◌, ◌-◌, ◌<◌, ◌≤◌, ◌*◌, drop, get_or, length, not, true, IfOk};
+ghost use Rattle.std.specs.Prelude.{◌≡◌, ◌==◌, ◌+◌, ◌-◌, ◌<◌, ◌≤◌, ◌*◌, drop, get_or, length, not, true};
 ghost use Rattle.std.specs.List.{prefix_len};
 ghost use Rattle.starlark_reader.specs.Inner.Pending.{IsComments, IsFirstComment};
 ghost use Rattle.starlark_grammar.specs.Margins as grammar;
@@ -8,9 +8,18 @@ ghost use Rattle.starlark_words.specs.Inner.Reads.{AreReads};
 
 use crate::lf_search::before_lf_len;
 use crate::margins::line_len;
-use starlark_token::tokens::Token;
 use starlark_words::reads::ReadCounter;
-use std::alloc::{AllocError, Global};
+
+/// A comment-only line. Offsets count bytes of the text.
+#[derive(Clone, Copy)]
+pub(crate) struct CommentLine {
+    /// Offset of the comment's `#`.
+    pub begin: usize,
+    /// Offset after the comment's last byte.
+    pub end: usize,
+    /// Length of the line in bytes, with its blanks and its LF.
+    pub len: usize,
+}
 
 /// Number of blanks before the comment of some comment-only lines. The caller has to count their
 /// reads, and that of the `#`.
@@ -50,22 +59,18 @@ fn comment_end(text: &[u8], feed: usize) -> usize
     }
 }
 
-/// The comment of the first of the comment-only lines from byte `from` to `to` of a text.
-///
-/// Returns the length of that line with its LF too. `AllocError` where memory for the text runs
-/// out.
+/// The first of the comment-only lines from byte `from` to `to` of a text.
 #[inline(always)]
 pub(crate) fn first_comment(
     reads: &mut ReadCounter,
-    alloc: Global,
     text: &str,
     from: usize,
     to: usize,
-) -> Result<((usize, Token, usize), usize), AllocError>
+) -> CommentLine
     requires some { from < to }
     requires comments { IsComments text.now from to }
-    ensures comment { IfOk result (λ found. IsFirstComment text.now from to found.0 found.1) }
-    ensures reads { IfOk result (λ found. AreReads 0 (5 * found.1) reads.old reads.new) }
+    ensures comment { IsFirstComment text.now from to result }
+    ensures reads { AreReads 0 (5 * result.len) reads.old reads.new }
 {
     let lines = &text.as_bytes()[from..to];
     let blanks = before_comment_len(lines);
@@ -74,6 +79,5 @@ pub(crate) fn first_comment(
     let feed = blanks + before_lf_len(reads, blanks + 2, &lines[blanks..]);
     let len = line_len(lines, feed);
     let end = from + comment_end(lines, feed);
-    let comment = String::from_str(alloc, &text[begin + 1..end])?;
-    Ok(((begin, Token::Comment(comment), end), len))
+    CommentLine { begin, end, len }
 }

@@ -1,8 +1,8 @@
 //! Pending lexemes: read already, and made one by one as the lexer yields them.
 
 ghost use Rattle.std.specs.Prelude.{◌≡◌, ◌<◌, ◌≤◌, ◌+◌, ◌*◌, [], nat_lt, true, None, Some, OnErr, OnOk, IfOk};
-ghost use Rattle.starlark_reader.specs.Inner.Pending.{IsFirst, IsFirstAfter, IsPending, lexemes_after, owed, pending_lexemes};
-ghost use Rattle.starlark_reader.specs.Inner.MarginLines.{IsLinePassed};
+ghost use Rattle.starlark_reader.specs.Inner.Pending.{IsCommentIn, IsFirst, IsFirstAfter, IsFirstPast, IsPending, comment_lexeme, lexemes_after, owed, pending_lexemes};
+ghost use Rattle.starlark_reader.specs.Inner.MarginLines.{IsLinePassed, IsPassedLine};
 ghost use Rattle.starlark_grammar.specs.Words.{Text};
 ghost use Rattle.starlark_words.specs.Inner.Reads.{more_reads};
 
@@ -146,9 +146,26 @@ impl Pending {
         ensures flat { OnOk result (self.new.is_flat ≡ self.old.is_flat) }
         ensures reads { IfOk result (λ first. (more_reads reads.old 0 ≤ reads.new) × (reads.new + 5 * owed self.new ≤ reads.old + 5 * owed self.old)) }
     {
-        let (comment, len) = first_comment(reads, alloc, text, self.from, self.to)?;
-        self.from += len;
-        Ok(comment)
+        let line = first_comment(reads, text, self.from, self.to);
+        let value = String::from_str(alloc, &text[line.begin + 1..line.end])?;
+        self.from += line.len;
+        Ok((line.begin, Token::Comment(value), line.end))
+    }
+
+    /// Passes the first pending comment. Returns the offsets where it begins and ends.
+    #[inline(always)]
+    pub(crate) fn pass_comment(&mut self, reads: &mut ReadCounter, text: &str) -> (usize, usize)
+        requires some { self.old.from < self.old.to }
+        requires pending { IsPending text.now self.old }
+        ensures next { IsFirstPast text.now (comment_lexeme text.now result.0 result.1) self.old self.new }
+        ensures inside { IsCommentIn text.now result.0 result.1 }
+        ensures lines { self.new.is_flat ≡ true → IsPassedLine text.now self.old self.new }
+        ensures flat { self.new.is_flat ≡ self.old.is_flat }
+        ensures reads { (more_reads reads.old 0 ≤ reads.new) × (reads.new + 5 * owed self.new ≤ reads.old + 5 * owed self.old) }
+    {
+        let line = first_comment(reads, text, self.from, self.to);
+        self.from += line.len;
+        (line.begin, line.end)
     }
 
     /// Takes the first pending lexeme where no comments are pending; `None` if there is none.

@@ -14,7 +14,7 @@ ghost use Rattle.starlark_reader.specs.Inner.Layout.{IsMargin, spaces_margin};
 ghost use Rattle.starlark_grammar.specs.Pieces as grammar;
 ghost use Rattle.starlark_grammar.specs.declared.class.Class.TheVariants as class;
 ghost use Rattle.starlark_grammar.specs.declared.class.LiteralKind.TheVariants as kind;
-ghost use Rattle.starlark_reader.specs.Inner.Pending.{IsIdle, IsPending, pending_lexemes};
+ghost use Rattle.starlark_reader.specs.Inner.Pending.{IsCommentIn, IsIdle, IsPending, comment_lexeme, pending_lexemes};
 ghost use Rattle.starlark_reader.specs.Inner.MarginCuts.{IsCutBefore};
 ghost use Rattle.starlark_reader.specs.Inner.Reads.{HasStarted, HasLooked, HasLookedHere, HasRead, HasReadAt, HasReadNext, IsMarginRead, IsPassed, IsPassedBy, IsTaken};
 ghost use Rattle.starlark_reader.specs.Inner.Reader.{CountsLineEnds, has_read_none, IsAhead, IsAheadAfter, IsAheadPast, IsAtCode, IsBangHere, IsInCode, IsInFlatMargin, IsReached, IsStateAfter, IsNext, IsOver, IsPlainTextHere, IsRead, IsReady, IsSomething, IsTokenOf, IsWordHere, before_margin, before_view, left_here, left_to_read, name_lexeme, newline_if, newline_of, silent_sort, step_here, text_lexeme};
@@ -1017,16 +1017,16 @@ impl Reader {
         self.pending.has_comments()
     }
 
-    /// Takes the first pending comment. Don't use the reader after an `AllocError`.
+    /// Passes the first pending comment. Returns the offsets where it begins and ends.
     #[inline(always)]
-    pub fn next_comment(&mut self, text: &str) -> Result<(usize, Token, usize), AllocError>
+    pub fn pass_pending_comment(&mut self, text: &str) -> (usize, usize)
         requires some { self.old.pending.from < self.old.pending.to }
         requires ready { IsReady text.now self.old self.old.stage }
-        ensures ahead { IfOk result (λ given. (lexemes : List (Spanned TokenView)) (fault : Option (Spanned Fault)) → IsAhead text.now self.old self.old.stage lexemes fault → IsAheadAfter text.now (Some given) self.new lexemes fault) }
-        ensures memory { OnErr result ((lexemes : List (Spanned TokenView)) (fault : Option (Spanned Fault)) → IsAhead text.now self.old self.old.stage lexemes fault → IsSomething lexemes fault) }
-        ensures reads { OnOk result ((beside : ℕ) → HasReadAt text.now beside self.old self.old.stage → HasRead text.now beside self.new) }
+        ensures ahead { (lexemes : List (Spanned TokenView)) (fault : Option (Spanned Fault)) → IsAhead text.now self.old self.old.stage lexemes fault → IsAheadPast text.now (comment_lexeme text.now result.0 result.1) self.new lexemes fault }
+        ensures inside { IsCommentIn text.now result.0 result.1 }
+        ensures reads { (beside : ℕ) → HasReadAt text.now beside self.old self.old.stage → HasRead text.now beside self.new }
     {
-        self.pending.next_comment(&mut self.reads, self.alloc, text)
+        self.pending.pass_comment(&mut self.reads, text)
     }
 
     /// Takes the first pending lexeme where no comments are pending; `None` if there is none.

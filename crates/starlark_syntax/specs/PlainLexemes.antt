@@ -11,6 +11,7 @@ use Rattle.starlark_token.specs.TokenViews.{TokenView, Whole}
 
 -- the token of a kind, with its value if it has one
 abbrev pub token_of : PlainKind → Text → grammar.Token
+token_of kind.Comment value = grammar.Comment value
 token_of kind.Identifier value = grammar.Identifier value
 token_of kind.String value = grammar.String value
 token_of (kind.Word terminal) value = grammar.Word terminal

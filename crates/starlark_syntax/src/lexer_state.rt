@@ -7,7 +7,7 @@ ghost use Rattle.starlark_grammar.specs.Cuts.{is_settled};
 ghost use Rattle.starlark_grammar.specs.Reading.{History};
 ghost use Rattle.starlark_reader.specs.Inner.MarginCuts.{IsCutBefore};
 ghost use Rattle.starlark_reader.specs.Inner.Reader.{IsReached, IsStateAfter, has_read_none};
-ghost use Rattle.starlark_syntax.specs.Inner.LexerStates.{HasAnswered, HasPassed, HasTaken, IsBegun, IsLexing, is_out_of_memory, left_in, passed_count, plain_string, view_of};
+ghost use Rattle.starlark_syntax.specs.Inner.LexerStates.{HasAnswered, HasPassed, HasTaken, IsBegun, IsLexing, is_out_of_memory, left_in, passed_count, plain_comment, plain_string, view_of};
 ghost use Rattle.starlark_syntax.specs.Lexer.{is_ended_by, most_reads, yielded_by};
 ghost use Rattle.starlark_syntax.specs.PlainLexemes.{IsPlainIn};
 ghost use Rattle.starlark_syntax.specs.Inner.Looked.{HasOpened, IsFoundFurther, IsFoundInCode, IsFoundOut, is_front, is_nothing, is_text_opener, looked_len};
@@ -79,7 +79,7 @@ fn looked_further(reader: &Reader, looked_to: usize) -> Lookahead
 /// The outcome of the fast path.
 #[derive(Drop)]
 pub enum FastPath {
-    /// A name, a string literal or a `Newline`, which it passed.
+    /// A comment, a name, a string literal or a `Newline`, which it passed.
     Passed(PlainLexeme),
     /// A keyword or symbol, which it passed.
     // With its token: a second `match` on the terminal costs 1 % of a mix.
@@ -212,8 +212,8 @@ impl<'a> LexerState<'a> {
         }
     }
 
-    /// Next lexeme where lookahead is spent. Pending comments and tokens, and plain text of an f-string,
-    /// don't need the reader.
+    /// Next lexeme where lookahead is spent. Pending tokens, and plain text of an f-string, don't need
+    /// the reader.
     #[inline(always)]
     fn next_waiting(&mut self) -> Option<Lexeme>
         requires lexing { IsLexing self.old }
@@ -222,19 +222,9 @@ impl<'a> LexerState<'a> {
         ensures lexing { IsLexing self.new }
         ensures after { view_of self.new ≡ record (view_of self.old) { yielded_count = self.old.yielded_count + yielded_by result; has_ended = is_ended_by result; reads = self.new.reader.reads } }
     {
+        // There are none: the fast path passes them all. No contract says so.
         if self.reader.has_comments() {
-            return match self.reader.next_comment(self.text) {
-                Ok(lexeme) => {
-                    self.yielded_count += 1;
-                    self.lookahead = looked_after(&self.reader, self.looked_to);
-                    Some(Ok(lexeme))
-                }
-                Err(_) => {
-                    self.has_ended = true;
-                    self.lookahead = Lookahead::All;
-                    Some(Err(OrMemory::Memory))
-                }
-            };
+            return self.next_of_reader();
         }
         if let Some(lexeme) = self.reader.next_mark() {
             self.yielded_count += 1;
@@ -410,8 +400,25 @@ impl<'a> LexerState<'a> {
         len
     }
 
-    /// Passes the next lexeme if the fast path decides it: a name, a keyword, a symbol, a newline, or a
-    /// string literal without escapes.
+    /// Passes the first pending comment. Returns the offsets where it begins and ends.
+    // A call that returns two registers: a result in memory costs each lexeme.
+    #[inline(never)]
+    fn pass_pending_comment(&mut self) -> (usize, usize)
+        requires lexing { IsLexing self.old }
+        requires going { self.old.has_ended ≡ false }
+        requires some { self.old.reader.pending.from < self.old.reader.pending.to }
+        ensures passed { HasPassed self.old (FastPath.Passed (plain_comment result.0 result.1)) self.new }
+        ensures lexing { IsLexing self.new }
+        ensures after { view_of self.new ≡ record (view_of self.old) { yielded_count = self.old.yielded_count + 1; reads = self.new.reader.reads } }
+    {
+        let place = self.reader.pass_pending_comment(self.text);
+        self.yielded_count += 1;
+        self.lookahead = looked_after(&self.reader, self.looked_to);
+        place
+    }
+
+    /// Passes the next lexeme if the fast path decides it: a name, a keyword, a symbol, a newline,
+    /// a string literal without escapes, or a pending comment.
     #[inline(always)]
     pub(crate) fn next_plain(&mut self) -> FastPath
         requires { IsLexing self.old }
@@ -478,7 +485,11 @@ impl<'a> LexerState<'a> {
                 }
             }
         }
-        FastPath::Undecided
+        if self.has_ended || !self.reader.has_comments() {
+            return FastPath::Undecided;
+        }
+        let (begin, end) = self.pass_pending_comment();
+        FastPath::Passed(PlainLexeme::comment(begin, end))
     }
 
     /// The item of a plain lexeme, which was passed. Out of memory ends the lexer.

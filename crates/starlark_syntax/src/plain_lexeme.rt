@@ -14,6 +14,8 @@ use std::alloc::{AllocError, Global};
 /// The kind of a plain lexeme.
 #[derive(Clone, Copy)]
 pub enum PlainKind {
+    /// The comment of a comment-only line.
+    Comment,
     /// A name.
     Identifier,
     /// A string literal.
@@ -52,6 +54,21 @@ impl PlainLexeme {
             begin,
             end,
             value_begin: begin,
+            value_end: end,
+        }
+    }
+
+    /// A comment between two offsets, of which the first is that of its `#`.
+    #[inline(always)]
+    pub(crate) fn comment(begin: usize, end: usize) -> PlainLexeme
+        requires { begin < end }
+        ensures { result ≡ record { kind = PlainKind.Comment; begin = begin; end = end; value_begin = begin + 1; value_end = end } }
+    {
+        PlainLexeme {
+            kind: PlainKind::Comment,
+            begin,
+            end,
+            value_begin: begin + 1,
             value_end: end,
         }
     }
@@ -110,6 +127,7 @@ pub(crate) fn token_of(plain: PlainLexeme, alloc: Global, text: &str) -> Result<
 {
     let value = &text[plain.value_begin..plain.value_end];
     match plain.kind {
+        PlainKind::Comment => Ok(Token::Comment(String::from_str(alloc, value)?)),
         PlainKind::Identifier => Ok(Token::Identifier(String::from_str(alloc, value)?)),
         PlainKind::String => Ok(Token::String(String::from_str(alloc, value)?)),
         PlainKind::Word(terminal) => Ok(own_token(terminal)),

@@ -10,9 +10,9 @@ use Rattle.std.proofs.lemmas.Str.{IsCharBoundary-after_ascii}
 use Rattle.starlark_grammar.specs.Words.{Text}
 use Rattle.starlark_grammar.specs.Margins.{begins_comment, blanks_len, comment_lines, comment_of, comment_part, comments_from, is_comment_only, lines, margin_of, without_return}
 use Rattle.starlark_grammar.specs.Tokens.{Comment}
-use Rattle.starlark_token.specs.TokenViews.{Whole, token_view}
-use Rattle.starlark_token.specs.Lexemes.{lexeme_view, shown_lexeme}
-use Rattle.starlark_token.specs.declared.tokens.Token.{Token}
+use Rattle.starlark_token.specs.TokenViews.{Whole}
+use Rattle.starlark_token.specs.Lexemes.{shown_lexeme}
+use Rattle.starlark_reader.specs.Inner.Pending.{comment_lexeme}
 use Rattle.starlark_grammar.proofs.Lists.{drop-sum, take_fits}
 use Rattle.starlark_reader.proofs.Indentation.Margins.{is_other}
 use Rattle.starlark_grammar.proofs.Order.Lexemes.{comment_spans, part_len}
@@ -110,8 +110,12 @@ comment_begin text at len from utf8 inside h e =
 pub comment_inside : (line : Text) (k n : ℕ) → is_comment_only line ≡ true → k ≡ blanks_len line → n ≡ length (comment_part line) → k + 1 ≤ n
 comment_inside line k n h e f = omega (arith, comment_spans line h, e, f)
 
-pub comment_lexeme : (at k n : ℕ) (line value : Text) (found : Token) → k ≡ blanks_len line → n ≡ length (comment_part line) → value ≡ drop (suc (blanks_len line)) (comment_part line) → token_view found ≡ Whole (Comment value) → lexeme_view (at + k, found, at + n) ≡ shown_lexeme (comment_of at line)
-comment_lexeme at k n line value found e f h same = rw (e, f, same, h) refl
+pub comment_found : (text : Text) (at k n : ℕ) (line : Text) → k ≡ blanks_len line → n ≡ length (comment_part line) → take (at + n - (at + k + 1)) (drop (at + k + 1) text) ≡ drop (suc (blanks_len line)) (comment_part line)
+    → comment_lexeme text (at + k) (at + n) ≡ shown_lexeme (comment_of at line)
+comment_found text at k n line e f h =
+    ap (λ v. record { begin = at + k; node = Whole (Comment v); end = at + n }) h
+    ∙ ap (λ i. record { begin = at + i; node = Whole (Comment (drop (suc (blanks_len line)) (comment_part line))); end = at + n }) e
+    ∙ ap (λ i. record { begin = at + blanks_len line; node = Whole (Comment (drop (suc (blanks_len line)) (comment_part line))); end = at + i }) f
 
 -- The comments of a margin, one after another
 

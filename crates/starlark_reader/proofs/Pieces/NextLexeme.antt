@@ -1,16 +1,16 @@
 -- What a reader yields next.
 use Rattle.std.proofs.Common.{◌≡◌, Bool, true, false, ℕ, zero, suc, ◌+◌, ◌<◌, ◌≤◌, length, length-append, take, arith, List, [], ◌∷◌, ◌++◌, map, drop, refl, sym, ap, subst, ◌∙◌, None, Some, ◌⊎◌, inl, inr}
-use Rattle.std.specs.Prelude.{Option, Result, Ok, Err, IfOk, OnOk, nat_lt, sum_by}
+use Rattle.std.specs.Prelude.{Option, nat_lt, sum_by}
 use Rattle.starlark_grammar.specs.Words.{Text, language}
 use Rattle.starlark_grammar.specs.Tokens.{Fault, Lexeme, Outcome, Spanned}
 use Rattle.starlark_grammar.specs.Pieces.{Piece, Step, Stands, Fails, Ends}
 use Rattle.starlark_grammar.specs.Reading.{History, lexemes_along, outcome, outcome_in, outcome_of, read, read_from}
-use Rattle.starlark_token.specs.Lexemes.{fault_view, shown_lexeme}
+use Rattle.starlark_token.specs.Lexemes.{fault_view, lexeme_view, shown_lexeme}
 use Rattle.starlark_reader.specs.Inner.MarginCuts.{IsAfterLines, IsCutBefore, IsMarginAhead}
 use Rattle.starlark_reader.specs.Inner.MarginLines.{IsLinePassed, IsPassedLine}
 use Rattle.starlark_reader.specs.Inner.Nesting.{bracket_count}
-use Rattle.starlark_reader.specs.Inner.Pending.{IsFirst, IsIdle, lines_between, pending_lexemes}
-use Rattle.starlark_reader.specs.Inner.Reader.{begins_with_tab, has_read_none, IsAhead, IsAheadAfter, IsInFlatMargin, IsStateAfter, IsLeft, IsOver, IsReady, IsSomething, history_of, outcome_along, remaining_outcome}
+use Rattle.starlark_reader.specs.Inner.Pending.{IsFirst, IsFirstPast, IsIdle, lines_between, pending_lexemes}
+use Rattle.starlark_reader.specs.Inner.Reader.{begins_with_tab, has_read_none, IsAhead, IsAheadAfter, IsAheadPast, IsInFlatMargin, IsStateAfter, IsLeft, IsOver, IsReady, IsSomething, history_of, outcome_along, remaining_outcome}
 use Rattle.starlark_token.specs.TokenViews.{TokenView}
 use Rattle.starlark_token.specs.declared.lexeme_error.LexemeError.{LexemeError}
 use Rattle.starlark_token.specs.declared.tokens.Token.{Token}
@@ -84,10 +84,10 @@ behind_passed text old new at remainder ahead passed is few = go is.passed is.fe
           count = omega (arith, count);
         }
 
--- the first pending lexeme is yielded
-pub lexeme_next : (text : Text) (old new : Reader) (x : ℕ × Token × ℕ) (lexemes : List (Spanned TokenView)) (fault : Option (Spanned Fault)) → IsHere old new → new.stage ≡ old.stage → IsFirst text old.pending new.pending (Some x) → IsLinePassed text old.pending new.pending (Some x)
-    → (old.pending.from < old.pending.to → new.pending.is_flat ≡ old.pending.is_flat) → IsAhead text old old.stage lexemes fault → IsAheadAfter text (Some x) new lexemes fault
-lexeme_next text old new x lexemes fault here same first lines stays ahead = (
+-- the first pending lexeme is passed
+pub lexeme_past : (text : Text) (old new : Reader) (x : Spanned TokenView) (lexemes : List (Spanned TokenView)) (fault : Option (Spanned Fault)) → IsHere old new → new.stage ≡ old.stage → IsFirstPast text x old.pending new.pending → (new.pending.is_flat ≡ true → IsPassedLine text old.pending new.pending)
+    → (old.pending.from < old.pending.to → new.pending.is_flat ≡ old.pending.is_flat) → IsAhead text old old.stage lexemes fault → IsAheadPast text x new lexemes fault
+lexeme_past text old new x lexemes fault here same first lines stays ahead = (
   map shown_lexeme (pending_lexemes text new.pending) ++ map shown_lexeme ahead.left.lexemes,
   ahead.ahead ∙ ap (λ vs. vs ++ map shown_lexeme ahead.left.lexemes) first.1,
   record {
@@ -122,17 +122,11 @@ lexeme_next text old new x lexemes fault here same first lines stays ahead = (
           behind_passed text old.pending new.pending at remainder (length more) passed (subst (IsAfterLines text old.pending at remainder) all lies.1) most,
         )
 
--- the first pending comment is yielded, unless memory runs out
-pub comment_next : {E : Type 0} (result : Result (ℕ × Token × ℕ) E) (text : Text) (old new : Reader) → IsHere old new → new.stage ≡ old.stage → IfOk result (λ x. IsFirst text old.pending new.pending (Some x)) → IfOk result (λ x. IsLinePassed text old.pending new.pending (Some x))
-    → OnOk result (new.pending.is_flat ≡ old.pending.is_flat) → IfOk result (λ x. (lexemes : List (Spanned TokenView)) (fault : Option (Spanned Fault)) → IsAhead text old old.stage lexemes fault → IsAheadAfter text (Some x) new lexemes fault)
-comment_next (Ok x) text old new here same first lines flat = λ lexemes fault ahead. lexeme_next text old new x lexemes fault here same first lines (λ some. flat) ahead
-comment_next (Err e) text old new here same first lines flat = tt
-
 -- the first lexeme after the comments is yielded, where no comment is pending
 pub mark_next : (text : Text) (old new : Reader) (found : Option (ℕ × Token × ℕ)) (lexemes : List (Spanned TokenView)) (fault : Option (Spanned Fault)) → IsHere old new → new.stage ≡ old.stage → old.pending.to ≤ old.pending.from → IsFirst text old.pending new.pending found
     → IsLinePassed text old.pending new.pending found → IsAhead text old old.stage lexemes fault → IsAheadAfter text found new lexemes fault
 mark_next text old new None lexemes fault here same none first lines ahead = ahead_here text old new lexemes fault here same first.1 ahead
-mark_next text old new (Some x) lexemes fault here same none first lines ahead = lexeme_next text old new x lexemes fault here same first lines (λ some. absurd (omega (arith, none, some))) ahead
+mark_next text old new (Some x) lexemes fault here same none first lines ahead = lexeme_past text old new (lexeme_view x) lexemes fault here same first lines (λ some. absurd (omega (arith, none, some))) ahead
 
 -- the fault is returned after the last lexeme
 pub fault_next : (text : Text) (reader : Reader) (lexemes : List (Spanned TokenView)) (fault : Option (Spanned Fault)) (begin : ℕ) (error : LexemeError) (end : ℕ) → IsIdle text reader.pending → reader.stage ≡ stage.Fault begin error end → IsAhead text reader reader.stage lexemes fault

@@ -1,12 +1,15 @@
 -- Pending lexemes, as the grammar sees them.
-use Rattle.std.specs.Prelude.{◌≡◌, ◌≤◌, ℕ, ◌+◌, ◌-◌, List, [], ◌∷◌, ◌++◌, Option, Some, None, true, map, length, take, drop, replicate}
+use Rattle.std.specs.Prelude.{◌≡◌, ◌≤◌, ◌<◌, ℕ, ◌+◌, ◌-◌, List, [], ◌∷◌, ◌++◌, Option, Some, None, true, map, length, take, drop, replicate}
 use Rattle.std.specs.List.{AllByRecursion}
+use Rattle.std.specs.Str.{IsCharBoundary}
 use Rattle.starlark_grammar.specs.Words.{Text}
 use Rattle.starlark_grammar.specs.Tokens as grammar
 use Rattle.starlark_grammar.specs.Laws.{AtBoundaries}
 use Rattle.starlark_grammar.specs.Margins.{comment_of, comments_from, is_comment_only, lines}
 use Rattle.starlark_token.specs.Lexemes.{lexeme_view, shown_lexeme}
+use Rattle.starlark_token.specs.TokenViews.{TokenView, Whole}
 use Rattle.starlark_reader.specs.Inner.TextEnds.{text_end_node}
+use Rattle.starlark_reader.specs.declared.comments.CommentLine.{CommentLine}
 use Rattle.starlark_reader.specs.declared.pending.AfterComments.{AfterComments}
 use Rattle.starlark_reader.specs.declared.pending.AfterComments.TheVariants as remainder
 use Rattle.starlark_reader.specs.declared.pending.Pending.{Pending}
@@ -46,21 +49,37 @@ IsPending text pending = IsComments text pending.from pending.to
 abbrev pub IsIdle : Text → Pending → Type 0
 IsIdle text pending = IsPending text pending × (pending_lexemes text pending ≡ [])
 
--- the first line from byte `from` to `to` has `len` bytes and the comment found, and all after it
+-- the comment from byte `begin` to `end`, whose value is all after its `#`
+abbrev pub comment_lexeme : Text → ℕ → ℕ → grammar.Spanned TokenView
+comment_lexeme text begin end = record { begin = begin; node = Whole (grammar.Comment (take (end - (begin + 1)) (drop (begin + 1) text))); end = end }
+
+-- a comment and its value begin and end at character boundaries
+pub record IsCommentIn (text : Text) (begin end : ℕ) : Type 0 where
+  pub order : begin < end
+  pub first : IsCharBoundary text begin
+  pub value : IsCharBoundary text (begin + 1)
+  pub last : IsCharBoundary text end
+
+-- the first line from byte `from` to `to` has the length and the comment found, and all after it
 -- are comment-only
-pub record IsFirstComment (text : Text) (from to : ℕ) (found : ℕ × Token × ℕ) (len : ℕ) : Type 0 where
+pub record IsFirstComment (text : Text) (from to : ℕ) (found : CommentLine) : Type 0 where
   pub line : Text
-  pub first : lines_between text from to ≡ line ∷ lines_between text (from + len) to
-  pub whole : length line ≡ len
-  pub comment : lexeme_view found ≡ shown_lexeme (comment_of from line)
-  pub remainder : IsComments text (from + len) to
+  pub first : lines_between text from to ≡ line ∷ lines_between text (from + found.len) to
+  pub whole : length line ≡ found.len
+  pub comment : comment_lexeme text found.begin found.end ≡ shown_lexeme (comment_of from line)
+  pub inside : IsCommentIn text found.begin found.end
+  pub remainder : IsComments text (from + found.len) to
 
 -- the first lexeme after the comments was taken, or there was none and nothing changed
 abbrev pub IsFirstAfter : AfterComments → AfterComments → Option (ℕ × Token × ℕ) → Type 0
 IsFirstAfter old new None = (lexemes_after old ≡ []) × (new ≡ old)
 IsFirstAfter old new (Some found) = map shown_lexeme (lexemes_after old) ≡ lexeme_view found ∷ map shown_lexeme (lexemes_after new)
 
+-- the first pending lexeme was passed
+abbrev pub IsFirstPast : Text → grammar.Spanned TokenView → Pending → Pending → Type 0
+IsFirstPast text lexeme old new = IsPending text new × (map shown_lexeme (pending_lexemes text old) ≡ lexeme ∷ map shown_lexeme (pending_lexemes text new))
+
 -- the first pending lexeme was taken, or there was none and nothing changed
 abbrev pub IsFirst : Text → Pending → Pending → Option (ℕ × Token × ℕ) → Type 0
 IsFirst text old new None = (pending_lexemes text old ≡ []) × (new ≡ old)
-IsFirst text old new (Some found) = IsPending text new × (map shown_lexeme (pending_lexemes text old) ≡ lexeme_view found ∷ map shown_lexeme (pending_lexemes text new))
+IsFirst text old new (Some found) = IsFirstPast text (lexeme_view found) old new

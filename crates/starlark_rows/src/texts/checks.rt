@@ -109,6 +109,7 @@ fn is_lexeme(next: &Option<Lexeme>, wanted: &(usize, Token, usize)) -> bool {
 /// The name of a plain lexeme's kind, as its token has it.
 fn plain_kind(alloc: Global, kind: PlainKind) -> Result<String, AllocError> {
     match kind {
+        PlainKind::Comment => String::from_str(alloc, "Comment"),
         PlainKind::Identifier => String::from_str(alloc, "Identifier"),
         PlainKind::String => String::from_str(alloc, "String"),
         PlainKind::Word(terminal) => format!(in alloc; "{terminal:?}"),
@@ -120,7 +121,7 @@ fn plain_kind(alloc: Global, kind: PlainKind) -> Result<String, AllocError> {
 /// The value of a token that a plain lexeme can have; empty for one without a value.
 fn plain_value(token: &Token) -> &str {
     match token {
-        Token::Identifier(value) | Token::String(value) => value.as_str(),
+        Token::Comment(value) | Token::Identifier(value) | Token::String(value) => value.as_str(),
         _ => "",
     }
 }

@@ -86,6 +86,10 @@ is_out_of_memory other = false
 abbrev pub plain_string : (begin opener end : ℕ) → PlainLexeme
 plain_string begin opener end = record { kind = kind.String; begin = begin; end = end; value_begin = begin + opener; value_end = end - 1 }
 
+-- the comment between two offsets, whose value is all after its `#`
+abbrev pub plain_comment : (begin end : ℕ) → PlainLexeme
+plain_comment begin end = record { kind = kind.Comment; begin = begin; end = end; value_begin = begin + 1; value_end = end }
+
 -- A plain lexeme that was passed is an item, or there was out of memory in its place, which ends the lexer.
 abbrev pub HasTaken : LexerState → PlainLexeme → Option (Result (ℕ × Token × ℕ) (OrMemory (Diagnosed ErrorKind))) → LexerState → Type 0
 HasTaken old plain (Some (Ok lexeme)) new = (lexeme_view lexeme ≡ plain_view old.text.now plain) × (new ≡ old)

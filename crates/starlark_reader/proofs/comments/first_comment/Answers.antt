@@ -1,10 +1,8 @@
-use Rattle.std.proofs.Common.{◌+◌, ◌-◌, ◌∙◌, ap, arith, drop, refl, rules, subst, sym, take}
+use Rattle.std.proofs.Common.{◌+◌, ◌-◌, ap, arith, drop, rules, subst, sym, take}
 use Rattle.std.specs.Str.{IsCharBoundary}
 use Rattle.std.proofs.lemmas.List.{take_rest}
-use Rattle.starlark_token.specs.declared.tokens.Token.TheVariants as token
-use Rattle.starlark_token.specs.TokenViews.{token_view}
 use Rattle.starlark_reader.proofs.Indentation.CommentBlanks.{begins_here}
-use Rattle.starlark_reader.proofs.Indentation.CommentLines.{comment_begin, comment_lexeme, comment_value, part_before_feed}
+use Rattle.starlark_reader.proofs.Indentation.CommentLines.{comment_begin, comment_found, comment_value, part_before_feed}
 use Rattle.starlark_reader.proofs.Indentation.Margins.{feed_measured}
 use Rattle.starlark_reader.proofs.Indentation.Pending.{IsMeasured, measured}
 use Rattle.starlark_reader.proofs.comments.first_comment.Goals as goal
@@ -33,35 +31,29 @@ overflow_add-end c =
     let inside = (first c).part_inside in
     search (rules, inside)
 
-pub range-requires-clause-start_le_end : goal.range-requires-clause-start_le_end
-range-requires-clause-start_le_end c = let order = (first c).order in omega (arith, order)
-
-pub range-requires-clause-start_boundary : goal.range-requires-clause-start_boundary
-range-requires-clause-start_boundary c = λ some.
-    let line = first c in
-    comment_begin c.args.text.now c.args.from c.line_len-len.result (c.args.from + c.before_comment_len-blanks.result) c.utf8.text (omega (arith, line.inside, c.requires.comments.inside)) line.passes (ap (λ n. c.args.from + n) line.blanks)
-
-pub range-requires-clause-end_boundary : goal.range-requires-clause-end_boundary
-range-requires-clause-end_boundary c = let line = first c in subst (λ n. IsCharBoundary c.args.text.now (c.args.from + n)) (sym line.part) line.edges.1
-
 pub returns-clause-comment : goal.returns-clause-comment
-unfolding token_view
 returns-clause-comment c =
-    let line = first (goal.at.returns-clause-comment c).After-comment_end in
+    let line = first c in
     let there = take c.line_len-len.result (drop c.args.from c.args.text.now) in
-    let said = c.in_ok-comment.ensures.ok ∙ c.range.ensures.value
-    ∙ comment_value c.args.text.now c.args.from c.line_len-len.result (c.args.from + c.before_comment_len-blanks.result + 1) (c.args.from + c.comment_end.result) line.passes (ap (λ n. c.args.from + n + 1) line.blanks) (ap (λ n. c.args.from + n) line.part) in
+    let begin = comment_begin c.args.text.now c.args.from c.line_len-len.result (c.args.from + c.before_comment_len-blanks.result) c.utf8.text (omega (arith, line.inside, c.requires.comments.inside)) line.passes (ap (λ n. c.args.from + n) line.blanks) in
+    let said = comment_value c.args.text.now c.args.from c.line_len-len.result (c.args.from + c.before_comment_len-blanks.result + 1) (c.args.from + c.comment_end.result) line.passes (ap (λ n. c.args.from + n + 1) line.blanks) (ap (λ n. c.args.from + n) line.part) in
     record {
       line = there;
       first = line.first;
       whole = line.whole;
-      comment = comment_lexeme c.args.from c.before_comment_len-blanks.result c.comment_end.result there _ (token.Comment c.in_ok-comment.comment) line.blanks line.part said refl;
+      comment = comment_found c.args.text.now c.args.from c.before_comment_len-blanks.result c.comment_end.result there line.blanks line.part said;
+      inside = record {
+        order = omega (arith, line.order);
+        first = subst (λ n. IsCharBoundary c.args.text.now (c.args.from + n)) (sym line.blanks) line.edges.0;
+        value = begin;
+        last = subst (λ n. IsCharBoundary c.args.text.now (c.args.from + n)) (sym line.part) line.edges.1;
+      };
       remainder = line.remainder;
     }
 
 pub returns-clause-reads : goal.returns-clause-reads
 returns-clause-reads c =
-    let line = first (goal.at.returns-clause-reads c).After-comment_end in
+    let line = first c in
     let feed = feed_measured _ _ _ _ c.before_comment_len-blanks.ensures.value (take_rest _ c.before_comment_len-blanks.result) c.before_lf_len.ensures.value in
     let some = part_before_feed (take (c.args.to - c.args.from) (drop c.args.from c.as_bytes.result.now)) in (
       omega (arith, c.before_lf_len.ensures.reads.0),

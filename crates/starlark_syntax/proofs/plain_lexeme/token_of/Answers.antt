@@ -4,6 +4,11 @@ use Rattle.starlark_syntax.specs.PlainLexemes.{plain_value, token_of}
 use Rattle.starlark_token.specs.TokenViews.{Whole, token_view}
 use Rattle.starlark_syntax.proofs.plain_lexeme.token_of.Goals as goal
 
+pub returns-in_ok-from_str-in-Comment : goal.returns-in_ok-from_str-in-Comment
+unfolding token_view
+returns-in_ok-from_str-in-Comment c =
+    ap (λ t. Whole (grammar.Comment t)) (c.in_ok-from_str-in-Comment.ensures.ok ∙ c.range-value.ensures.value) ∙ ap (λ k. Whole (token_of k (plain_value c.args.text.now c.args.plain))) (sym c.in-Comment.is)
+
 pub returns-in_ok-from_str-in-Identifier : goal.returns-in_ok-from_str-in-Identifier
 unfolding token_view
 returns-in_ok-from_str-in-Identifier c =

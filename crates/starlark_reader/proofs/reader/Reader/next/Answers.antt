@@ -1,12 +1,13 @@
 use Rattle.std.proofs.Common.{List, Option, refl, sym, subst}
 use Rattle.starlark_grammar.specs.Tokens.{Fault, Spanned}
+use Rattle.starlark_token.specs.Lexemes.{lexeme_view}
 use Rattle.starlark_token.specs.TokenViews.{TokenView}
 use Rattle.starlark_reader.specs.Inner.MarginLines.{IsLinePassed}
 use Rattle.starlark_reader.specs.Inner.Reads.{HasReadAt}
 use Rattle.starlark_reader.specs.Inner.Pending.{IsFirst, IsIdle}
 use Rattle.starlark_reader.specs.Inner.Reader.{IsAhead, IsAheadAfter}
 use Rattle.starlark_reader.specs.declared.reader.Stage.TheVariants as stage
-use Rattle.starlark_reader.proofs.Pieces.NextLexeme.{ahead_now, begin_something, lexeme_next, none_left, onward_something, over, pending_something}
+use Rattle.starlark_reader.proofs.Pieces.NextLexeme.{ahead_now, begin_something, lexeme_past, none_left, onward_something, over, pending_something}
 use Rattle.starlark_reader.proofs.Pieces.ReaderReads.{pending_reads, reads_ahead}
 use Rattle.starlark_reader.proofs.Indentation.Waiting.{after_error}
 use Rattle.starlark_reader.proofs.reader.Reader.next.Goals as goal
@@ -16,7 +17,7 @@ returns-in_err-lexeme-clause-memory c = after_error c.from_residual.result _ (λ
 
 pub returns-in-Some-clause-next : goal.returns-in-Some-clause-next
 returns-in-Some-clause-next c = λ lexemes fault ahead.
-    lexeme_next c.args.text.now c.loop-lexeme.self _ c.in-Some.lexeme lexemes fault (record { at = refl; nesting = refl; levels = refl; before = refl }) refl
+    lexeme_past c.args.text.now c.loop-lexeme.self _ (lexeme_view c.in-Some.lexeme) lexemes fault (record { at = refl; nesting = refl; levels = refl; before = refl }) refl
     (subst (IsFirst c.args.text.now c.loop-lexeme.self.pending c.next.new.self) c.in-Some.is c.in_ok-lexeme.ensures.next) (subst (IsLinePassed c.args.text.now c.loop-lexeme.self.pending c.next.new.self) c.in-Some.is c.in_ok-lexeme.ensures.lines) c.in_ok-lexeme.ensures.flat (c.loop-lexeme.invariant.ahead lexemes fault ahead)
 
 pub returns-in_err-read_first_margin-in-Begin-clause-memory : goal.returns-in_err-read_first_margin-in-Begin-clause-memory

@@ -18,26 +18,6 @@ overflow_add-self c =
     let small : c.args.self.now.yielded_count + 1 ≤ 2 ^ 34 = omega (arith, inv.0, few) in
     search (rules, small)
 
-pub returns-in-Ok-clause-lexing : goal.returns-in-Ok-clause-lexing
-returns-in-Ok-clause-lexing c =
-    let inv = c.requires.lexing.1 c.requires.going in
-    let is = c.in-Ok.ensures.ahead _ _ inv.1 in
-    let further = one_more (map shown_lexeme (outcome c.args.self.now.text.now).lexemes) c.args.self.now.yielded_count _ is.0 is.1 in
-    let paid = spared c.args.self.now.text.now c.args.self.now.reader c.args.self.now.looked_to c.args.self.now.lookahead (c.requires.lexing.3 c.requires.going) in (
-      c.requires.lexing.0,
-      (λ on. (omega (arith, further.0, length-map (outcome c.args.self.now.text.now).lexemes shown_lexeme), rw further.1 is.2)),
-      goes_on c.looked_after-self.result _ c.requires.going,
-      (λ on. found_out c.args.self.now.text.now c.next_comment.new.self c.args.self.now.looked_to paid.0 c.looked_after-self.result c.looked_after-self.ensures is.2.is_pending (omega (arith, paid.1)) (c.in-Ok.ensures.reads paid.0 paid.2)),
-      c.requires.lexing.4,
-    )
-
-pub overflow_add-self-in-Some : goal.overflow_add-self-in-Some
-overflow_add-self-in-Some c =
-    let inv = c.requires.lexing.1 c.requires.going in
-    let few = lexemes_few c.args.self.now.text.now c.requires.lexing.0 in
-    let small : c.args.self.now.yielded_count + 1 ≤ 2 ^ 34 = omega (arith, inv.0, few) in
-    search (rules, small)
-
 pub returns-in-Some-clause-lexing : goal.returns-in-Some-clause-lexing
 returns-in-Some-clause-lexing c =
     let inv = c.requires.lexing.1 c.requires.going in
@@ -46,8 +26,8 @@ returns-in-Some-clause-lexing c =
     let paid = spared c.args.self.now.text.now c.args.self.now.reader c.args.self.now.looked_to c.args.self.now.lookahead (c.requires.lexing.3 c.requires.going) in (
       c.requires.lexing.0,
       (λ on. (omega (arith, further.0, length-map (outcome c.args.self.now.text.now).lexemes shown_lexeme), rw further.1 is.2)),
-      goes_on c.looked_after-self-in-Some.result _ c.requires.going,
-      (λ on. found_out c.args.self.now.text.now c.next_mark.new.self c.args.self.now.looked_to paid.0 c.looked_after-self-in-Some.result c.looked_after-self-in-Some.ensures is.2.is_pending (omega (arith, paid.1)) (c.in-Some.ensures.reads c.args.self.now.text.now paid.0 paid.2)),
+      goes_on c.looked_after-self.result _ c.requires.going,
+      (λ on. found_out c.args.self.now.text.now c.next_mark.new.self c.args.self.now.looked_to paid.0 c.looked_after-self.result c.looked_after-self.ensures is.2.is_pending (omega (arith, paid.1)) (c.in-Some.ensures.reads c.args.self.now.text.now paid.0 paid.2)),
       c.requires.lexing.4,
     )
 
@@ -65,9 +45,9 @@ returns-in-Ok-take_text-clause-lexing c =
     let further = one_more (map shown_lexeme (outcome c.args.self.now.text.now).lexemes) c.args.self.now.yielded_count _ is.0 is.1 in
     let paid = spared c.args.self.now.text.now c.args.self.now.reader c.args.self.now.looked_to c.args.self.now.lookahead (c.requires.lexing.3 c.requires.going) in
     let marked = c.in_default.ensures.reads c.args.self.now.text.now paid.0 paid.2 in
-    let found = c.in-Ok-plain_text.found in
-    let some = c.in-Ok-plain_text.ensures.some in
-    let read = here_taken_reads c.args.self.now.text.now paid.0 (found.len + 3) (6 * found.len + 4) (found.len + found.stop_len) c.next_mark.new.self c.plain_text.new.self c.take_text.new.self (c.reads_on.ensures.stage c.if-not-reads_on.false) marked c.in-Ok-plain_text.ensures.lookahead
+    let found = c.in-Ok.found in
+    let some = c.in-Ok.ensures.some in
+    let read = here_taken_reads c.args.self.now.text.now paid.0 (found.len + 3) (6 * found.len + 4) (found.len + found.stop_len) c.next_mark.new.self c.plain_text.new.self c.take_text.new.self (c.reads_on.ensures.stage c.if-not-reads_on.false) marked c.in-Ok.ensures.lookahead
     (omega (arith, some.1)) (omega (arith, some.0)) c.in-Ok-take_text.ensures.passed in (
       c.requires.lexing.0,
       (λ on. (omega (arith, further.0, length-map (outcome c.args.self.now.text.now).lexemes shown_lexeme), rw further.1 is.2)),
@@ -76,28 +56,28 @@ returns-in-Ok-take_text-clause-lexing c =
       c.requires.lexing.4,
     )
 
-pub next_of_reader-requires-in-Err-plain_text-clause-lexing : goal.next_of_reader-requires-in-Err-plain_text-clause-lexing
-next_of_reader-requires-in-Err-plain_text-clause-lexing c =
+pub next_of_reader-requires-in-Err-clause-lexing : goal.next_of_reader-requires-in-Err-clause-lexing
+next_of_reader-requires-in-Err-clause-lexing c =
     let inv = c.requires.lexing.1 c.requires.going in
     let paid = spared c.args.self.now.text.now c.args.self.now.reader c.args.self.now.looked_to c.args.self.now.lookahead (c.requires.lexing.3 c.requires.going) in
     let marked = c.in_default.ensures.reads c.args.self.now.text.now paid.0 paid.2 in
-    let other = c.in-Err-plain_text.ensures.other in
+    let other = c.in-Err.ensures.other in
     let here = other.1 in
     let ahead = c.in_default.ensures.ahead c.args.self.now.text.now _ _ inv.1 in
     let inside = (left_onward c.args.self.now.text.now c.next_mark.new.self _ _ (c.reads_on.ensures.stage c.if-not-reads_on.false) ahead).is_left.1.inside in
     let remainder : c.args.self.now.looked_to ≤ c.next_mark.new.self.at = omega (arith, c.if-at-self.false, c.at.ensures) in
-    let at : c.at-in-Err-plain_text.result ≡ c.next_mark.new.self.at = c.at-in-Err-plain_text.ensures ∙ here.0 in
-    let read = here_reads c.args.self.now.text.now paid.0 0 (6 * c.in-Err-plain_text.run' + 4) c.next_mark.new.self c.plain_text.new.self (c.reads_on.ensures.stage c.if-not-reads_on.false) marked here in
-    (c.requires.lexing.0, (λ on. (inv.0, c.plain_text.ensures.ahead _ _ ahead)), tt, (λ on. (paid.0 + (6 * c.in-Err-plain_text.run' + 4), omega (arith, paid.1, remainder, at), read)), reached c.args.self.now.text.now c.next_mark.new.self _ c.plain_text.new.self.at _ (c.reads_on.ensures.stage c.if-not-reads_on.false) ahead here.0 (omega (arith, at, other.0, here.0)))
+    let at : c.at-in-Err.result ≡ c.next_mark.new.self.at = c.at-in-Err.ensures ∙ here.0 in
+    let read = here_reads c.args.self.now.text.now paid.0 0 (6 * c.in-Err.run' + 4) c.next_mark.new.self c.plain_text.new.self (c.reads_on.ensures.stage c.if-not-reads_on.false) marked here in
+    (c.requires.lexing.0, (λ on. (inv.0, c.plain_text.ensures.ahead _ _ ahead)), tt, (λ on. (paid.0 + (6 * c.in-Err.run' + 4), omega (arith, paid.1, remainder, at), read)), reached c.args.self.now.text.now c.next_mark.new.self _ c.plain_text.new.self.at _ (c.reads_on.ensures.stage c.if-not-reads_on.false) ahead here.0 (omega (arith, at, other.0, here.0)))
 
-pub overflow_add-self-in-Err-plain_text : goal.overflow_add-self-in-Err-plain_text
-overflow_add-self-in-Err-plain_text c =
+pub overflow_add-self-in-Err : goal.overflow_add-self-in-Err
+overflow_add-self-in-Err c =
     let line = next_line_inside c.args.self.now.text.now c.plain_text.new.self.at in
-    let small : c.at-in-Err-plain_text.result + c.in-Err-plain_text.run' ≤ 2 ^ 34 = omega (arith, c.in-Err-plain_text.ensures.other.0, line, c.at-in-Err-plain_text.ensures, c.requires.lexing.0) in
+    let small : c.at-in-Err.result + c.in-Err.run' ≤ 2 ^ 34 = omega (arith, c.in-Err.ensures.other.0, line, c.at-in-Err.ensures, c.requires.lexing.0) in
     search (rules, small)
 
-pub overflow_add-self-in-Err-plain_text-2 : goal.overflow_add-self-in-Err-plain_text-2
-overflow_add-self-in-Err-plain_text-2 c =
+pub overflow_add-self-in-Err-2 : goal.overflow_add-self-in-Err-2
+overflow_add-self-in-Err-2 c =
     let line = next_line_inside c.args.self.now.text.now c.plain_text.new.self.at in
-    let small : c.at-in-Err-plain_text.result + c.in-Err-plain_text.run' + 1 ≤ 2 ^ 34 = omega (arith, c.in-Err-plain_text.ensures.other.0, line, c.at-in-Err-plain_text.ensures, c.requires.lexing.0) in
+    let small : c.at-in-Err.result + c.in-Err.run' + 1 ≤ 2 ^ 34 = omega (arith, c.in-Err.ensures.other.0, line, c.at-in-Err.ensures, c.requires.lexing.0) in
     search (rules, small)
