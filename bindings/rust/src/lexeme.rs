@@ -1,6 +1,7 @@
 //! Lexemes: the kinds of tokens, with their places and values.
 
 use crate::ffi::LexemeHead;
+use crate::frame::Frame;
 use crate::value::{OwnValue, Value};
 use crate::{Span, Token, TokenKind};
 use std::borrow::Cow;
@@ -31,7 +32,8 @@ impl<'a> Lexeme<'a> {
     /// The kind of the token.
     #[inline]
     pub fn kind(&self) -> TokenKind {
-        TokenKind::of_number(self.head.kind)
+        // Making the lexeme tested that its number is one of a kind.
+        Frame::least(self.head.kind).kind
     }
 
     /// The bytes of the token in the text. A `Dedent` and the `Newline` at the end of a text have

@@ -221,24 +221,30 @@ fn front_of(text: &str, window: usize) -> &str {
     if text.len() <= window {
         return text;
     }
-    let half = window / 2;
-    if let Some(at) = last_cut(&text.as_bytes()[half..window]) {
-        return &text[..=half + at];
+    let front = &text[..floor_boundary(text, window)];
+    let half = floor_boundary(text, window / 2);
+    match last_cut(&front[half..]) {
+        Some(at) => &front[..=half + at],
+        None => front,
     }
-    let end = (0..=window).rev().find(|&end| text.is_char_boundary(end));
-    &text[..end.unwrap_or(0)]
+}
+
+/// The last character boundary of a text that is not after an offset in it.
+fn floor_boundary(text: &str, at: usize) -> usize {
+    let boundary = (0..=at).rev().find(|&at| text.is_char_boundary(at));
+    boundary.unwrap_or(0)
 }
 
 /// Where the last line begins before which a text may mostly be cut, whatever comes after.
 ///
 /// It begins with a letter, as a statement does. The line before it, but for blank lines and comments,
 /// has no margin, so that no block is open there.
-fn last_cut(bytes: &[u8]) -> Option<usize> {
+fn last_cut(text: &str) -> Option<usize> {
     let mut statement = None;
-    let mut end = bytes.len();
-    while let Some(lf) = bytes[..end].iter().rposition(|&byte| byte == b'\n') {
+    let mut end = text.len();
+    while let Some(lf) = text[..end].rfind('\n') {
         end = lf;
-        match bytes.get(lf + 1) {
+        match text.as_bytes().get(lf + 1) {
             None | Some(b'\n' | b'\r' | b'#') => {}
             Some(b' ' | b'\t') => statement = None,
             Some(_) if statement.is_some() => return statement,

@@ -37,6 +37,7 @@
 mod fault;
 #[allow(unsafe_code)]
 mod ffi;
+mod frame;
 mod lexeme;
 mod lexer;
 mod piece;

@@ -102,6 +102,13 @@ macro_rules! tokens {
         }
 
         impl TokenKind {
+            /// All kinds.
+            pub(crate) const ALL: &'static [TokenKind] = &[
+                $(TokenKind::$value_name,)*
+                $(TokenKind::$layout,)*
+                $(TokenKind::$name,)*
+            ];
+
             /// The kind with a number of the library.
             // Each kind is its number: so this is a test of the range.
             #[inline]
@@ -404,6 +411,7 @@ mod tests {
             }
             let kind = TokenKind::of_number(number);
             assert_eq!((format!("{kind:?}"), kind as u16), (library, number));
+            assert!(TokenKind::ALL.contains(&kind));
             let head = LexemeHead {
                 kind: number,
                 detail: 1,
