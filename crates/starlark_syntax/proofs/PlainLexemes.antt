@@ -149,10 +149,6 @@ some_going state found new some ended = by state.has_ended refl
     by true e = let both : true ≡ false = sym some ∙ ap is_some (ended e).0 in cc
     by false e = e
 
-pub is_nothing : {A : Type 0} (found : Option A) → is_some found ≡ false → found ≡ None
-is_nothing None none = refl
-is_nothing (Some x) none = cc
-
 -- an ended state passes nothing
 pub passed_going : (old : LexerState) (found : FastPath) (new : LexerState) → (found ≡ fast.Undecided → ⊥) → (old.has_ended ≡ true → (found ≡ fast.Undecided) × (new ≡ old)) → old.has_ended ≡ false
 passed_going old found new other ended = by old.has_ended refl

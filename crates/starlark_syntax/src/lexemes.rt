@@ -81,11 +81,12 @@ impl<'a> Lexer<'a> {
         if item.is_some() {
             return item;
         }
-        if self.has_run_out {
-            self.has_run_out = false;
-            return Some(Err(OrMemory::Memory));
+        // Not `None`: then the item would be dropped, which is inlined, too.
+        if !self.has_run_out {
+            return item;
         }
-        None
+        self.has_run_out = false;
+        Some(Err(OrMemory::Memory))
     }
 
     /// Passes the next lexeme if it is plain, and returns it. `None` where it isn't, and where there

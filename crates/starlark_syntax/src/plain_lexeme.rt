@@ -45,7 +45,7 @@ pub struct PlainLexeme {
 
 impl PlainLexeme {
     /// A name between two offsets.
-    #[inline(always)]
+    #[inline]
     pub(crate) fn name(begin: usize, end: usize) -> PlainLexeme
         ensures { result ≡ record { kind = PlainKind.Identifier; begin = begin; end = end; value_begin = begin; value_end = end } }
     {
@@ -59,7 +59,7 @@ impl PlainLexeme {
     }
 
     /// A comment between two offsets, of which the first is that of its `#`.
-    #[inline(always)]
+    #[inline]
     pub(crate) fn comment(begin: usize, end: usize) -> PlainLexeme
         requires { begin < end }
         ensures { result ≡ record { kind = PlainKind.Comment; begin = begin; end = end; value_begin = begin + 1; value_end = end } }
@@ -74,7 +74,7 @@ impl PlainLexeme {
     }
 
     /// A string literal between two offsets, which one quote closes. Its opener has `opener` bytes.
-    #[inline(always)]
+    #[inline]
     pub(crate) fn string(begin: usize, opener: usize, end: usize) -> PlainLexeme
         requires { begin + opener < end }
         ensures { result ≡ record { kind = PlainKind.String; begin = begin; end = end; value_begin = begin + opener; value_end = end - 1 } }
@@ -105,7 +105,7 @@ impl PlainLexeme {
     }
 
     /// A lexeme between two offsets, of a kind without a value.
-    #[inline(always)]
+    #[inline]
     pub(crate) fn of_kind(kind: PlainKind, begin: usize, end: usize) -> PlainLexeme
         ensures { result ≡ record { kind = kind; begin = begin; end = end; value_begin = end; value_end = end } }
     {
