@@ -122,10 +122,15 @@ pub fn number_of_plain(kind: PlainKind) -> u16
 {
     match kind {
         PlainKind::Comment => 1,
+        PlainKind::Indent => 2,
+        PlainKind::Dedent => 3,
         PlainKind::Newline => 4,
         PlainKind::Identifier => 5,
         PlainKind::String => 8,
+        PlainKind::FStringText => 11,
+        PlainKind::FStringExprStart => 12,
         PlainKind::FStringExprEnd => 13,
+        PlainKind::FStringEnd => 15,
         PlainKind::Word(terminal) => number_of_terminal(terminal),
     }
 }

@@ -1,9 +1,10 @@
 //! Pending lexemes: read already, and made one by one as the lexer yields them.
 
-ghost use Rattle.std.specs.Prelude.{◌≡◌, ◌<◌, ◌≤◌, ◌+◌, ◌*◌, [], nat_lt, true, None, Some, OnErr, OnOk, IfOk};
-ghost use Rattle.starlark_reader.specs.Inner.Pending.{IsCommentIn, IsFirst, IsFirstAfter, IsFirstPast, IsPending, comment_lexeme, lexemes_after, owed, pending_lexemes};
+ghost use Rattle.std.specs.Prelude.{◌≡◌, ◌<◌, ◌≤◌, ◌+◌, ◌*◌, [], nat_lt, true, None, Some, OnErr, OnOk, IfOk, IfSome};
+ghost use Rattle.starlark_reader.specs.Inner.Pending.{IsCommentIn, IsFirst, IsFirstAfter, IsFirstPast, IsMark, IsPending, comment_lexeme, lexemes_after, owed, pending_lexemes};
 ghost use Rattle.starlark_reader.specs.Inner.MarginLines.{IsLinePassed, IsPassedLine};
 ghost use Rattle.starlark_grammar.specs.Words.{Text};
+ghost use Rattle.starlark_token.specs.TokenViews.{token_view};
 ghost use Rattle.starlark_words.specs.Inner.Reads.{more_reads};
 
 use crate::comments::first_comment;
@@ -59,7 +60,8 @@ impl AfterComments {
     /// Takes the first pending lexeme; `None` if there is none.
     #[tactic(auto, unfolding(starlark_token::specs::TokenViews::token_view))]
     fn next(&mut self) -> Option<(usize, Token, usize)>
-        ensures { IsFirstAfter self.old self.new result }
+        ensures first { IsFirstAfter self.old self.new result }
+        ensures mark { IfSome result (λ lexeme. IsMark (token_view lexeme.1)) }
     {
         match *self {
             AfterComments::Dedents { at, count } => {
@@ -176,6 +178,7 @@ impl Pending {
         ensures lines { (text : Text) → IsLinePassed text self.old self.new result }
         ensures place { (self.new.from ≡ self.old.from) × (self.new.to ≡ self.old.to) }
         ensures stays { result ≡ None → self.new ≡ self.old }
+        ensures mark { IfSome result (λ lexeme. IsMark (token_view lexeme.1)) }
     {
         let Some(first) = self.remainder.next() else {
             return None;

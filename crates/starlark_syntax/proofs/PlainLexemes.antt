@@ -13,7 +13,7 @@ use Rattle.starlark_reader.specs.Inner.Reader.{IsAhead, IsAheadAfter, IsAheadPas
 use Rattle.starlark_reader.specs.declared.reader.Reader.{Reader}
 use Rattle.starlark_reader.specs.declared.reader.Stage.TheVariants as stages
 use Rattle.starlark_reader.proofs.Pieces.PieceTaken.{left_onward}
-use Rattle.starlark_syntax.specs.Inner.LexerStates.{HasAnswered, HasPassed, HasTaken, IsLexing, left_in, lexer_view, plain_string}
+use Rattle.starlark_syntax.specs.Inner.LexerStates.{HasAnswered, HasPassed, HasTaken, IsLexing, IsOfMark, left_in, lexer_view, passed_as, passed_count, plain_mark, plain_string}
 use Rattle.starlark_syntax.specs.Lexer.{LexerView, most_reads}
 use Rattle.starlark_syntax.specs.PlainLexemes.{IsPlainIn, plain_token, plain_value, plain_view, token_of}
 use Rattle.starlark_syntax.specs.declared.error.kinds.ErrorKind.{ErrorKind}
@@ -22,6 +22,8 @@ use Rattle.starlark_syntax.specs.declared.lexer_state.FastPath.TheVariants as fa
 use Rattle.starlark_syntax.proofs.LexerItems.{next_between}
 use Rattle.starlark_syntax.proofs.LexerStates.{IsSameText, answers_item, answers_within, lexing_read}
 use Rattle.starlark_syntax.specs.declared.lexer_state.LexerState.{LexerState}
+use Rattle.starlark_syntax.specs.declared.lexer_state.Waiting.{Waiting}
+use Rattle.starlark_syntax.specs.declared.lexer_state.Waiting.TheVariants as waiting
 use Rattle.starlark_syntax.specs.declared.plain_lexeme.PlainKind.{PlainKind}
 use Rattle.starlark_syntax.specs.declared.plain_lexeme.PlainKind.TheVariants as kind
 use Rattle.starlark_syntax.specs.declared.plain_lexeme.PlainLexeme.{PlainLexeme}
@@ -129,6 +131,34 @@ symbol_shown text lexeme plain token places =
     ap (λ (view : TokenView). record { begin = lexeme.0; node = view; end = lexeme.2 }) token
     ∙ ap (λ n. record { begin = n; node = Whole (plain_token text plain); end = lexeme.2 }) (sym (ap (λ (p : PlainLexeme). p.begin) places))
     ∙ ap (λ n. record { begin = plain.begin; node = Whole (plain_token text plain); end = n }) (sym (ap (λ (p : PlainLexeme). p.end) places))
+
+-- a lexeme without a value was passed
+mark_told : (state : LexerState) (it : PlainKind) (lexeme : ℕ × Token × ℕ) (new : LexerState) → length state.text.now < 2 ^ 32 → state.yielded_count ≤ length (outcome state.text.now).lexemes → IsUtf8 state.text.now
+    → ((value : Text) → token_view lexeme.1 ≡ Whole (token_of it value)) → HasAnswered state (Some (Ok lexeme)) new → HasPassed state (fast.Passed (plain_mark it lexeme.0 lexeme.2)) new
+mark_told state it lexeme new short few utf8 token is =
+    let plain = plain_mark it lexeme.0 lexeme.2 in (
+      symbol_inside state lexeme new plain short few utf8 is refl,
+      subst (λ (view : Spanned TokenView). IsAheadPast state.text.now view new.reader (left_in state) (outcome state.text.now).fault) (symbol_shown state.text.now lexeme plain (token _) refl) is,
+    )
+
+-- a pending token was passed
+pub mark_passed : (state : LexerState) (it : Waiting) (lexeme : ℕ × Token × ℕ) (new : LexerState) → length state.text.now < 2 ^ 32 → state.yielded_count ≤ length (outcome state.text.now).lexemes → IsUtf8 state.text.now
+    → IsOfMark it (token_view lexeme.1) → HasAnswered state (Some (Ok lexeme)) new → HasPassed state (passed_as it lexeme.0 lexeme.2) new
+mark_passed state waiting.Nothing lexeme new short few utf8 token is = absurd token
+mark_passed state waiting.FStringText lexeme new short few utf8 token is = absurd token
+mark_passed state waiting.Indent lexeme new short few utf8 token is = mark_told state kind.Indent lexeme new short few utf8 (λ value. token) is
+mark_passed state waiting.Dedent lexeme new short few utf8 token is = mark_told state kind.Dedent lexeme new short few utf8 (λ value. token) is
+mark_passed state waiting.FStringExprStart lexeme new short few utf8 token is = mark_told state kind.FStringExprStart lexeme new short few utf8 (λ value. token) is
+mark_passed state waiting.FStringEnd lexeme new short few utf8 token is = mark_told state kind.FStringEnd lexeme new short few utf8 (λ value. token) is
+
+-- it is one lexeme
+pub mark_counted : (it : Waiting) (view : TokenView) (begin end : ℕ) → IsOfMark it view → passed_count (passed_as it begin end) ≡ 1
+mark_counted waiting.Nothing view begin end token = absurd token
+mark_counted waiting.FStringText view begin end token = absurd token
+mark_counted waiting.Indent view begin end token = refl
+mark_counted waiting.Dedent view begin end token = refl
+mark_counted waiting.FStringExprStart view begin end token = refl
+mark_counted waiting.FStringEnd view begin end token = refl
 
 -- a lexer that owes no error has ended where its state has
 pub whole_going : (state : LexerState) (has_run_out : Bool) (lexer : LexerView) → has_run_out ≡ false → lexer_view state has_run_out ≡ lexer → lexer.has_ended ≡ false → state.has_ended ≡ false

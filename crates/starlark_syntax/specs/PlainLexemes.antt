@@ -17,6 +17,11 @@ token_of kind.String value = grammar.String value
 token_of (kind.Word terminal) value = grammar.Word terminal
 token_of kind.FStringExprEnd value = grammar.FStringExprEnd
 token_of kind.Newline value = grammar.Newline
+token_of kind.Indent value = grammar.Indent
+token_of kind.Dedent value = grammar.Dedent
+token_of kind.FStringText value = grammar.FStringText value
+token_of kind.FStringExprStart value = grammar.FStringExprStart
+token_of kind.FStringEnd value = grammar.FStringEnd
 
 -- the value of a plain lexeme: a part of its text
 abbrev pub plain_value : Text → PlainLexeme → Text

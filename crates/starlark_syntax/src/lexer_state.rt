@@ -7,9 +7,11 @@ ghost use Rattle.starlark_grammar.specs.Cuts.{is_settled};
 ghost use Rattle.starlark_grammar.specs.Reading.{History};
 ghost use Rattle.starlark_reader.specs.Inner.MarginCuts.{IsCutBefore};
 ghost use Rattle.starlark_reader.specs.Inner.Reader.{IsReached, IsStateAfter, has_read_none};
-ghost use Rattle.starlark_syntax.specs.Inner.LexerStates.{HasAnswered, HasPassed, HasTaken, IsBegun, IsLexing, is_out_of_memory, left_in, passed_count, plain_comment, plain_string, view_of};
+ghost use Rattle.starlark_syntax.specs.Inner.LexerStates.{HasAnswered, HasPassed, HasTaken, IsBegun, IsLexing, IsOfMark, is_none_waiting, is_out_of_memory, left_in, passed_as, passed_count, plain_comment, plain_string, view_of};
 ghost use Rattle.starlark_syntax.specs.Lexer.{is_ended_by, most_reads, yielded_by};
 ghost use Rattle.starlark_syntax.specs.PlainLexemes.{IsPlainIn};
+ghost use Rattle.starlark_reader.specs.Inner.Pending.{IsMark};
+ghost use Rattle.starlark_token.specs.TokenViews.{token_view};
 ghost use Rattle.starlark_syntax.specs.Inner.Looked.{HasOpened, IsFoundFurther, IsFoundInCode, IsFoundOut, is_front, is_nothing, is_text_opener, looked_len};
 
 use crate::eval_exception::EvalException;
@@ -28,17 +30,21 @@ pub type Lexeme = Result<(usize, Token, usize), OrMemory<EvalException>>;
 ///
 /// It yields the lexemes of the text one by one, and the exception of the fault after them. Any error
 /// ends it. Below the offset `looked_to` lookahead has found no word, so the reader takes over there:
-/// no byte is looked ahead at twice.
+/// no byte is looked ahead at twice. `passed_begin` and `passed_end` are the offsets of the lexeme that
+/// `pass_waiting` passed last.
+// In this order for the reason that `Reader` has one.
 #[derive(Drop)]
 pub struct LexerState<'a> {
-    alloc: Global,
     text: &'a str,
-    code_map: CodeMap,
-    reader: Reader,
     yielded_count: usize,
-    has_ended: bool,
-    lookahead: Lookahead,
     looked_to: usize,
+    lookahead: Lookahead,
+    has_ended: bool,
+    reader: Reader,
+    passed_begin: usize,
+    passed_end: usize,
+    code_map: CodeMap,
+    alloc: Global,
 }
 
 /// How much lookahead the fast path has spent at the current offset.
@@ -79,7 +85,7 @@ fn looked_further(reader: &Reader, looked_to: usize) -> Lookahead
 /// The outcome of the fast path.
 #[derive(Drop)]
 pub enum FastPath {
-    /// A comment, a name, a string literal or a `Newline`, which it passed.
+    /// A lexeme that is neither keyword nor symbol, which it passed.
     Passed(PlainLexeme),
     /// A keyword or symbol, which it passed.
     // With its token: a second `match` on the terminal costs 1 % of a mix.
@@ -88,6 +94,62 @@ pub enum FastPath {
     OutOfMemory,
     /// The slow path decides, unless the lexer has ended.
     Undecided,
+}
+
+/// What kind of lexeme was passed without lookahead in code.
+#[derive(Clone, Copy)]
+enum Waiting {
+    /// None.
+    Nothing,
+    Indent,
+    Dedent,
+    /// A text of an f-string.
+    FStringText,
+    FStringExprStart,
+    FStringEnd,
+}
+
+impl Waiting {
+    /// The kind of a pending token.
+    #[tactic(auto, unfolding(starlark_token::specs::TokenViews::token_view))]
+    #[inline(always)]
+    fn of_mark(token: &Token) -> Waiting
+        requires { IsMark (token_view token.now) }
+        ensures { IsOfMark result (token_view token.now) }
+    {
+        match token {
+            Token::Indent => Waiting::Indent,
+            Token::Dedent => Waiting::Dedent,
+            Token::FStringExprStart => Waiting::FStringExprStart,
+            _ => Waiting::FStringEnd,
+        }
+    }
+
+    /// Whether no lexeme was passed.
+    #[inline(always)]
+    fn is_nothing(self) -> bool
+        ensures { result ≡ is_none_waiting self }
+    {
+        matches!(self, Waiting::Nothing)
+    }
+}
+
+impl FastPath {
+    /// What was passed without lookahead in code, between two offsets.
+    #[inline]
+    fn of_waiting(waiting: Waiting, begin: usize, end: usize) -> FastPath
+        ensures { result ≡ passed_as waiting begin end }
+    {
+        let kind = match waiting {
+            Waiting::Nothing => return FastPath::Undecided,
+            Waiting::FStringText => return FastPath::Passed(PlainLexeme::fstring_text(begin, end)),
+            Waiting::Indent => PlainKind::Indent,
+            Waiting::Dedent => PlainKind::Dedent,
+            Waiting::FStringExprStart => PlainKind::FStringExprStart,
+            Waiting::FStringEnd => PlainKind::FStringEnd,
+        };
+        FastPath::Passed(PlainLexeme::of_kind(kind, begin, end))
+    }
 }
 
 impl Lookahead {
@@ -160,6 +222,8 @@ impl<'a> LexerState<'a> {
             has_ended: false,
             lookahead: Lookahead::All,
             looked_to: 0,
+            passed_begin: 0,
+            passed_end: 0,
         }
     }
 
@@ -212,50 +276,6 @@ impl<'a> LexerState<'a> {
         }
     }
 
-    /// Next lexeme where lookahead is spent. Pending tokens, and plain text of an f-string, don't need
-    /// the reader.
-    #[inline(always)]
-    fn next_waiting(&mut self) -> Option<Lexeme>
-        requires lexing { IsLexing self.old }
-        requires going { self.old.has_ended ≡ false }
-        ensures answer { HasAnswered self.old result self.new }
-        ensures lexing { IsLexing self.new }
-        ensures after { view_of self.new ≡ record (view_of self.old) { yielded_count = self.old.yielded_count + yielded_by result; has_ended = is_ended_by result; reads = self.new.reader.reads } }
-    {
-        // There are none: the fast path passes them all. No contract says so.
-        if self.reader.has_comments() {
-            return self.next_of_reader();
-        }
-        if let Some(lexeme) = self.reader.next_mark() {
-            self.yielded_count += 1;
-            self.lookahead = looked_after(&self.reader, self.looked_to);
-            return Some(Ok(lexeme));
-        }
-        if self.reader.at() < self.looked_to || !self.reader.reads_on() {
-            return self.next_of_reader();
-        }
-        let found = match self.reader.plain_text(self.text) {
-            Ok(found) => found,
-            Err(run) => {
-                self.looked_to = self.reader.at() + run + 1;
-                self.lookahead = Lookahead::All;
-                return self.next_of_reader();
-            }
-        };
-        match self.reader.take_text(found, self.text) {
-            Ok(lexeme) => {
-                self.yielded_count += 1;
-                self.lookahead = looked_after(&self.reader, self.looked_to);
-                Some(Ok(lexeme))
-            }
-            Err(_) => {
-                self.has_ended = true;
-                self.lookahead = Lookahead::All;
-                Some(Err(OrMemory::Memory))
-            }
-        }
-    }
-
     /// Next lexeme where the first two bytes don't determine it.
     ///
     /// By three bytes these come fast: a number, the start of an f-string, a bytes literal without
@@ -269,7 +289,7 @@ impl<'a> LexerState<'a> {
         ensures after { view_of self.new ≡ record (view_of self.old) { yielded_count = self.old.yielded_count + yielded_by result; has_ended = is_ended_by result; reads = self.new.reader.reads } }
     {
         if !self.lookahead.is_front() {
-            return self.next_waiting();
+            return self.next_of_reader();
         }
         let front = self.reader.front(self.text);
         if let Some(digit) = self.reader.single_digit(front, self.text) {
@@ -417,8 +437,89 @@ impl<'a> LexerState<'a> {
         place
     }
 
+    /// Passes the first pending lexeme, where no comments are pending. Returns its kind.
+    #[inline(always)]
+    fn pass_mark(&mut self) -> Waiting
+        requires lexing { IsLexing self.old }
+        requires going { self.old.has_ended ≡ false }
+        requires none { self.old.reader.pending.to ≤ self.old.reader.pending.from }
+        ensures passed { HasPassed self.old (passed_as result self.new.passed_begin self.new.passed_end) self.new }
+        ensures lexing { IsLexing self.new }
+        ensures after { view_of self.new ≡ record (view_of self.old) { yielded_count = self.old.yielded_count + passed_count (passed_as result self.new.passed_begin self.new.passed_end); reads = self.new.reader.reads } }
+        ensures stays { result ≡ Waiting.Nothing → self.new ≡ self.old }
+    {
+        // The proof of `passed` needs that the text is UTF-8, which the read of a `&str` says.
+        let _text = self.text();
+        let Some((begin, token, end)) = self.reader.next_mark() else {
+            return Waiting::Nothing;
+        };
+        self.yielded_count += 1;
+        self.passed_begin = begin;
+        self.passed_end = end;
+        self.lookahead = looked_after(&self.reader, self.looked_to);
+        Waiting::of_mark(&token)
+    }
+
+    /// Passes the f-string text that comes next if it has no escapes, or what ends it if it is empty.
+    /// Returns what was passed.
+    #[inline(always)]
+    fn pass_fstring_text(&mut self) -> Waiting
+        requires lexing { IsLexing self.old }
+        requires going { self.old.has_ended ≡ false }
+        ensures passed { HasPassed self.old (passed_as result self.new.passed_begin self.new.passed_end) self.new }
+        ensures lexing { IsLexing self.new }
+        ensures after { view_of self.new ≡ record (view_of self.old) { yielded_count = self.old.yielded_count + passed_count (passed_as result self.new.passed_begin self.new.passed_end); reads = self.new.reader.reads } }
+    {
+        // As in `pass_mark`.
+        let _text = self.text();
+        if self.reader.at() < self.looked_to || !self.reader.reads_on() {
+            return Waiting::Nothing;
+        }
+        let found = match self.reader.plain_text(self.text) {
+            Ok(found) => found,
+            Err(run) => {
+                self.looked_to = self.reader.at() + run + 1;
+                self.lookahead = Lookahead::All;
+                return Waiting::Nothing;
+            }
+        };
+        self.yielded_count += 1;
+        if found.len == 0 {
+            let (begin, token, end) = self.reader.pass_text_end(found, self.text);
+            self.passed_begin = begin;
+            self.passed_end = end;
+            self.lookahead = looked_after(&self.reader, self.looked_to);
+            return Waiting::of_mark(&token);
+        }
+        self.passed_begin = self.reader.at();
+        self.passed_end = self.passed_begin + found.len;
+        self.reader.pass_text(found, self.text);
+        self.lookahead = Lookahead::All;
+        Waiting::FStringText
+    }
+
+    /// Passes the next lexeme where lookahead in code is spent, and no comments are pending: a pending
+    /// one, or the plain text of an f-string. Returns what was passed; its offsets are `passed_begin`
+    /// and `passed_end`.
+    // A kind in a register: a result in memory costs each lexeme.
+    #[inline(never)]
+    fn pass_waiting(&mut self) -> Waiting
+        requires lexing { IsLexing self.old }
+        requires going { self.old.has_ended ≡ false }
+        requires none { self.old.reader.pending.to ≤ self.old.reader.pending.from }
+        ensures passed { HasPassed self.old (passed_as result self.new.passed_begin self.new.passed_end) self.new }
+        ensures lexing { IsLexing self.new }
+        ensures after { view_of self.new ≡ record (view_of self.old) { yielded_count = self.old.yielded_count + passed_count (passed_as result self.new.passed_begin self.new.passed_end); reads = self.new.reader.reads } }
+    {
+        let mark = self.pass_mark();
+        if !mark.is_nothing() {
+            return mark;
+        }
+        self.pass_fstring_text()
+    }
+
     /// Passes the next lexeme if the fast path decides it: a name, a keyword, a symbol, a newline,
-    /// a string literal without escapes, or a pending comment.
+    /// a string literal without escapes, a pending lexeme, or a text of an f-string without escapes.
     #[inline(always)]
     pub(crate) fn next_plain(&mut self) -> FastPath
         requires { IsLexing self.old }
@@ -485,11 +586,15 @@ impl<'a> LexerState<'a> {
                 }
             }
         }
-        if self.has_ended || !self.reader.has_comments() {
+        if self.has_ended {
             return FastPath::Undecided;
         }
-        let (begin, end) = self.pass_pending_comment();
-        FastPath::Passed(PlainLexeme::comment(begin, end))
+        if self.reader.has_comments() {
+            let (begin, end) = self.pass_pending_comment();
+            return FastPath::Passed(PlainLexeme::comment(begin, end));
+        }
+        let waiting = self.pass_waiting();
+        FastPath::of_waiting(waiting, self.passed_begin, self.passed_end)
     }
 
     /// The item of a plain lexeme, which was passed. Out of memory ends the lexer.

@@ -26,6 +26,16 @@ pub enum PlainKind {
     FStringExprEnd,
     /// A `Newline`.
     Newline,
+    /// An `Indent`.
+    Indent,
+    /// A `Dedent`.
+    Dedent,
+    /// A text of an f-string.
+    FStringText,
+    /// The `{` at the start of an f-string's expression.
+    FStringExprStart,
+    /// The closing quotes of an f-string.
+    FStringEnd,
 }
 
 /// A lexeme whose value, if it has one, is a part of the text. Offsets count bytes of the text.
@@ -51,6 +61,20 @@ impl PlainLexeme {
     {
         PlainLexeme {
             kind: PlainKind::Identifier,
+            begin,
+            end,
+            value_begin: begin,
+            value_end: end,
+        }
+    }
+
+    /// A text of an f-string between two offsets.
+    #[inline]
+    pub(crate) fn fstring_text(begin: usize, end: usize) -> PlainLexeme
+        ensures { result ≡ record { kind = PlainKind.FStringText; begin = begin; end = end; value_begin = begin; value_end = end } }
+    {
+        PlainLexeme {
+            kind: PlainKind::FStringText,
             begin,
             end,
             value_begin: begin,
@@ -133,5 +157,10 @@ pub(crate) fn token_of(plain: PlainLexeme, alloc: Global, text: &str) -> Result<
         PlainKind::Word(terminal) => Ok(own_token(terminal)),
         PlainKind::FStringExprEnd => Ok(Token::FStringExprEnd),
         PlainKind::Newline => Ok(Token::Newline),
+        PlainKind::Indent => Ok(Token::Indent),
+        PlainKind::Dedent => Ok(Token::Dedent),
+        PlainKind::FStringText => Ok(Token::FStringText(String::from_str(alloc, value)?)),
+        PlainKind::FStringExprStart => Ok(Token::FStringExprStart),
+        PlainKind::FStringEnd => Ok(Token::FStringEnd),
     }
 }

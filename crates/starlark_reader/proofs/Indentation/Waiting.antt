@@ -78,8 +78,11 @@ pub hands_one : (text : Text) (pending : Pending) (found : ℕ × Token × ℕ) 
 hands_one text pending found lexeme idle e = (idle.0, ap (λ v. v ∷ []) (sym e) ∙ ap (λ ls. lexeme_view found ∷ map shown_lexeme ls) (sym idle.1))
 
 -- one lexeme, and more
+pub passes_first : (text : Text) (pending : Pending) (view : Spanned TokenView) (lexeme : Lexeme) (more : List Lexeme) → IsPending text pending → view ≡ shown_lexeme lexeme → more ≡ pending_lexemes text pending → HandsPast text (view ∷ []) pending (lexeme ∷ more)
+passes_first text pending view lexeme more is e f = (is, ap (λ v. v ∷ map shown_lexeme more) (sym e) ∙ ap (λ ls. view ∷ map shown_lexeme ls) f)
+
 pub hands_first : (text : Text) (pending : Pending) (found : ℕ × Token × ℕ) (lexeme : Lexeme) (more : List Lexeme) → IsPending text pending → lexeme_view found ≡ shown_lexeme lexeme → more ≡ pending_lexemes text pending → Hands text (Some found) pending (lexeme ∷ more)
-hands_first text pending found lexeme more is e f = (is, ap (λ v. v ∷ map shown_lexeme more) (sym e) ∙ ap (λ ls. lexeme_view found ∷ map shown_lexeme ls) f)
+hands_first text pending found = passes_first text pending (lexeme_view found)
 
 pub hands_later : (text : Text) (pending : Pending) (lexemes : List Lexeme) → IsPending text pending → lexemes ≡ pending_lexemes text pending → Hands text None pending lexemes
 hands_later text pending lexemes is e = (is, ap (map shown_lexeme) e)

@@ -7,7 +7,7 @@ use Rattle.std.specs.List.{list_all}
 use Rattle.starlark_grammar.specs.Front.{language_front}
 use Rattle.starlark_grammar.specs.Pieces.{Situation, starts_zero, token, word_step}
 use Rattle.starlark_grammar.specs.Reading.{History, situation}
-use Rattle.starlark_grammar.specs.Words.{Text, class_in, is_run, language}
+use Rattle.starlark_grammar.specs.Words.{Text, is_run}
 use Rattle.starlark_grammar.specs.declared.class.Class.{Class}
 use Rattle.starlark_grammar.specs.declared.class.Class.TheVariants as class
 use Rattle.starlark_grammar.proofs.Words.Classes.{word_is_of}

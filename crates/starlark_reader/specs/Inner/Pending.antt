@@ -1,5 +1,5 @@
 -- Pending lexemes, as the grammar sees them.
-use Rattle.std.specs.Prelude.{◌≡◌, ◌≤◌, ◌<◌, ℕ, ◌+◌, ◌-◌, List, [], ◌∷◌, ◌++◌, Option, Some, None, true, map, length, take, drop, replicate}
+use Rattle.std.specs.Prelude.{◌≡◌, ◌≤◌, ◌<◌, ℕ, ◌+◌, ◌-◌, List, [], ◌∷◌, ◌++◌, Option, Some, None, true, map, length, take, drop, replicate, ⊤}
 use Rattle.std.specs.List.{AllByRecursion}
 use Rattle.std.specs.Str.{IsCharBoundary}
 use Rattle.starlark_grammar.specs.Words.{Text}
@@ -69,6 +69,14 @@ pub record IsFirstComment (text : Text) (from to : ℕ) (found : CommentLine) : 
   pub comment : comment_lexeme text found.begin found.end ≡ shown_lexeme (comment_of from line)
   pub inside : IsCommentIn text found.begin found.end
   pub remainder : IsComments text (from + found.len) to
+
+-- a token that is pending after comments: an indent, a dedent, or the end of an f-string text
+abbrev pub IsMark : TokenView → Type 0
+IsMark (Whole grammar.Indent) = ⊤
+IsMark (Whole grammar.Dedent) = ⊤
+IsMark (Whole grammar.FStringExprStart) = ⊤
+IsMark (Whole grammar.FStringEnd) = ⊤
+IsMark view = ⊥
 
 -- the first lexeme after the comments was taken, or there was none and nothing changed
 abbrev pub IsFirstAfter : AfterComments → AfterComments → Option (ℕ × Token × ℕ) → Type 0

@@ -254,6 +254,10 @@ name_lexeme text at len = record { begin = at; node = Whole (grammar.Identifier 
 abbrev pub text_lexeme : Text → ℕ → ℕ → ℕ → grammar.Spanned TokenView
 text_lexeme text at len body = record { begin = at; node = Whole (grammar.String (take body (drop len (drop at text)))); end = at + (len + body + 1) }
 
+-- the f-string text of `len` bytes at byte `at`, without escapes
+abbrev pub fstring_text_lexeme : Text → ℕ → ℕ → grammar.Spanned TokenView
+fstring_text_lexeme text at len = record { begin = at; node = Whole (grammar.FStringText (take len (drop at text))); end = at + len }
+
 -- whether a token is the end of an f-string's expression
 abbrev pub is_expression_end : TokenView → Bool
 is_expression_end (Whole grammar.FStringExprEnd) = true

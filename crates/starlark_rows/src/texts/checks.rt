@@ -115,13 +115,21 @@ fn plain_kind(alloc: Global, kind: PlainKind) -> Result<String, AllocError> {
         PlainKind::Word(terminal) => format!(in alloc; "{terminal:?}"),
         PlainKind::FStringExprEnd => String::from_str(alloc, "FStringExprEnd"),
         PlainKind::Newline => String::from_str(alloc, "Newline"),
+        PlainKind::Indent => String::from_str(alloc, "Indent"),
+        PlainKind::Dedent => String::from_str(alloc, "Dedent"),
+        PlainKind::FStringText => String::from_str(alloc, "FStringText"),
+        PlainKind::FStringExprStart => String::from_str(alloc, "FStringExprStart"),
+        PlainKind::FStringEnd => String::from_str(alloc, "FStringEnd"),
     }
 }
 
 /// The value of a token that a plain lexeme can have; empty for one without a value.
 fn plain_value(token: &Token) -> &str {
     match token {
-        Token::Comment(value) | Token::Identifier(value) | Token::String(value) => value.as_str(),
+        Token::Comment(value)
+        | Token::Identifier(value)
+        | Token::String(value)
+        | Token::FStringText(value) => value.as_str(),
         _ => "",
     }
 }

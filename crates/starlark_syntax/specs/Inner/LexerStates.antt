@@ -4,6 +4,7 @@ use Rattle.starlark_base.specs.Diagnostics.{Diagnosed}
 use Rattle.starlark_base.specs.Sources.{SourceFile}
 use Rattle.starlark_words.specs.Inner.Reads.{more_reads}
 use Rattle.starlark_grammar.specs.Reading.{outcome}
+use Rattle.starlark_grammar.specs.Tokens as grammar
 use Rattle.starlark_grammar.specs.Tokens.{Fault, Spanned}
 use Rattle.starlark_grammar.specs.Words.{Text}
 use Rattle.starlark_reader.specs.Inner.Reader.{IsAhead, IsAheadAfter, IsAheadPast, IsSomething, IsStateAfter, IsTokenOf, begins_with_tab, has_read_none, history_of}
@@ -17,12 +18,15 @@ use Rattle.starlark_syntax.specs.declared.lexer_state.FastPath.{FastPath}
 use Rattle.starlark_syntax.specs.declared.lexer_state.FastPath.TheVariants as fast
 use Rattle.starlark_syntax.specs.declared.lexer_state.LexerState.{LexerState}
 use Rattle.starlark_syntax.specs.declared.lexer_state.Lookahead.TheVariants as lookahead
+use Rattle.starlark_syntax.specs.declared.lexer_state.Waiting.{Waiting}
+use Rattle.starlark_syntax.specs.declared.lexer_state.Waiting.TheVariants as waiting
 use Rattle.starlark_text.specs.declared.or_memory.OrMemory.{OrMemory}
 use Rattle.starlark_text.specs.declared.or_memory.OrMemory.TheVariants.{Error, Memory}
+use Rattle.starlark_syntax.specs.declared.plain_lexeme.PlainKind.{PlainKind}
 use Rattle.starlark_syntax.specs.declared.plain_lexeme.PlainKind.TheVariants as kind
 use Rattle.starlark_syntax.specs.declared.plain_lexeme.PlainLexeme.{PlainLexeme}
 use Rattle.starlark_token.specs.Lexemes.{lexeme_view, shown_lexeme}
-use Rattle.starlark_token.specs.TokenViews.{TokenView, token_view}
+use Rattle.starlark_token.specs.TokenViews.{TokenView, Whole, token_view}
 use Rattle.starlark_token.specs.declared.tokens.Token.{Token}
 
 -- the lexemes of the text that weren't yielded yet
@@ -89,6 +93,35 @@ plain_string begin opener end = record { kind = kind.String; begin = begin; end 
 -- the comment between two offsets, whose value is all after its `#`
 abbrev pub plain_comment : (begin end : ℕ) → PlainLexeme
 plain_comment begin end = record { kind = kind.Comment; begin = begin; end = end; value_begin = begin + 1; value_end = end }
+
+-- the text of an f-string between two offsets
+abbrev pub plain_fstring_text : (begin end : ℕ) → PlainLexeme
+plain_fstring_text begin end = record { kind = kind.FStringText; begin = begin; end = end; value_begin = begin; value_end = end }
+
+-- a lexeme without a value between two offsets
+abbrev pub plain_mark : PlainKind → (begin end : ℕ) → PlainLexeme
+plain_mark it begin end = record { kind = it; begin = begin; end = end; value_begin = end; value_end = end }
+
+-- what the fast path tells of what was passed without lookahead in code, between two offsets
+abbrev pub passed_as : Waiting → (begin end : ℕ) → FastPath
+passed_as waiting.Nothing begin end = fast.Undecided
+passed_as waiting.Indent begin end = fast.Passed (plain_mark kind.Indent begin end)
+passed_as waiting.Dedent begin end = fast.Passed (plain_mark kind.Dedent begin end)
+passed_as waiting.FStringText begin end = fast.Passed (plain_fstring_text begin end)
+passed_as waiting.FStringExprStart begin end = fast.Passed (plain_mark kind.FStringExprStart begin end)
+passed_as waiting.FStringEnd begin end = fast.Passed (plain_mark kind.FStringEnd begin end)
+
+-- the kind is that of a pending token
+abbrev pub IsOfMark : Waiting → TokenView → Type 0
+IsOfMark waiting.Indent view = view ≡ Whole grammar.Indent
+IsOfMark waiting.Dedent view = view ≡ Whole grammar.Dedent
+IsOfMark waiting.FStringExprStart view = view ≡ Whole grammar.FStringExprStart
+IsOfMark waiting.FStringEnd view = view ≡ Whole grammar.FStringEnd
+IsOfMark it view = ⊥
+
+abbrev pub is_none_waiting : Waiting → Bool
+is_none_waiting waiting.Nothing = true
+is_none_waiting it = false
 
 -- A plain lexeme that was passed is an item, or there was out of memory in its place, which ends the lexer.
 abbrev pub HasTaken : LexerState → PlainLexeme → Option (Result (ℕ × Token × ℕ) (OrMemory (Diagnosed ErrorKind))) → LexerState → Type 0

@@ -26,3 +26,24 @@ returns-in-FStringExprEnd c = ap (λ k. Whole (token_of k (plain_value c.args.te
 pub returns-in-Newline : goal.returns-in-Newline
 unfolding token_view
 returns-in-Newline c = ap (λ k. Whole (token_of k (plain_value c.args.text.now c.args.plain))) (sym c.in-Newline.is)
+
+pub returns-in-Indent : goal.returns-in-Indent
+unfolding token_view
+returns-in-Indent c = ap (λ k. Whole (token_of k (plain_value c.args.text.now c.args.plain))) (sym c.in-Indent.is)
+
+pub returns-in-Dedent : goal.returns-in-Dedent
+unfolding token_view
+returns-in-Dedent c = ap (λ k. Whole (token_of k (plain_value c.args.text.now c.args.plain))) (sym c.in-Dedent.is)
+
+pub returns-in_ok-from_str-in-FStringText : goal.returns-in_ok-from_str-in-FStringText
+unfolding token_view
+returns-in_ok-from_str-in-FStringText c =
+    ap (λ t. Whole (grammar.FStringText t)) (c.in_ok-from_str-in-FStringText.ensures.ok ∙ c.range-value.ensures.value) ∙ ap (λ k. Whole (token_of k (plain_value c.args.text.now c.args.plain))) (sym c.in-FStringText.is)
+
+pub returns-in-FStringExprStart : goal.returns-in-FStringExprStart
+unfolding token_view
+returns-in-FStringExprStart c = ap (λ k. Whole (token_of k (plain_value c.args.text.now c.args.plain))) (sym c.in-FStringExprStart.is)
+
+pub returns-in-FStringEnd : goal.returns-in-FStringEnd
+unfolding token_view
+returns-in-FStringEnd c = ap (λ k. Whole (token_of k (plain_value c.args.text.now c.args.plain))) (sym c.in-FStringEnd.is)

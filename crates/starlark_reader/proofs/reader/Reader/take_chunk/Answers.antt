@@ -1,61 +1,54 @@
-use Rattle.std.proofs.Common.{ℕ, ◌+◌, ◌≤◌, ◌∷◌, [], ◌++◌, ap, append-nil, arith, length, refl, rules, sym, ◌∙◌, None, Some, string_bytes}
-use Rattle.starlark_grammar.specs.Words.{Text}
+use Rattle.std.proofs.Common.{◌+◌, ◌≤◌, [], ap, append-nil, arith, length, refl, rules, sym, ◌∙◌, Some, string_bytes}
 use Rattle.starlark_grammar.specs.Margins.{open_widths}
-use Rattle.starlark_grammar.specs.Pieces as grammar
-use Rattle.starlark_grammar.specs.Pieces.{Piece}
 use Rattle.starlark_grammar.specs.Reading.{History, tokens_onto}
-use Rattle.starlark_grammar.specs.Tokens.{Token}
 use Rattle.starlark_reader.specs.Inner.Nesting.{Represents}
 use Rattle.starlark_reader.specs.Inner.TextEnds.{text_end_node}
 use Rattle.starlark_reader.specs.declared.reader.Reader.{Reader}
 use Rattle.starlark_token.specs.declared.tokens.Token.TheVariants as token
-use Rattle.starlark_reader.proofs.Pieces.ChunksTaken.{end_hands, onto_last, own_end, text_hands, text_onto}
+use Rattle.starlark_reader.proofs.Pieces.ChunksTaken.{chunk_piece, end_hands, onto_last, own_end, text_hands, text_onto}
 use Rattle.starlark_reader.proofs.Pieces.Here.{less_onward, piece_here}
 use Rattle.starlark_reader.proofs.Pieces.Taken.{took}
 use Rattle.starlark_reader.proofs.reader.Reader.take_chunk.Goals as goal
 use Rattle.starlark_reader.proofs.reader.Reader.take_chunk.Goals.{After-pass}
 
-abbrev two : Text → ℕ → ℕ → Token → Piece
-two value chunk_len len node = record { len = chunk_len + len; lexemes = grammar.chunk_text chunk_len value ++ record { begin = chunk_len; node = node; end = chunk_len + len } ∷ []; width = None; sort = grammar.Other }
-
 pub overflow_add-between : goal.overflow_add-between
 overflow_add-between c =
     let stands = c.requires.stands in
-    let here = piece_here c.args.text.now stands.0 c.args.self.now (two (string_bytes c.args.chunk) c.args.chunk_len c.args.len (text_end_node c.args.stop)) stands.1 stands.2 in
+    let here = piece_here c.args.text.now stands.0 c.args.self.now (chunk_piece (string_bytes c.args.chunk) c.args.chunk_len c.args.len (text_end_node c.args.stop)) stands.1 stands.2 in
     let inside : c.args.self.now.at + c.args.chunk_len ≤ length c.args.text.now = omega (arith, here.1) in
     search (rules, inside)
 
 pub overflow_add-end : goal.overflow_add-end
 overflow_add-end c =
     let stands = c.requires.stands in
-    let here = piece_here c.args.text.now stands.0 c.args.self.now (two (string_bytes c.args.chunk) c.args.chunk_len c.args.len (text_end_node c.args.stop)) stands.1 stands.2 in
+    let here = piece_here c.args.text.now stands.0 c.args.self.now (chunk_piece (string_bytes c.args.chunk) c.args.chunk_len c.args.len (text_end_node c.args.stop)) stands.1 stands.2 in
     let inside : c.args.self.now.at + c.args.chunk_len + c.args.len ≤ length c.args.text.now = omega (arith, here.1) in
     search (rules, inside)
 
 pub overflow_add-chunk_len : goal.overflow_add-chunk_len
 overflow_add-chunk_len c =
     let stands = c.requires.stands in
-    let here = piece_here c.args.text.now stands.0 c.args.self.now (two (string_bytes c.args.chunk) c.args.chunk_len c.args.len (text_end_node c.args.stop)) stands.1 stands.2 in
+    let here = piece_here c.args.text.now stands.0 c.args.self.now (chunk_piece (string_bytes c.args.chunk) c.args.chunk_len c.args.len (text_end_node c.args.stop)) stands.1 stands.2 in
     let inside : c.args.chunk_len + c.args.len ≤ length c.args.text.now = omega (arith, here.1) in
     search (rules, inside)
 
 pub step_over-requires-clause-fits : goal.step_over-requires-clause-fits
 step_over-requires-clause-fits c =
     let stands = c.requires.stands in
-    let here = piece_here c.args.text.now stands.0 c.args.self.now (two (string_bytes c.args.chunk) c.args.chunk_len c.args.len (text_end_node c.args.stop)) stands.1 stands.2 in
+    let here = piece_here c.args.text.now stands.0 c.args.self.now (chunk_piece (string_bytes c.args.chunk) c.args.chunk_len c.args.len (text_end_node c.args.stop)) stands.1 stands.2 in
     omega (arith, here.1, c.requires.fits)
 
 -- the tokens after the chunk
 passed : (c : After-pass) (history : History) → Represents history.tokens c.args.self.now.nesting
-    → Represents (tokens_onto history.tokens (two (string_bytes c.args.chunk) c.args.chunk_len c.args.len (text_end_node c.args.stop)).lexemes) c.pass.new.self
+    → Represents (tokens_onto history.tokens (chunk_piece (string_bytes c.args.chunk) c.args.chunk_len c.args.len (text_end_node c.args.stop)).lexemes) c.pass.new.self
 passed c history same =
     rw (onto_last history.tokens c.args.chunk_len (string_bytes c.args.chunk) (record { begin = c.args.chunk_len; node = text_end_node c.args.stop; end = c.args.chunk_len + c.args.len }))
     (c.pass.ensures.passes _ (text_end_node c.args.stop) c.token.ensures (own_end c.args.stop) (text_onto history.tokens c.args.chunk_len (string_bytes c.args.chunk) c.args.self.now.nesting same))
 
 pub returns-then-is_empty-clause-read : goal.returns-then-is_empty-clause-read
 returns-then-is_empty-clause-read c = λ history kept stands.
-    let here = piece_here c.args.text.now history c.args.self.now (two (string_bytes c.args.chunk) c.args.chunk_len c.args.len (text_end_node c.args.stop)) kept stands in
-    rw c.step_over.ensures (took c.args.text.now history c.args.self.now (Some (c.args.self.now.at + c.args.chunk_len, c.token-then-is_empty.result, c.args.self.now.at + c.args.chunk_len + c.args.len)) _ (two (string_bytes c.args.chunk) c.args.chunk_len c.args.len (text_end_node c.args.stop)) c.utf8.text kept stands refl
+    let here = piece_here c.args.text.now history c.args.self.now (chunk_piece (string_bytes c.args.chunk) c.args.chunk_len c.args.len (text_end_node c.args.stop)) kept stands in
+    rw c.step_over.ensures (took c.args.text.now history c.args.self.now (Some (c.args.self.now.at + c.args.chunk_len, c.token-then-is_empty.result, c.args.self.now.at + c.args.chunk_len + c.args.len)) _ (chunk_piece (string_bytes c.args.chunk) c.args.chunk_len c.args.len (text_end_node c.args.stop)) c.utf8.text kept stands refl
     (passed (goal.at.returns-then-is_empty-clause-read c).After-pass history kept.nesting)
     (kept.levels ∙ ap open_widths (sym (append-nil history.widths)))
     refl
@@ -66,8 +59,8 @@ returns-then-is_empty-clause-read c = λ history kept stands.
 
 pub returns-clause-read : goal.returns-clause-read
 returns-clause-read c = λ history kept stands.
-    let here = piece_here c.args.text.now history c.args.self.now (two (string_bytes c.args.chunk) c.args.chunk_len c.args.len (text_end_node c.args.stop)) kept stands in
-    rw c.step_over.ensures (took c.args.text.now history c.args.self.now (Some (c.args.self.now.at, token.FStringText c.args.chunk, c.args.self.now.at + c.args.chunk_len)) _ (two (string_bytes c.args.chunk) c.args.chunk_len c.args.len (text_end_node c.args.stop)) c.utf8.text kept stands refl
+    let here = piece_here c.args.text.now history c.args.self.now (chunk_piece (string_bytes c.args.chunk) c.args.chunk_len c.args.len (text_end_node c.args.stop)) kept stands in
+    rw c.step_over.ensures (took c.args.text.now history c.args.self.now (Some (c.args.self.now.at, token.FStringText c.args.chunk, c.args.self.now.at + c.args.chunk_len)) _ (chunk_piece (string_bytes c.args.chunk) c.args.chunk_len c.args.len (text_end_node c.args.stop)) c.utf8.text kept stands refl
     (passed (goal.at.returns-clause-read c).After-pass history kept.nesting)
     (kept.levels ∙ ap open_widths (sym (append-nil history.widths)))
     refl
@@ -79,14 +72,14 @@ returns-clause-read c = λ history kept stands.
 pub returns-then-is_empty-clause-less : goal.returns-then-is_empty-clause-less
 returns-then-is_empty-clause-less c =
     let stands = c.requires.stands in
-    let here = piece_here c.args.text.now stands.0 c.args.self.now (two (string_bytes c.args.chunk) c.args.chunk_len c.args.len (text_end_node c.args.stop)) stands.1 stands.2 in
+    let here = piece_here c.args.text.now stands.0 c.args.self.now (chunk_piece (string_bytes c.args.chunk) c.args.chunk_len c.args.len (text_end_node c.args.stop)) stands.1 stands.2 in
     let is = c.step_over.ensures in
     less_onward c.args.text.now c.args.self.now c.step_over.new.self (c.args.chunk_len + c.args.len) (ap (λ (reader : Reader). reader.stage) is) (ap (λ (reader : Reader). reader.at) is) here.0 here.1
 
 pub returns-clause-less : goal.returns-clause-less
 returns-clause-less c =
     let stands = c.requires.stands in
-    let here = piece_here c.args.text.now stands.0 c.args.self.now (two (string_bytes c.args.chunk) c.args.chunk_len c.args.len (text_end_node c.args.stop)) stands.1 stands.2 in
+    let here = piece_here c.args.text.now stands.0 c.args.self.now (chunk_piece (string_bytes c.args.chunk) c.args.chunk_len c.args.len (text_end_node c.args.stop)) stands.1 stands.2 in
     let is = c.step_over.ensures in
     less_onward c.args.text.now c.args.self.now (record c.step_over.new.self { pending = c.only-self.result }) (c.args.chunk_len + c.args.len) (ap (λ (reader : Reader). reader.stage) is) (ap (λ (reader : Reader). reader.at) is) here.0 here.1
 

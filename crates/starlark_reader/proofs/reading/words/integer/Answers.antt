@@ -1,4 +1,4 @@
-use Rattle.std.proofs.Common.{◌≡◌, Some, None, true, false, ap, refl, sym, ◌∙◌}
+use Rattle.std.proofs.Common.{◌≡◌, Some, None, true, false, ap, refl, ◌∙◌}
 use Rattle.std.specs.Prelude.{ℕ}
 use Rattle.starlark_grammar.specs.Numbers.{Integer, integer_in, integer_of, is_number}
 use Rattle.starlark_grammar.specs.Tokens.{Int}

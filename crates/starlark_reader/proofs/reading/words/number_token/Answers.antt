@@ -1,4 +1,4 @@
-use Rattle.std.proofs.Common.{◌≡◌, true, ap, refl, sym, ◌∙◌, Some}
+use Rattle.std.proofs.Common.{◌≡◌, ap, refl, sym, ◌∙◌, Some}
 use Rattle.starlark_grammar.proofs.Words.Classes.{binary_digits, decimal_digits, hexadecimal_digits, octal_digits}
 use Rattle.starlark_grammar.specs.Tokens.{Float}
 use Rattle.starlark_grammar.specs.Words.{Text}

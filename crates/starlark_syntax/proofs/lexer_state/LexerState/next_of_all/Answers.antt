@@ -89,8 +89,8 @@ overflow_add-self-in-Ok-take_plain_bytes c =
     let small : c.args.self.now.yielded_count + 1 ≤ 2 ^ 34 = omega (arith, inv.0, few) in
     search (rules, small)
 
-pub next_of_reader-requires-clause-lexing : goal.next_of_reader-requires-clause-lexing
-next_of_reader-requires-clause-lexing c =
+pub next_of_reader-requires-in-Err-plain_body_len-clause-lexing : goal.next_of_reader-requires-in-Err-plain_body_len-clause-lexing
+next_of_reader-requires-in-Err-plain_body_len-clause-lexing c =
     let inv = c.requires.lexing.1 c.requires.going in
     let lookahead = front_looked c.args.self.now.text.now c.args.self.now.reader c.args.self.now.looked_to c.args.self.now.lookahead (sym c.is_front.ensures ∙ c.if-not-is_front.false) (c.requires.lexing.3 c.requires.going) in
     let paid = lookahead.3 in

@@ -15,7 +15,7 @@ use Rattle.starlark_syntax.specs.Inner.LexerStates.{IsLexing}
 use Rattle.starlark_syntax.specs.Inner.Looked.{is_text_opener}
 use Rattle.starlark_syntax.specs.declared.lexer_state.Lookahead.TheVariants as lookahead
 use Rattle.starlark_syntax.proofs.LexerStates.{same_text}
-use Rattle.starlark_syntax.proofs.PlainLexemes.{name_passed, newline_passed}
+use Rattle.starlark_syntax.proofs.PlainLexemes.{name_passed, newline_passed, passed_same}
 use Rattle.starlark_syntax.proofs.lexer_state.LexerState.next_plain.Goals as goal
 
 pub overflow_add-self-in-Identifier : goal.overflow_add-self-in-Identifier
@@ -273,3 +273,8 @@ returns-then-not-is_text c =
       lexing = state;
       after = rw (c.loop-self.invariant.0, c.loop-self.invariant.1, count, now) refl;
     }
+
+pub returns-clause-passed : goal.returns-clause-passed
+returns-clause-passed c = λ going.
+    let same = same_text c.args.self.now c.loop-self.self c.loop-self.self c.loop-self.invariant refl refl refl in
+    rw c.of_waiting.ensures (passed_same c.args.self.now c.loop-self.self _ c.pass_waiting-waiting.new.self same c.pass_waiting-waiting.ensures.passed)
