@@ -73,10 +73,8 @@ pub fn bytes_of_plain(text: &str, plain: PlainLexeme) -> &[u8]
     ensures { result.now ≡ value_bytes (plain_view text.now plain).node }
 {
     match plain.kind {
-        PlainKind::Comment
-        | PlainKind::Identifier
-        | PlainKind::String
-        | PlainKind::FStringText => &text.as_bytes()[plain.value_begin..plain.value_end],
+        PlainKind::Comment | PlainKind::Identifier | PlainKind::String | PlainKind::FStringText =>
+            &text.as_bytes()[plain.value_begin..plain.value_end],
         _ => &[],
     }
 }
