@@ -1,6 +1,6 @@
 -- What a lexer's quick ways read is paid for by the place up to which they have looked.
 use Rattle.std.proofs.Common.{◌∙◌, ◌==◌, ◌≡◌, ◌≤◌, ◌+◌, ◌*◌, Bool, List, Option, Some, true, false, ℕ, drop, ap, length, leb, nat_eq, refl, subst, sym, take, arith}
-use Rattle.std.specs.Prelude.{if◌then◌else◌}
+use Rattle.std.specs.Prelude.{if◌then◌else◌, Err, Ok, OnOk, Result}
 use Rattle.std.proofs.lemmas.Bool.{eqb-true, leb-true}
 use Rattle.std.proofs.lemmas.List.{length-drop, length-take}
 use Rattle.starlark_grammar.specs.Front.{language_front}
@@ -105,6 +105,11 @@ pub found_further : (text : Text) (reader : Reader) (to beside : ℕ) (it : Look
 found_further text reader to beside lookahead.Nothing is code paid has = (code, is, (beside, omega (arith, paid), has))
 found_further text reader to beside lookahead.Front is code paid has = absurd is
 found_further text reader to beside lookahead.All is code paid has = (beside, omega (arith, paid), has)
+
+-- where something was taken
+pub further_after : {A E : Type 0} (taken : Result A E) (text : Text) (reader : Reader) (to : ℕ) (it : Lookahead) → IsFoundFurther reader to it → OnOk taken (IsAtCode text reader) → OnOk taken (HasSpared text 0 reader to) → OnOk taken (IsLooked text reader to it)
+further_after (Ok given) text reader to it is code paid = found_further text reader to paid.0 it is code (omega (arith, paid.1)) paid.2
+further_after (Err error) text reader to it is code paid = tt
 
 -- a line end that counts isn't passed
 pub newline_counts : (it : LineEnd) → it ≡ line_end.Newline → it ≡ line_end.Passed → ⊥

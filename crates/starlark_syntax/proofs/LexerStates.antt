@@ -4,7 +4,7 @@ use Rattle.starlark_base.specs.Diagnostics.{Diagnosed}
 use Rattle.starlark_grammar.proofs.Order.Inside.{fault_within}
 use Rattle.starlark_grammar.specs.Reading.{outcome}
 use Rattle.starlark_reader.specs.Inner.Reader.{IsAhead}
-use Rattle.starlark_syntax.specs.Inner.LexerStates.{HasAnswered, IsLexing, left_in, view_of}
+use Rattle.starlark_syntax.specs.Inner.LexerStates.{HasAnswered, HasGivenNext, IsLexing, left_in, view_of}
 use Rattle.starlark_syntax.specs.Inner.Looked.{GoesOn, IsInReach, IsLooked}
 use Rattle.starlark_reader.specs.Inner.Reader.{IsLeft}
 use Rattle.starlark_reader.proofs.NextLines.{restart_inside}
@@ -49,6 +49,9 @@ answered_same first now None new same is = rw (same.0, same.2) at is
 answered_same first now (Some (Ok lexeme)) new same is = rw (same.0, same.2) at is
 answered_same first now (Some (Err (Error exception))) new same is = rw (same.0, same.1, same.2) at is
 answered_same first now (Some (Err Memory)) new same is = rw (same.0, same.2) at is
+
+pub given_same : (first now : LexerState) (item : Option (Result (ℕ × Token × ℕ) (OrMemory (Diagnosed ErrorKind)))) (new : LexerState) → IsSameText first now → HasGivenNext now item new → HasGivenNext first item new
+given_same first now item new same is = record { answer = answered_same first now item new same is.answer; lexing = is.lexing; after = rw (same.0, same.1, same.2) at is.after }
 
 -- what is answered is the next item of the text
 pub answers_item : (state : LexerState) (answer : Option (Result (ℕ × Token × ℕ) (OrMemory (Diagnosed ErrorKind)))) (new : LexerState) → state.yielded_count ≤ length (outcome state.text.now).lexemes → HasAnswered state answer new

@@ -1,4 +1,5 @@
 mod ErrorRows
+pub mod FoundWords
 pub mod LexerItems
 pub mod LexerCuts
 pub mod LexerReads

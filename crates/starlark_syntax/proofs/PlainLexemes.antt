@@ -9,11 +9,11 @@ use Rattle.starlark_grammar.specs.Tokens as grammar
 use Rattle.starlark_grammar.specs.Tokens.{Fault, Spanned}
 use Rattle.starlark_grammar.specs.Words.{Text}
 use Rattle.starlark_grammar.proofs.Lists.{drop-sum}
-use Rattle.starlark_reader.specs.Inner.Reader.{IsAhead, IsAheadAfter, IsAheadPast, IsSomething, name_lexeme, newline_if, text_lexeme}
+use Rattle.starlark_reader.specs.Inner.Reader.{IsAhead, IsAheadAfter, IsAheadPast, IsSomething, fstring_text_lexeme, name_lexeme, newline_if, text_lexeme}
 use Rattle.starlark_reader.specs.declared.reader.Reader.{Reader}
 use Rattle.starlark_reader.specs.declared.reader.Stage.TheVariants as stages
 use Rattle.starlark_reader.proofs.Pieces.PieceTaken.{left_onward}
-use Rattle.starlark_syntax.specs.Inner.LexerStates.{HasAnswered, HasPassed, HasTaken, IsLexing, IsOfMark, left_in, lexer_view, passed_as, passed_count, plain_mark, plain_string}
+use Rattle.starlark_syntax.specs.Inner.LexerStates.{HasAnswered, HasPassed, HasTaken, IsLexing, IsOfMark, is_out_of_memory, left_in, lexer_view, passed_as, passed_count, plain_fstring_text, plain_mark, plain_string}
 use Rattle.starlark_syntax.specs.Lexer.{LexerView, most_reads}
 use Rattle.starlark_syntax.specs.PlainLexemes.{IsPlainIn, plain_token, plain_value, plain_view, token_of}
 use Rattle.starlark_syntax.specs.declared.error.kinds.ErrorKind.{ErrorKind}
@@ -62,6 +62,9 @@ string_shown text at mid len body end same is =
     ∙ ap (λ (t : Text). record { begin = at; node = Whole (grammar.String (take body t)); end = at + (len + body + 1) }) (sym (drop-sum at len text))
     ∙ ap (λ n. record { begin = at; node = Whole (grammar.String (take n (drop (at + len) text))); end = at + (len + body + 1) }) count
     ∙ ap (λ n. record { begin = at; node = Whole (grammar.String (take (end - 1 - (at + len)) (drop (at + len) text))); end = n }) last
+
+pub fstring_text_shown : (text : Text) (at len : ℕ) → fstring_text_lexeme text at len ≡ plain_view text (plain_fstring_text at (at + len))
+fstring_text_shown text at len = let count : len ≡ at + len - at = omega (arith) in ap (λ n. record { begin = at; node = Whole (grammar.FStringText (take n (drop at text))); end = at + len }) count
 
 -- where a lexeme was passed, something was left
 pub past_something : (text : Text) (lexeme : Spanned TokenView) (reader : Reader) (lexemes : List (Spanned TokenView)) (fault : Option (Spanned Fault)) → IsAheadPast text lexeme reader lexemes fault → IsSomething lexemes fault
@@ -159,6 +162,14 @@ mark_counted waiting.Indent view begin end token = refl
 mark_counted waiting.Dedent view begin end token = refl
 mark_counted waiting.FStringExprStart view begin end token = refl
 mark_counted waiting.FStringEnd view begin end token = refl
+
+pub waiting_in_memory : (it : Waiting) (begin end : ℕ) → is_out_of_memory (passed_as it begin end) ≡ false
+waiting_in_memory waiting.Nothing begin end = refl
+waiting_in_memory waiting.Indent begin end = refl
+waiting_in_memory waiting.Dedent begin end = refl
+waiting_in_memory waiting.FStringText begin end = refl
+waiting_in_memory waiting.FStringExprStart begin end = refl
+waiting_in_memory waiting.FStringEnd begin end = refl
 
 -- a lexer that owes no error has ended where its state has
 pub whole_going : (state : LexerState) (has_run_out : Bool) (lexer : LexerView) → has_run_out ≡ false → lexer_view state has_run_out ≡ lexer → lexer.has_ended ≡ false → state.has_ended ≡ false

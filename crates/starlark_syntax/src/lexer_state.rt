@@ -1,18 +1,18 @@
 //! Lexes a text lexeme by lexeme. The fast path decides by the first bytes of a lexeme; what these
 //! don't determine comes from the reader.
 
-ghost use Rattle.std.specs.Prelude.{◌≡◌, ◌<◌, ◌≤◌, ◌+◌, ◌-◌, ◌^◌, ◌&&◌, ◌||◌, ℕ, None, Some, codes, length, nat_eq, true, false, IfSome};
+ghost use Rattle.std.specs.Prelude.{◌≡◌, ◌<◌, ◌≤◌, ◌+◌, ◌-◌, ◌^◌, ◌&&◌, ◌||◌, ℕ, None, Some, codes, length, nat_eq, true, false, IfOk, IfSome, OnErr, OnOk};
 ghost use Rattle.std.specs.List.{ends_with};
 ghost use Rattle.starlark_grammar.specs.Cuts.{is_settled};
-ghost use Rattle.starlark_grammar.specs.Reading.{History};
+ghost use Rattle.starlark_grammar.specs.Reading.{History, outcome};
 ghost use Rattle.starlark_reader.specs.Inner.MarginCuts.{IsCutBefore};
-ghost use Rattle.starlark_reader.specs.Inner.Reader.{IsReached, IsStateAfter, has_read_none};
-ghost use Rattle.starlark_syntax.specs.Inner.LexerStates.{HasAnswered, HasPassed, HasTaken, IsBegun, IsLexing, IsOfMark, is_none_waiting, is_out_of_memory, left_in, passed_as, passed_count, plain_comment, plain_string, view_of};
+ghost use Rattle.starlark_reader.specs.Inner.Reader.{IsAheadAfter, IsAtCode, IsReached, IsSomething, IsStateAfter, has_read_none};
+ghost use Rattle.starlark_syntax.specs.Inner.LexerStates.{HasAnswered, HasGivenNext, HasPassed, HasPassedLineEnd, HasPassedNext, HasTaken, IsAtOpener, IsAtWord, IsBegun, IsLexing, IsOfMark, is_none_waiting, is_out_of_memory, left_in, passed_as, passed_count, plain_comment, plain_string, view_of};
 ghost use Rattle.starlark_syntax.specs.Lexer.{is_ended_by, most_reads, yielded_by};
 ghost use Rattle.starlark_syntax.specs.PlainLexemes.{IsPlainIn};
 ghost use Rattle.starlark_reader.specs.Inner.Pending.{IsMark};
 ghost use Rattle.starlark_token.specs.TokenViews.{token_view};
-ghost use Rattle.starlark_syntax.specs.Inner.Looked.{HasOpened, IsFoundFurther, IsFoundInCode, IsFoundOut, is_front, is_nothing, is_text_opener, looked_len};
+ghost use Rattle.starlark_syntax.specs.Inner.Looked.{HasOpened, HasSpared, IsFoundFurther, IsFoundInCode, IsFoundOut, IsInReach, IsLooked, is_front, is_nothing, is_text_opener, looked_len};
 
 use crate::eval_exception::EvalException;
 use crate::fault_exception::exception;
@@ -21,7 +21,7 @@ use starlark_base::codemap::{CodeMap, OrMemory};
 use starlark_reader::reader::{LineEnd, Next, Reader};
 use starlark_token::tokens::Token;
 use starlark_words::scanner::{Class, LiteralKind, Terminal, Word};
-use std::alloc::Global;
+use std::alloc::{AllocError, Global};
 
 /// An item of a lexer: begin in bytes, token, end in bytes; or the fault, or out of memory.
 pub type Lexeme = Result<(usize, Token, usize), OrMemory<EvalException>>;
@@ -243,9 +243,7 @@ impl<'a> LexerState<'a> {
     fn next_of_reader(&mut self) -> Option<Lexeme>
         requires lexing { IsLexing self.old }
         requires going { self.old.has_ended ≡ false }
-        ensures answer { HasAnswered self.old result self.new }
-        ensures lexing { IsLexing self.new }
-        ensures after { view_of self.new ≡ record (view_of self.old) { yielded_count = self.old.yielded_count + yielded_by result; has_ended = is_ended_by result; reads = self.new.reader.reads } }
+        ensures { HasGivenNext self.old result self.new }
     {
         match self.reader.next(self.text) {
             Ok(Next::Lexeme(lexeme)) => {
@@ -276,93 +274,27 @@ impl<'a> LexerState<'a> {
         }
     }
 
-    /// Next lexeme where the first two bytes don't determine it.
-    ///
-    /// By three bytes these come fast: a number, the start of an f-string, a bytes literal without
-    /// escapes, the `!` of an f-string's expression, and a comment.
-    #[inline(never)]
-    fn next_of_all(&mut self) -> Option<Lexeme>
-        requires lexing { IsLexing self.old }
+    /// The item of what the reader took here, after which `lookahead` is spent. Out of memory ends
+    /// the lexer.
+    #[inline(always)]
+    fn item_of(
+        &mut self,
+        taken: Result<(usize, Token, usize), AllocError>,
+        lookahead: Lookahead,
+    ) -> Option<Lexeme>
+        requires fits { length self.old.text.now < 2 ^ 32 }
         requires going { self.old.has_ended ≡ false }
-        ensures answer { HasAnswered self.old result self.new }
-        ensures lexing { IsLexing self.new }
-        ensures after { view_of self.new ≡ record (view_of self.old) { yielded_count = self.old.yielded_count + yielded_by result; has_ended = is_ended_by result; reads = self.new.reader.reads } }
+        requires few { self.old.yielded_count ≤ length (outcome self.old.text.now).lexemes }
+        requires ahead { IfOk taken (λ lexeme. IsAheadAfter self.old.text.now (Some lexeme) self.old.reader (left_in self.old) (outcome self.old.text.now).fault) }
+        requires memory { OnErr taken (IsSomething (left_in self.old) (outcome self.old.text.now).fault) }
+        requires looked { OnOk taken (IsLooked self.old.text.now self.old.reader self.old.looked_to lookahead) }
+        requires reach { IsInReach self.old.text.now self.old.looked_to }
+        ensures { HasGivenNext self.old result self.new }
     {
-        if !self.lookahead.is_front() {
-            return self.next_of_reader();
-        }
-        let front = self.reader.front(self.text);
-        if let Some(digit) = self.reader.single_digit(front, self.text) {
-            self.yielded_count += 1;
-            let lexeme = self.reader.take_digit(digit, self.text);
-            self.lookahead = looked_further(&self.reader, self.looked_to);
-            return Some(Ok(lexeme));
-        }
-        if self.reader.number_stands(front, self.text) {
-            let word = self.reader.number(front, self.text);
-            return match self.reader.take_number(word, self.text) {
-                Ok(lexeme) => {
-                    self.yielded_count += 1;
-                    self.lookahead = looked_further(&self.reader, self.looked_to);
-                    Some(Ok(lexeme))
-                }
-                Err(_) => {
-                    self.has_ended = true;
-                    self.lookahead = Lookahead::All;
-                    Some(Err(OrMemory::Memory))
-                }
-            };
-        }
-        if let Some(quote) = self.reader.fstring_opener(front, self.text) {
-            self.lookahead = Lookahead::All;
-            return match self.reader.take_fstring(quote, self.text) {
-                Ok(lexeme) => {
-                    self.yielded_count += 1;
-                    Some(Ok(lexeme))
-                }
-                Err(_) => {
-                    self.has_ended = true;
-                    Some(Err(OrMemory::Memory))
-                }
-            };
-        }
-        if let Some(quote) = self.reader.bytes_opener(front, self.text) {
-            let kind = LiteralKind::Bytes;
-            let body = match self.reader.plain_body_len(kind, false, quote, 2, self.text) {
-                Ok(body) => body,
-                Err(run) => {
-                    self.looked_to = self.reader.at() + 2 + run + 1;
-                    self.lookahead = Lookahead::All;
-                    return self.next_of_reader();
-                }
-            };
-            return match self.reader.take_plain_bytes(quote, body, self.text) {
-                Ok(lexeme) => {
-                    self.yielded_count += 1;
-                    self.lookahead = looked_further(&self.reader, self.looked_to);
-                    Some(Ok(lexeme))
-                }
-                Err(_) => {
-                    self.has_ended = true;
-                    self.lookahead = Lookahead::All;
-                    Some(Err(OrMemory::Memory))
-                }
-            };
-        }
-        if self.reader.bang_stands(front, self.text) {
-            self.yielded_count += 1;
-            let lexeme = self.reader.take_bang(self.text);
-            self.lookahead = looked_further(&self.reader, self.looked_to);
-            return Some(Ok(lexeme));
-        }
-        let Some(len) = self.reader.comment_len(front, self.text) else {
-            self.lookahead = Lookahead::All;
-            return self.next_of_reader();
-        };
-        match self.reader.take_comment(len, self.text) {
+        match taken {
             Ok(lexeme) => {
                 self.yielded_count += 1;
-                self.lookahead = looked_further(&self.reader, self.looked_to);
+                self.lookahead = lookahead;
                 Some(Ok(lexeme))
             }
             Err(_) => {
@@ -371,6 +303,76 @@ impl<'a> LexerState<'a> {
                 Some(Err(OrMemory::Memory))
             }
         }
+    }
+
+    /// The item of what the reader took here, which leaves it in code. Out of memory ends the lexer.
+    #[inline(always)]
+    fn item_in_code(&mut self, taken: Result<(usize, Token, usize), AllocError>) -> Option<Lexeme>
+        requires fits { length self.old.text.now < 2 ^ 32 }
+        requires going { self.old.has_ended ≡ false }
+        requires few { self.old.yielded_count ≤ length (outcome self.old.text.now).lexemes }
+        requires ahead { IfOk taken (λ lexeme. IsAheadAfter self.old.text.now (Some lexeme) self.old.reader (left_in self.old) (outcome self.old.text.now).fault) }
+        requires memory { OnErr taken (IsSomething (left_in self.old) (outcome self.old.text.now).fault) }
+        requires code { OnOk taken (IsAtCode self.old.text.now self.old.reader) }
+        requires reads { OnOk taken (HasSpared self.old.text.now 0 self.old.reader self.old.looked_to) }
+        requires reach { IsInReach self.old.text.now self.old.looked_to }
+        ensures { HasGivenNext self.old result self.new }
+    {
+        let lookahead = looked_further(&self.reader, self.looked_to);
+        self.item_of(taken, lookahead)
+    }
+
+    /// Next lexeme where the first two bytes don't determine it.
+    ///
+    /// By three bytes these come fast: a number, the start of an f-string, a bytes literal without
+    /// escapes, the `!` of an f-string's expression, and a comment.
+    #[inline(never)]
+    fn next_of_all(&mut self) -> Option<Lexeme>
+        requires lexing { IsLexing self.old }
+        requires going { self.old.has_ended ≡ false }
+        ensures { HasGivenNext self.old result self.new }
+    {
+        if !self.lookahead.is_front() {
+            return self.next_of_reader();
+        }
+        let front = self.reader.front(self.text);
+        if let Some(digit) = self.reader.single_digit(front, self.text) {
+            let lexeme = self.reader.take_digit(digit, self.text);
+            return self.item_in_code(Ok(lexeme));
+        }
+        if self.reader.number_stands(front, self.text) {
+            let word = self.reader.number(front, self.text);
+            let taken = self.reader.take_number(word, self.text);
+            return self.item_in_code(taken);
+        }
+        if let Some(quote) = self.reader.fstring_opener(front, self.text) {
+            let taken = self.reader.take_fstring(quote, self.text);
+            return self.item_of(taken, Lookahead::All);
+        }
+        if let Some(quote) = self.reader.bytes_opener(front, self.text) {
+            let kind = LiteralKind::Bytes;
+            return match self.reader.plain_body_len(kind, false, quote, 2, self.text) {
+                Ok(body) => {
+                    let taken = self.reader.take_plain_bytes(quote, body, self.text);
+                    self.item_in_code(taken)
+                }
+                Err(run) => {
+                    self.looked_to = self.reader.at() + 2 + run + 1;
+                    self.lookahead = Lookahead::All;
+                    self.next_of_reader()
+                }
+            };
+        }
+        if self.reader.bang_stands(front, self.text) {
+            let lexeme = self.reader.take_bang(self.text);
+            return self.item_in_code(Ok(lexeme));
+        }
+        if let Some(len) = self.reader.comment_len(front, self.text) {
+            let taken = self.reader.take_comment(len, self.text);
+            return self.item_in_code(taken);
+        }
+        self.lookahead = Lookahead::All;
+        self.next_of_reader()
     }
 
     /// Passes the string literal here if it has no escapes and one quote closes it. Returns the
@@ -427,9 +429,7 @@ impl<'a> LexerState<'a> {
         requires lexing { IsLexing self.old }
         requires going { self.old.has_ended ≡ false }
         requires some { self.old.reader.pending.from < self.old.reader.pending.to }
-        ensures passed { HasPassed self.old (FastPath.Passed (plain_comment result.0 result.1)) self.new }
-        ensures lexing { IsLexing self.new }
-        ensures after { view_of self.new ≡ record (view_of self.old) { yielded_count = self.old.yielded_count + 1; reads = self.new.reader.reads } }
+        ensures { HasPassedNext self.old (FastPath.Passed (plain_comment result.0 result.1)) self.new }
     {
         let place = self.reader.pass_pending_comment(self.text);
         self.yielded_count += 1;
@@ -443,12 +443,10 @@ impl<'a> LexerState<'a> {
         requires lexing { IsLexing self.old }
         requires going { self.old.has_ended ≡ false }
         requires none { self.old.reader.pending.to ≤ self.old.reader.pending.from }
-        ensures passed { HasPassed self.old (passed_as result self.new.passed_begin self.new.passed_end) self.new }
-        ensures lexing { IsLexing self.new }
-        ensures after { view_of self.new ≡ record (view_of self.old) { yielded_count = self.old.yielded_count + passed_count (passed_as result self.new.passed_begin self.new.passed_end); reads = self.new.reader.reads } }
+        ensures passed { HasPassedNext self.old (passed_as result self.new.passed_begin self.new.passed_end) self.new }
         ensures stays { result ≡ Waiting.Nothing → self.new ≡ self.old }
     {
-        // The proof of `passed` needs that the text is UTF-8, which the read of a `&str` says.
+        // The proof needs that the text is UTF-8, which the read of a `&str` says.
         let _text = self.text();
         let Some((begin, token, end)) = self.reader.next_mark() else {
             return Waiting::Nothing;
@@ -466,11 +464,9 @@ impl<'a> LexerState<'a> {
     fn pass_fstring_text(&mut self) -> Waiting
         requires lexing { IsLexing self.old }
         requires going { self.old.has_ended ≡ false }
-        ensures passed { HasPassed self.old (passed_as result self.new.passed_begin self.new.passed_end) self.new }
-        ensures lexing { IsLexing self.new }
-        ensures after { view_of self.new ≡ record (view_of self.old) { yielded_count = self.old.yielded_count + passed_count (passed_as result self.new.passed_begin self.new.passed_end); reads = self.new.reader.reads } }
+        ensures { HasPassedNext self.old (passed_as result self.new.passed_begin self.new.passed_end) self.new }
     {
-        // As in `pass_mark`.
+        // The proof needs that the text is UTF-8, which the read of a `&str` says.
         let _text = self.text();
         if self.reader.at() < self.looked_to || !self.reader.reads_on() {
             return Waiting::Nothing;
@@ -507,15 +503,92 @@ impl<'a> LexerState<'a> {
         requires lexing { IsLexing self.old }
         requires going { self.old.has_ended ≡ false }
         requires none { self.old.reader.pending.to ≤ self.old.reader.pending.from }
-        ensures passed { HasPassed self.old (passed_as result self.new.passed_begin self.new.passed_end) self.new }
-        ensures lexing { IsLexing self.new }
-        ensures after { view_of self.new ≡ record (view_of self.old) { yielded_count = self.old.yielded_count + passed_count (passed_as result self.new.passed_begin self.new.passed_end); reads = self.new.reader.reads } }
+        ensures { HasPassedNext self.old (passed_as result self.new.passed_begin self.new.passed_end) self.new }
     {
         let mark = self.pass_mark();
         if !mark.is_nothing() {
             return mark;
         }
         self.pass_fstring_text()
+    }
+
+    /// Passes the name of `len` bytes here.
+    #[inline(always)]
+    fn pass_name(&mut self, len: usize) -> FastPath
+        requires { IsAtWord self.old (record { class = Class.Identifier; len = len }) }
+        ensures { HasPassedNext self.old result self.new }
+    {
+        let begin = self.reader.at();
+        self.yielded_count += 1;
+        self.reader.pass_name(len, self.text);
+        FastPath::Passed(PlainLexeme::name(begin, self.reader.at()))
+    }
+
+    /// Passes the keyword or symbol of `len` bytes here.
+    #[inline(always)]
+    fn pass_symbol(&mut self, terminal: Terminal, len: usize) -> FastPath
+        requires { IsAtWord self.old (record { class = Class.Fixed terminal; len = len }) }
+        ensures { HasPassedNext self.old result self.new }
+    {
+        self.yielded_count += 1;
+        let lexeme = self.reader.take_terminal(terminal, len, self.text);
+        self.lookahead = looked_in_code(&self.reader);
+        FastPath::Symbol(terminal, lexeme)
+    }
+
+    /// Passes the newline of `len` bytes here. `None` where it doesn't count.
+    #[inline(always)]
+    fn pass_line_end(&mut self, len: usize) -> Option<FastPath>
+        requires { IsAtWord self.old (record { class = Class.LineEnd; len = len }) }
+        ensures some { IfSome result (λ found. HasPassedNext self.old found self.new) }
+        ensures none { result ≡ None → HasPassedLineEnd self.old self.new }
+    {
+        let begin = self.reader.at();
+        match self.reader.take_line_end(len, self.text) {
+            Ok(LineEnd::Passed) => None,
+            Ok(LineEnd::Newline) => {
+                self.yielded_count += 1;
+                let kind = PlainKind::Newline;
+                Some(FastPath::Passed(PlainLexeme::of_kind(kind, begin, begin + len)))
+            }
+            Ok(LineEnd::Pending) => {
+                self.yielded_count += 1;
+                self.lookahead = Lookahead::All;
+                let kind = PlainKind::Newline;
+                Some(FastPath::Passed(PlainLexeme::of_kind(kind, begin, begin + len)))
+            }
+            Ok(LineEnd::Fault) => {
+                self.lookahead = Lookahead::All;
+                Some(FastPath::Undecided)
+            }
+            Err(_) => {
+                self.has_ended = true;
+                self.lookahead = Lookahead::All;
+                Some(FastPath::OutOfMemory)
+            }
+        }
+    }
+
+    /// Passes the string literal whose opener of `len` bytes is here, if it has no escapes and one
+    /// quote closes it. `is_text` says whether the word here opens a text literal.
+    // Not by the word's class: a copy of it costs 1 to 2 % of string literals.
+    #[inline(always)]
+    fn pass_literal(&mut self, is_text: bool, len: usize) -> FastPath
+        requires { IsAtOpener self.old is_text len }
+        ensures { HasPassedNext self.old result self.new }
+    {
+        let begin = self.reader.at();
+        self.looked_to = begin + looked_len(is_text, len);
+        self.lookahead = Lookahead::Front;
+        if !is_text {
+            return FastPath::Undecided;
+        }
+        let opener = self.pass_string();
+        if opener == 0 {
+            return FastPath::Undecided;
+        }
+        let end = self.reader.at();
+        FastPath::Passed(PlainLexeme::string(begin, opener, end))
     }
 
     /// Passes the next lexeme if the fast path decides it: a name, a keyword, a symbol, a newline,
@@ -534,56 +607,15 @@ impl<'a> LexerState<'a> {
                 self.lookahead = Lookahead::Front;
                 return FastPath::Undecided;
             };
-            let begin = self.reader.at();
             match class {
-                Class::Identifier => {
-                    self.yielded_count += 1;
-                    self.reader.pass_name(len, self.text);
-                    return FastPath::Passed(PlainLexeme::name(begin, self.reader.at()));
+                Class::Identifier => return self.pass_name(len),
+                Class::Fixed(terminal) => return self.pass_symbol(terminal, len),
+                Class::LineEnd => {
+                    if let Some(passed) = self.pass_line_end(len) {
+                        return passed;
+                    }
                 }
-                Class::Fixed(terminal) => {
-                    self.yielded_count += 1;
-                    let lexeme = self.reader.take_terminal(terminal, len, self.text);
-                    self.lookahead = looked_in_code(&self.reader);
-                    return FastPath::Symbol(terminal, lexeme);
-                }
-                Class::LineEnd => match self.reader.take_line_end(len, self.text) {
-                    Ok(LineEnd::Passed) => {}
-                    Ok(LineEnd::Newline) => {
-                        self.yielded_count += 1;
-                        let kind = PlainKind::Newline;
-                        return FastPath::Passed(PlainLexeme::of_kind(kind, begin, begin + len));
-                    }
-                    Ok(LineEnd::Pending) => {
-                        self.yielded_count += 1;
-                        self.lookahead = Lookahead::All;
-                        let kind = PlainKind::Newline;
-                        return FastPath::Passed(PlainLexeme::of_kind(kind, begin, begin + len));
-                    }
-                    Ok(LineEnd::Fault) => {
-                        self.lookahead = Lookahead::All;
-                        return FastPath::Undecided;
-                    }
-                    Err(_) => {
-                        self.has_ended = true;
-                        self.lookahead = Lookahead::All;
-                        return FastPath::OutOfMemory;
-                    }
-                },
-                _ => {
-                    let is_text = is_text_opener(class);
-                    self.looked_to = begin + looked_len(is_text, len);
-                    self.lookahead = Lookahead::Front;
-                    if !is_text {
-                        return FastPath::Undecided;
-                    }
-                    let opener = self.pass_string();
-                    if opener == 0 {
-                        return FastPath::Undecided;
-                    }
-                    let end = self.reader.at();
-                    return FastPath::Passed(PlainLexeme::string(begin, opener, end));
-                }
+                _ => return self.pass_literal(is_text_opener(class), len),
             }
         }
         if self.has_ended {

@@ -7,11 +7,13 @@ use Rattle.starlark_grammar.specs.Reading.{outcome}
 use Rattle.starlark_grammar.specs.Tokens as grammar
 use Rattle.starlark_grammar.specs.Tokens.{Fault, Spanned}
 use Rattle.starlark_grammar.specs.Words.{Text}
-use Rattle.starlark_reader.specs.Inner.Reader.{IsAhead, IsAheadAfter, IsAheadPast, IsSomething, IsStateAfter, IsTokenOf, begins_with_tab, has_read_none, history_of}
+use Rattle.starlark_grammar.specs.declared.class.Class.{Class}
+use Rattle.starlark_words.specs.declared.scanner.word.Word.{Word}
+use Rattle.starlark_reader.specs.Inner.Reader.{IsAhead, IsAheadAfter, IsAheadPast, IsSomething, IsStateAfter, IsTokenOf, IsWordHere, begins_with_tab, has_read_none, history_of, left_to_read}
 use Rattle.starlark_reader.specs.Inner.Reads.{HasRead}
 use Rattle.starlark_syntax.specs.Exceptions.{IsException}
-use Rattle.starlark_syntax.specs.Inner.Looked.{GoesOn, IsInReach, IsLooked}
-use Rattle.starlark_syntax.specs.Lexer.{HasReadToFault, LexerView, most_reads}
+use Rattle.starlark_syntax.specs.Inner.Looked.{GoesOn, HasReadWord, IsInReach, IsLooked, is_text_opener}
+use Rattle.starlark_syntax.specs.Lexer.{HasReadToFault, LexerView, is_ended_by, most_reads, yielded_by}
 use Rattle.starlark_syntax.specs.declared.error.kinds.ErrorKind.{ErrorKind}
 use Rattle.starlark_syntax.specs.PlainLexemes.{IsPlainIn, plain_view}
 use Rattle.starlark_syntax.specs.declared.lexer_state.FastPath.{FastPath}
@@ -68,6 +70,12 @@ HasAnswered old None new =
     (left_in old ≡ []) × ((outcome old.text.now).fault ≡ None) × IsStateAfter old.text.now (history_of old.text.now) new.reader
     × (more_reads 0 (length old.text.now) ≤ new.reader.reads) × (new.reader.reads < most_reads old.text.now)
 
+-- A call gave the next item, where no error had ended the lexer.
+pub record HasGivenNext (old : LexerState) (item : Option (Result (ℕ × Token × ℕ) (OrMemory (Diagnosed ErrorKind)))) (new : LexerState) : Type 0 where
+  pub answer : HasAnswered old item new
+  pub lexing : IsLexing new
+  pub after : view_of new ≡ record (view_of old) { yielded_count = old.yielded_count + yielded_by item; has_ended = is_ended_by item; reads = new.reader.reads }
+
 -- What the fast path tells: the first lexeme that is left, which it passed; or out of memory in the place of an item.
 abbrev pub HasPassed : LexerState → FastPath → LexerState → Type 0
 HasPassed old (fast.Passed plain) new = IsPlainIn old.text.now plain × IsAheadPast old.text.now (plain_view old.text.now plain) new.reader (left_in old) (outcome old.text.now).fault
@@ -85,6 +93,34 @@ passed_count fast.OutOfMemory = 0
 abbrev pub is_out_of_memory : FastPath → Bool
 is_out_of_memory fast.OutOfMemory = true
 is_out_of_memory other = false
+
+-- The fast path passed what it tells, where no error had ended the lexer.
+pub record HasPassedNext (old : LexerState) (found : FastPath) (new : LexerState) : Type 0 where
+  pub passed : HasPassed old found new
+  pub lexing : IsLexing new
+  pub after : view_of new ≡ record (view_of old) { yielded_count = old.yielded_count + passed_count found; has_ended = is_out_of_memory found; reads = new.reader.reads }
+
+-- The lexer is at a word in code, which the scanner has found, and has spent no other lookahead.
+pub record IsAtWord (state : LexerState) (word : Word) : Type 0 where
+  pub fits : length state.text.now < 2 ^ 32
+  pub going : state.has_ended ≡ false
+  pub few : state.yielded_count ≤ length (outcome state.text.now).lexemes
+  pub ahead : IsAhead state.text.now state.reader state.reader.stage (left_in state) (outcome state.text.now).fault
+  pub stands : IsWordHere state.text.now state.reader word
+  pub lookahead : state.lookahead ≡ lookahead.Nothing
+  pub read : HasReadWord state.text.now state.looked_to word.len state.reader
+  pub reach : IsInReach state.text.now state.looked_to
+
+-- The lexer is at a word of any class, and `is_text` says whether that opens a text literal.
+abbrev pub IsAtOpener : LexerState → (is_text : Bool) → (len : ℕ) → Type 0
+IsAtOpener state is_text len = (class : Class) × (is_text_opener class ≡ is_text) × IsAtWord state (record { class = class; len = len })
+
+-- A newline that doesn't count was passed.
+pub record HasPassedLineEnd (old new : LexerState) : Type 0 where
+  pub same : new ≡ record old { reader = new.reader }
+  pub ahead : IsAhead old.text.now new.reader new.reader.stage (left_in old) (outcome old.text.now).fault
+  pub looked : IsLooked old.text.now new.reader old.looked_to lookahead.Nothing
+  pub less : left_to_read old.text.now new.reader new.reader.stage < left_to_read old.text.now old.reader old.reader.stage
 
 -- the string literal between two offsets, by the length of its opener
 abbrev pub plain_string : (begin opener end : ℕ) → PlainLexeme

@@ -1,5 +1,5 @@
 -- How much lookahead a lexer has spent, and how many reads that took.
-use Rattle.std.specs.Prelude.{◌≡◌, ◌≤◌, ◌+◌, ◌*◌, ◌||◌, ◌==◌, if◌then◌else◌, Bool, true, false, ℕ, Some, drop, length, ⊤}
+use Rattle.std.specs.Prelude.{◌≡◌, ◌≤◌, ◌+◌, ◌-◌, ◌*◌, ◌||◌, ◌==◌, if◌then◌else◌, Bool, true, false, ℕ, Some, drop, length, ⊤}
 use Rattle.starlark_grammar.specs.AfterFaults.{restart}
 use Rattle.starlark_grammar.specs.Front.{language_front}
 use Rattle.starlark_grammar.specs.Reading.{outcome}
@@ -10,14 +10,20 @@ use Rattle.starlark_grammar.specs.declared.class.Class.TheVariants as class
 use Rattle.starlark_grammar.specs.declared.class.LiteralKind.TheVariants as kind
 use Rattle.starlark_reader.specs.Inner.Pending.{IsPending}
 use Rattle.starlark_reader.specs.Inner.Reader.{IsAtCode, IsInCode}
-use Rattle.starlark_reader.specs.Inner.Reads.{HasRead}
+use Rattle.starlark_reader.specs.Inner.Reads.{HasLooked, HasRead}
 use Rattle.starlark_reader.specs.declared.reader.Reader.{Reader}
+use Rattle.starlark_reader.specs.declared.reader.Stage.TheVariants as stage
 use Rattle.starlark_syntax.specs.declared.lexer_state.Lookahead.{Lookahead}
 use Rattle.starlark_syntax.specs.declared.lexer_state.Lookahead.TheVariants as lookahead
 
 -- Lookahead that found nothing took at most six reads for each byte up to `to`, and `spare` reads fewer.
 abbrev pub HasSpared : (text : Text) (spare : ℕ) → Reader → (to : ℕ) → Type 0
 HasSpared text spare reader to = (beside : ℕ) × (beside + spare ≤ 6 * to) × HasRead text beside reader
+
+-- The scanner has read the word of `len` bytes at the reader's offset, and the spaces before it. Before that the reader was
+-- past all failed lookahead, which reached up to `to`.
+abbrev pub HasReadWord : (text : Text) (to len : ℕ) → Reader → Type 0
+HasReadWord text to len reader = (first : Reader) × (first.stage ≡ stage.Onward) × (to ≤ first.at) × HasSpared text 0 first to × HasLooked len ((5 * len - 4) + 3) first reader
 
 -- Failed lookahead reaches no further than the text's end, and where lexing begins again after its fault.
 pub record IsInReach (text : Text) (to : ℕ) : Type 0 where

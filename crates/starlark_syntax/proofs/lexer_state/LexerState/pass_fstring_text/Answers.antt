@@ -1,7 +1,10 @@
-use Rattle.std.proofs.Common.{◌≡◌, ◌∙◌, ◌+◌, ◌*◌, ◌≤◌, ◌^◌, arith, map, rules}
+use Rattle.std.proofs.Common.{◌≡◌, ◌∙◌, ◌+◌, ◌*◌, ◌≤◌, ◌^◌, arith, map, refl, rules, subst}
 use Rattle.std.proofs.lemmas.List.{length-map}
 use Rattle.starlark_token.specs.Lexemes.{shown_lexeme}
 use Rattle.starlark_grammar.specs.Reading.{outcome}
+use Rattle.starlark_grammar.specs.Tokens.{Spanned}
+use Rattle.starlark_reader.specs.Inner.Reader.{IsAheadPast}
+use Rattle.starlark_syntax.specs.Inner.LexerStates.{left_in}
 use Rattle.starlark_syntax.proofs.LexerItems.{one_more}
 use Rattle.starlark_grammar.proofs.Order.Inside.{lexemes_few}
 use Rattle.starlark_reader.proofs.Pieces.PieceTaken.{left_onward}
@@ -9,7 +12,9 @@ use Rattle.starlark_reader.proofs.Pieces.ReaderReads.{here_reads, here_taken_rea
 use Rattle.starlark_reader.proofs.NextLines.{next_line_inside}
 use Rattle.starlark_syntax.proofs.Reaches.{reached}
 use Rattle.starlark_syntax.proofs.LexerReads.{found_out, goes_on, spared}
-use Rattle.starlark_syntax.proofs.PlainLexemes.{mark_passed}
+use Rattle.starlark_syntax.proofs.PlainLexemes.{fstring_text_shown, mark_counted, mark_passed, plain_inside, waiting_in_memory}
+use Rattle.starlark_syntax.specs.declared.plain_lexeme.PlainKind.TheVariants as kind
+use Rattle.starlark_token.specs.TokenViews.{TokenView, token_view}
 use Rattle.starlark_syntax.proofs.lexer_state.LexerState.pass_fstring_text.Goals as goal
 
 pub overflow_add-self : goal.overflow_add-self
@@ -24,8 +29,8 @@ overflow_add-self-in-Err c =
     let small : c.at-in-Err.result + c.in-Err.run' + 1 ≤ 2 ^ 34 = omega (arith, c.in-Err.ensures.other.0, line, c.at-in-Err.ensures, c.requires.lexing.0) in
     search (rules, small)
 
-pub returns-in-Err-clause-lexing : goal.returns-in-Err-clause-lexing
-returns-in-Err-clause-lexing c =
+pub returns-in-Err : goal.returns-in-Err
+returns-in-Err c =
     let inv = c.requires.lexing.1 c.requires.going in
     let paid = spared c.args.self.now.text.now c.args.self.now.reader c.args.self.now.looked_to c.args.self.now.lookahead (c.requires.lexing.3 c.requires.going) in
     let other = c.in-Err.ensures.other in
@@ -35,7 +40,18 @@ returns-in-Err-clause-lexing c =
     let remainder : c.args.self.now.looked_to ≤ c.args.self.now.reader.at = omega (arith, c.if-at-self.false, c.at.ensures) in
     let at : c.at-in-Err.result ≡ c.args.self.now.reader.at = c.at-in-Err.ensures ∙ here.0 in
     let read = here_reads c.args.self.now.text.now paid.0 0 (6 * c.in-Err.run' + 4) c.args.self.now.reader c.plain_text.new.self on paid.2 here in
-    (c.requires.lexing.0, (λ going. (inv.0, c.plain_text.ensures.ahead _ _ inv.1)), tt, (λ going. (paid.0 + (6 * c.in-Err.run' + 4), omega (arith, paid.1, remainder, at), read)), reached c.args.self.now.text.now c.args.self.now.reader _ c.plain_text.new.self.at _ on inv.1 here.0 (omega (arith, at, other.0, here.0)))
+    let none : c.args.self.now.yielded_count + 0 ≡ c.args.self.now.yielded_count = omega (arith) in
+    record {
+      passed = tt;
+      lexing = (
+        c.requires.lexing.0,
+        (λ going. (inv.0, c.plain_text.ensures.ahead _ _ inv.1)),
+        tt,
+        (λ going. (paid.0 + (6 * c.in-Err.run' + 4), omega (arith, paid.1, remainder, at), read)),
+        reached c.args.self.now.text.now c.args.self.now.reader _ c.plain_text.new.self.at _ on inv.1 here.0 (omega (arith, at, other.0, here.0)),
+      );
+      after = rw (c.requires.going, none) refl;
+    }
 
 pub overflow_add-self-2 : goal.overflow_add-self-2
 overflow_add-self-2 c =
@@ -44,13 +60,8 @@ overflow_add-self-2 c =
     let small : c.args.self.now.yielded_count + 1 ≤ 2 ^ 34 = omega (arith, inv.0, few) in
     search (rules, small)
 
-pub returns-then-found-eq0-clause-passed : goal.returns-then-found-eq0-clause-passed
-returns-then-found-eq0-clause-passed c =
-    let inv = c.requires.lexing.1 c.requires.going in
-    mark_passed c.args.self.now c.of_mark.result c.pass_text_end-begin.result _ c.requires.lexing.0 inv.0 (rw c.text-text.ensures at c.text-text.utf8) c.of_mark.ensures (c.pass_text_end-begin.ensures.ahead _ _ (c.plain_text.ensures.ahead _ _ inv.1))
-
-pub returns-then-found-eq0-clause-lexing : goal.returns-then-found-eq0-clause-lexing
-returns-then-found-eq0-clause-lexing c =
+pub returns-then-found-eq0 : goal.returns-then-found-eq0
+returns-then-found-eq0 c =
     let inv = c.requires.lexing.1 c.requires.going in
     let is = c.pass_text_end-begin.ensures.ahead _ _ (c.plain_text.ensures.ahead _ _ inv.1) in
     let further = one_more (map shown_lexeme (outcome c.args.self.now.text.now).lexemes) c.args.self.now.yielded_count _ is.0 is.1 in
@@ -58,16 +69,24 @@ returns-then-found-eq0-clause-lexing c =
     let found = c.in-Ok.found in
     let some = c.in-Ok.ensures.some in
     let read = here_taken_reads c.args.self.now.text.now paid.0 (found.len + 3) (6 * found.len + 4) (found.len + found.stop_len) c.args.self.now.reader c.plain_text.new.self c.pass_text_end-begin.new.self (c.reads_on.ensures.stage c.if-not-reads_on.false) paid.2 c.in-Ok.ensures.lookahead
-    (omega (arith, some.1)) (omega (arith, some.0)) c.pass_text_end-begin.ensures.passed in (
-      c.requires.lexing.0,
-      (λ on. (omega (arith, further.0, length-map (outcome c.args.self.now.text.now).lexemes shown_lexeme), rw further.1 is.2)),
-      goes_on c.looked_after-self.result _ c.requires.going,
-      (λ on. found_out c.args.self.now.text.now c.pass_text_end-begin.new.self c.args.self.now.looked_to paid.0 c.looked_after-self.result c.looked_after-self.ensures is.2.is_pending (omega (arith, paid.1)) read),
-      c.requires.lexing.4,
-    )
+    (omega (arith, some.1)) (omega (arith, some.0)) c.pass_text_end-begin.ensures.passed in
+    let lexeme = c.pass_text_end-begin.result in
+    let count = mark_counted c.of_mark.result (token_view lexeme.1) lexeme.0 lexeme.2 c.of_mark.ensures in
+    let memory = waiting_in_memory c.of_mark.result lexeme.0 lexeme.2 in
+    record {
+      passed = mark_passed c.args.self.now c.of_mark.result lexeme _ c.requires.lexing.0 inv.0 (rw c.text-text.ensures at c.text-text.utf8) c.of_mark.ensures is;
+      lexing = (
+        c.requires.lexing.0,
+        (λ on. (omega (arith, further.0, length-map (outcome c.args.self.now.text.now).lexemes shown_lexeme), rw further.1 is.2)),
+        goes_on c.looked_after-self.result _ c.requires.going,
+        (λ on. found_out c.args.self.now.text.now c.pass_text_end-begin.new.self c.args.self.now.looked_to paid.0 c.looked_after-self.result c.looked_after-self.ensures is.2.is_pending (omega (arith, paid.1)) read),
+        c.requires.lexing.4,
+      );
+      after = rw (c.requires.going, count, memory) refl;
+    }
 
-pub returns-clause-lexing : goal.returns-clause-lexing
-returns-clause-lexing c =
+pub returns : goal.returns
+returns c =
     let inv = c.requires.lexing.1 c.requires.going in
     let is = c.pass_text.ensures.ahead _ _ (c.plain_text.ensures.ahead _ _ inv.1) in
     let further = one_more (map shown_lexeme (outcome c.args.self.now.text.now).lexemes) c.args.self.now.yielded_count _ is.0 is.1 in
@@ -75,10 +94,20 @@ returns-clause-lexing c =
     let found = c.in-Ok.found in
     let some = c.in-Ok.ensures.some in
     let read = here_taken_reads c.args.self.now.text.now paid.0 (found.len + 3) (6 * found.len + 4) (found.len + found.stop_len) c.args.self.now.reader c.plain_text.new.self c.pass_text.new.self (c.reads_on.ensures.stage c.if-not-reads_on.false) paid.2 c.in-Ok.ensures.lookahead
-    (omega (arith, some.1)) (omega (arith, some.0)) c.pass_text.ensures.passed in (
-      c.requires.lexing.0,
-      (λ on. (omega (arith, further.0, length-map (outcome c.args.self.now.text.now).lexemes shown_lexeme), rw further.1 is.2)),
-      tt,
-      (λ on. (paid.0, omega (arith, paid.1), read)),
-      c.requires.lexing.4,
-    )
+    (omega (arith, some.1)) (omega (arith, some.0)) c.pass_text.ensures.passed in
+    let at = c.plain_text.new.self.at in
+    let edges = c.pass_text.ensures.edges in
+    record {
+      passed = rw c.at-self.ensures (
+        plain_inside c.args.self.now.text.now kind.FStringText at (at + found.len) at (at + found.len) c.requires.lexing.0 (omega (arith)) (omega (arith)) edges.0 edges.1 edges.0 edges.1,
+        subst (λ (view : Spanned TokenView). IsAheadPast c.args.self.now.text.now view c.pass_text.new.self (left_in c.args.self.now) (outcome c.args.self.now.text.now).fault) (fstring_text_shown c.args.self.now.text.now at found.len) is,
+      );
+      lexing = (
+        c.requires.lexing.0,
+        (λ on. (omega (arith, further.0, length-map (outcome c.args.self.now.text.now).lexemes shown_lexeme), rw further.1 is.2)),
+        tt,
+        (λ on. (paid.0, omega (arith, paid.1), read)),
+        c.requires.lexing.4,
+      );
+      after = rw c.requires.going refl;
+    }

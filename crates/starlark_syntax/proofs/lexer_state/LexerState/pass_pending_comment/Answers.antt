@@ -1,4 +1,4 @@
-use Rattle.std.proofs.Common.{◌+◌, ◌≤◌, ◌^◌, arith, map, rules}
+use Rattle.std.proofs.Common.{◌+◌, ◌≤◌, ◌^◌, arith, map, refl, rules}
 use Rattle.std.proofs.lemmas.List.{length-map}
 use Rattle.starlark_grammar.proofs.Order.Inside.{lexemes_few}
 use Rattle.starlark_grammar.specs.Reading.{outcome}
@@ -16,24 +16,22 @@ overflow_add-self c =
     let small : c.args.self.now.yielded_count + 1 ≤ 2 ^ 34 = omega (arith, inv.0, few) in
     search (rules, small)
 
-pub returns-clause-passed : goal.returns-clause-passed
-returns-clause-passed c =
+pub returns : goal.returns
+returns c =
     let inv = c.requires.lexing.1 c.requires.going in
     let place = c.pass_pending_comment-place.result in
-    let inside = c.pass_pending_comment-place.ensures.inside in (
-      plain_inside c.args.self.now.text.now kind.Comment place.0 place.1 (place.0 + 1) place.1 c.requires.lexing.0 (omega (arith, inside.order)) (omega (arith, inside.order)) inside.first inside.last inside.value inside.last,
-      c.pass_pending_comment-place.ensures.ahead _ _ inv.1,
-    )
-
-pub returns-clause-lexing : goal.returns-clause-lexing
-returns-clause-lexing c =
-    let inv = c.requires.lexing.1 c.requires.going in
+    let inside = c.pass_pending_comment-place.ensures.inside in
     let is = c.pass_pending_comment-place.ensures.ahead _ _ inv.1 in
     let further = one_more (map shown_lexeme (outcome c.args.self.now.text.now).lexemes) c.args.self.now.yielded_count _ is.0 is.1 in
-    let paid = spared c.args.self.now.text.now c.args.self.now.reader c.args.self.now.looked_to c.args.self.now.lookahead (c.requires.lexing.3 c.requires.going) in (
-      c.requires.lexing.0,
-      (λ on. (omega (arith, further.0, length-map (outcome c.args.self.now.text.now).lexemes shown_lexeme), rw further.1 is.2)),
-      goes_on c.looked_after-self.result _ c.requires.going,
-      (λ on. found_out c.args.self.now.text.now c.pass_pending_comment-place.new.self c.args.self.now.looked_to paid.0 c.looked_after-self.result c.looked_after-self.ensures is.2.is_pending (omega (arith, paid.1)) (c.pass_pending_comment-place.ensures.reads paid.0 paid.2)),
-      c.requires.lexing.4,
-    )
+    let paid = spared c.args.self.now.text.now c.args.self.now.reader c.args.self.now.looked_to c.args.self.now.lookahead (c.requires.lexing.3 c.requires.going) in
+    record {
+      passed = (plain_inside c.args.self.now.text.now kind.Comment place.0 place.1 (place.0 + 1) place.1 c.requires.lexing.0 (omega (arith, inside.order)) (omega (arith, inside.order)) inside.first inside.last inside.value inside.last, is);
+      lexing = (
+        c.requires.lexing.0,
+        (λ on. (omega (arith, further.0, length-map (outcome c.args.self.now.text.now).lexemes shown_lexeme), rw further.1 is.2)),
+        goes_on c.looked_after-self.result _ c.requires.going,
+        (λ on. found_out c.args.self.now.text.now c.pass_pending_comment-place.new.self c.args.self.now.looked_to paid.0 c.looked_after-self.result c.looked_after-self.ensures is.2.is_pending (omega (arith, paid.1)) (c.pass_pending_comment-place.ensures.reads paid.0 paid.2)),
+        c.requires.lexing.4,
+      );
+      after = rw c.requires.going refl;
+    }

@@ -1,0 +1,117 @@
+-- The lexer at a word that the scanner has found, and after the fast path has passed something.
+use Rattle.std.proofs.Common.{◌≡◌, ◌<◌, ◌≤◌, ◌+◌, ◌-◌, ◌*◌, ◌||◌, ◌^◌, ℕ, Bool, Some, true, false, ap, arith, drop, refl, subst, sym, ◌∙◌}
+use Rattle.starlark_grammar.specs.Reading.{outcome}
+use Rattle.starlark_grammar.specs.declared.class.Class.{Class}
+use Rattle.starlark_reader.specs.Inner.Reader.{IsAhead, IsAtCode, IsWordHere, left_to_read}
+use Rattle.starlark_reader.specs.Inner.Reads.{HasLooked}
+use Rattle.starlark_reader.specs.declared.reader.Reader.{Reader}
+use Rattle.starlark_reader.proofs.Pieces.ReaderReads.{looked_reads}
+use Rattle.starlark_syntax.proofs.LexerReads.{look_paid, nothing_looked, same_word, word_inside, word_opened}
+use Rattle.starlark_syntax.proofs.LexerStates.{IsGoingOn, IsSameText}
+use Rattle.starlark_syntax.proofs.PlainLexemes.{passed_same}
+use Rattle.starlark_syntax.proofs.Reaches.{reached, word_line}
+use Rattle.starlark_syntax.specs.Inner.LexerStates.{HasPassed, HasPassedLineEnd, HasPassedNext, IsAtOpener, IsAtWord, IsLexing, is_out_of_memory, left_in, passed_count, view_of}
+use Rattle.starlark_syntax.specs.Inner.Looked.{HasOpened, IsLooked, is_nothing, is_text_opener, looked_len}
+use Rattle.starlark_syntax.specs.declared.lexer_state.FastPath.{FastPath}
+use Rattle.starlark_syntax.specs.declared.lexer_state.FastPath.TheVariants as fast
+use Rattle.starlark_syntax.specs.declared.lexer_state.LexerState.{LexerState}
+use Rattle.starlark_syntax.specs.declared.lexer_state.Lookahead.{Lookahead}
+use Rattle.starlark_syntax.specs.declared.lexer_state.Lookahead.TheVariants as lookahead
+use Rattle.starlark_words.specs.declared.scanner.word.Word.{Word}
+
+nothing_is : (it : Lookahead) → is_nothing it ≡ true → it ≡ lookahead.Nothing
+nothing_is lookahead.Nothing nothing = refl
+nothing_is lookahead.Front nothing = cc
+nothing_is lookahead.All nothing = cc
+
+-- the scanner has found a word
+pub at_word : (first state : LexerState) (mid : Reader) (word : Word) → IsLexing first → IsGoingOn first state → is_nothing state.lookahead ≡ true → HasLooked word.len ((5 * word.len - 4) + 3) state.reader mid
+    → IsAhead state.text.now mid mid.stage (left_in state) (outcome state.text.now).fault → IsWordHere state.text.now mid word → IsAtWord (record state { reader = mid }) word
+at_word first state mid word lexing on nothing looked ahead stands =
+    let quick = nothing_looked state.text.now state.reader state.looked_to state.has_ended state.lookahead nothing on.5 on.6 in
+    let inv = lexing.1 (sym on.3 ∙ quick.0) in
+    record {
+      fits = rw on.0 lexing.0;
+      going = quick.0;
+      few = rw (on.0, on.2) inv.0;
+      ahead = ahead;
+      stands = stands;
+      lookahead = nothing_is state.lookahead nothing;
+      read = (state.reader, quick.1.stage, quick.2, quick.3, looked);
+      reach = on.7;
+    }
+
+-- where the fast path doesn't pass it by itself, its bytes are spent as lookahead
+pub at_opener : (state : LexerState) (is_text : Bool) (len to : ℕ) → IsAtOpener state is_text len → to ≡ state.reader.at + looked_len is_text len
+    → IsLexing (record state { looked_to = to; lookahead = lookahead.Front }) × (is_text ≡ true → HasOpened state.text.now state.reader to)
+at_opener state is_text len to opener is =
+    let class = opener.0 in
+    let at = opener.2 in
+    let front = at.stands.front in
+    let inside = word_inside state.text.now state.reader _ _ class len at.stands.stage at.ahead (sym front) in
+    let first = at.read in
+    let paid = first.3 in
+    let read = looked_reads state.text.now paid.0 len ((5 * len - 4) + 3) first.0 state.reader first.1 paid.2 first.4 in
+    let look = look_paid is_text len (looked_len is_text len) inside.0 refl in
+    let code : IsAtCode state.text.now state.reader = record { stage = at.stands.stage; idle = at.stands.idle; code = at.stands.code } in (
+      (
+        at.fits,
+        (λ on. (at.few, at.ahead)),
+        at.going,
+        (λ on. (
+          code,
+          omega (arith, inside.1, is, look.most),
+          (λ other n again two text.
+              let same = same_word (drop state.reader.at state.text.now) class other len n front again in
+              let plain : is_text ≡ false = sym opener.1 ∙ ap is_text_opener (sym same.0) ∙ text in
+              omega (arith, is, look.other plain (omega (arith, two, same.1)), same.1)),
+          (paid.0 + ((5 * len - 4) + 3), omega (arith, paid.1, first.2, first.4.0, inside.0, is, look.paid), read),
+        )),
+        reached state.text.now state.reader _ state.reader.at _ at.stands.stage at.ahead refl (omega (arith, word_line state.text.now state.reader.at len class (omega (arith, inside.1)) (sym front), is, look.most)),
+      ),
+      (λ text. word_opened state.text.now state.reader class len to (paid.0 + ((5 * len - 4) + 3)) front (omega (arith, is, look.text text)) (omega (arith, paid.1, first.2, first.4.0, inside.0, is, look.text text)) read),
+    )
+
+pub opener_inside : (state : LexerState) (is_text : Bool) (len : ℕ) → IsAtOpener state is_text len → (len < 2 ^ 33) × (state.reader.at + looked_len is_text len ≤ 2 ^ 34)
+opener_inside state is_text len opener =
+    let at = opener.2 in
+    let inside = word_inside state.text.now state.reader _ _ opener.0 len at.stands.stage at.ahead (sym at.stands.front) in
+    let look = look_paid is_text len (looked_len is_text len) inside.0 refl in
+    (omega (arith, inside.1, at.fits), omega (arith, inside.1, at.fits, look.most))
+
+-- after a newline that doesn't count it goes on
+pub going_on : (first state : LexerState) (mid : Reader) (new : LexerState) → IsGoingOn first state → is_nothing state.lookahead ≡ true → HasPassedLineEnd (record state { reader = mid }) new → IsGoingOn first new
+going_on first state mid new on nothing passed =
+    let quick = nothing_looked state.text.now state.reader state.looked_to state.has_ended state.lookahead nothing on.5 on.6 in
+    let going : IsGoingOn first (record state { reader = new.reader }) = (
+      on.0,
+      on.1,
+      on.2,
+      on.3,
+      (λ going. passed.ahead),
+      on.5,
+      (λ going. subst (IsLooked state.text.now new.reader state.looked_to) (sym (nothing_is state.lookahead nothing)) passed.looked),
+      on.7,
+      (λ ended. let both : true ≡ false = sym ended ∙ quick.0 in cc),
+    ) in
+    subst (IsGoingOn first) (sym passed.same) going
+
+pub less_left : (state : LexerState) (mid : Reader) (new : LexerState) → left_to_read state.text.now mid mid.stage ≤ left_to_read state.text.now state.reader state.reader.stage → HasPassedLineEnd (record state { reader = mid }) new
+    → left_to_read new.text.now new.reader new.reader.stage < left_to_read state.text.now state.reader state.reader.stage
+less_left state mid new onward passed =
+    subst (λ (now : LexerState). left_to_read now.text.now new.reader new.reader.stage < left_to_read state.text.now state.reader state.reader.stage) (sym passed.same) (omega (arith, passed.less, onward))
+
+-- what the fast path passed after line ends that don't count, it passed of the lexer before them
+pub record HasPassedSince (first : LexerState) (found : FastPath) (new : LexerState) : Type 0 where
+  pub ended : first.has_ended ≡ true → (found ≡ fast.Undecided) × (new ≡ first)
+  pub passed : first.has_ended ≡ false → HasPassed first found new
+  pub lexing : IsLexing new
+  pub after : view_of new ≡ record (view_of first) { yielded_count = first.yielded_count + passed_count found; has_ended = first.has_ended || is_out_of_memory found; reads = new.reader.reads }
+
+pub passed_since : (first mid : LexerState) (found : FastPath) (new : LexerState) → IsSameText first mid → first.has_ended ≡ false → HasPassedNext mid found new → HasPassedSince first found new
+passed_since first mid found new same going is = record {
+  ended = λ ended. (let both : true ≡ false = sym ended ∙ going in cc);
+  passed = λ on. passed_same first mid found new same is.passed;
+  lexing = is.lexing;
+  after = rw (going, sym same.0, sym same.1, sym same.2) is.after;
+}
