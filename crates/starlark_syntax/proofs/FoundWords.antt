@@ -1,23 +1,41 @@
--- The lexer at a word that the scanner has found, and after the fast path has passed something.
-use Rattle.std.proofs.Common.{◌≡◌, ◌<◌, ◌≤◌, ◌+◌, ◌-◌, ◌*◌, ◌||◌, ◌^◌, ℕ, Bool, Some, true, false, ap, arith, drop, refl, subst, sym, ◌∙◌}
+-- The lexer at a word that the scanner has found, and after something was taken or passed.
+use Rattle.std.proofs.Common.{◌≡◌, ◌<◌, ◌≤◌, ◌+◌, ◌-◌, ◌*◌, ◌||◌, ◌^◌, ℕ, Bool, Some, true, false, ap, arith, drop, length, map, refl, subst, sym, ◌∙◌}
+use Rattle.std.proofs.lemmas.List.{length-map}
+use Rattle.std.specs.Prelude.{IfOk, OnErr, Result}
 use Rattle.starlark_grammar.specs.Reading.{outcome}
-use Rattle.starlark_grammar.specs.declared.class.Class.{Class}
-use Rattle.starlark_reader.specs.Inner.Reader.{IsAhead, IsAtCode, IsWordHere, left_to_read}
+use Rattle.starlark_grammar.specs.Tokens.{Spanned}
+use Rattle.starlark_reader.specs.Inner.Reader.{IsAhead, IsAheadAfter, IsAheadPast, IsAtCode, IsSomething, IsWordHere, left_to_read}
 use Rattle.starlark_reader.specs.Inner.Reads.{HasLooked}
 use Rattle.starlark_reader.specs.declared.reader.Reader.{Reader}
 use Rattle.starlark_reader.proofs.Pieces.ReaderReads.{looked_reads}
-use Rattle.starlark_syntax.proofs.LexerReads.{look_paid, nothing_looked, same_word, word_inside, word_opened}
+use Rattle.starlark_syntax.proofs.LexerItems.{one_more}
+use Rattle.starlark_syntax.proofs.LexerReads.{goes_on, look_paid, nothing_looked, same_word, word_inside, word_opened}
 use Rattle.starlark_syntax.proofs.LexerStates.{IsGoingOn, IsSameText}
 use Rattle.starlark_syntax.proofs.PlainLexemes.{passed_same}
 use Rattle.starlark_syntax.proofs.Reaches.{reached, word_line}
-use Rattle.starlark_syntax.specs.Inner.LexerStates.{HasPassed, HasPassedLineEnd, HasPassedNext, IsAtOpener, IsAtWord, IsLexing, is_out_of_memory, left_in, passed_count, view_of}
-use Rattle.starlark_syntax.specs.Inner.Looked.{HasOpened, IsLooked, is_nothing, is_text_opener, looked_len}
+use Rattle.starlark_syntax.specs.Inner.LexerStates.{HasPassed, HasPassedLineEnd, HasPassedNext, IsAtOpener, IsAtWord, IsLexing, IsTakenNext, is_out_of_memory, left_in, passed_count, view_of}
+use Rattle.starlark_syntax.specs.Inner.Looked.{HasOpened, IsInReach, IsLooked, is_nothing, is_text_opener, looked_len}
 use Rattle.starlark_syntax.specs.declared.lexer_state.FastPath.{FastPath}
 use Rattle.starlark_syntax.specs.declared.lexer_state.FastPath.TheVariants as fast
 use Rattle.starlark_syntax.specs.declared.lexer_state.LexerState.{LexerState}
 use Rattle.starlark_syntax.specs.declared.lexer_state.Lookahead.{Lookahead}
 use Rattle.starlark_syntax.specs.declared.lexer_state.Lookahead.TheVariants as lookahead
+use Rattle.starlark_token.specs.Lexemes.{shown_lexeme}
+use Rattle.starlark_token.specs.TokenViews.{TokenView}
+use Rattle.starlark_token.specs.declared.tokens.Token.{Token}
 use Rattle.starlark_words.specs.declared.scanner.word.Word.{Word}
+
+-- the reader took something
+pub taken_next : {E : Type 0} (old : LexerState) (reader : Reader) (taken : Result (ℕ × Token × ℕ) E) → IsLexing old → old.has_ended ≡ false → IfOk taken (λ lexeme. IsAheadAfter old.text.now (Some lexeme) reader (left_in old) (outcome old.text.now).fault)
+    → OnErr taken (IsSomething (left_in old) (outcome old.text.now).fault) → IsTakenNext (record old { reader = reader }) taken
+taken_next old reader taken lexing going ahead memory = record { fits = lexing.0; going = going; few = (lexing.1 going).0; ahead = ahead; memory = memory; reach = lexing.4 }
+
+-- a lexeme was passed, and is counted
+pub past_lexing : (old : LexerState) (lexeme : Spanned TokenView) (reader : Reader) (it : Lookahead) → length old.text.now < 2 ^ 32 → old.has_ended ≡ false → IsInReach old.text.now old.looked_to
+    → IsAheadPast old.text.now lexeme reader (left_in old) (outcome old.text.now).fault → IsLooked old.text.now reader old.looked_to it → IsLexing (record old { reader = reader; yielded_count = old.yielded_count + 1; lookahead = it })
+past_lexing old lexeme reader it fits going reach past looked =
+    let further = one_more (map shown_lexeme (outcome old.text.now).lexemes) old.yielded_count lexeme past.0 past.1 in
+    (fits, (λ on. (omega (arith, further.0, length-map (outcome old.text.now).lexemes shown_lexeme), rw further.1 past.2)), goes_on it old.has_ended going, (λ on. looked), reach)
 
 nothing_is : (it : Lookahead) → is_nothing it ≡ true → it ≡ lookahead.Nothing
 nothing_is lookahead.Nothing nothing = refl

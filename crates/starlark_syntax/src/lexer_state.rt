@@ -1,18 +1,18 @@
 //! Lexes a text lexeme by lexeme. The fast path decides by the first bytes of a lexeme; what these
 //! don't determine comes from the reader.
 
-ghost use Rattle.std.specs.Prelude.{◌≡◌, ◌<◌, ◌≤◌, ◌+◌, ◌-◌, ◌^◌, ◌&&◌, ◌||◌, ℕ, None, Some, codes, length, nat_eq, true, false, IfOk, IfSome, OnErr, OnOk};
+ghost use Rattle.std.specs.Prelude.{◌≡◌, ◌<◌, ◌≤◌, ◌+◌, ◌-◌, ◌^◌, ◌&&◌, ◌||◌, ℕ, None, Some, codes, length, nat_eq, true, false, IfSome, OnOk};
 ghost use Rattle.std.specs.List.{ends_with};
 ghost use Rattle.starlark_grammar.specs.Cuts.{is_settled};
-ghost use Rattle.starlark_grammar.specs.Reading.{History, outcome};
+ghost use Rattle.starlark_grammar.specs.Reading.{History};
 ghost use Rattle.starlark_reader.specs.Inner.MarginCuts.{IsCutBefore};
-ghost use Rattle.starlark_reader.specs.Inner.Reader.{IsAheadAfter, IsAtCode, IsReached, IsSomething, IsStateAfter, has_read_none};
-ghost use Rattle.starlark_syntax.specs.Inner.LexerStates.{HasAnswered, HasGivenNext, HasPassed, HasPassedLineEnd, HasPassedNext, HasTaken, IsAtOpener, IsAtWord, IsBegun, IsLexing, IsOfMark, is_none_waiting, is_out_of_memory, left_in, passed_as, passed_count, plain_comment, plain_string, view_of};
+ghost use Rattle.starlark_reader.specs.Inner.Reader.{IsAtCode, IsReached, IsStateAfter, has_read_none};
+ghost use Rattle.starlark_syntax.specs.Inner.LexerStates.{HasAnswered, HasGivenNext, HasPassed, HasPassedLineEnd, HasPassedNext, HasTaken, IsAtOpener, IsAtWord, IsBegun, IsLexing, IsOfMark, IsTakenNext, is_none_waiting, is_out_of_memory, left_in, passed_as, passed_count, plain_comment, plain_string, view_of};
 ghost use Rattle.starlark_syntax.specs.Lexer.{is_ended_by, most_reads, yielded_by};
 ghost use Rattle.starlark_syntax.specs.PlainLexemes.{IsPlainIn};
 ghost use Rattle.starlark_reader.specs.Inner.Pending.{IsMark};
 ghost use Rattle.starlark_token.specs.TokenViews.{token_view};
-ghost use Rattle.starlark_syntax.specs.Inner.Looked.{HasOpened, HasSpared, IsFoundFurther, IsFoundInCode, IsFoundOut, IsInReach, IsLooked, is_front, is_nothing, is_text_opener, looked_len};
+ghost use Rattle.starlark_syntax.specs.Inner.Looked.{HasOpened, HasSpared, IsFoundFurther, IsFoundInCode, IsFoundOut, IsLooked, is_front, is_nothing, is_text_opener, looked_len};
 
 use crate::eval_exception::EvalException;
 use crate::fault_exception::exception;
@@ -282,13 +282,8 @@ impl<'a> LexerState<'a> {
         taken: Result<(usize, Token, usize), AllocError>,
         lookahead: Lookahead,
     ) -> Option<Lexeme>
-        requires fits { length self.old.text.now < 2 ^ 32 }
-        requires going { self.old.has_ended ≡ false }
-        requires few { self.old.yielded_count ≤ length (outcome self.old.text.now).lexemes }
-        requires ahead { IfOk taken (λ lexeme. IsAheadAfter self.old.text.now (Some lexeme) self.old.reader (left_in self.old) (outcome self.old.text.now).fault) }
-        requires memory { OnErr taken (IsSomething (left_in self.old) (outcome self.old.text.now).fault) }
+        requires taken { IsTakenNext self.old taken }
         requires looked { OnOk taken (IsLooked self.old.text.now self.old.reader self.old.looked_to lookahead) }
-        requires reach { IsInReach self.old.text.now self.old.looked_to }
         ensures { HasGivenNext self.old result self.new }
     {
         match taken {
@@ -308,14 +303,9 @@ impl<'a> LexerState<'a> {
     /// The item of what the reader took here, which leaves it in code. Out of memory ends the lexer.
     #[inline(always)]
     fn item_in_code(&mut self, taken: Result<(usize, Token, usize), AllocError>) -> Option<Lexeme>
-        requires fits { length self.old.text.now < 2 ^ 32 }
-        requires going { self.old.has_ended ≡ false }
-        requires few { self.old.yielded_count ≤ length (outcome self.old.text.now).lexemes }
-        requires ahead { IfOk taken (λ lexeme. IsAheadAfter self.old.text.now (Some lexeme) self.old.reader (left_in self.old) (outcome self.old.text.now).fault) }
-        requires memory { OnErr taken (IsSomething (left_in self.old) (outcome self.old.text.now).fault) }
+        requires taken { IsTakenNext self.old taken }
         requires code { OnOk taken (IsAtCode self.old.text.now self.old.reader) }
         requires reads { OnOk taken (HasSpared self.old.text.now 0 self.old.reader self.old.looked_to) }
-        requires reach { IsInReach self.old.text.now self.old.looked_to }
         ensures { HasGivenNext self.old result self.new }
     {
         let lookahead = looked_further(&self.reader, self.looked_to);

@@ -1,5 +1,5 @@
 -- What is ahead of a text that is lexed so far, and what a call answers of it.
-use Rattle.std.specs.Prelude.{◌≡◌, ◌≤◌, ◌<◌, ◌^◌, ◌+◌, ◌-◌, ◌&&◌, not, Bool, ⊤, ℕ, true, false, List, [], drop, length, map, Option, None, Some, Result, Ok, Err}
+use Rattle.std.specs.Prelude.{◌≡◌, ◌≤◌, ◌<◌, ◌^◌, ◌+◌, ◌-◌, ◌&&◌, not, Bool, ⊤, ℕ, true, false, List, [], drop, length, map, Option, None, Some, Result, Ok, Err, IfOk, OnErr}
 use Rattle.starlark_base.specs.Diagnostics.{Diagnosed}
 use Rattle.starlark_base.specs.Sources.{SourceFile}
 use Rattle.starlark_words.specs.Inner.Reads.{more_reads}
@@ -75,6 +75,15 @@ pub record HasGivenNext (old : LexerState) (item : Option (Result (ℕ × Token 
   pub answer : HasAnswered old item new
   pub lexing : IsLexing new
   pub after : view_of new ≡ record (view_of old) { yielded_count = old.yielded_count + yielded_by item; has_ended = is_ended_by item; reads = new.reader.reads }
+
+-- The reader took the first lexeme that is left, which the lexer hasn't counted yet, or ran out of memory in its place.
+pub record IsTakenNext {E : Type 0} (state : LexerState) (taken : Result (ℕ × Token × ℕ) E) : Type 0 where
+  pub fits : length state.text.now < 2 ^ 32
+  pub going : state.has_ended ≡ false
+  pub few : state.yielded_count ≤ length (outcome state.text.now).lexemes
+  pub ahead : IfOk taken (λ lexeme. IsAheadAfter state.text.now (Some lexeme) state.reader (left_in state) (outcome state.text.now).fault)
+  pub memory : OnErr taken (IsSomething (left_in state) (outcome state.text.now).fault)
+  pub reach : IsInReach state.text.now state.looked_to
 
 -- What the fast path tells: the first lexeme that is left, which it passed; or out of memory in the place of an item.
 abbrev pub HasPassed : LexerState → FastPath → LexerState → Type 0

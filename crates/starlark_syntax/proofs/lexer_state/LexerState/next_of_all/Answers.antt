@@ -5,6 +5,7 @@ use Rattle.starlark_grammar.specs.declared.class.Class.TheVariants as class
 use Rattle.starlark_grammar.specs.declared.class.LiteralKind.TheVariants as kind
 use Rattle.starlark_reader.proofs.Pieces.ReaderReads.{begun_reads, here_reads, here_taken_reads, looked_twice}
 use Rattle.starlark_reader.proofs.NextLines.{next_line_inside}
+use Rattle.starlark_syntax.proofs.FoundWords.{taken_next}
 use Rattle.starlark_syntax.proofs.Reaches.{reached}
 use Rattle.starlark_syntax.proofs.LexerReads.{front_looked, plain_reads}
 use Rattle.starlark_syntax.proofs.LexerStates.{given_same}
@@ -17,14 +18,9 @@ item_in_code-requires c =
     let paid = front.3 in
     let read = here_taken_reads c.args.self.now.text.now paid.0 3 3 1 c.args.self.now.reader c.front-front.new.self c.take_digit-lexeme.new.self front.0.stage paid.2 c.front-front.ensures.lookahead (omega (arith)) (omega (arith)) (c.take_digit-lexeme.ensures.taken.1, c.take_digit-lexeme.ensures.taken.2) in
     record {
-      fits = c.requires.lexing.0;
-      going = c.requires.going;
-      few = inv.0;
-      ahead = c.take_digit-lexeme.ensures.ahead _ _ (c.front-front.ensures.ahead _ _ inv.1);
-      memory = tt;
+      taken = taken_next c.args.self.now _ _ c.requires.lexing c.requires.going (c.take_digit-lexeme.ensures.ahead _ _ (c.front-front.ensures.ahead _ _ inv.1)) tt;
       code = c.take_digit-lexeme.ensures.code;
       reads = (paid.0, omega (arith, paid.1), read);
-      reach = c.requires.lexing.4;
     }
 
 pub returns-in-Some : goal.returns-in-Some
@@ -39,17 +35,12 @@ item_in_code-requires-then-number_stands c =
     let both = looked_twice 3 3 _ _ c.args.self.now.reader c.front-front.new.self c.number-word.new.self c.front-front.ensures.lookahead c.number-word.ensures.lookahead in
     let len = c.number-word.result.len in
     record {
-      fits = c.requires.lexing.0;
-      going = c.requires.going;
-      few = inv.0;
-      ahead = IfOk-weaker c.take_number-taken.result _ _ (λ given is. is _ _ ahead) c.take_number-taken.ensures.ahead;
-      memory = on_err_weaker c.take_number-taken.result (λ is. is _ _ ahead) c.take_number-taken.ensures.memory;
+      taken = taken_next c.args.self.now _ _ c.requires.lexing c.requires.going (IfOk-weaker c.take_number-taken.result _ _ (λ given is. is _ _ ahead) c.take_number-taken.ensures.ahead) (on_err_weaker c.take_number-taken.result (λ is. is _ _ ahead) c.take_number-taken.ensures.memory);
       code = c.take_number-taken.ensures.code;
       reads = on_ok_weaker c.take_number-taken.result (λ taken.
           let read = here_taken_reads c.args.self.now.text.now paid.0 (3 + (len - 2)) (3 + 5 * len) len c.args.self.now.reader c.number-word.new.self c.take_number-taken.new.self front.0.stage paid.2 both
           (omega (arith)) (omega (arith, taken.0)) (taken.1, taken.2) in
           (paid.0, omega (arith, paid.1), read)) c.take_number-taken.ensures.taken;
-      reach = c.requires.lexing.4;
     }
 
 pub returns-then-number_stands : goal.returns-then-number_stands
@@ -62,15 +53,10 @@ item_of-requires c =
     let paid = front.3 in
     let ahead = c.front-front.ensures.ahead _ _ inv.1 in
     record {
-      fits = c.requires.lexing.0;
-      going = c.requires.going;
-      few = inv.0;
-      ahead = IfOk-weaker c.take_fstring-taken.result _ _ (λ given is. is _ _ ahead) c.take_fstring-taken.ensures.ahead;
-      memory = on_err_weaker c.take_fstring-taken.result (λ is. is _ _ ahead) c.take_fstring-taken.ensures.memory;
+      taken = taken_next c.args.self.now _ _ c.requires.lexing c.requires.going (IfOk-weaker c.take_fstring-taken.result _ _ (λ given is. is _ _ ahead) c.take_fstring-taken.ensures.ahead) (on_err_weaker c.take_fstring-taken.result (λ is. is _ _ ahead) c.take_fstring-taken.ensures.memory);
       looked = on_ok_weaker c.take_fstring-taken.result (λ begun.
           let read = begun_reads c.args.self.now.text.now paid.0 c.args.self.now.reader c.front-front.new.self c.take_fstring-taken.new.self front.0.stage paid.2 c.front-front.ensures.lookahead begun in
           (paid.0, omega (arith, paid.1), read)) c.take_fstring-taken.ensures.begun;
-      reach = c.requires.lexing.4;
     }
 
 pub returns-in-Some-fstring_opener : goal.returns-in-Some-fstring_opener
@@ -83,17 +69,12 @@ item_in_code-requires-in-Ok c =
     let paid = front.3 in
     let ahead = c.plain_body_len.ensures.ahead _ _ (c.front-front.ensures.ahead _ _ inv.1) in
     record {
-      fits = c.requires.lexing.0;
-      going = c.requires.going;
-      few = inv.0;
-      ahead = IfOk-weaker c.take_plain_bytes-taken.result _ _ (λ given is. is _ _ ahead) c.take_plain_bytes-taken.ensures.ahead;
-      memory = on_err_weaker c.take_plain_bytes-taken.result (λ is. is _ _ ahead) c.take_plain_bytes-taken.ensures.memory;
+      taken = taken_next c.args.self.now _ _ c.requires.lexing c.requires.going (IfOk-weaker c.take_plain_bytes-taken.result _ _ (λ given is. is _ _ ahead) c.take_plain_bytes-taken.ensures.ahead) (on_err_weaker c.take_plain_bytes-taken.result (λ is. is _ _ ahead) c.take_plain_bytes-taken.ensures.memory);
       code = c.take_plain_bytes-taken.ensures.code;
       reads = on_ok_weaker c.take_plain_bytes-taken.result (λ taken.
           let read = plain_reads c.args.self.now.text.now paid.0 3 3 2 c.in-Ok.body c.args.self.now.reader c.front-front.new.self c.plain_body_len.new.self c.take_plain_bytes-taken.new.self front.0.stage paid.2 c.front-front.ensures.lookahead (omega arith, omega arith) c.in-Ok.ensures.lookahead (omega arith, omega arith)
           (taken.1, taken.2) in
           (paid.0, omega (arith, paid.1), read)) c.take_plain_bytes-taken.ensures.taken;
-      reach = c.requires.lexing.4;
     }
 
 pub returns-in-Ok : goal.returns-in-Ok
@@ -128,14 +109,9 @@ item_in_code-requires-then-bang_stands c =
     let paid = front.3 in
     let read = here_taken_reads c.args.self.now.text.now paid.0 3 3 1 c.args.self.now.reader c.front-front.new.self c.take_bang-lexeme.new.self front.0.stage paid.2 c.front-front.ensures.lookahead (omega (arith)) (omega (arith)) (c.take_bang-lexeme.ensures.taken.1, c.take_bang-lexeme.ensures.taken.2) in
     record {
-      fits = c.requires.lexing.0;
-      going = c.requires.going;
-      few = inv.0;
-      ahead = c.take_bang-lexeme.ensures.ahead _ _ (c.front-front.ensures.ahead _ _ inv.1);
-      memory = tt;
+      taken = taken_next c.args.self.now _ _ c.requires.lexing c.requires.going (c.take_bang-lexeme.ensures.ahead _ _ (c.front-front.ensures.ahead _ _ inv.1)) tt;
       code = c.take_bang-lexeme.ensures.code;
       reads = (paid.0, omega (arith, paid.1), read);
-      reach = c.requires.lexing.4;
     }
 
 pub returns-then-bang_stands : goal.returns-then-bang_stands
@@ -150,17 +126,12 @@ item_in_code-requires-in-Some-comment_len c =
     let short = here_reads c.args.self.now.text.now paid.0 3 3 c.args.self.now.reader c.front-front.new.self front.0.stage paid.2 c.front-front.ensures.lookahead in
     let len = c.in-Some-comment_len.len in
     record {
-      fits = c.requires.lexing.0;
-      going = c.requires.going;
-      few = inv.0;
-      ahead = IfOk-weaker c.take_comment-taken.result _ _ (λ given is. is _ _ ahead) c.take_comment-taken.ensures.ahead;
-      memory = on_err_weaker c.take_comment-taken.result (λ is. is _ _ ahead) c.take_comment-taken.ensures.memory;
+      taken = taken_next c.args.self.now _ _ c.requires.lexing c.requires.going (IfOk-weaker c.take_comment-taken.result _ _ (λ given is. is _ _ ahead) c.take_comment-taken.ensures.ahead) (on_err_weaker c.take_comment-taken.result (λ is. is _ _ ahead) c.take_comment-taken.ensures.memory);
       code = c.take_comment-taken.ensures.code;
       reads = on_ok_weaker c.take_comment-taken.result (λ taken.
           let read = here_taken_reads c.args.self.now.text.now (paid.0 + 3) len (5 * len + 2) len c.front-front.new.self c.comment_len.new.self c.take_comment-taken.new.self (c.front-front.ensures.lookahead.1 ∙ front.0.stage) short c.in-Some-comment_len.ensures.lookahead
           (omega (arith)) (omega (arith, taken.0)) (taken.1, taken.2) in
           (paid.0 + 3, omega (arith, paid.1), read)) c.take_comment-taken.ensures.taken;
-      reach = c.requires.lexing.4;
     }
 
 pub returns-in-Some-comment_len : goal.returns-in-Some-comment_len

@@ -1,5 +1,4 @@
 use Rattle.std.proofs.Common.{◌≡◌, ◌∙◌, None, Some, ◌+◌, ◌≤◌, ◌^◌, ap, arith, drop, map, refl, rules, subst, sym}
-use Rattle.std.proofs.lemmas.List.{length-map}
 use Rattle.starlark_token.specs.Lexemes.{shown_lexeme}
 use Rattle.starlark_grammar.specs.Reading.{outcome}
 use Rattle.starlark_grammar.specs.AfterFaults.{restart}
@@ -9,10 +8,10 @@ use Rattle.starlark_reader.specs.Inner.Reader.{IsNext}
 use Rattle.starlark_reader.specs.Inner.Reads.{HasReadNext, search_reads}
 use Rattle.starlark_reader.specs.declared.reader.Next.{Next}
 use Rattle.starlark_reader.specs.declared.reader.Next.TheVariants as next
-use Rattle.starlark_syntax.proofs.LexerItems.{one_more}
 use Rattle.starlark_grammar.proofs.Order.Inside.{fault_within, lexemes_few}
 use Rattle.starlark_syntax.specs.Inner.LexerStates.{left_in}
-use Rattle.starlark_syntax.proofs.LexerReads.{found_out, goes_on, spared}
+use Rattle.starlark_syntax.proofs.FoundWords.{past_lexing}
+use Rattle.starlark_syntax.proofs.LexerReads.{found_out, spared}
 use Rattle.starlark_syntax.proofs.lexer_state.LexerState.next_of_reader.Goals as goal
 
 pub overflow_add-self : goal.overflow_add-self
@@ -33,17 +32,10 @@ pub returns-in-Ok-Lexeme : goal.returns-in-Ok-Lexeme
 returns-in-Ok-Lexeme c =
     let inv = c.requires.lexing.1 c.requires.going in
     let is : IsNext c.args.self.now.text.now (drop c.args.self.now.yielded_count (map shown_lexeme (outcome c.args.self.now.text.now).lexemes)) (outcome c.args.self.now.text.now).fault (next.Lexeme c.in-Ok-Lexeme.lexeme) c.next.new.self = subst (λ (n : Next). IsNext c.args.self.now.text.now (drop c.args.self.now.yielded_count (map shown_lexeme (outcome c.args.self.now.text.now).lexemes)) (outcome c.args.self.now.text.now).fault n c.next.new.self) c.in-Ok-Lexeme.field-0-is (c.in-Ok-Lexeme.ensures.next _ _ inv.1) in
-    let further = one_more (map shown_lexeme (outcome c.args.self.now.text.now).lexemes) c.args.self.now.yielded_count _ is.0 is.1 in
     let paid = spared c.args.self.now.text.now c.args.self.now.reader c.args.self.now.looked_to c.args.self.now.lookahead (c.requires.lexing.3 c.requires.going) in
     let read = subst (λ (n : Next). HasReadNext c.args.self.now.text.now paid.0 n c.next.new.self) c.in-Ok-Lexeme.field-0-is (c.in-Ok-Lexeme.ensures.reads paid.0 paid.2) in record {
       answer = is;
-      lexing = (
-        c.requires.lexing.0,
-        (λ on. (omega (arith, further.0, length-map (outcome c.args.self.now.text.now).lexemes shown_lexeme), rw further.1 is.2)),
-        goes_on c.looked_after-self.result _ c.requires.going,
-        (λ on. found_out c.args.self.now.text.now c.next.new.self c.args.self.now.looked_to paid.0 c.looked_after-self.result c.looked_after-self.ensures is.2.is_pending (omega (arith, paid.1)) read),
-        c.requires.lexing.4,
-      );
+      lexing = past_lexing c.args.self.now _ _ c.looked_after-self.result c.requires.lexing.0 c.requires.going c.requires.lexing.4 is (found_out c.args.self.now.text.now c.next.new.self c.args.self.now.looked_to paid.0 c.looked_after-self.result c.looked_after-self.ensures is.2.is_pending (omega (arith, paid.1)) read);
       after = rw c.requires.going refl;
     }
 

@@ -1,20 +1,19 @@
 use Rattle.std.proofs.Common.{◌≡◌, ◌∙◌, ◌+◌, ◌*◌, ◌≤◌, ◌^◌, arith, map, refl, rules, subst}
-use Rattle.std.proofs.lemmas.List.{length-map}
-use Rattle.starlark_token.specs.Lexemes.{shown_lexeme}
 use Rattle.starlark_grammar.specs.Reading.{outcome}
 use Rattle.starlark_grammar.specs.Tokens.{Spanned}
 use Rattle.starlark_reader.specs.Inner.Reader.{IsAheadPast}
 use Rattle.starlark_syntax.specs.Inner.LexerStates.{left_in}
-use Rattle.starlark_syntax.proofs.LexerItems.{one_more}
 use Rattle.starlark_grammar.proofs.Order.Inside.{lexemes_few}
 use Rattle.starlark_reader.proofs.Pieces.PieceTaken.{left_onward}
 use Rattle.starlark_reader.proofs.Pieces.ReaderReads.{here_reads, here_taken_reads}
 use Rattle.starlark_reader.proofs.NextLines.{next_line_inside}
+use Rattle.starlark_syntax.proofs.FoundWords.{past_lexing}
 use Rattle.starlark_syntax.proofs.Reaches.{reached}
-use Rattle.starlark_syntax.proofs.LexerReads.{found_out, goes_on, spared}
+use Rattle.starlark_syntax.proofs.LexerReads.{found_out, spared}
 use Rattle.starlark_syntax.proofs.PlainLexemes.{fstring_text_shown, mark_counted, mark_passed, plain_inside, waiting_in_memory}
 use Rattle.starlark_syntax.specs.declared.plain_lexeme.PlainKind.TheVariants as kind
 use Rattle.starlark_token.specs.TokenViews.{TokenView, token_view}
+use Rattle.starlark_syntax.specs.declared.lexer_state.Lookahead.TheVariants as lookahead
 use Rattle.starlark_syntax.proofs.lexer_state.LexerState.pass_fstring_text.Goals as goal
 
 pub overflow_add-self : goal.overflow_add-self
@@ -64,7 +63,6 @@ pub returns-then-found-eq0 : goal.returns-then-found-eq0
 returns-then-found-eq0 c =
     let inv = c.requires.lexing.1 c.requires.going in
     let is = c.pass_text_end-begin.ensures.ahead _ _ (c.plain_text.ensures.ahead _ _ inv.1) in
-    let further = one_more (map shown_lexeme (outcome c.args.self.now.text.now).lexemes) c.args.self.now.yielded_count _ is.0 is.1 in
     let paid = spared c.args.self.now.text.now c.args.self.now.reader c.args.self.now.looked_to c.args.self.now.lookahead (c.requires.lexing.3 c.requires.going) in
     let found = c.in-Ok.found in
     let some = c.in-Ok.ensures.some in
@@ -75,13 +73,7 @@ returns-then-found-eq0 c =
     let memory = waiting_in_memory c.of_mark.result lexeme.0 lexeme.2 in
     record {
       passed = mark_passed c.args.self.now c.of_mark.result lexeme _ c.requires.lexing.0 inv.0 (rw c.text-text.ensures at c.text-text.utf8) c.of_mark.ensures is;
-      lexing = (
-        c.requires.lexing.0,
-        (λ on. (omega (arith, further.0, length-map (outcome c.args.self.now.text.now).lexemes shown_lexeme), rw further.1 is.2)),
-        goes_on c.looked_after-self.result _ c.requires.going,
-        (λ on. found_out c.args.self.now.text.now c.pass_text_end-begin.new.self c.args.self.now.looked_to paid.0 c.looked_after-self.result c.looked_after-self.ensures is.2.is_pending (omega (arith, paid.1)) read),
-        c.requires.lexing.4,
-      );
+      lexing = past_lexing c.args.self.now _ _ c.looked_after-self.result c.requires.lexing.0 c.requires.going c.requires.lexing.4 is (found_out c.args.self.now.text.now c.pass_text_end-begin.new.self c.args.self.now.looked_to paid.0 c.looked_after-self.result c.looked_after-self.ensures is.2.is_pending (omega (arith, paid.1)) read);
       after = rw (c.requires.going, count, memory) refl;
     }
 
@@ -89,7 +81,6 @@ pub returns : goal.returns
 returns c =
     let inv = c.requires.lexing.1 c.requires.going in
     let is = c.pass_text.ensures.ahead _ _ (c.plain_text.ensures.ahead _ _ inv.1) in
-    let further = one_more (map shown_lexeme (outcome c.args.self.now.text.now).lexemes) c.args.self.now.yielded_count _ is.0 is.1 in
     let paid = spared c.args.self.now.text.now c.args.self.now.reader c.args.self.now.looked_to c.args.self.now.lookahead (c.requires.lexing.3 c.requires.going) in
     let found = c.in-Ok.found in
     let some = c.in-Ok.ensures.some in
@@ -102,12 +93,6 @@ returns c =
         plain_inside c.args.self.now.text.now kind.FStringText at (at + found.len) at (at + found.len) c.requires.lexing.0 (omega (arith)) (omega (arith)) edges.0 edges.1 edges.0 edges.1,
         subst (λ (view : Spanned TokenView). IsAheadPast c.args.self.now.text.now view c.pass_text.new.self (left_in c.args.self.now) (outcome c.args.self.now.text.now).fault) (fstring_text_shown c.args.self.now.text.now at found.len) is,
       );
-      lexing = (
-        c.requires.lexing.0,
-        (λ on. (omega (arith, further.0, length-map (outcome c.args.self.now.text.now).lexemes shown_lexeme), rw further.1 is.2)),
-        tt,
-        (λ on. (paid.0, omega (arith, paid.1), read)),
-        c.requires.lexing.4,
-      );
+      lexing = past_lexing c.args.self.now _ _ lookahead.All c.requires.lexing.0 c.requires.going c.requires.lexing.4 is (paid.0, omega (arith, paid.1), read);
       after = rw c.requires.going refl;
     }

@@ -1,15 +1,13 @@
 use Rattle.std.proofs.Common.{◌≡◌, ap, subst, sym, ◌+◌, ◌-◌, ◌*◌, ◌≤◌, ◌^◌, arith, map, refl, rules}
-use Rattle.std.proofs.lemmas.List.{length-map}
-use Rattle.starlark_token.specs.Lexemes.{shown_lexeme}
-use Rattle.starlark_grammar.specs.Reading.{outcome}
 use Rattle.starlark_grammar.proofs.Order.Inside.{lexemes_few}
 use Rattle.starlark_reader.specs.Inner.Reader.{IsAtCode}
 use Rattle.starlark_reader.specs.Inner.Reads.{IsMarginRead}
 use Rattle.starlark_reader.proofs.Pieces.ReaderReads.{margin_reads, taken_reads}
-use Rattle.starlark_syntax.proofs.LexerItems.{one_more}
-use Rattle.starlark_syntax.proofs.LexerReads.{fault_counts, goes_on, newline_counts, nothing_kept, pending_counts, word_inside}
+use Rattle.starlark_syntax.proofs.FoundWords.{past_lexing}
+use Rattle.starlark_syntax.proofs.LexerReads.{fault_counts, newline_counts, nothing_kept, pending_counts, word_inside}
 use Rattle.starlark_syntax.proofs.PlainLexemes.{newline_passed}
 use Rattle.starlark_syntax.specs.Inner.Looked.{is_nothing}
+use Rattle.starlark_syntax.specs.declared.lexer_state.Lookahead.TheVariants as lookahead
 use Rattle.starlark_syntax.proofs.lexer_state.LexerState.pass_line_end.Goals as goal
 
 pub overflow_add-self : goal.overflow_add-self
@@ -40,7 +38,6 @@ returns-in-Ok-Passed-clause-none c = λ none.
 pub returns-in-Ok-Newline-clause-some : goal.returns-in-Ok-Newline-clause-some
 returns-in-Ok-Newline-clause-some c =
     let is = rw c.in-Ok-Newline.field-0-is at (c.in-Ok-Newline.ensures.ahead _ _ c.requires.ahead) in
-    let further = one_more (map shown_lexeme (outcome c.args.self.now.text.now).lexemes) c.args.self.now.yielded_count _ is.0 is.1 in
     let word = c.requires.read in
     let paid = word.3 in
     let inside = word_inside c.args.self.now.text.now c.args.self.now.reader _ _ _ c.args.len c.requires.stands.stage c.requires.ahead (sym c.requires.stands.front) in
@@ -52,20 +49,13 @@ returns-in-Ok-Newline-clause-some c =
     let code : IsAtCode c.args.self.now.text.now c.take_line_end.new.self = record { stage = onward.0; idle = (is.2.is_pending, onward.2 c.args.self.now.text.now); code = onward.1 } in
     record {
       passed = rw (c.of_kind.ensures, c.at-begin.ensures) (newline_passed c.args.self.now c.args.self.now c.args.self.now.reader c.take_line_end.new.self c.args.len (refl, refl, refl) c.requires.fits c.requires.stands.stage c.requires.ahead c.in-Ok-Newline.ensures.cut is);
-      lexing = (
-        c.requires.fits,
-        (λ on. (omega (arith, further.0, length-map (outcome c.args.self.now.text.now).lexemes shown_lexeme), rw further.1 is.2)),
-        goes_on c.args.self.now.lookahead _ c.requires.going,
-        (λ on. nothing_kept c.args.self.now.text.now c.take_line_end.new.self c.args.self.now.looked_to paid.0 c.args.self.now.lookahead (ap is_nothing c.requires.lookahead) code past (omega (arith, paid.1)) read),
-        c.requires.reach,
-      );
+      lexing = past_lexing c.args.self.now _ _ c.args.self.now.lookahead c.requires.fits c.requires.going c.requires.reach is (nothing_kept c.args.self.now.text.now c.take_line_end.new.self c.args.self.now.looked_to paid.0 c.args.self.now.lookahead (ap is_nothing c.requires.lookahead) code past (omega (arith, paid.1)) read);
       after = rw c.requires.going refl;
     }
 
 pub returns-in-Ok-Pending-clause-some : goal.returns-in-Ok-Pending-clause-some
 returns-in-Ok-Pending-clause-some c =
     let is = rw c.in-Ok-Pending.field-0-is at (c.in-Ok-Pending.ensures.ahead _ _ c.requires.ahead) in
-    let further = one_more (map shown_lexeme (outcome c.args.self.now.text.now).lexemes) c.args.self.now.yielded_count _ is.0 is.1 in
     let word = c.requires.read in
     let paid = word.3 in
     let inside = word_inside c.args.self.now.text.now c.args.self.now.reader _ _ _ c.args.len c.requires.stands.stage c.requires.ahead (sym c.requires.stands.front) in
@@ -73,13 +63,7 @@ returns-in-Ok-Pending-clause-some c =
     let read = margin_reads c.args.self.now.text.now paid.0 c.args.len word.0 c.args.self.now.reader c.take_line_end.new.self inside.1 inside.0 word.1 paid.2 word.4 margin in
     record {
       passed = rw (c.of_kind-in-Ok-Pending.ensures, c.at-begin.ensures) (newline_passed c.args.self.now c.args.self.now c.args.self.now.reader c.take_line_end.new.self c.args.len (refl, refl, refl) c.requires.fits c.requires.stands.stage c.requires.ahead c.in-Ok-Pending.ensures.cut is);
-      lexing = (
-        c.requires.fits,
-        (λ on. (omega (arith, further.0, length-map (outcome c.args.self.now.text.now).lexemes shown_lexeme), rw further.1 is.2)),
-        tt,
-        (λ on. (paid.0, omega (arith, paid.1), read)),
-        c.requires.reach,
-      );
+      lexing = past_lexing c.args.self.now _ _ lookahead.All c.requires.fits c.requires.going c.requires.reach is (paid.0, omega (arith, paid.1), read);
       after = rw c.requires.going refl;
     }
 

@@ -1,10 +1,7 @@
 use Rattle.std.proofs.Common.{◌+◌, ◌≤◌, ◌^◌, arith, map, refl, rules}
-use Rattle.std.proofs.lemmas.List.{length-map}
 use Rattle.starlark_grammar.proofs.Order.Inside.{lexemes_few}
-use Rattle.starlark_grammar.specs.Reading.{outcome}
-use Rattle.starlark_token.specs.Lexemes.{shown_lexeme}
-use Rattle.starlark_syntax.proofs.LexerItems.{one_more}
-use Rattle.starlark_syntax.proofs.LexerReads.{found_out, goes_on, spared}
+use Rattle.starlark_syntax.proofs.FoundWords.{past_lexing}
+use Rattle.starlark_syntax.proofs.LexerReads.{found_out, spared}
 use Rattle.starlark_syntax.proofs.PlainLexemes.{mark_counted, mark_passed, waiting_in_memory}
 use Rattle.starlark_token.specs.TokenViews.{token_view}
 use Rattle.starlark_syntax.proofs.lexer_state.LexerState.pass_mark.Goals as goal
@@ -20,18 +17,11 @@ pub returns-clause-passed : goal.returns-clause-passed
 returns-clause-passed c =
     let inv = c.requires.lexing.1 c.requires.going in
     let is = c.in-Some.ensures.ahead c.args.self.now.text.now _ _ inv.1 in
-    let further = one_more (map shown_lexeme (outcome c.args.self.now.text.now).lexemes) c.args.self.now.yielded_count _ is.0 is.1 in
     let paid = spared c.args.self.now.text.now c.args.self.now.reader c.args.self.now.looked_to c.args.self.now.lookahead (c.requires.lexing.3 c.requires.going) in
     let count = mark_counted c.of_mark.result (token_view c.in-Some.token) c.in-Some.begin c.in-Some.end c.of_mark.ensures in
     let memory = waiting_in_memory c.of_mark.result c.in-Some.begin c.in-Some.end in
     record {
       passed = mark_passed c.args.self.now c.of_mark.result (c.in-Some.begin, c.in-Some.token, c.in-Some.end) _ c.requires.lexing.0 inv.0 (rw c.text-text.ensures at c.text-text.utf8) c.of_mark.ensures is;
-      lexing = (
-        c.requires.lexing.0,
-        (λ on. (omega (arith, further.0, length-map (outcome c.args.self.now.text.now).lexemes shown_lexeme), rw further.1 is.2)),
-        goes_on c.looked_after-self.result _ c.requires.going,
-        (λ on. found_out c.args.self.now.text.now c.next_mark.new.self c.args.self.now.looked_to paid.0 c.looked_after-self.result c.looked_after-self.ensures is.2.is_pending (omega (arith, paid.1)) (c.in-Some.ensures.reads c.args.self.now.text.now paid.0 paid.2)),
-        c.requires.lexing.4,
-      );
+      lexing = past_lexing c.args.self.now _ _ c.looked_after-self.result c.requires.lexing.0 c.requires.going c.requires.lexing.4 is (found_out c.args.self.now.text.now c.next_mark.new.self c.args.self.now.looked_to paid.0 c.looked_after-self.result c.looked_after-self.ensures is.2.is_pending (omega (arith, paid.1)) (c.in-Some.ensures.reads c.args.self.now.text.now paid.0 paid.2));
       after = rw (c.requires.going, count, memory) refl;
     }

@@ -1,11 +1,8 @@
 use Rattle.std.proofs.Common.{◌≡◌, ap, ◌+◌, ◌-◌, ◌*◌, ◌≤◌, ◌^◌, arith, map, refl, rules}
-use Rattle.std.proofs.lemmas.List.{length-map}
-use Rattle.starlark_token.specs.Lexemes.{shown_lexeme}
-use Rattle.starlark_grammar.specs.Reading.{outcome}
 use Rattle.starlark_grammar.proofs.Order.Inside.{lexemes_few}
 use Rattle.starlark_reader.proofs.Pieces.ReaderReads.{taken_reads}
-use Rattle.starlark_syntax.proofs.LexerItems.{one_more}
-use Rattle.starlark_syntax.proofs.LexerReads.{goes_on, nothing_kept}
+use Rattle.starlark_syntax.proofs.FoundWords.{past_lexing}
+use Rattle.starlark_syntax.proofs.LexerReads.{nothing_kept}
 use Rattle.starlark_syntax.proofs.PlainLexemes.{name_passed}
 use Rattle.starlark_syntax.specs.Inner.Looked.{is_nothing}
 use Rattle.starlark_syntax.proofs.lexer_state.LexerState.pass_name.Goals as goal
@@ -19,19 +16,12 @@ overflow_add-self c =
 pub returns : goal.returns
 returns c =
     let is = c.pass_name.ensures.ahead _ _ c.requires.ahead in
-    let further = one_more (map shown_lexeme (outcome c.args.self.now.text.now).lexemes) c.args.self.now.yielded_count _ is.0 is.1 in
     let word = c.requires.read in
     let paid = word.3 in
     let taken = c.pass_name.ensures.taken in
     let read = taken_reads c.args.self.now.text.now paid.0 c.args.len ((5 * c.args.len - 4) + 3) c.args.len word.0 c.args.self.now.reader c.pass_name.new.self word.1 paid.2 word.4 (omega (arith)) (omega (arith, taken.0)) (taken.1, taken.2) in
     record {
       passed = rw (c.name.ensures, c.at-begin.ensures, c.at.ensures) (name_passed c.args.self.now c.args.self.now c.args.self.now.reader c.pass_name.new.self c.args.len (refl, refl, refl) c.requires.fits c.requires.stands.stage taken.2 c.requires.ahead taken.1.0 is);
-      lexing = (
-        c.requires.fits,
-        (λ on. (omega (arith, further.0, length-map (outcome c.args.self.now.text.now).lexemes shown_lexeme), rw further.1 is.2)),
-        goes_on c.args.self.now.lookahead _ c.requires.going,
-        (λ on. nothing_kept c.args.self.now.text.now c.pass_name.new.self c.args.self.now.looked_to paid.0 c.args.self.now.lookahead (ap is_nothing c.requires.lookahead) c.pass_name.ensures.code (omega (arith, word.2, word.4.0, taken.1.0)) (omega (arith, paid.1)) read),
-        c.requires.reach,
-      );
+      lexing = past_lexing c.args.self.now _ _ c.args.self.now.lookahead c.requires.fits c.requires.going c.requires.reach is (nothing_kept c.args.self.now.text.now c.pass_name.new.self c.args.self.now.looked_to paid.0 c.args.self.now.lookahead (ap is_nothing c.requires.lookahead) c.pass_name.ensures.code (omega (arith, word.2, word.4.0, taken.1.0)) (omega (arith, paid.1)) read);
       after = rw c.requires.going refl;
     }

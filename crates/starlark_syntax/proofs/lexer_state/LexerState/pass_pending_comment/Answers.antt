@@ -1,10 +1,7 @@
 use Rattle.std.proofs.Common.{◌+◌, ◌≤◌, ◌^◌, arith, map, refl, rules}
-use Rattle.std.proofs.lemmas.List.{length-map}
 use Rattle.starlark_grammar.proofs.Order.Inside.{lexemes_few}
-use Rattle.starlark_grammar.specs.Reading.{outcome}
-use Rattle.starlark_token.specs.Lexemes.{shown_lexeme}
-use Rattle.starlark_syntax.proofs.LexerItems.{one_more}
-use Rattle.starlark_syntax.proofs.LexerReads.{found_out, goes_on, spared}
+use Rattle.starlark_syntax.proofs.FoundWords.{past_lexing}
+use Rattle.starlark_syntax.proofs.LexerReads.{found_out, spared}
 use Rattle.starlark_syntax.proofs.PlainLexemes.{plain_inside}
 use Rattle.starlark_syntax.specs.declared.plain_lexeme.PlainKind.TheVariants as kind
 use Rattle.starlark_syntax.proofs.lexer_state.LexerState.pass_pending_comment.Goals as goal
@@ -22,16 +19,9 @@ returns c =
     let place = c.pass_pending_comment-place.result in
     let inside = c.pass_pending_comment-place.ensures.inside in
     let is = c.pass_pending_comment-place.ensures.ahead _ _ inv.1 in
-    let further = one_more (map shown_lexeme (outcome c.args.self.now.text.now).lexemes) c.args.self.now.yielded_count _ is.0 is.1 in
     let paid = spared c.args.self.now.text.now c.args.self.now.reader c.args.self.now.looked_to c.args.self.now.lookahead (c.requires.lexing.3 c.requires.going) in
     record {
       passed = (plain_inside c.args.self.now.text.now kind.Comment place.0 place.1 (place.0 + 1) place.1 c.requires.lexing.0 (omega (arith, inside.order)) (omega (arith, inside.order)) inside.first inside.last inside.value inside.last, is);
-      lexing = (
-        c.requires.lexing.0,
-        (λ on. (omega (arith, further.0, length-map (outcome c.args.self.now.text.now).lexemes shown_lexeme), rw further.1 is.2)),
-        goes_on c.looked_after-self.result _ c.requires.going,
-        (λ on. found_out c.args.self.now.text.now c.pass_pending_comment-place.new.self c.args.self.now.looked_to paid.0 c.looked_after-self.result c.looked_after-self.ensures is.2.is_pending (omega (arith, paid.1)) (c.pass_pending_comment-place.ensures.reads paid.0 paid.2)),
-        c.requires.lexing.4,
-      );
+      lexing = past_lexing c.args.self.now _ _ c.looked_after-self.result c.requires.lexing.0 c.requires.going c.requires.lexing.4 is (found_out c.args.self.now.text.now c.pass_pending_comment-place.new.self c.args.self.now.looked_to paid.0 c.looked_after-self.result c.looked_after-self.ensures is.2.is_pending (omega (arith, paid.1)) (c.pass_pending_comment-place.ensures.reads paid.0 paid.2));
       after = rw c.requires.going refl;
     }

@@ -1,4 +1,4 @@
-use Rattle.std.proofs.Common.{◌≡◌, drop, subst, sym, ◌∙◌, ◌*◌, ◌+◌, ◌-◌, ◌≤◌, ◌^◌, arith, map, rules}
+use Rattle.std.proofs.Common.{◌≡◌, drop, subst, sym, ◌∙◌, ◌*◌, ◌+◌, ◌-◌, ◌≤◌, ◌^◌, arith, rules}
 use Rattle.std.specs.Str.{IsCharBoundary}
 use Rattle.starlark_grammar.specs.Tokens.{Spanned}
 use Rattle.starlark_token.specs.TokenViews.{TokenView}
@@ -6,15 +6,14 @@ use Rattle.starlark_reader.specs.Inner.Reader.{IsAheadPast}
 use Rattle.starlark_syntax.specs.Inner.LexerStates.{left_in}
 use Rattle.starlark_syntax.specs.declared.plain_lexeme.PlainKind.TheVariants as kind
 use Rattle.starlark_syntax.proofs.PlainLexemes.{plain_inside, reader_boundary, string_shown}
-use Rattle.std.proofs.lemmas.List.{length-map}
-use Rattle.starlark_token.specs.Lexemes.{shown_lexeme}
 use Rattle.starlark_grammar.specs.Reading.{outcome}
-use Rattle.starlark_syntax.proofs.LexerItems.{one_more}
 use Rattle.starlark_grammar.proofs.Order.Inside.{lexemes_few}
 use Rattle.starlark_reader.proofs.Pieces.ReaderReads.{here_reads}
 use Rattle.starlark_reader.proofs.NextLines.{next_line_inside}
 use Rattle.starlark_syntax.proofs.Reaches.{reached}
+use Rattle.starlark_syntax.proofs.FoundWords.{past_lexing}
 use Rattle.starlark_syntax.proofs.LexerReads.{front_is, plain_reads, text_opener_len}
+use Rattle.starlark_syntax.specs.declared.lexer_state.Lookahead.TheVariants as lookahead
 use Rattle.starlark_syntax.proofs.lexer_state.LexerState.pass_string.Goals as goal
 
 pub plain_body_len-requires-clause-ready : goal.plain_body_len-requires-clause-ready
@@ -38,7 +37,6 @@ pub returns-clause-lexing : goal.returns-clause-lexing
 returns-clause-lexing c =
     let inv = c.requires.lexing.1 c.requires.going in
     let is = c.pass_plain_text.ensures.ahead _ _ (c.plain_body_len.ensures.ahead _ _ (c.text_opener.ensures.ahead _ _ inv.1)) in
-    let further = one_more (map shown_lexeme (outcome c.args.self.now.text.now).lexemes) c.args.self.now.yielded_count _ is.0 is.1 in
     let front = front_is c.args.self.now.text.now c.args.self.now.reader c.args.self.now.looked_to c.args.self.now.lookahead c.requires.front (c.requires.lexing.3 c.requires.going) in
     let paid = c.requires.opened.1 in
     let opener = text_opener_len (drop c.plain_body_len.new.self.at c.args.self.now.text.now) c.in-Some-Opener.is_raw c.in-Some-Opener.quote c.in-Some-Opener.field-0.len c.plain_body_len.ensures.stands.front in
@@ -46,13 +44,9 @@ returns-clause-lexing c =
     (c.pass_plain_text.ensures.taken.1, c.pass_plain_text.ensures.taken.2) in
     let same = c.text_opener.ensures.lookahead.0 in
     let stands = rw same at (sym c.in-Some-Opener.ensures.stands.front) in
-    let reach = c.requires.opened.0 _ c.in-Some-Opener.field-0.len stands in (
-      c.requires.lexing.0,
-      (λ on. (omega (arith, further.0, length-map (outcome c.args.self.now.text.now).lexemes shown_lexeme), rw further.1 is.2)),
-      c.requires.going,
-      (λ on. (c.pass_plain_text.ensures.code, omega (arith, reach, same, c.in-Ok.ensures.lookahead.0, c.pass_plain_text.ensures.taken.1.0), (paid.0, omega (arith, paid.1), read))),
-      c.requires.lexing.4,
-    )
+    let reach = c.requires.opened.0 _ c.in-Some-Opener.field-0.len stands in
+    past_lexing c.args.self.now _ _ lookahead.Nothing c.requires.lexing.0 c.requires.going c.requires.lexing.4 is
+    (c.pass_plain_text.ensures.code, omega (arith, reach, same, c.in-Ok.ensures.lookahead.0, c.pass_plain_text.ensures.taken.1.0), (paid.0, omega (arith, paid.1), read))
 
 pub returns-in_default-clause-lexing : goal.returns-in_default-clause-lexing
 returns-in_default-clause-lexing c =
