@@ -1,25 +1,31 @@
 -- The lexer at a word that the scanner has found, and after something was taken or passed.
-use Rattle.std.proofs.Common.{◌≡◌, ◌<◌, ◌≤◌, ◌+◌, ◌-◌, ◌*◌, ◌||◌, ◌^◌, ℕ, Bool, Some, true, false, ap, arith, drop, length, map, refl, subst, sym, ◌∙◌}
+use Rattle.std.proofs.Common.{◌≡◌, ◌<◌, ◌≤◌, ◌+◌, ◌-◌, ◌*◌, ◌||◌, ◌^◌, ℕ, Bool, [], Some, true, false, ap, arith, drop, length, map, refl, subst, sym, ◌∙◌}
 use Rattle.std.proofs.lemmas.List.{length-map}
 use Rattle.std.specs.Prelude.{IfOk, OnErr, Result}
+use Rattle.std.specs.Str.{IsCharBoundary}
 use Rattle.starlark_grammar.specs.Reading.{outcome}
 use Rattle.starlark_grammar.specs.Tokens.{Spanned}
-use Rattle.starlark_reader.specs.Inner.Reader.{IsAhead, IsAheadAfter, IsAheadPast, IsAtCode, IsSomething, IsWordHere, left_to_read}
-use Rattle.starlark_reader.specs.Inner.Reads.{HasLooked}
+use Rattle.starlark_grammar.specs.Words.{Text}
+use Rattle.starlark_grammar.specs.declared.class.Class.TheVariants as class
+use Rattle.starlark_reader.specs.Inner.Pending.{pending_lexemes}
+use Rattle.starlark_reader.specs.Inner.Reader.{IsAhead, IsAheadAfter, IsAheadPast, IsAtCode, IsInCode, IsSomething, IsWordHere, newline_if}
+use Rattle.starlark_reader.specs.Inner.Reads.{HasLooked, IsMarginRead, IsTaken}
 use Rattle.starlark_reader.specs.declared.reader.Reader.{Reader}
-use Rattle.starlark_reader.proofs.Pieces.ReaderReads.{looked_reads}
+use Rattle.starlark_reader.specs.declared.reader.Stage.TheVariants as stages
+use Rattle.starlark_reader.proofs.Pieces.ReaderReads.{looked_reads, margin_reads, taken_reads}
 use Rattle.starlark_syntax.proofs.LexerItems.{one_more}
-use Rattle.starlark_syntax.proofs.LexerReads.{goes_on, look_paid, nothing_looked, same_word, word_inside, word_opened}
+use Rattle.starlark_syntax.proofs.LexerReads.{goes_on, look_paid, nothing_kept, nothing_looked, same_word, word_inside, word_opened}
 use Rattle.starlark_syntax.proofs.LexerStates.{IsGoingOn, IsSameText}
-use Rattle.starlark_syntax.proofs.PlainLexemes.{passed_same}
+use Rattle.starlark_syntax.proofs.PlainLexemes.{newline_passed, passed_same}
 use Rattle.starlark_syntax.proofs.Reaches.{reached, word_line}
-use Rattle.starlark_syntax.specs.Inner.LexerStates.{HasPassed, HasPassedLineEnd, HasPassedNext, IsAtOpener, IsAtWord, IsLexing, IsTakenNext, is_out_of_memory, left_in, passed_count, view_of}
-use Rattle.starlark_syntax.specs.Inner.Looked.{HasOpened, IsInReach, IsLooked, is_nothing, is_text_opener, looked_len}
+use Rattle.starlark_syntax.specs.Inner.LexerStates.{HasPassed, HasPassedNext, IsAtOpener, IsAtWord, IsLexing, IsTakenNext, is_out_of_memory, left_in, passed_count, plain_mark, view_of}
+use Rattle.starlark_syntax.specs.Inner.Looked.{HasOpened, HasSpared, IsInReach, IsLooked, is_nothing, is_text_opener, looked_len}
 use Rattle.starlark_syntax.specs.declared.lexer_state.FastPath.{FastPath}
 use Rattle.starlark_syntax.specs.declared.lexer_state.FastPath.TheVariants as fast
 use Rattle.starlark_syntax.specs.declared.lexer_state.LexerState.{LexerState}
 use Rattle.starlark_syntax.specs.declared.lexer_state.Lookahead.{Lookahead}
 use Rattle.starlark_syntax.specs.declared.lexer_state.Lookahead.TheVariants as lookahead
+use Rattle.starlark_syntax.specs.declared.plain_lexeme.PlainKind.TheVariants as kind
 use Rattle.starlark_token.specs.Lexemes.{shown_lexeme}
 use Rattle.starlark_token.specs.TokenViews.{TokenView}
 use Rattle.starlark_token.specs.declared.tokens.Token.{Token}
@@ -63,10 +69,10 @@ at_word first state mid word lexing on nothing looked ahead stands =
 pub at_opener : (state : LexerState) (is_text : Bool) (len to : ℕ) → IsAtOpener state is_text len → to ≡ state.reader.at + looked_len is_text len
     → IsLexing (record state { looked_to = to; lookahead = lookahead.Front }) × (is_text ≡ true → HasOpened state.text.now state.reader to)
 at_opener state is_text len to opener is =
-    let class = opener.0 in
+    let of = opener.0 in
     let at = opener.2 in
     let front = at.stands.front in
-    let inside = word_inside state.text.now state.reader _ _ class len at.stands.stage at.ahead (sym front) in
+    let inside = word_inside state.text.now state.reader _ _ of len at.stands.stage at.ahead (sym front) in
     let first = at.read in
     let paid = first.3 in
     let read = looked_reads state.text.now paid.0 len ((5 * len - 4) + 3) first.0 state.reader first.1 paid.2 first.4 in
@@ -80,14 +86,14 @@ at_opener state is_text len to opener is =
           code,
           omega (arith, inside.1, is, look.most),
           (λ other n again two text.
-              let same = same_word (drop state.reader.at state.text.now) class other len n front again in
+              let same = same_word (drop state.reader.at state.text.now) of other len n front again in
               let plain : is_text ≡ false = sym opener.1 ∙ ap is_text_opener (sym same.0) ∙ text in
               omega (arith, is, look.other plain (omega (arith, two, same.1)), same.1)),
           (paid.0 + ((5 * len - 4) + 3), omega (arith, paid.1, first.2, first.4.0, inside.0, is, look.paid), read),
         )),
-        reached state.text.now state.reader _ state.reader.at _ at.stands.stage at.ahead refl (omega (arith, word_line state.text.now state.reader.at len class (omega (arith, inside.1)) (sym front), is, look.most)),
+        reached state.text.now state.reader _ state.reader.at _ at.stands.stage at.ahead refl (omega (arith, word_line state.text.now state.reader.at len of (omega (arith, inside.1)) (sym front), is, look.most)),
       ),
-      (λ text. word_opened state.text.now state.reader class len to (paid.0 + ((5 * len - 4) + 3)) front (omega (arith, is, look.text text)) (omega (arith, paid.1, first.2, first.4.0, inside.0, is, look.text text)) read),
+      (λ text. word_opened state.text.now state.reader of len to (paid.0 + ((5 * len - 4) + 3)) front (omega (arith, is, look.text text)) (omega (arith, paid.1, first.2, first.4.0, inside.0, is, look.text text)) read),
     )
 
 pub opener_inside : (state : LexerState) (is_text : Bool) (len : ℕ) → IsAtOpener state is_text len → (len < 2 ^ 33) × (state.reader.at + looked_len is_text len ≤ 2 ^ 34)
@@ -98,26 +104,62 @@ opener_inside state is_text len opener =
     (omega (arith, inside.1, at.fits), omega (arith, inside.1, at.fits, look.most))
 
 -- after a newline that doesn't count it goes on
-pub going_on : (first state : LexerState) (mid : Reader) (new : LexerState) → IsGoingOn first state → is_nothing state.lookahead ≡ true → HasPassedLineEnd (record state { reader = mid }) new → IsGoingOn first new
-going_on first state mid new on nothing passed =
-    let quick = nothing_looked state.text.now state.reader state.looked_to state.has_ended state.lookahead nothing on.5 on.6 in
-    let going : IsGoingOn first (record state { reader = new.reader }) = (
+pub line_end_passed : (first state : LexerState) (mid new : Reader) (len : ℕ) → IsGoingOn first state → is_nothing state.lookahead ≡ true → IsAtWord (record state { reader = mid }) (record { class = class.LineEnd; len = len })
+    → IsAhead state.text.now new new.stage (left_in state) (outcome state.text.now).fault → IsAtCode state.text.now new → IsTaken len mid new → IsGoingOn first (record state { reader = new })
+line_end_passed first state mid new len on nothing at ahead code taken =
+    let word = at.read in
+    let paid = word.3 in
+    let read = taken_reads state.text.now paid.0 len ((5 * len - 4) + 3) len word.0 mid new word.1 paid.2 word.4 (omega (arith)) (omega (arith, taken.0)) (taken.1, taken.2) in (
       on.0,
       on.1,
       on.2,
       on.3,
-      (λ going. passed.ahead),
+      (λ going. ahead),
       on.5,
-      (λ going. subst (IsLooked state.text.now new.reader state.looked_to) (sym (nothing_is state.lookahead nothing)) passed.looked),
+      (λ going. nothing_kept state.text.now new state.looked_to paid.0 state.lookahead nothing code (omega (arith, word.2, word.4.0, taken.1.0)) (omega (arith, paid.1)) read),
       on.7,
-      (λ ended. let both : true ≡ false = sym ended ∙ quick.0 in cc),
-    ) in
-    subst (IsGoingOn first) (sym passed.same) going
+      (λ ended. let both : true ≡ false = sym ended ∙ at.going in cc),
+    )
 
-pub less_left : (state : LexerState) (mid : Reader) (new : LexerState) → left_to_read state.text.now mid mid.stage ≤ left_to_read state.text.now state.reader state.reader.stage → HasPassedLineEnd (record state { reader = mid }) new
-    → left_to_read new.text.now new.reader new.reader.stage < left_to_read state.text.now state.reader state.reader.stage
-less_left state mid new onward passed =
-    subst (λ (now : LexerState). left_to_read now.text.now new.reader new.reader.stage < left_to_read state.text.now state.reader state.reader.stage) (sym passed.same) (omega (arith, passed.less, onward))
+-- what was read of a newline that counts, and of the margin after it
+margin_read : (state : LexerState) (len : ℕ) (new : Reader) → IsAtWord state (record { class = class.LineEnd; len = len }) → IsMarginRead state.text.now len state.reader new new.stage → HasSpared state.text.now 0 new state.looked_to
+margin_read state len new at margin =
+    let word = at.read in
+    let paid = word.3 in
+    let inside = word_inside state.text.now state.reader _ _ class.LineEnd len at.stands.stage at.ahead (sym at.stands.front) in
+    (paid.0, paid.1, margin_reads state.text.now paid.0 len word.0 state.reader new inside.1 inside.0 word.1 paid.2 word.4 margin)
+
+-- after which lexemes may be pending
+pub pending_newline : (state : LexerState) (len : ℕ) (new : Reader) → IsAtWord state (record { class = class.LineEnd; len = len }) → IsCharBoundary state.text.now (state.reader.at + len) → IsMarginRead state.text.now len state.reader new new.stage
+    → IsAheadAfter state.text.now (newline_if true state.reader.at len) new (left_in state) (outcome state.text.now).fault
+    → HasPassedNext state (fast.Passed (plain_mark kind.Newline state.reader.at (state.reader.at + len))) (record state { reader = new; yielded_count = state.yielded_count + 1; lookahead = lookahead.All })
+pending_newline state len new at last margin is = record {
+  passed = newline_passed state state state.reader new len (refl, refl, refl) at.fits at.stands.stage at.ahead last is;
+  lexing = past_lexing state _ new lookahead.All at.fits at.going at.reach is (margin_read state len new at margin);
+  after = rw at.going refl;
+}
+
+-- after which none is pending
+pub plain_newline : (state : LexerState) (len : ℕ) (new : Reader) → IsAtWord state (record { class = class.LineEnd; len = len }) → IsCharBoundary state.text.now (state.reader.at + len) → IsMarginRead state.text.now len state.reader new new.stage
+    → (new.stage ≡ stages.Onward) × IsInCode new × ((text : Text) → pending_lexemes text new.pending ≡ []) → IsAheadAfter state.text.now (newline_if true state.reader.at len) new (left_in state) (outcome state.text.now).fault
+    → HasPassedNext state (fast.Passed (plain_mark kind.Newline state.reader.at (state.reader.at + len))) (record state { reader = new; yielded_count = state.yielded_count + 1 })
+plain_newline state len new at last margin onward is =
+    let laid = subst (IsMarginRead state.text.now len state.reader new) onward.0 margin in
+    let paid = margin_read state len new at margin in
+    let past : state.looked_to ≤ new.at = omega (arith, at.read.2, at.read.4.0, laid.1) in
+    let code : IsAtCode state.text.now new = record { stage = onward.0; idle = (is.2.is_pending, onward.2 state.text.now); code = onward.1 } in
+    record {
+      passed = newline_passed state state state.reader new len (refl, refl, refl) at.fits at.stands.stage at.ahead last is;
+      lexing = past_lexing state _ new state.lookahead at.fits at.going at.reach is (nothing_kept state.text.now new state.looked_to paid.0 state.lookahead (ap is_nothing at.lookahead) code past (omega (arith, paid.1)) paid.2);
+      after = rw at.going refl;
+    }
+
+-- the margin after a newline has a fault
+pub faulty_margin : (state : LexerState) (len : ℕ) (new : Reader) → IsAtWord state (record { class = class.LineEnd; len = len }) → IsMarginRead state.text.now len state.reader new new.stage
+    → IsAhead state.text.now new new.stage (left_in state) (outcome state.text.now).fault → HasPassedNext state fast.Undecided (record state { reader = new; lookahead = lookahead.All })
+faulty_margin state len new at margin ahead =
+    let none : state.yielded_count + 0 ≡ state.yielded_count = omega (arith) in
+    record { passed = tt; lexing = (at.fits, (λ on. (at.few, ahead)), tt, (λ on. margin_read state len new at margin), at.reach); after = rw (at.going, none) refl }
 
 -- what the fast path passed after line ends that don't count, it passed of the lexer before them
 pub record HasPassedSince (first : LexerState) (found : FastPath) (new : LexerState) : Type 0 where

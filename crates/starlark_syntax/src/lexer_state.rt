@@ -7,7 +7,7 @@ ghost use Rattle.starlark_grammar.specs.Cuts.{is_settled};
 ghost use Rattle.starlark_grammar.specs.Reading.{History};
 ghost use Rattle.starlark_reader.specs.Inner.MarginCuts.{IsCutBefore};
 ghost use Rattle.starlark_reader.specs.Inner.Reader.{IsAtCode, IsReached, IsStateAfter, has_read_none};
-ghost use Rattle.starlark_syntax.specs.Inner.LexerStates.{HasAnswered, HasGivenNext, HasPassed, HasPassedLineEnd, HasPassedNext, HasTaken, IsAtOpener, IsAtWord, IsBegun, IsLexing, IsOfMark, IsTakenNext, is_none_waiting, is_out_of_memory, left_in, passed_as, passed_count, plain_comment, plain_string, view_of};
+ghost use Rattle.starlark_syntax.specs.Inner.LexerStates.{HasAnswered, HasGivenNext, HasPassed, HasPassedNext, HasTaken, IsAtOpener, IsAtWord, IsBegun, IsLexing, IsOfMark, IsTakenNext, is_none_waiting, is_out_of_memory, left_in, passed_as, passed_count, plain_comment, plain_string, view_of};
 ghost use Rattle.starlark_syntax.specs.Lexer.{is_ended_by, most_reads, yielded_by};
 ghost use Rattle.starlark_syntax.specs.PlainLexemes.{IsPlainIn};
 ghost use Rattle.starlark_reader.specs.Inner.Pending.{IsMark};
@@ -526,39 +526,6 @@ impl<'a> LexerState<'a> {
         FastPath::Symbol(terminal, lexeme)
     }
 
-    /// Passes the newline of `len` bytes here. `None` where it doesn't count.
-    #[inline(always)]
-    fn pass_line_end(&mut self, len: usize) -> Option<FastPath>
-        requires { IsAtWord self.old (record { class = Class.LineEnd; len = len }) }
-        ensures some { IfSome result (λ found. HasPassedNext self.old found self.new) }
-        ensures none { result ≡ None → HasPassedLineEnd self.old self.new }
-    {
-        let begin = self.reader.at();
-        match self.reader.take_line_end(len, self.text) {
-            Ok(LineEnd::Passed) => None,
-            Ok(LineEnd::Newline) => {
-                self.yielded_count += 1;
-                let kind = PlainKind::Newline;
-                Some(FastPath::Passed(PlainLexeme::of_kind(kind, begin, begin + len)))
-            }
-            Ok(LineEnd::Pending) => {
-                self.yielded_count += 1;
-                self.lookahead = Lookahead::All;
-                let kind = PlainKind::Newline;
-                Some(FastPath::Passed(PlainLexeme::of_kind(kind, begin, begin + len)))
-            }
-            Ok(LineEnd::Fault) => {
-                self.lookahead = Lookahead::All;
-                Some(FastPath::Undecided)
-            }
-            Err(_) => {
-                self.has_ended = true;
-                self.lookahead = Lookahead::All;
-                Some(FastPath::OutOfMemory)
-            }
-        }
-    }
-
     /// Passes the string literal whose opener of `len` bytes is here, if it has no escapes and one
     /// quote closes it. `is_text` says whether the word here opens a text literal.
     // Not by the word's class: a copy of it costs 1 to 2 % of string literals.
@@ -601,9 +568,24 @@ impl<'a> LexerState<'a> {
                 Class::Identifier => return self.pass_name(len),
                 Class::Fixed(terminal) => return self.pass_symbol(terminal, len),
                 Class::LineEnd => {
-                    if let Some(passed) = self.pass_line_end(len) {
-                        return passed;
+                    let begin = self.reader.at();
+                    let Ok(line_end) = self.reader.take_line_end(len, self.text) else {
+                        self.has_ended = true;
+                        self.lookahead = Lookahead::All;
+                        return FastPath::OutOfMemory;
+                    };
+                    match line_end {
+                        LineEnd::Passed => continue,
+                        LineEnd::Fault => {
+                            self.lookahead = Lookahead::All;
+                            return FastPath::Undecided;
+                        }
+                        LineEnd::Pending => self.lookahead = Lookahead::All,
+                        LineEnd::Newline => {}
                     }
+                    self.yielded_count += 1;
+                    let newline = PlainLexeme::of_kind(PlainKind::Newline, begin, begin + len);
+                    return FastPath::Passed(newline);
                 }
                 _ => return self.pass_literal(is_text_opener(class), len),
             }

@@ -9,7 +9,7 @@ use Rattle.starlark_grammar.specs.Tokens.{Fault, Spanned}
 use Rattle.starlark_grammar.specs.Words.{Text}
 use Rattle.starlark_grammar.specs.declared.class.Class.{Class}
 use Rattle.starlark_words.specs.declared.scanner.word.Word.{Word}
-use Rattle.starlark_reader.specs.Inner.Reader.{IsAhead, IsAheadAfter, IsAheadPast, IsSomething, IsStateAfter, IsTokenOf, IsWordHere, begins_with_tab, has_read_none, history_of, left_to_read}
+use Rattle.starlark_reader.specs.Inner.Reader.{IsAhead, IsAheadAfter, IsAheadPast, IsSomething, IsStateAfter, IsTokenOf, IsWordHere, begins_with_tab, has_read_none, history_of}
 use Rattle.starlark_reader.specs.Inner.Reads.{HasRead}
 use Rattle.starlark_syntax.specs.Exceptions.{IsException}
 use Rattle.starlark_syntax.specs.Inner.Looked.{GoesOn, HasReadWord, IsInReach, IsLooked, is_text_opener}
@@ -123,13 +123,6 @@ pub record IsAtWord (state : LexerState) (word : Word) : Type 0 where
 -- The lexer is at a word of any class, and `is_text` says whether that opens a text literal.
 abbrev pub IsAtOpener : LexerState → (is_text : Bool) → (len : ℕ) → Type 0
 IsAtOpener state is_text len = (class : Class) × (is_text_opener class ≡ is_text) × IsAtWord state (record { class = class; len = len })
-
--- A newline that doesn't count was passed.
-pub record HasPassedLineEnd (old new : LexerState) : Type 0 where
-  pub same : new ≡ record old { reader = new.reader }
-  pub ahead : IsAhead old.text.now new.reader new.reader.stage (left_in old) (outcome old.text.now).fault
-  pub looked : IsLooked old.text.now new.reader old.looked_to lookahead.Nothing
-  pub less : left_to_read old.text.now new.reader new.reader.stage < left_to_read old.text.now old.reader old.reader.stage
 
 -- the string literal between two offsets, by the length of its opener
 abbrev pub plain_string : (begin opener end : ℕ) → PlainLexeme
