@@ -6,9 +6,6 @@
 //! wrong or the run gave up: then standard error says why.
 #![tactic(auto)]
 
-#[cfg(test)]
-mod tests;
-
 use starlark_run::{TROUBLE, Watched, exit_status, run};
 use std::env;
 use std::process::ExitCode;

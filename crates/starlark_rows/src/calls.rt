@@ -6,6 +6,8 @@
 
 mod code_map_rows;
 mod cursor_rows;
+mod device_rows;
+mod devices;
 mod each_byte;
 mod error_rows;
 mod file_rows;
@@ -42,6 +44,7 @@ fn answer(alloc: Global, row: &Row) -> Answer {
     match row.text(0) {
         "codemap" => code_map_rows::answer(alloc, row),
         "cursors" => cursor_rows::answer(alloc, row),
+        "devices" => device_rows::answer(alloc, row),
         "errors" => error_rows::answer(alloc, row),
         "files" => file_rows::answer(alloc, row),
         "format" => format_rows::answer(alloc, row),

@@ -91,6 +91,27 @@ pub fn one_call(alloc: Global) -> Result<CallStack, AllocError> {
     Ok(CallStack::from_frames(vec![in alloc; frame]?))
 }
 
+/// Whether an error asks a function for its calls.
+fn asks(error: &mut Error) -> bool {
+    let mut is_asked = false;
+    error.set_call_stack(|| {
+        is_asked = true;
+        CallStack::empty()
+    });
+    is_asked
+}
+
+/// Whether an error asks before and after it has a call, and the number of its calls.
+fn set_call_stack(alloc: Global) -> Answer {
+    let mut error = tab(alloc)?;
+    let is_first_asked = asks(&mut error);
+    let calls = one_call(alloc)?;
+    error.set_call_stack(move || calls);
+    let is_second_asked = asks(&mut error);
+    let count = error.call_stack().frames().len();
+    format!(in alloc; "{is_first_asked} {is_second_asked} {count}")
+}
+
 /// A fault of the lexer inside of another place.
 fn outer(alloc: Global, map: &CodeMap) -> Result<WithDiagnostic<Error>, AllocError> {
     let error = placed(alloc, map)?;
@@ -199,6 +220,7 @@ pub fn answer(alloc: Global, row: &Row) -> Answer {
         "new_kind" => shown_kind(alloc, row),
         "into_internal_error" => into_internal_error(alloc, row),
         "error_from_lexeme" => shown_tab(alloc),
+        "set_call_stack" => set_call_stack(alloc),
         _ => of_file(alloc, row),
     }
 }
