@@ -55,8 +55,16 @@ def new_command(least, text):
     return f"new {least} {len(text)}\n".encode() + text + b"\n"
 
 
+# What a call with one edit twice returns: the number of edits, or the index of the one that is refused.
+TWICE = {b"twice 0 1 2\n<<\n": b"2 same", b"twice 0 60 0\n\n": b"1 bad range same"}
+
+
 def edit_command(begin, end, text):
     return f"edit {begin} {end} {len(text)}\n".encode() + text + b"\n"
+
+
+def twice_command(begin, end, text):
+    return f"twice {begin} {end} {len(text)}\n".encode() + text + b"\n"
 
 
 def stored_commands():
@@ -73,6 +81,12 @@ def stored_commands():
         yield f"from {from_}\n".encode(), STORED
     for refused in (b"edit 3 2 0\n\n", f"edit 0 {len(STORED) + 1} 0\n\n".encode(), f"slice 1 {len(STORED) + 1}\n".encode()):
         yield refused, STORED
+    for begin, end in itertools.combinations(range(0, len(STORED) + 1, 7), 2):
+        yield f"slice {begin} {end}\n".encode(), STORED
+    yield twice_command(0, 1, b"<<"), b"<<<" + STORED[1:]
+    yield edit_command(0, 3, STORED[:1]), STORED
+    yield twice_command(0, 60, b""), STORED[60:]
+    yield edit_command(0, 0, STORED[:60]), STORED
     yield edit_command(0, 0, "é".encode()), "é".encode() + STORED
     yield b"edit 1 2 0\n\n", "é".encode() + STORED
     yield edit_command(0, len(STORED) + 2, b""), b""
@@ -153,6 +167,11 @@ def offset_text(text, line, column):
     return next((str(at).encode() for at, place in places if place.startswith(wanted[0]) and place.endswith(wanted[1])), b"none")
 
 
+def slice_text(text, begin, end):
+    """The bytes of a range that has only characters of one byte, or `none`."""
+    return text[begin:end].rstrip(b"\n") if end <= len(text) else b"none"
+
+
 def is_unchanged(change, before, after):
     """Whether what is found before and after an edit is the same outside of what it says that it changed."""
     begin, old_end, new_end, _ = map(int, change.split()[:4])
@@ -165,7 +184,11 @@ def fault_at(commands, texts, outputs):
     """The number of the first command that doesn't return what it has to; None if all do."""
     shown = {}
     for number, (command, text, output) in enumerate(zip(commands, texts, outputs)):
-        if command.startswith((b"new", b"edit")) and not output.endswith(b"same"):
+        if command.startswith((b"new", b"edit", b"twice")) and not output.endswith(b"same"):
+            return number
+        if command.startswith(b"twice") and output != TWICE[command]:
+            return number
+        if command.startswith(b"slice") and output != slice_text(text, *map(int, command.split()[1:])):
             return number
         if command.startswith(b"from") and [span[:2] for span in found_spans(output)] != spans_from(text, int(command.split()[1])):
             return number

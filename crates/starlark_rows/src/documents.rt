@@ -1,9 +1,10 @@
 //! Runs lists of commands on documents, and prints what they return.
 //!
-//! A command is a line, and for `new` and `edit` a text of LEN bytes and an LF after it:
+//! A command is a line, and for `new`, `edit` and `twice` a text of LEN bytes and an LF after it:
 //!
 //! - `new LEAST LEN`: a document of the text, whose segments have at least LEAST bytes;
 //! - `edit FROM TO LEN`: replaces the bytes from FROM to TO by the text;
+//! - `twice FROM TO LEN`: does that two times by one call;
 //! - `show`: prints all lexemes, and then all faults;
 //! - `from AT`: prints the lexemes from the first one on that ends after byte AT;
 //! - `lines`: prints the number of lines;
@@ -20,7 +21,7 @@ mod found_lines;
 use crate::documents::commands::{Command, read_command};
 use crate::documents::found_lines::{add_faults, add_lexemes, found_in};
 use crate::stored_parts::invalid_data;
-use starlark_document::{Document, EditError};
+use starlark_document::{Document, Edit, EditError};
 use std::alloc::{AllocError, Global};
 use std::fmt::Write as FmtWrite;
 use std::io;
@@ -77,6 +78,17 @@ fn edit_line(
     Ok(line)
 }
 
+/// Makes an edit twice, and returns the line that says how many were made or which one was refused.
+fn twice_line(alloc: Global, document: &mut Document, edit: Edit<'_>) -> io::Result<String> {
+    let mut line = String::new(alloc);
+    match document.edit_all(&[edit, edit]) {
+        Ok(count) => write!(line, "{count} ")?,
+        Err((index, error)) => write!(line, "{index} {} ", word_of(error))?,
+    }
+    line.push_str(compared(alloc, document)?)?;
+    Ok(line)
+}
+
 /// Runs a command, and returns its lines.
 fn run(alloc: Global, document: &mut Document, command: Command<'_>) -> io::Result<String> {
     let mut lines = String::new(alloc);
@@ -87,6 +99,9 @@ fn run(alloc: Global, document: &mut Document, command: Command<'_>) -> io::Resu
             lines.push_str(compared(alloc, document)?)?;
         }
         Command::Edit(from, to, text) => lines = edit_line(alloc, document, from, to, text)?,
+        Command::Twice(from, to, text) => {
+            lines = twice_line(alloc, document, Edit { from, to, text })?;
+        }
         Command::Show => lines = lines_of(alloc, document)?,
         Command::From(at) => add_lexemes(&mut lines, document.lexemes_from(at))?,
         Command::Lines => write!(lines, "{}", document.line_count())?,

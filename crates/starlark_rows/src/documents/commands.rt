@@ -9,6 +9,8 @@ pub enum Command<'a> {
     New(usize, &'a str),
     /// Replaces a range by a text.
     Edit(usize, usize, &'a str),
+    /// Makes one edit twice, by one call.
+    Twice(usize, usize, &'a str),
     /// Prints all lexemes and faults.
     Show,
     /// Prints the lexemes from one offset on.
@@ -33,11 +35,15 @@ pub fn read_command(stored: &[u8]) -> Option<(Command<'_>, &[u8])> {
             let (text, after) = first_text(after, words.next()?.parse().ok()?)?;
             Some((Command::New(least, text), after))
         }
-        "edit" => {
+        name @ ("edit" | "twice") => {
             let from = words.next()?.parse().ok()?;
             let to = words.next()?.parse().ok()?;
             let (text, after) = first_text(after, words.next()?.parse().ok()?)?;
-            Some((Command::Edit(from, to, text), after))
+            let command = match name {
+                "edit" => Command::Edit(from, to, text),
+                _ => Command::Twice(from, to, text),
+            };
+            Some((command, after))
         }
         "show" => Some((Command::Show, after)),
         "from" => Some((Command::From(words.next()?.parse().ok()?), after)),
