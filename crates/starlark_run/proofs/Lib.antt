@@ -7,9 +7,3 @@ pub mod Writing
 pub mod Answered
 pub mod Edited
 pub mod Refusals
-pub mod JsonPieces
-pub mod ExactValues
-pub mod Reported
-pub mod Starts
-pub mod FileCounts
-pub mod FileReports

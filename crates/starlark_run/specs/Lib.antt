@@ -6,14 +6,4 @@ pub mod Writing
 pub mod Runs
 pub mod Inner
 pub mod Edits
-pub mod PythonLiterals
-pub mod JsonStrings
-pub mod Values
-pub mod Lines
-pub mod ShownPlaces
-pub mod Reports
-pub mod Totals
 pub mod ExitStatus
-pub mod Requests
-pub mod FileReports
-pub mod Progress

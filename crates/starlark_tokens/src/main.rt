@@ -4,9 +4,26 @@
 //! be read or an option is wrong, and 141 where nobody reads the output any more.
 #![tactic(auto)]
 
+mod fault_lines;
+mod file_runs;
+mod form;
+mod item_lines;
+mod json_strings;
+mod laws;
+mod python_literals;
+mod report;
+mod reporter;
+mod requests;
+mod screen;
+mod shown_places;
+mod sources;
+mod token_lines;
+mod token_values;
+mod totals;
+
+use crate::file_runs::{report_files, say, unwritable};
+use crate::requests::{Request, asked};
 use starlark_run::TROUBLE;
-use starlark_run::file_runs::{report_files, say, unwritable};
-use starlark_run::requests::{Request, asked};
 use std::process::ExitCode;
 use std::{env, io};
 

@@ -1,7 +1,0 @@
-use Rattle.std.proofs.Common.{◌≡◌, drop, map, string_bytes}
-use Rattle.starlark_run.specs.Requests.{first_unknown}
-use Rattle.starlark_run.proofs.requests.first_unknown.Given as goal
-
--- the first unknown option is among the words that are left
-abbrev pub invariant-loop-word : goal.invariant-loop-word
-invariant-loop-word l = first_unknown (map string_bytes (drop l.word-index l.words)) ≡ first_unknown (map string_bytes l.words)

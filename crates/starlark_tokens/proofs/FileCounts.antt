@@ -1,0 +1,68 @@
+-- Totals of sources, as one more is counted.
+use Rattle.std.proofs.Common.{◌≡◌, ℕ, zero, suc, ◌+◌, Bool, true, false, cond, not, ◌||◌, nat_lt, List, [], ◌∷◌, ◌++◌, refl, ap, sym, ◌∙◌, arith, Some, None, count_by}
+use Rattle.std.proofs.lemmas.Bool.{lt-ltb}
+use Rattle.std.proofs.lemmas.List.Folds.{list_any-append}
+use Rattle.std.proofs.lemmas.List.Sums.{sum_by-append}
+use Rattle.std.specs.List.{list_any}
+use Rattle.std.specs.Prelude.{Option, if◌then◌else◌, sum_by}
+use Rattle.starlark_base.specs.Places.{Text}
+use Rattle.starlark_tokens.specs.Reports.{fault_count}
+use Rattle.starlark_tokens.specs.Totals.{faults_in, in_64_bits, is_read, totals_of, with_source}
+use Rattle.starlark_tokens.specs.declared.totals.Totals.{Totals}
+
+abbrev is_faulty : Option Text → Bool
+is_faulty source = nat_lt 0 (faults_in source)
+
+abbrev is_lost : Option Text → Bool
+is_lost source = not (is_read source)
+
+-- a count that stops, with one more
+counted : (p : Option Text → Bool) (sources : List (Option Text)) (source : Option Text) → in_64_bits (in_64_bits (count_by p sources) + cond (p source) 1 0) ≡ in_64_bits (count_by p (sources ++ source ∷ []))
+counted p sources source =
+    let all = sum_by-append (λ x. cond (p x) 1 0) sources (source ∷ []) in
+    omega (arith, all)
+
+summed : (sources : List (Option Text)) (source : Option Text) → in_64_bits (in_64_bits (sum_by faults_in sources) + in_64_bits (faults_in source)) ≡ in_64_bits (sum_by faults_in (sources ++ source ∷ []))
+summed sources source =
+    let all = sum_by-append faults_in sources (source ∷ []) in
+    omega (arith, all)
+
+-- whether there are faults isn't lost where their count stops
+still_some : (n : ℕ) → nat_lt 0 (in_64_bits n) ≡ nat_lt 0 n
+still_some zero = refl
+still_some (suc n) = lt-ltb 0 (in_64_bits (suc n)) (omega arith) ∙ sym (lt-ltb 0 (suc n) (omega arith))
+
+abbrev totals : (files faulty_files faults : ℕ) → Bool → Totals
+totals files faulty_files faults has_failed = record { files = files; faulty_files = faulty_files; faults = faults; has_failed = has_failed }
+
+same_totals : (a b c d e f : ℕ) (g h : Bool) → a ≡ b → c ≡ d → e ≡ f → g ≡ h → totals a c e g ≡ totals b d f h
+same_totals a b c d e f g h p q r s = cc
+
+faulty_by : (b : Bool) (c : ℕ) → (if b then in_64_bits (in_64_bits c + 1) else in_64_bits c) ≡ in_64_bits (in_64_bits c + cond b 1 0)
+faulty_by true c = refl
+faulty_by false c = omega arith
+
+or_false : (b : Bool) → b ≡ (b || false)
+or_false true = refl
+or_false false = refl
+
+or_true : (b : Bool) → true ≡ (b || true)
+or_true true = refl
+or_true false = refl
+
+-- totals with one source more are those of all of them
+pub with_next : (sources : List (Option Text)) (source : Option Text) → with_source (totals_of sources) source ≡ totals_of (sources ++ source ∷ [])
+with_next sources (Some text) =
+    let c = count_by is_faulty sources in
+    let faulty = ap (λ b. if b then in_64_bits (in_64_bits c + 1) else in_64_bits c) (still_some (fault_count text)) ∙ faulty_by (nat_lt 0 (fault_count text)) c ∙ counted is_faulty sources (Some text) in
+    let failed = or_false (list_any is_lost sources) ∙ sym (list_any-append is_lost sources (Some text ∷ [])) in
+    same_totals _ _ _ _ _ _ _ _ (counted is_read sources (Some text)) faulty (summed sources (Some text)) failed
+with_next sources None =
+    let read = kept (count_by is_read sources) ∙ counted is_read sources None in
+    let faulty = kept (count_by is_faulty sources) ∙ counted is_faulty sources None in
+    let faults = kept (sum_by faults_in sources) ∙ summed sources None in
+    let failed = or_true (list_any is_lost sources) ∙ sym (list_any-append is_lost sources (None ∷ [])) in
+    same_totals _ _ _ _ _ _ _ _ read faulty faults failed
+  where
+    kept : (n : ℕ) → in_64_bits n ≡ in_64_bits (in_64_bits n + 0)
+    kept n = omega arith

@@ -1,0 +1,149 @@
+-- What a lexer answers, by the items that are left.
+use Rattle.std.proofs.lemmas.List.Sums.{sum_by-append}
+use Rattle.std.proofs.Common.{◌≡◌, cond, min, ℕ, ◌+◌, ◌<◌, ◌≤◌, List, [], ◌∷◌, ◌++◌, length, drop, refl, ap, append_assoc, append-nil, sym, subst, ◌∙◌, arith, None, Some, Ok, Err, slice_get}
+use Rattle.std.specs.Io.KnownBytes.{Appends}
+use Rattle.std.specs.Prelude.{IsSome, Option, Result, count_by, string_bytes}
+use Rattle.starlark_base.specs.Diagnostics.{Diagnosed, place_in}
+use Rattle.starlark_base.specs.Places.{Text}
+use Rattle.starlark_base.specs.Sources.{SourceFile}
+use Rattle.starlark_base.specs.Spans.{ByteSpan}
+use Rattle.starlark_base.specs.declared.codemap.file_span.FileSpan.{FileSpan}
+use Rattle.starlark_grammar.specs.Tokens as token
+use Rattle.starlark_grammar.specs.Tokens.{Fault, Spanned}
+use Rattle.starlark_syntax.specs.RecoveringLexer.{all_items}
+use Rattle.starlark_run.specs.Output.{message_of}
+use Rattle.starlark_syntax.specs.Errors.{kind_text, message_text}
+use Rattle.starlark_syntax.specs.Exceptions.{IsException}
+use Rattle.starlark_syntax.specs.Lexer.{Answers, AnswersNext}
+use Rattle.starlark_syntax.specs.declared.error.kinds.ErrorKind.{ErrorKind}
+use Rattle.starlark_syntax.specs.declared.error.kinds.ErrorKind.TheVariants.{Parser}
+use Rattle.starlark_syntax.specs.declared.error.kinds.ParserMessage.TheVariants as message
+use Rattle.starlark_text.specs.declared.or_memory.OrMemory.{OrMemory}
+use Rattle.starlark_text.specs.declared.or_memory.OrMemory.TheVariants as refusal
+use Rattle.starlark_token.specs.FaultTexts.{fault_text}
+use Rattle.starlark_token.specs.Lexemes.{fault_view, lexeme_view}
+use Rattle.starlark_token.specs.TokenViews.{TokenView, token_view}
+use Rattle.starlark_token.specs.TextItems.{Given, LexerItem, Refused}
+use Rattle.starlark_token.specs.declared.lexeme_error.LexemeError.{LexemeError}
+use Rattle.starlark_token.specs.declared.lexeme_error.LexemeError.TheVariants as error
+use Rattle.starlark_token.specs.declared.tokens.Token.{Token}
+use Rattle.starlark_tokens.specs.declared.form.Form.{Form}
+use Rattle.starlark_tokens.specs.Inner.ShownKinds.{shown_of_kind}
+use Rattle.starlark_base.specs.Positions.{position_at}
+use Rattle.starlark_tokens.specs.Reports.{fault_count, fault_report, is_fault, item_report, items_report, prefix_of, report, token_report}
+use Rattle.starlark_tokens.specs.ShownPlaces.{shown_at, shown_of}
+
+-- what an error of the lexer is printed as
+message_is : (error : LexemeError) (node : Fault) → fault_view error ≡ Some node → kind_text (Parser (message.Lexeme error)) ≡ message_of node
+unfolding kind_text message_text fault_text message_of
+message_is error.Indentation node e = let same : token.Indentation ≡ node = cc in subst (λ n. kind_text (Parser (message.Lexeme error.Indentation)) ≡ message_of n) same refl
+message_is (error.InvalidInput text) node e = let same : token.InvalidInput (string_bytes text) ≡ node = cc in subst (λ n. kind_text (Parser (message.Lexeme (error.InvalidInput text))) ≡ message_of n) same refl
+message_is error.InvalidTab node e = let same : token.InvalidTab ≡ node = cc in subst (λ n. kind_text (Parser (message.Lexeme error.InvalidTab)) ≡ message_of n) same refl
+message_is error.UnfinishedStringLiteral node e = let same : token.UnfinishedStringLiteral ≡ node = cc in subst (λ n. kind_text (Parser (message.Lexeme error.UnfinishedStringLiteral)) ≡ message_of n) same refl
+message_is (error.InvalidEscapeSequence text) node e = let same : token.InvalidEscapeSequence (string_bytes text) ≡ node = cc in subst (λ n. kind_text (Parser (message.Lexeme (error.InvalidEscapeSequence text))) ≡ message_of n) same refl
+message_is error.EmptyEscapeSequence node e = let same : token.EmptyEscapeSequence ≡ node = cc in subst (λ n. kind_text (Parser (message.Lexeme error.EmptyEscapeSequence)) ≡ message_of n) same refl
+message_is (error.ReservedKeyword word) node e = let same : token.ReservedKeyword (string_bytes word) ≡ node = cc in subst (λ n. kind_text (Parser (message.Lexeme (error.ReservedKeyword word))) ≡ message_of n) same refl
+message_is (error.StartsZero word) node e = let same : token.StartsZero (string_bytes word) ≡ node = cc in subst (λ n. kind_text (Parser (message.Lexeme (error.StartsZero word))) ≡ message_of n) same refl
+message_is (error.IntParse text) node e = cc
+message_is error.CommentSpanComputedIncorrectly node e = cc
+message_is (error.CannotParse text base) node e = cc
+message_is error.UnfinishedFStringExpression node e = let same : token.UnfinishedFStringExpression ≡ node = cc in subst (λ n. kind_text (Parser (message.Lexeme error.UnfinishedFStringExpression)) ≡ message_of n) same refl
+
+-- where the fault of an error of the lexer is shown
+shown_is : (error : LexemeError) (node : Fault) → fault_view error ≡ Some node → shown_of_kind (Parser (message.Lexeme error)) ≡ shown_of node
+shown_is error.Indentation node e = let same : token.Indentation ≡ node = cc in ap shown_of same
+shown_is (error.InvalidInput text) node e = let same : token.InvalidInput (string_bytes text) ≡ node = cc in ap shown_of same
+shown_is error.InvalidTab node e = let same : token.InvalidTab ≡ node = cc in ap shown_of same
+shown_is error.UnfinishedStringLiteral node e = let same : token.UnfinishedStringLiteral ≡ node = cc in ap shown_of same
+shown_is (error.InvalidEscapeSequence text) node e = let same : token.InvalidEscapeSequence (string_bytes text) ≡ node = cc in ap shown_of same
+shown_is error.EmptyEscapeSequence node e = let same : token.EmptyEscapeSequence ≡ node = cc in ap shown_of same
+shown_is (error.ReservedKeyword word) node e = let same : token.ReservedKeyword (string_bytes word) ≡ node = cc in ap shown_of same
+shown_is (error.StartsZero word) node e = let same : token.StartsZero (string_bytes word) ≡ node = cc in ap shown_of same
+shown_is (error.IntParse text) node e = cc
+shown_is error.CommentSpanComputedIncorrectly node e = cc
+shown_is (error.CannotParse text base) node e = cc
+shown_is error.UnfinishedFStringExpression node e = let same : token.UnfinishedFStringExpression ≡ node = cc in ap shown_of same
+
+-- what is printed of an item that was answered as a lexeme
+pub given_report : (form : Form) (prefix text : Text) (file : SourceFile) (next : LexerItem) (found : ℕ × Token × ℕ) → Answers file next (Ok found) → item_report form prefix text next ≡ token_report form prefix (position_at text found.0) (position_at text found.2) (token_view found.1)
+unfolding item_report
+given_report form prefix text file (Given lexeme) found answers = ap (λ (l : Spanned TokenView). token_report form prefix (position_at text l.begin) (position_at text l.end) l.node) (sym answers)
+given_report form prefix text file (Refused fault) found answers = absurd answers
+
+pub given_count : (file : SourceFile) (next : LexerItem) (found : ℕ × Token × ℕ) → Answers file next (Ok found) → 0 ≡ count_by is_fault (next ∷ [])
+given_count file (Given lexeme) found answers = refl
+given_count file (Refused fault) found answers = absurd answers
+
+-- what is printed of an item that was answered as an exception
+fault_is : (form : Form) (prefix text : Text) (file : SourceFile) (fault : Spanned Fault) (exception : Diagnosed ErrorKind) (place : FileSpan) → IsException file fault exception → exception.span ≡ Some place → item_report form prefix text (Refused fault) ≡ fault_report form prefix text (position_at text (shown_at text (shown_of_kind exception.value) place.span.begin place.span.end)) (position_at text place.span.begin) (position_at text place.span.end) (kind_text exception.value)
+unfolding item_report
+fault_is form prefix text file fault exception place thrown known =
+    let span : ByteSpan = record { begin = fault.begin; end = fault.end } in
+    let there : Some place ≡ Some (place_in file span) = sym known ∙ ap (λ (d : Diagnosed ErrorKind). d.span) thrown.2 in
+    let at : place ≡ place_in file span = cc in
+    let said : kind_text exception.value ≡ message_of fault.node = ap (λ (d : Diagnosed ErrorKind). kind_text d.value) thrown.2 ∙ message_is thrown.0 fault.node thrown.1 in
+    let shown : shown_of_kind exception.value ≡ shown_of fault.node = ap (λ (d : Diagnosed ErrorKind). shown_of_kind d.value) thrown.2 ∙ shown_is thrown.0 fault.node thrown.1 in
+    rw (at, said, shown) refl
+
+pub refused_report : (form : Form) (prefix text : Text) (file : SourceFile) (next : LexerItem) (exception : Diagnosed ErrorKind) (place : FileSpan) → Answers file next (Err (refusal.Error exception)) → exception.span ≡ Some place → item_report form prefix text next ≡ fault_report form prefix text (position_at text (shown_at text (shown_of_kind exception.value) place.span.begin place.span.end)) (position_at text place.span.begin) (position_at text place.span.end) (kind_text exception.value)
+refused_report form prefix text file (Given lexeme) exception place answers known = absurd answers
+refused_report form prefix text file (Refused fault) exception place answers known = fault_is form prefix text file fault exception place answers known
+
+pub refused_count : (file : SourceFile) (next : LexerItem) (exception : Diagnosed ErrorKind) → Answers file next (Err (refusal.Error exception)) → 1 ≡ count_by is_fault (next ∷ [])
+refused_count file (Given lexeme) exception answers = absurd answers
+refused_count file (Refused fault) exception answers = refl
+
+-- an exception has a span
+pub thrown_span : (file : SourceFile) (next : LexerItem) (exception : Diagnosed ErrorKind) → Answers file next (Err (refusal.Error exception)) → IsSome exception.span
+thrown_span file (Given lexeme) exception answers = absurd answers
+thrown_span file (Refused fault) exception answers = rw answers.2 cc
+
+-- the item that was answered, and those after it
+pub record IsNext (file : SourceFile) (left : List LexerItem) (answer : Result (ℕ × Token × ℕ) (OrMemory (Diagnosed ErrorKind))) : Type 0 where
+  pub next : LexerItem
+  pub is : left ≡ next ∷ drop 1 left
+  pub answers : Answers file next answer
+
+pub next_item : (file : SourceFile) (left : List LexerItem) (answer : Result (ℕ × Token × ℕ) (OrMemory (Diagnosed ErrorKind))) → AnswersNext file (slice_get left 0) (Some answer) → IsNext file left answer
+next_item file [] answer answers = absurd answers
+next_item file (item ∷ more) answer answers = record { next = item; is = refl; answers = answers }
+
+-- where nothing is answered nothing is left
+pub next_none : (file : SourceFile) (left : List LexerItem) → AnswersNext file (slice_get left 0) None → left ≡ []
+next_none file [] answers = refl
+next_none file (item ∷ more) answers = absurd answers
+
+-- known bytes grow by a text, and then by another
+pub appends_then : (a b c : Option Text) (s t : Text) → Appends a b s → Appends b c t → Appends a c (s ++ t)
+appends_then None b c s t p q = tt
+appends_then (Some x) None c s t p q = absurd p
+appends_then (Some x) (Some y) None s t p q = absurd q
+appends_then (Some x) (Some y) (Some z) s t p q = q ∙ ap (λ u. u ++ t) p ∙ append_assoc x s t
+
+pub appends_nothing : (a : Option Text) → Appends a a []
+appends_nothing None = tt
+appends_nothing (Some x) = sym (append-nil x)
+
+-- what is printed of an item and of those after it
+pub report_cons : (form : Form) (prefix text : Text) (item : LexerItem) (more : List LexerItem) → items_report form prefix text (item ∷ more) ≡ item_report form prefix text item ++ items_report form prefix text more
+unfolding items_report
+report_cons form prefix text item more = refl
+
+pub report_nil : (form : Form) (prefix text : Text) → items_report form prefix text [] ≡ []
+unfolding items_report
+report_nil form prefix text = refl
+
+-- a count that stops at the greatest number, and what is still to count
+pub saturated : (f n r most : ℕ) → min (min (f + n) most + r) most ≡ min (f + (n + r)) most
+saturated f n r most = omega arith
+
+pub count_cons : (item : LexerItem) (more : List LexerItem) → count_by is_fault (item ∷ more) ≡ count_by is_fault (item ∷ []) + count_by is_fault more
+count_cons item more = sum_by-append (λ x. cond (is_fault x) 1 0) (item ∷ []) more
+
+pub count_all : (text : Text) → fault_count text ≡ count_by is_fault (all_items text)
+unfolding fault_count
+count_all text = refl
+
+pub report_all : (form : Form) (name text : Text) → report form name text ≡ items_report form (prefix_of form name) text (all_items text)
+unfolding report
+report_all form name text = refl

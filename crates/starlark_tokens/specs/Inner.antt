@@ -1,0 +1,3 @@
+-- Definitions that only contracts of inner functions, and proofs, cite.
+pub mod Reporters
+pub mod ShownKinds

@@ -1,0 +1,12 @@
+pub mod Inner
+pub mod PythonLiterals
+pub mod JsonStrings
+pub mod Values
+pub mod Lines
+pub mod ShownPlaces
+pub mod Reports
+pub mod Totals
+pub mod ExitStatus
+pub mod Requests
+pub mod FileReports
+pub mod Progress

@@ -1,0 +1,85 @@
+-- Lines of tokens and faults: for people, as JSON, and with the line of the source.
+use Rattle.std.specs.Prelude.{ℕ, ◌+◌, ◌-◌, max, Bool, ◌&&◌, not, ◌==◌, if◌then◌else◌, List, [], ◌∷◌, ◌++◌, map, length, take, drop, codes, count_by, encode_utf8, replicate, slice_index}
+use Rattle.std.specs.Fmt.{decimal}
+use Rattle.std.specs.List.{after_last, flat_map, prefix_len}
+use Rattle.std.specs.Str.{chars}
+use Rattle.starlark_base.specs.Places.{Text, is_lf, place_at, place_text}
+use Rattle.starlark_base.specs.declared.codemap.resolved.ResolvedPos.{ResolvedPos}
+use Rattle.starlark_text.specs.Characters.{starts_character}
+use Rattle.starlark_base.specs.Positions.{utf16_column}
+use Rattle.starlark_tokens.specs.PythonLiterals.{is_hidden, one_line}
+use Rattle.starlark_base.specs.declared.position.Position.{Position}
+
+-- the line for people up to its value: `line:column-line:column kind`; the prefix names the text
+unfoldable pub readable_head : (prefix : Text) → (begin end : Position) → (kind : Text) → Text
+readable_head prefix begin end kind =
+    prefix ++ (place_text begin.place ++ (codes "-" ++ (place_text end.place ++ (codes " " ++ kind))))
+
+-- the line for people
+abbrev pub readable_line : (prefix : Text) → (begin end : Position) → (kind value : Text) → Text
+readable_line prefix begin end kind value = readable_head prefix begin end kind ++ (value ++ codes "\n")
+
+-- the lines and columns of a span as fields of an object of JSON
+unfoldable pub json_places : (begin end : Position) → Text
+json_places begin end =
+    codes ",\"line\":" ++ (decimal (begin.place.line + 1) ++ (codes ",\"column\":" ++ (decimal (begin.place.column + 1)
+    ++ (codes ",\"end_line\":" ++ (decimal (end.place.line + 1) ++ (codes ",\"end_column\":" ++ (decimal (end.place.column + 1)
+    ++ (codes ",\"utf16_column\":" ++ decimal (utf16_column begin + 1)))))))))
+
+-- the object of JSON up to its value; the prefix is its begin up to the kind
+unfoldable pub json_head : (prefix : Text) → (begin end : Position) → (kind : Text) → Text
+json_head prefix begin end kind =
+    prefix ++ (kind ++ (codes "\",\"begin\":" ++ (decimal begin.at ++ (codes ",\"end\":" ++ (decimal end.at
+    ++ (json_places begin end ++ codes ",\"value\":"))))))
+
+-- the line of an object of JSON
+abbrev pub json_line : (prefix : Text) → (begin end : Position) → (kind value : Text) → Text
+json_line prefix begin end kind value = json_head prefix begin end kind ++ (value ++ codes "}\n")
+
+-- the bytes of a line before an offset
+abbrev pub line_front : Text → ℕ → Text
+line_front text at = after_last is_lf (take at text)
+
+-- the bytes of a line from an offset on, without its LF
+abbrev pub line_back : Text → ℕ → Text
+line_back text at = take (prefix_len (λ b. not (is_lf b)) (drop at text)) (drop at text)
+
+-- a character of a line of the source: one that isn't shown as it is has the replacement character
+-- in its place, so that each takes one column; a tab stays
+abbrev pub source_char : ℕ → Text
+source_char c = if not (c == 9) && is_hidden c then encode_utf8 0xfffd else encode_utf8 c
+
+-- a part of a line of the source
+abbrev pub source_text : Text → Text
+source_text part = flat_map source_char (chars part)
+
+-- a text without the CR at its end, if it has one
+abbrev pub without_cr : Text → Text
+without_cr text = if slice_index text (length text - 1) == 13 then take (length text - 1) text else text
+
+-- carets: so many, but at least one
+abbrev pub carets : ℕ → Text
+carets count = replicate (max 1 count) 94
+
+-- what is below a character that is before the fault: a tab below a tab, else a space
+abbrev pub below : ℕ → Text
+below c = (if c == 9 then 9 else 32) ∷ []
+
+-- the line of a fault's place and message
+unfoldable pub fault_line : (prefix : Text) → ResolvedPos → (message : Text) → Text
+fault_line prefix place message = prefix ++ (place_text place ++ (codes ": " ++ (one_line message ++ codes "\n")))
+
+-- the line of the source, by what is before the fault and from it on
+unfoldable pub source_line : (front back : Text) → Text
+source_line front back = source_text front ++ (source_text (without_cr back) ++ codes "\n")
+
+-- the line with carets below the characters that begin in the fault on that line: at least one
+unfoldable pub caret_line : (front back : Text) → (len : ℕ) → Text
+caret_line front back len = flat_map below (chars front) ++ (carets (count_by starts_character (take len back)) ++ codes "\n")
+
+-- The lines of a fault: its place and message, the line of the source, and carets. `front` and `back`
+-- are that line before the place where the fault is shown and from it on. `len` bytes from there on
+-- belong to the fault.
+unfoldable pub fault_lines : (prefix : Text) → ResolvedPos → (message front back : Text) → (len : ℕ) → Text
+fault_lines prefix place message front back len =
+    fault_line prefix place message ++ (source_line front back ++ caret_line front back len)

@@ -1,0 +1,49 @@
+-- What was found in the sources of a run: for each the text that was read, or nothing where it couldn't be read.
+use Rattle.std.specs.Prelude.{◌≡◌, ℕ, ◌+◌, ◌-◌, ◌^◌, max, min, Bool, true, false, not, nat_lt, if◌then◌else◌, List, length, count_by, sum_by, Option, Some, None}
+use Rattle.std.specs.List.{list_any}
+use Rattle.starlark_base.specs.Places.{Text}
+use Rattle.starlark_tokens.specs.Reports.{fault_count}
+use Rattle.starlark_tokens.specs.declared.totals.Totals.{Totals}
+
+-- a count, which stops at the greatest number of 64 bits
+abbrev pub in_64_bits : ℕ → ℕ
+in_64_bits count = min count (2 ^ 64 - 1)
+
+abbrev pub is_read : Option Text → Bool
+is_read (Some text) = true
+is_read None = false
+
+-- how many faults a source has; none where it couldn't be read
+abbrev pub faults_in : Option Text → ℕ
+faults_in (Some text) = fault_count text
+faults_in None = 0
+
+-- how many files were read, how many of them have faults, how many faults these are, and whether some file couldn't
+-- be read
+abbrev pub totals_of : List (Option Text) → Totals
+totals_of sources = record {
+  files = in_64_bits (count_by is_read sources);
+  faulty_files = in_64_bits (count_by (λ source. nat_lt 0 (faults_in source)) sources);
+  faults = in_64_bits (sum_by faults_in sources);
+  has_failed = list_any (λ source. not (is_read source)) sources;
+}
+
+-- totals with one file more, which has so many faults
+abbrev pub with_file : Totals → (faults : ℕ) → Totals
+with_file totals faults = record {
+  files = in_64_bits (totals.files + 1);
+  faulty_files = if nat_lt 0 faults then in_64_bits (totals.faulty_files + 1) else totals.faulty_files;
+  faults = in_64_bits (totals.faults + faults);
+  has_failed = totals.has_failed;
+}
+
+-- totals with one source more
+abbrev pub with_source : Totals → Option Text → Totals
+with_source totals (Some text) = with_file totals (in_64_bits (fault_count text))
+with_source totals None = record totals { has_failed = true }
+
+-- The totals are those of as many sources as files are named, or of one, standard input, where none is named.
+pub record AreTotalsOf (names : ℕ) (totals : Totals) : Type 0 where
+  pub sources : List (Option Text)
+  pub each : length sources ≡ max 1 names
+  pub found : totals ≡ totals_of sources

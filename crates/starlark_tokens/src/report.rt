@@ -1,0 +1,100 @@
+//! Prints the report of a text.
+
+ghost use Rattle.std.specs.Prelude.{◌≡◌, ◌-◌, ◌<◌, ◌^◌, List, [], ◌∷◌, IfOk, IsSome, OnOk, Some, count_by, drop, length, min, string_bytes};
+ghost use Rattle.std.specs.Io.KnownBytes.{Appends};
+ghost use Rattle.starlark_base.specs.Sources.{SourceFile};
+ghost use Rattle.starlark_syntax.specs.RecoveringLexer.{all_items, left_after};
+ghost use Rattle.starlark_tokens.specs.Inner.Reporters.{IsReady, Keeps};
+ghost use Rattle.starlark_tokens.specs.Reports.{fault_count, is_fault, item_report, report};
+ghost use Rattle.starlark_syntax.specs.Lexer.{Answers, AnswersBetween, AnswersWithin};
+ghost use Rattle.starlark_token.specs.TextItems.{LexerItem};
+
+use crate::form::Form;
+use crate::reporter::Reporter;
+use starlark_base::codemap::{CodeMap, CodeMapId, FileSpan, OrMemory};
+use starlark_syntax::eval_exception::EvalException;
+use starlark_syntax::lexer::{Lexeme, RecoveringLexer};
+use starlark_text::dialect::Dialect;
+use std::alloc::{AllocError, Global};
+use std::io;
+use std::io::Write;
+
+/// The file span of an exception that has one.
+fn place_of(exception: &EvalException) -> &FileSpan
+    requires { IsSome exception.now.span }
+    ensures { exception.now.span ≡ Some result.now }
+{
+    let Some(place) = exception.error().span() else {
+        unreachable!()
+    };
+    place
+}
+
+/// Makes the lines of an item, and returns how many faults it is: 0 or 1.
+fn report_item(reporter: &mut Reporter<'_>, item: Lexeme) -> Result<usize, AllocError>
+    requires ready { IsReady reporter.old }
+    requires answered { (file : SourceFile) × (next : LexerItem) × Answers file next item }
+    requires within { AnswersWithin reporter.old.text.now (Some item) }
+    requires between { AnswersBetween reporter.old.text.now (Some item) }
+    ensures ready { OnOk result (IsReady reporter.new) }
+    ensures kept { OnOk result (Keeps reporter.old reporter.new) }
+    ensures going { OnOk result ((left : List LexerItem) → left_after (Some item) left ≡ drop 1 left) }
+    ensures lines { OnOk result ((file : SourceFile) (next : LexerItem) → Answers file next item
+        → string_bytes reporter.new.lines ≡ item_report reporter.old.form (string_bytes reporter.old.prefix) reporter.old.text.now next) }
+    ensures counted { IfOk result (λ count. (file : SourceFile) (next : LexerItem) → Answers file next item → count ≡ count_by is_fault (next ∷ [])) }
+{
+    match item {
+        Ok((begin, token, end)) => {
+            reporter.token(begin, &token, end)?;
+            Ok(0)
+        }
+        Err(OrMemory::Error(exception)) => {
+            let span = place_of(&exception).span;
+            reporter.fault(span, exception.error().kind())?;
+            Ok(1)
+        }
+        Err(OrMemory::Memory) => Err(AllocError),
+    }
+}
+
+/// A code map of an empty text, for faults of which only the span's bytes are used.
+fn empty_file(alloc: Global) -> Result<CodeMap, AllocError> {
+    let name = String::new(alloc);
+    CodeMap::new(alloc, CodeMapId::EMPTY, name, String::new(alloc)).map_err(|_| AllocError)
+}
+
+/// A lexer of all items of a text.
+fn lexer_of(alloc: Global, text: &str) -> Result<RecoveringLexer<'_>, AllocError>
+    requires { length text.now < 2 ^ 32 }
+    ensures text { IfOk result (λ lexer. lexer.text ≡ text.now) }
+    ensures left { IfOk result (λ lexer. lexer.left ≡ all_items text.now) }
+{
+    let file = empty_file(alloc)?;
+    RecoveringLexer::new(alloc, text, &Dialect::Extended, file).map_err(|_| AllocError)
+}
+
+/// Prints the report of the text `name` in a form, and returns how many faults it has.
+///
+/// The text must be shorter than 2^32 bytes. Fails where a write fails, and with `OutOfMemory`
+/// where memory runs out; then a beginning of the report may be written.
+pub fn report_text<W: Write>(
+    alloc: Global,
+    form: Form,
+    name: &str,
+    text: &str,
+    writer: &mut W,
+) -> io::Result<usize>
+    requires fits { length text.now < 2 ^ 32 }
+    ensures written { OnOk result (Appends (W.contents writer.old) (W.contents writer.new) (report form name.now text.now)) }
+    ensures counted { IfOk result (λ faults. faults ≡ min (fault_count text.now) (2 ^ 64 - 1)) }
+{
+    let mut reporter = Reporter::new(alloc, form, name, text)?;
+    let mut lexer = lexer_of(alloc, text)?;
+    let mut faults: usize = 0;
+    while let Some(item) = lexer.next() {
+        let count = report_item(&mut reporter, item)?;
+        writer.write_all(reporter.lines.as_bytes())?;
+        faults = faults.saturating_add(count);
+    }
+    Ok(faults)
+}

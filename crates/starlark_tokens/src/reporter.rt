@@ -1,0 +1,155 @@
+//! Makes the lines of the tokens and faults of one text.
+
+ghost use Rattle.std.specs.Prelude.{◌≡◌, ◌≤◌, ◌++◌, IfOk, OnOk, codes, string_bytes};
+ghost use Rattle.starlark_tokens.specs.JsonStrings.{json_string};
+ghost use Rattle.starlark_tokens.specs.PythonLiterals.{shown_name};
+ghost use Rattle.std.specs.Str.{IsCharBoundary};
+ghost use Rattle.starlark_tokens.specs.Inner.Reporters.{IsReady, Keeps};
+ghost use Rattle.starlark_tokens.specs.Inner.ShownKinds.{shown_of_kind};
+ghost use Rattle.starlark_base.specs.Positions.{IsPosition, position_at};
+ghost use Rattle.starlark_tokens.specs.Reports.{fault_report, prefix_of, token_report};
+ghost use Rattle.starlark_tokens.specs.ShownPlaces.{shown_at};
+ghost use Rattle.starlark_syntax.specs.Errors.{kind_text};
+ghost use Rattle.starlark_token.specs.TokenViews.{token_view};
+
+use crate::form::Form;
+use crate::item_lines::{FaultPositions, push_fault, push_token};
+use crate::json_strings::push_json_string;
+use crate::python_literals::push_name;
+use crate::shown_places::shown_position;
+use starlark_base::codemap::Span;
+use starlark_base::position::Position;
+use starlark_syntax::error::ErrorKind;
+use starlark_token::tokens::Token;
+use std::alloc::{AllocError, Global};
+
+/// A maker of the lines of one text: what each line begins with, and the lines in the making.
+#[derive(Drop)]
+pub struct Reporter<'t> {
+    form: Form,
+    text: &'t str,
+    prefix: String,
+    /// The lines of the last token or fault.
+    pub lines: String,
+    message: String,
+    here: Position,
+    last_fault: Position,
+}
+
+/// A name before each line, for people.
+fn named_prefix(alloc: Global, name: &str) -> Result<String, AllocError>
+    ensures { IfOk result (λ prefix. string_bytes prefix ≡ shown_name name.now ++ codes ":") }
+{
+    let mut prefix = String::new(alloc);
+    push_name(&mut prefix, name)?;
+    prefix.push_str(":")?;
+    Ok(prefix)
+}
+
+/// The start of each JSON object, up to the kind.
+fn json_prefix(alloc: Global, name: &str) -> Result<String, AllocError>
+    ensures { IfOk result (λ prefix. string_bytes prefix ≡ codes "{\"file\":" ++ (json_string name.now ++ codes ",\"kind\":\"")) }
+{
+    let mut prefix = String::from_str(alloc, "{\"file\":")?;
+    push_json_string(&mut prefix, name)?;
+    prefix.push_str(",\"kind\":\"")?;
+    Ok(prefix)
+}
+
+/// What each line begins with, by the form and the text's name.
+#[tactic(auto, unfolding(crate::specs::Reports::prefix_of))]
+fn prefix(alloc: Global, form: Form, name: &str) -> Result<String, AllocError>
+    ensures { IfOk result (λ prefix. string_bytes prefix ≡ prefix_of form name.now) }
+{
+    match form {
+        Form::Tokens => Ok(String::new(alloc)),
+        Form::NamedTokens => named_prefix(alloc, name),
+        Form::Json => json_prefix(alloc, name),
+        Form::Faults => named_prefix(alloc, name),
+        Form::JsonFaults => json_prefix(alloc, name),
+    }
+}
+
+impl<'t> Reporter<'t> {
+    /// A maker of lines for a text of a name, in a form.
+    pub fn new(
+        alloc: Global,
+        form: Form,
+        name: &str,
+        text: &'t str,
+    ) -> Result<Reporter<'t>, AllocError>
+        ensures ready { IfOk result IsReady }
+        ensures form { IfOk result (λ reporter. reporter.form ≡ form) }
+        ensures text { IfOk result (λ reporter. reporter.text.now ≡ text.now) }
+        ensures prefix { IfOk result (λ reporter. string_bytes reporter.prefix ≡ prefix_of form name.now) }
+    {
+        let prefix = prefix(alloc, form, name)?;
+        Ok(Reporter {
+            form,
+            text,
+            prefix,
+            lines: String::new(alloc),
+            message: String::new(alloc),
+            here: Position::START,
+            last_fault: Position::START,
+        })
+    }
+
+    /// Makes the lines of a token: none where the form has only faults.
+    pub fn token(&mut self, begin: usize, token: &Token, end: usize) -> Result<(), AllocError>
+        requires ready { IsReady self.old }
+        requires begin { IsCharBoundary self.old.text.now begin }
+        requires end { IsCharBoundary self.old.text.now end }
+        requires order { begin ≤ end }
+        ensures ready { OnOk result (IsReady self.new) }
+        ensures kept { OnOk result (Keeps self.old self.new) }
+        ensures lines { OnOk result (string_bytes self.new.lines ≡ token_report self.old.form (string_bytes self.old.prefix)
+            (position_at self.old.text.now begin) (position_at self.old.text.now end) (token_view token.now)) }
+    {
+        self.lines.clear();
+        if self.form.has_only_faults() {
+            return Ok(());
+        }
+        let begin = Position::nearest(self.here, self.last_fault, self.text, begin);
+        let end = begin.moved(self.text, end);
+        self.here = end;
+        push_token(
+            &mut self.lines,
+            self.form,
+            self.prefix.as_str(),
+            begin,
+            end,
+            token,
+        )
+    }
+
+    /// Makes the lines of a fault.
+    pub fn fault(&mut self, span: Span, kind: &ErrorKind) -> Result<(), AllocError>
+        requires ready { IsReady self.old }
+        requires begin { IsCharBoundary self.old.text.now span.begin }
+        requires end { IsCharBoundary self.old.text.now span.end }
+        ensures ready { OnOk result (IsReady self.new) }
+        ensures kept { OnOk result (Keeps self.old self.new) }
+        ensures lines { OnOk result (string_bytes self.new.lines ≡ fault_report self.old.form (string_bytes self.old.prefix) self.old.text.now
+            (position_at self.old.text.now (shown_at self.old.text.now (shown_of_kind kind.now) span.begin span.end))
+            (position_at self.old.text.now span.begin) (position_at self.old.text.now span.end) (kind_text kind.now)) }
+    {
+        let begin = span.begin().get() as usize;
+        let begin = Position::nearest(self.here, self.last_fault, self.text, begin);
+        let end = begin.moved(self.text, span.end().get() as usize);
+        let shown = shown_position(self.text, kind, begin, end);
+        self.here = end;
+        self.last_fault = end;
+        self.message.clear();
+        write!(self.message, "{kind}")?;
+        self.lines.clear();
+        push_fault(
+            &mut self.lines,
+            self.form,
+            self.prefix.as_str(),
+            self.text,
+            FaultPositions { begin, end, shown },
+            self.message.as_str(),
+        )
+    }
+}
