@@ -53,6 +53,26 @@ fn percentile(times: &[u128], part: usize) -> u128 {
     times.get(at).copied().unwrap_or(0)
 }
 
+/// Types `count` characters into a document, each at another place, and deletes each again. Returns
+/// the bytes that typing lexed.
+fn type_all(
+    rt: &HostRuntime,
+    document: &mut Document,
+    count: u32,
+    times: &mut Vec<u128>,
+) -> Result<usize, BenchFault> {
+    let mut lexed: usize = 0;
+    let mut number = 1;
+    for typed in TYPED.iter().cycle().take(count as usize) {
+        number = next_number(number);
+        let at = offset_in(document, number);
+        let change = timed_edit(rt, document, (at, at), typed, times)?;
+        lexed = lexed.saturating_add(change.lexed);
+        timed_edit(rt, document, (at, at.saturating_add(1)), "", times)?;
+    }
+    Ok(lexed)
+}
+
 /// Makes a document of a text, types `count` characters in its middle half, each at another place, and
 /// deletes each again. Prints a line: the text's bytes, the nanoseconds of making the document, those
 /// of a keystroke at the median and at 99 %, and the bytes that a keystroke lexed on average.
@@ -61,21 +81,7 @@ pub fn print_keystrokes(rt: &HostRuntime, text: &str, count: u32) -> Result<(), 
     let mut document = Document::new(rt.alloc(), text)?;
     let made = start.elapsed(rt)?.as_nanos();
     let mut times = Vec::new(rt.alloc());
-    let mut lexed: usize = 0;
-    let mut number = 1;
-    for typed in TYPED.iter().cycle().take(count as usize) {
-        number = next_number(number);
-        let at = offset_in(&document, number);
-        let change = timed_edit(rt, &mut document, (at, at), typed, &mut times)?;
-        lexed = lexed.saturating_add(change.lexed);
-        timed_edit(
-            rt,
-            &mut document,
-            (at, at.saturating_add(1)),
-            "",
-            &mut times,
-        )?;
-    }
+    let lexed = type_all(rt, &mut document, count, &mut times)?;
     times.sort_unstable();
     let (median, most) = (percentile(&times, 50), percentile(&times, 99));
     let mean = lexed / (count as usize).max(1);

@@ -21,7 +21,7 @@ mod found_lines;
 use crate::documents::commands::{Command, read_command};
 use crate::documents::found_lines::{add_faults, add_lexemes, found_in};
 use crate::stored_parts::invalid_data;
-use starlark_document::{Document, Edit, EditError};
+use starlark_document::{Change, Document, Edit, EditError, Place};
 use std::alloc::{AllocError, Global};
 use std::fmt::Write as FmtWrite;
 use std::io;
@@ -44,18 +44,43 @@ fn lines_of(alloc: Global, document: &Document) -> Result<String, AllocError> {
     Ok(lines)
 }
 
+/// Whether a document writes a text.
+fn is_written(alloc: Global, document: &Document, text: &str) -> io::Result<bool> {
+    let mut written = Vec::new(alloc);
+    document.write_to(&mut written)?;
+    Ok(written.as_slice() == text.as_bytes())
+}
+
+/// Whether lexing a text finds what a document has.
+fn is_found(alloc: Global, document: &Document, text: &str) -> Result<bool, AllocError> {
+    let found = found_in(alloc, text)?;
+    Ok(found == lines_of(alloc, document)?)
+}
+
 /// The word that says whether a document writes its whole text, and has what lexing it finds.
 fn compared(alloc: Global, document: &Document) -> io::Result<&'static str> {
     let Some(text) = document.slice(0, document.len())? else {
         return Ok("no text");
     };
-    let mut written = Vec::new(alloc);
-    document.write_to(&mut written)?;
-    if written.as_slice() != text.as_bytes() {
+    if !is_written(alloc, document, text.as_str())? {
         return Ok("another text");
     }
-    let same = found_in(alloc, text.as_str())? == lines_of(alloc, document)?;
+    let same = is_found(alloc, document, text.as_str())?;
     Ok(if same { "same" } else { "different" })
+}
+
+/// The numbers of a change.
+fn shown_change(alloc: Global, change: &Change) -> Result<String, AllocError> {
+    let mut numbers = String::new(alloc);
+    write!(numbers, "{} {} ", change.begin, change.old_end)?;
+    write!(numbers, "{} {}", change.new_end, change.lexed)?;
+    Ok(numbers)
+}
+
+/// What a call returned, and the word for the document after it.
+fn with_comparison(alloc: Global, returned: &str, document: &Document) -> io::Result<String> {
+    let word = compared(alloc, document)?;
+    Ok(format!(in alloc; "{returned} {word}")?)
 }
 
 /// Runs an edit, and returns the line that says what it returned.
@@ -66,79 +91,109 @@ fn edit_line(
     to: usize,
     text: &str,
 ) -> io::Result<String> {
-    let mut line = String::new(alloc);
-    match document.edit(from, to, text) {
-        Ok(change) => {
-            let (begin, old_end, new_end) = (change.begin, change.old_end, change.new_end);
-            write!(line, "{begin} {old_end} {new_end} {} ", change.lexed)?;
-        }
-        Err(error) => write!(line, "{} ", word_of(error))?,
-    }
-    line.push_str(compared(alloc, document)?)?;
-    Ok(line)
+    let edited = match document.edit(from, to, text) {
+        Ok(change) => shown_change(alloc, &change)?,
+        Err(error) => word_of(error).to_string(alloc)?,
+    };
+    with_comparison(alloc, edited.as_str(), document)
 }
 
 /// Makes an edit twice, and returns the line that says how many were made or which one was refused.
 fn twice_line(alloc: Global, document: &mut Document, edit: Edit<'_>) -> io::Result<String> {
+    let edited = match document.edit_all(&[edit, edit]) {
+        Ok(count) => count.to_string(alloc)?,
+        Err((index, error)) => format!(in alloc; "{index} {}", word_of(error))?,
+    };
+    with_comparison(alloc, edited.as_str(), document)
+}
+
+/// Replaces the document by one of a text, and returns the word for it.
+fn new_line(
+    alloc: Global,
+    document: &mut Document,
+    least: usize,
+    text: &str,
+) -> io::Result<String> {
+    *document = Document::with_segment_len(alloc, text, least).map_err(|_| AllocError)?;
+    Ok(compared(alloc, document)?.to_string(alloc)?)
+}
+
+/// The lines of the lexemes from an offset on.
+fn lines_from(alloc: Global, document: &Document, at: usize) -> Result<String, AllocError> {
+    let mut lines = String::new(alloc);
+    add_lexemes(&mut lines, document.lexemes_from(at))?;
+    Ok(lines)
+}
+
+/// The numbers of a place, or `none`.
+fn place_line(alloc: Global, place: Option<Place>) -> Result<String, AllocError> {
+    let Some(place) = place else {
+        return "none".to_string(alloc);
+    };
     let mut line = String::new(alloc);
-    match document.edit_all(&[edit, edit]) {
-        Ok(count) => write!(line, "{count} ")?,
-        Err((index, error)) => write!(line, "{index} {} ", word_of(error))?,
-    }
-    line.push_str(compared(alloc, document)?)?;
+    write!(line, "{} {} ", place.line, place.column)?;
+    write!(line, "{}", place.utf16_column)?;
     Ok(line)
+}
+
+/// An offset, or `none`.
+fn offset_line(alloc: Global, offset: Option<usize>) -> Result<String, AllocError> {
+    match offset {
+        Some(at) => at.to_string(alloc),
+        None => "none".to_string(alloc),
+    }
+}
+
+/// A text, or `none`.
+fn text_line(alloc: Global, text: Option<String>) -> Result<String, AllocError> {
+    match text {
+        Some(text) => Ok(text),
+        None => "none".to_string(alloc),
+    }
 }
 
 /// Runs a command, and returns its lines.
 fn run(alloc: Global, document: &mut Document, command: Command<'_>) -> io::Result<String> {
-    let mut lines = String::new(alloc);
-    match command {
-        Command::New(least, text) => {
-            let made = Document::with_segment_len(alloc, text, least);
-            *document = made.map_err(|_| AllocError)?;
-            lines.push_str(compared(alloc, document)?)?;
-        }
-        Command::Edit(from, to, text) => lines = edit_line(alloc, document, from, to, text)?,
+    let lines = match command {
+        Command::New(least, text) => return new_line(alloc, document, least, text),
+        Command::Edit(from, to, text) => return edit_line(alloc, document, from, to, text),
         Command::Twice(from, to, text) => {
-            lines = twice_line(alloc, document, Edit { from, to, text })?;
+            return twice_line(alloc, document, Edit { from, to, text });
         }
-        Command::Show => lines = lines_of(alloc, document)?,
-        Command::From(at) => add_lexemes(&mut lines, document.lexemes_from(at))?,
-        Command::Lines => write!(lines, "{}", document.line_count())?,
-        Command::Place(at) => match document.place(at) {
-            Some(place) => {
-                write!(
-                    lines,
-                    "{} {} {}",
-                    place.line, place.column, place.utf16_column
-                )?;
-            }
-            None => lines.push_str("none")?,
-        },
-        Command::Offset(line, column) => match document.offset_at_utf16(line, column) {
-            Some(at) => write!(lines, "{at}")?,
-            None => lines.push_str("none")?,
-        },
-        Command::Slice(from, to) => match document.slice(from, to)? {
-            Some(text) => lines = text,
-            None => lines.push_str("none")?,
-        },
-    }
-    Ok(lines)
+        Command::Show => lines_of(alloc, document),
+        Command::From(at) => lines_from(alloc, document, at),
+        Command::Lines => document.line_count().to_string(alloc),
+        Command::Place(at) => place_line(alloc, document.place(at)),
+        Command::Offset(line, column) => {
+            offset_line(alloc, document.offset_at_utf16(line, column))
+        }
+        Command::Slice(from, to) => text_line(alloc, document.slice(from, to)?),
+    };
+    Ok(lines?)
 }
 
-/// Runs all commands, and prints what they return.
-pub fn print_all<W: Write>(alloc: Global, out: &mut W, stored: &[u8]) -> io::Result<()> {
-    let mut document = Document::new(alloc, "").map_err(|_| AllocError)?;
+/// Runs all commands on a document, and prints what they return.
+fn print_runs<W: Write>(
+    alloc: Global,
+    out: &mut W,
+    document: &mut Document,
+    stored: &[u8],
+) -> io::Result<()> {
     let mut rest = stored;
     for number in 1..u64::MAX {
         if rest.is_empty() {
             break;
         }
         let (command, after) = read_command(rest).ok_or_else(invalid_data)?;
-        let lines = run(alloc, &mut document, command)?;
+        let lines = run(alloc, document, command)?;
         writeln!(out, "{number} {lines}")?;
         rest = after;
     }
     Ok(())
+}
+
+/// Runs all commands, and prints what they return.
+pub fn print_all<W: Write>(alloc: Global, out: &mut W, stored: &[u8]) -> io::Result<()> {
+    let mut document = Document::new(alloc, "").map_err(|_| AllocError)?;
+    print_runs(alloc, out, &mut document, stored)
 }

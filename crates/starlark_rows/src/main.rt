@@ -36,22 +36,34 @@ fn print_part<W: Write>(alloc: Global, out: &mut W, part: Part<'_>) -> io::Resul
     }
 }
 
-fn main(rt: HostRuntime) -> io::Result<()> {
-    let alloc = rt.alloc();
-    let mut stored = Vec::new(alloc);
-    rt.stdin().read_to_end(&mut stored)?;
-    let mut out = BufWriter::new(alloc, rt.stdout())?;
-    let mut rest = stored.as_slice();
+/// Prints a part of what is printed for a part: its name, its length, and what its calls, texts or
+/// commands return.
+fn print_with_len<W: Write>(alloc: Global, out: &mut W, part: Part<'_>) -> io::Result<()> {
+    let mut printed = Vec::new(alloc);
+    print_part(alloc, &mut printed, part)?;
+    write!(out, "part {} {}\n", part.name, printed.len())?;
+    out.write_all(printed.as_slice())
+}
+
+/// Prints what the parts of standard input give.
+fn print_parts<W: Write>(alloc: Global, out: &mut W, stored: &[u8]) -> io::Result<()> {
+    let mut rest = stored;
     for _ in 0..u64::MAX {
         if rest.is_empty() {
             break;
         }
         let (part, after) = first_part(rest).ok_or_else(invalid_data)?;
-        let mut printed = Vec::new(alloc);
-        print_part(alloc, &mut printed, part)?;
-        write!(out, "part {} {}\n", part.name, printed.len())?;
-        out.write_all(printed.as_slice())?;
+        print_with_len(alloc, out, part)?;
         rest = after;
     }
+    Ok(())
+}
+
+fn main(rt: HostRuntime) -> io::Result<()> {
+    let alloc = rt.alloc();
+    let mut stored = Vec::new(alloc);
+    rt.stdin().read_to_end(&mut stored)?;
+    let mut out = BufWriter::new(alloc, rt.stdout())?;
+    print_parts(alloc, &mut out, stored.as_slice())?;
     out.flush()
 }

@@ -34,22 +34,40 @@ fn add_next(
     Ok(true)
 }
 
-/// The lines of all lexemes and all faults of a text.
+/// Appends the lines of all items of a lexer.
 ///
-/// After the last one a lexer must yield `None` again; a line says where it doesn't.
-fn lines_of(alloc: Global, text: &str) -> Result<String, AllocError> {
-    let file = file_of(alloc, text)?;
-    let lexer = RecoveringLexer::new(alloc, text, &Dialect::Standard, file.dupe()?);
-    let mut lexer = lexer.map_err(|_| AllocError)?;
-    let mut lines = String::new(alloc);
+/// After the last one it must yield `None` again; a line says where it doesn't.
+fn add_all(
+    lines: &mut String,
+    file: &CodeMap,
+    lexer: &mut RecoveringLexer<'_>,
+) -> Result<(), AllocError> {
     for _ in 0..u64::MAX {
-        if !add_next(&mut lines, &file, &mut lexer)? {
+        if !add_next(lines, file, lexer)? {
             break;
         }
     }
-    if lexer.next().is_some() {
-        lines.push_str("more after the end\n")?;
+    match lexer.next() {
+        None => Ok(()),
+        Some(_) => lines.push_str("more after the end\n"),
     }
+}
+
+/// A lexer of a text that goes on after faults, which it places in a code map.
+fn lexer_in<'a>(
+    alloc: Global,
+    text: &'a str,
+    file: &CodeMap,
+) -> Result<RecoveringLexer<'a>, AllocError> {
+    RecoveringLexer::new(alloc, text, &Dialect::Standard, file.dupe()?).map_err(|_| AllocError)
+}
+
+/// The lines of all lexemes and all faults of a text.
+fn lines_of(alloc: Global, text: &str) -> Result<String, AllocError> {
+    let file = file_of(alloc, text)?;
+    let mut lexer = lexer_in(alloc, text, &file)?;
+    let mut lines = String::new(alloc);
+    add_all(&mut lines, &file, &mut lexer)?;
     Ok(lines)
 }
 

@@ -90,15 +90,21 @@ fn lexer<'a>(
     given(Lexer::new(alloc, text, &Dialect::Standard, map))
 }
 
+/// Adds all items of a lexer, or those before an allocation failure.
+fn add_all(alloc: Global, list: &mut String, lexer: &mut Lexer<'_>) -> Result<(), AllocError> {
+    for _ in 0..u64::MAX {
+        if !add_next(alloc, list, lexer)? {
+            break;
+        }
+    }
+    Ok(())
+}
+
 /// The lexemes of a text, or those before an allocation failure, over a code map of this name and source.
 fn lexemes_in(alloc: Global, text: &str, name: &str, source: &str) -> Answer {
     let mut lexer = lexer(alloc, text, name, source)?;
     let mut list = String::new(alloc);
-    for _ in 0..u64::MAX {
-        if !add_next(alloc, &mut list, &mut lexer)? {
-            break;
-        }
-    }
+    add_all(alloc, &mut list, &mut lexer)?;
     Ok(list)
 }
 
@@ -124,19 +130,25 @@ fn pass_other(lexer: &mut Lexer<'_>) -> Result<bool, AllocError> {
     }
 }
 
-/// The plain lexemes of a text, and `other` for each item that isn't one.
-fn plain_lexemes(alloc: Global, text: &str) -> Answer {
-    let mut lexer = lexer(alloc, text, "f", text)?;
-    let mut list = String::new(alloc);
+/// Adds the plain lexemes of a lexer, and `other` for each item that isn't one.
+fn add_all_plain(list: &mut String, lexer: &mut Lexer<'_>, text: &str) -> Result<(), AllocError> {
     for _ in 0..u64::MAX {
         if let Some(plain) = lexer.next_plain() {
-            add_plain(&mut list, text, plain)?;
-        } else if pass_other(&mut lexer)? {
+            add_plain(list, text, plain)?;
+        } else if pass_other(lexer)? {
             list.push_str("other; ")?;
         } else {
             break;
         }
     }
+    Ok(())
+}
+
+/// The plain lexemes of a text, and `other` for each item that isn't one.
+fn plain_lexemes(alloc: Global, text: &str) -> Answer {
+    let mut lexer = lexer(alloc, text, "f", text)?;
+    let mut list = String::new(alloc);
+    add_all_plain(&mut list, &mut lexer, text)?;
     Ok(list)
 }
 

@@ -63,23 +63,47 @@ fn add_exception(lines: &mut String, exception: &EvalException) -> Result<(), Al
     add_fault(lines, begin as usize, kind, end as usize)
 }
 
-/// The lines of all lexemes of a text that is lexed on after its faults, and then of all faults.
-pub fn found_in(alloc: Global, text: &str) -> Result<String, AllocError> {
+/// A lexer that goes on after faults. Its code map has no source.
+fn lexer_of(alloc: Global, text: &str) -> Result<RecoveringLexer<'_>, AllocError> {
     let name = String::new(alloc);
     let file = CodeMap::new(alloc, CodeMapId::EMPTY, name, String::new(alloc));
     let file = file.map_err(|_| AllocError)?;
-    let lexer = RecoveringLexer::new(alloc, text, &Dialect::Standard, file);
-    let mut lexer = lexer.map_err(|_| AllocError)?;
-    let mut lines = String::new(alloc);
-    let mut faults = String::new(alloc);
+    RecoveringLexer::new(alloc, text, &Dialect::Standard, file).map_err(|_| AllocError)
+}
+
+/// Appends the line of the next item to those of lexemes or of faults. Returns whether there was one.
+fn add_next(
+    lines: &mut String,
+    faults: &mut String,
+    lexer: &mut RecoveringLexer<'_>,
+) -> Result<bool, AllocError> {
+    match lexer.next() {
+        None => return Ok(false),
+        Some(Ok((begin, token, end))) => add_lexeme(lines, begin, &token, end)?,
+        Some(Err(OrMemory::Error(fault))) => add_exception(faults, &fault)?,
+        Some(Err(OrMemory::Memory)) => return Err(AllocError),
+    }
+    Ok(true)
+}
+
+/// Appends the lines of all items of a lexer: first those of lexemes, and then those of faults.
+fn add_all(
+    lines: &mut String,
+    faults: &mut String,
+    lexer: &mut RecoveringLexer<'_>,
+) -> Result<(), AllocError> {
     for _ in 0..u64::MAX {
-        match lexer.next() {
-            None => break,
-            Some(Ok((begin, token, end))) => add_lexeme(&mut lines, begin, &token, end)?,
-            Some(Err(OrMemory::Error(fault))) => add_exception(&mut faults, &fault)?,
-            Some(Err(OrMemory::Memory)) => return Err(AllocError),
+        if !add_next(lines, faults, lexer)? {
+            break;
         }
     }
-    lines.push_str(faults.as_str())?;
+    lines.push_str(faults.as_str())
+}
+
+/// The lines of all lexemes of a text that is lexed on after its faults, and then of all faults.
+pub fn found_in(alloc: Global, text: &str) -> Result<String, AllocError> {
+    let mut lexer = lexer_of(alloc, text)?;
+    let mut lines = String::new(alloc);
+    add_all(&mut lines, &mut String::new(alloc), &mut lexer)?;
     Ok(lines)
 }

@@ -197,6 +197,41 @@ fn is_fault(
     }
 }
 
+/// Whether the next items of a lexer are the lexemes of a text, after which none is plain.
+fn are_next(
+    alloc: Global,
+    lexer: &mut Lexer<'_>,
+    lexed: &LexedText<'_>,
+    is_plain_first: bool,
+) -> Result<bool, AllocError> {
+    for lexeme in lexed.lexemes() {
+        if !is_next(alloc, lexer, lexed.text(), lexeme, is_plain_first)? {
+            return Ok(false);
+        }
+    }
+    Ok(!is_plain_first || lexer.next_plain().is_none())
+}
+
+/// Whether a lexer yields nothing more than a text's fault, if it has one. `None` must come twice.
+fn is_ended(
+    alloc: Global,
+    lexer: &mut Lexer<'_>,
+    lexed: &LexedText<'_>,
+) -> Result<bool, AllocError> {
+    if let Some(fault) = lexed.fault() {
+        if !is_fault(alloc, &lexer.next(), fault)? {
+            return Ok(false);
+        }
+    }
+    Ok(lexer.next().is_none() && lexer.next().is_none())
+}
+
+/// A lexer of a text with a code map of an empty text.
+fn lexer_of(alloc: Global, text: &str) -> Result<Lexer<'_>, AllocError> {
+    let file = file_of(alloc, "")?;
+    Lexer::new(alloc, text, &Dialect::Standard, file).map_err(|_| AllocError)
+}
+
 /// Whether a lexer with a code map of an empty text yields the same lexemes and fault.
 ///
 /// After these it must yield `None`, twice. Where `is_plain_first`, `next_plain` is called before each
@@ -206,24 +241,9 @@ fn is_yielded(
     lexed: &LexedText<'_>,
     is_plain_first: bool,
 ) -> Result<bool, AllocError> {
-    let file = file_of(alloc, "")?;
-    let Ok(mut lexer) = Lexer::new(alloc, lexed.text(), &Dialect::Standard, file) else {
-        return Ok(false);
-    };
-    for lexeme in lexed.lexemes() {
-        if !is_next(alloc, &mut lexer, lexed.text(), lexeme, is_plain_first)? {
-            return Ok(false);
-        }
-    }
-    if is_plain_first && lexer.next_plain().is_some() {
-        return Ok(false);
-    }
-    if let Some(fault) = lexed.fault() {
-        if !is_fault(alloc, &lexer.next(), fault)? {
-            return Ok(false);
-        }
-    }
-    Ok(lexer.next().is_none() && lexer.next().is_none())
+    let mut lexer = lexer_of(alloc, lexed.text())?;
+    let has_all = are_next(alloc, &mut lexer, lexed, is_plain_first)?;
+    Ok(has_all && is_ended(alloc, &mut lexer, lexed)?)
 }
 
 /// What is wrong with the lexemes of a text, if anything is.

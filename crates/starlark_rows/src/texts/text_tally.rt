@@ -62,7 +62,11 @@ impl Tally {
         let mut reader = Watched::new(text.as_bytes());
         let mut writer = Watched::new(Vec::new(alloc));
         let _ = run(alloc, "<stdin>", &mut reader, &mut writer);
-        let printed = writer.device().as_slice();
+        self.add_printed(alloc, text, writer.device().as_slice())
+    }
+
+    /// Checks the output for a text and the text's lexemes, and adds it.
+    fn add_printed(&mut self, alloc: Global, text: &str, printed: &[u8]) -> Result<(), AllocError> {
         let file = file_of(alloc, text)?;
         let lexed = lexed_in(alloc, text, &file)?;
         self.add(&lexed, printed);
