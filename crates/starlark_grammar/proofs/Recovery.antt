@@ -6,6 +6,7 @@ pub mod MarginTabs
 pub mod DecidedFaults
 pub mod EarlierLexemes
 pub mod Order
+pub mod RestartLines
 pub mod ClosedBlocks
 pub mod LineCuts
 pub mod NewlinePieces

@@ -3,8 +3,7 @@ use Rattle.std.specs.Prelude.{ℕ, ◌+◌, ◌-◌, max, min, Bool, true, false
 use Rattle.std.specs.List.{prefix_len, starts_with}
 use Rattle.starlark_grammar.specs.Words.{Text}
 use Rattle.starlark_grammar.specs.Tokens.{Spanned, Fault, InvalidTab}
-use Rattle.starlark_grammar.specs.Margins.{is_lf, margin_of}
-use Rattle.starlark_grammar.specs.Gaps.{begins_with_line_end}
+use Rattle.starlark_grammar.specs.Margins.{is_lf, margin_of, begins_with_line_end}
 
 -- The start of the line after the one that holds an offset, or the end of the text.
 unfoldable pub next_line : Text → ℕ → ℕ

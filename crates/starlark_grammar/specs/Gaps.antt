@@ -1,14 +1,9 @@
 -- What stands between lexemes.
-use Rattle.std.specs.Prelude.{◌≡◌, ◌≤◌, ◌<◌, ℕ, Bool, true, ◌&&◌, ◌||◌, ◌==◌, nat_eq, List, [], ◌∷◌, drop, codes}
-use Rattle.std.specs.List.{starts_with}
+use Rattle.std.specs.Prelude.{◌≡◌, ◌≤◌, ◌<◌, ℕ, Bool, true, ◌&&◌, ◌||◌, ◌==◌, List, [], ◌∷◌, drop}
 use Rattle.std.specs.Str.{byte}
 use Rattle.starlark_grammar.specs.Words.{Text}
 use Rattle.starlark_grammar.specs.Tokens.{Lexeme}
-use Rattle.starlark_grammar.specs.Margins.{is_blank, is_lf}
-
--- whether a line end stands at the front
-abbrev pub begins_with_line_end : Text → Bool
-begins_with_line_end text = starts_with nat_eq text (codes "\n") || starts_with nat_eq text (codes "\r\n")
+use Rattle.starlark_grammar.specs.Margins.{begins_with_line_end, is_blank, is_lf}
 
 -- What may stand between lexemes: a space, a tab, a CR, an LF, or a backslash right before a line end.
 unfoldable pub is_gap_byte : Text → Bool

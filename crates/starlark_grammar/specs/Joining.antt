@@ -122,7 +122,11 @@ ClosedTextsJoin = (first second : Text) → is_closed first ≡ true → begins_
 abbrev pub ClosedOfJoined : Type 0
 ClosedOfJoined = (first second : Text) → is_closed first ≡ true → begins_plainly second ≡ true → is_closed (first ++ second) ≡ is_closed second
 
--- A text with a fault is closed exactly where its fault is decided and the rest after it is closed.
+-- A text without fault is closed exactly where it has no bytes or is a cut between lines, …
+abbrev pub ClosedFaultless : Type 0
+ClosedFaultless = (text : Text) → (outcome text).fault ≡ None → is_closed text ≡ (length text == 0 || is_line_cut text)
+
+-- … and one with a fault exactly where its fault is decided and the rest after it is closed.
 abbrev pub ClosedAfterFaults : Type 0
 ClosedAfterFaults = (text : Text) (fault : Spanned Fault) → (outcome text).fault ≡ Some fault
     → is_closed text ≡ (is_decided text fault && is_closed (drop (restart text fault) text))

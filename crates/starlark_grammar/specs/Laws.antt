@@ -3,13 +3,14 @@ use Rattle.std.specs.Prelude.{◌≡◌, ◌≤◌, ◌↔◌, ℕ, ◌+◌, ◌
 use Rattle.std.specs.List.{AllByRecursion}
 use Rattle.std.specs.Str.{IsUtf8, IsCharBoundary}
 use Rattle.starlark_grammar.specs.Words.{Text, Kind, OfFString, Class, Table, class_in, language}
-use Rattle.starlark_grammar.specs.Front.{IsLongestFront, language_front}
+use Rattle.starlark_grammar.specs.Front.{language_front}
+use Rattle.starlark_grammar.specs.Longest.{IsLongestFront, IsReading, IsOutcome}
 use Rattle.starlark_grammar.specs.Tokens.{Token, Indent, Dedent, Opening, Spanned, Lexeme, Outcome}
 use Rattle.starlark_grammar.specs.Items.{Literal, Item, Stop, Closing, Body, body_at, closing_quotes}
 use Rattle.starlark_grammar.specs.Literals.{ItemAt, items_len, items_value, IsGoodBody, IsBadBody, IsBody}
 use Rattle.starlark_grammar.specs.Depths.{Mode}
 use Rattle.starlark_grammar.specs.Pieces.{Piece, token, literal_token, literal_by, literal, chunk_by, chunk}
-use Rattle.starlark_grammar.specs.Reading.{History, IsReading, pieces_len, outcome_in, outcome, IsOutcome}
+use Rattle.starlark_grammar.specs.Reading.{History, pieces_len, outcome_in, outcome}
 use Rattle.starlark_grammar.specs.EarlierLanguage.{earlier_language, holds_rf_opener}
 use Rattle.starlark_grammar.specs.Gaps.{InOrder}
 

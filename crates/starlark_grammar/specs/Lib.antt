@@ -12,6 +12,7 @@ pub mod Depths
 pub mod Margins
 pub mod Pieces
 pub mod Reading
+pub mod Longest
 pub mod Gaps
 pub mod AfterFaults
 pub mod EarlierLanguage

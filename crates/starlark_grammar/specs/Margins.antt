@@ -1,6 +1,6 @@
 -- Margins, which stand at the start of lines, and the widths that are open.
-use Rattle.std.specs.Prelude.{ℕ, suc, ◌+◌, Bool, false, ◌&&◌, ◌||◌, not, ◌==◌, if◌then◌else◌, nat_eq, nat_lt, List, [], ◌∷◌, length, take, drop, take_while, count_by, sum_by, replicate}
-use Rattle.std.specs.List.{list_all, list_any, onto_first, prefix_len}
+use Rattle.std.specs.Prelude.{ℕ, suc, ◌+◌, Bool, false, ◌&&◌, ◌||◌, not, ◌==◌, if◌then◌else◌, nat_eq, nat_lt, List, [], ◌∷◌, length, take, drop, take_while, count_by, sum_by, replicate, codes}
+use Rattle.std.specs.List.{list_all, list_any, onto_first, prefix_len, starts_with}
 use Rattle.std.specs.Str.{byte}
 use Rattle.starlark_grammar.specs.Words.{Text}
 use Rattle.starlark_grammar.specs.Tokens.{Lexeme, Comment, Indent, Dedent}
@@ -11,6 +11,10 @@ is_blank b = b == byte " " || b == byte "\t" || b == byte "\r"
 
 abbrev pub is_lf : ℕ → Bool
 is_lf b = b == byte "\n"
+
+-- whether a line end stands at the front
+abbrev pub begins_with_line_end : Text → Bool
+begins_with_line_end text = starts_with nat_eq text (codes "\n") || starts_with nat_eq text (codes "\r\n")
 
 abbrev pub blanks_len : Text → ℕ
 blanks_len text = prefix_len is_blank text

@@ -1,68 +1,12 @@
 -- How the keywords and the symbols are written.
-use Rattle.std.specs.Prelude.{◌≡◌, Some, codes}
-use Rattle.starlark_grammar.specs.Words as terminal
-use Rattle.starlark_grammar.specs.Words.{Text, Terminal, Fixed, class_in, language}
+use Rattle.std.specs.Prelude.{◌≡◌, ◌++◌, [], Some, map, unwrap_or}
+use Rattle.std.specs.Map.{lookup}
+use Rattle.starlark_grammar.specs.contracts.class.ClassPartialEq.TheImpl as class
+use Rattle.starlark_grammar.specs.Words.{Text, Terminal, Fixed, class_in, language, names, symbols}
 
--- The words of the keywords and the symbols.
+-- The word of a keyword or a symbol: the one in its row.
 unfoldable pub word_of : Terminal → Text
-word_of terminal.And = codes "and"
-word_of terminal.Break = codes "break"
-word_of terminal.Continue = codes "continue"
-word_of terminal.Def = codes "def"
-word_of terminal.Elif = codes "elif"
-word_of terminal.Else = codes "else"
-word_of terminal.For = codes "for"
-word_of terminal.If = codes "if"
-word_of terminal.In = codes "in"
-word_of terminal.Lambda = codes "lambda"
-word_of terminal.Load = codes "load"
-word_of terminal.Not = codes "not"
-word_of terminal.Or = codes "or"
-word_of terminal.Pass = codes "pass"
-word_of terminal.Return = codes "return"
-word_of terminal.Comma = codes ","
-word_of terminal.Semicolon = codes ";"
-word_of terminal.Colon = codes ":"
-word_of terminal.PlusEqual = codes "+="
-word_of terminal.MinusEqual = codes "-="
-word_of terminal.StarEqual = codes "*="
-word_of terminal.SlashEqual = codes "/="
-word_of terminal.SlashSlashEqual = codes "//="
-word_of terminal.PercentEqual = codes "%="
-word_of terminal.EqualEqual = codes "=="
-word_of terminal.BangEqual = codes "!="
-word_of terminal.LessEqual = codes "<="
-word_of terminal.GreaterEqual = codes ">="
-word_of terminal.StarStar = codes "**"
-word_of terminal.MinusGreater = codes "->"
-word_of terminal.Equal = codes "="
-word_of terminal.LessThan = codes "<"
-word_of terminal.GreaterThan = codes ">"
-word_of terminal.Minus = codes "-"
-word_of terminal.Plus = codes "+"
-word_of terminal.Star = codes "*"
-word_of terminal.Percent = codes "%"
-word_of terminal.Slash = codes "/"
-word_of terminal.SlashSlash = codes "//"
-word_of terminal.Dot = codes "."
-word_of terminal.Ampersand = codes "&"
-word_of terminal.Pipe = codes "|"
-word_of terminal.Caret = codes "^"
-word_of terminal.LessLess = codes "<<"
-word_of terminal.GreaterGreater = codes ">>"
-word_of terminal.Tilde = codes "~"
-word_of terminal.AmpersandEqual = codes "&="
-word_of terminal.PipeEqual = codes "|="
-word_of terminal.CaretEqual = codes "^="
-word_of terminal.LessLessEqual = codes "<<="
-word_of terminal.GreaterGreaterEqual = codes ">>="
-word_of terminal.Ellipsis = codes "..."
-word_of terminal.OpeningSquare = codes "["
-word_of terminal.OpeningCurly = codes "{"
-word_of terminal.OpeningRound = codes "("
-word_of terminal.ClosingSquare = codes "]"
-word_of terminal.ClosingCurly = codes "}"
-word_of terminal.ClosingRound = codes ")"
+word_of terminal = unwrap_or (lookup ((class.ghosts).eq (Fixed terminal)) (map (λ row. (row.1, row.0)) (symbols ++ names))) []
 
 -- Each of them is read as the keyword or symbol whose word it is.
 abbrev pub PrintedWordsReadBack : Type 0

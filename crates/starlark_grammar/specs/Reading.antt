@@ -1,5 +1,5 @@
 -- Readings of a text, and the outcome.
-use Rattle.std.specs.Prelude.{◌≡◌, ℕ, zero, suc, ◌+◌, ◌-◌, List, [], ◌∷◌, ◌++◌, map, length, drop, sum_by, replicate, Some, None, option_to_list, ⊤}
+use Rattle.std.specs.Prelude.{ℕ, zero, suc, ◌+◌, ◌-◌, List, [], ◌∷◌, ◌++◌, map, length, sum_by, replicate, Some, None, option_to_list}
 use Rattle.starlark_grammar.specs.Words.{Text, Table, language}
 use Rattle.starlark_grammar.specs.Tokens.{Token, Newline, Dedent, Lexeme, moved, Outcome}
 use Rattle.starlark_grammar.specs.Depths.{mode_after, is_balanced}
@@ -44,20 +44,8 @@ situation history = record {
 unfoldable pub next_step : Table → History → Text → Step
 next_step table history text = step_at table (situation history) text
 
--- A reading: pieces each of which stands where the one before ends.
-abbrev pub IsReading : Table → History → Text → List Piece → Type 0
-IsReading table history text [] = ⊤
-IsReading table history text (piece ∷ pieces) =
-    (next_step table history text ≡ Stands piece) × IsReading table (after history piece) (drop piece.len text) pieces
-
 abbrev pub pieces_len : List Piece → ℕ
 pieces_len pieces = sum_by (λ (piece : Piece). piece.len) pieces
-
--- A longest reading: what stands after its last piece is no piece.
-pub record IsLongestReading (table : Table) (history : History) (text : Text) (pieces : List Piece) (last : Step) : Type 0 where
-  pub reads : IsReading table history text pieces
-  pub stands_last : next_step table (after_all history pieces) (drop (pieces_len pieces) text) ≡ last
-  pub no_piece : (piece : Piece) → last ≡ Stands piece → ⊥
 
 -- pieces, and what stands after them
 pub record Reading : Type 0 where
@@ -101,19 +89,12 @@ outcome_of text pieces (Fails fault) = record { lexemes = before_fault text piec
 outcome_of text pieces step =
     record { lexemes = lexemes_along 0 pieces ++ closing (pieces_len pieces) (after_all nothing pieces); fault = None }
 
--- The outcome of a text by a table of words, …
+-- The outcome of a text by a table of words.
 unfoldable pub outcome_in : Table → Text → Outcome
 outcome_in table text = go (read table text)
   where
     go : Reading → Outcome
     go reading = outcome_of text reading.pieces reading.last
-
--- … and what it is an outcome of: a longest reading.
-pub record IsOutcome (table : Table) (text : Text) (found : Outcome) : Type 0 where
-  pub pieces : List Piece
-  pub last : Step
-  pub longest : IsLongestReading table nothing text pieces last
-  pub same : found ≡ outcome_of text pieces last
 
 -- the outcome of a text
 unfoldable pub outcome : Text → Outcome

@@ -11,7 +11,8 @@ pub use Rattle.starlark_grammar.specs.declared.class.Quote.TheVariants.{Single a
 pub use Rattle.starlark_grammar.specs.declared.class.LiteralKind.{LiteralKind as Kind}
 pub use Rattle.starlark_grammar.specs.declared.class.LiteralKind.TheVariants.{Text as OfText, Bytes as OfBytes, FString as OfFString}
 pub use Rattle.starlark_grammar.specs.declared.class.Terminal.{Terminal}
-pub use Rattle.starlark_grammar.specs.declared.class.Terminal.TheVariants.{And, Break, Continue, Def, Elif, Else, For, If, In, Lambda, Load, Not, Or, Pass, Return, Comma, Semicolon, Colon, PlusEqual, MinusEqual, StarEqual, SlashEqual, SlashSlashEqual, PercentEqual, EqualEqual, BangEqual, LessEqual, GreaterEqual, StarStar, MinusGreater, Equal, LessThan, GreaterThan, Minus, Plus, Star, Percent, Slash, SlashSlash, Dot, Ampersand, Pipe, Caret, LessLess, GreaterGreater, Tilde, AmpersandEqual, PipeEqual, CaretEqual, LessLessEqual, GreaterGreaterEqual, Ellipsis, OpeningSquare, OpeningCurly, OpeningRound, ClosingSquare, ClosingCurly, ClosingRound}
+pub use Rattle.starlark_grammar.specs.declared.class.Terminal.TheVariants.{OpeningSquare, OpeningCurly, OpeningRound, ClosingSquare, ClosingCurly, ClosingRound}
+use Rattle.starlark_grammar.specs.declared.class.TheConstants.{NAMES, SYMBOLS}
 pub use Rattle.starlark_grammar.specs.declared.class.Class.{Class}
 pub use Rattle.starlark_grammar.specs.declared.class.Class.TheVariants.{Skipped, Comment, Tabs, LineEnd, Opener, Reserved, Identifier, Decimal, Hexadecimal, Octal, Binary, Float, Fixed}
 
@@ -50,38 +51,12 @@ openers =
 unfoldable pub line_ends : List (Text × Class)
 line_ends = (codes "\n", LineEnd) ∷ (codes "\r\n", LineEnd) ∷ (codes "\\\n", Skipped) ∷ (codes "\\\r\n", Skipped) ∷ []
 
+-- The symbols, keywords and reserved words: the rows of `terminals!`.
 unfoldable pub symbols : List (Text × Class)
-symbols =
-    (codes ",", Fixed Comma) ∷ (codes ";", Fixed Semicolon) ∷ (codes ":", Fixed Colon)
-    ∷ (codes "+=", Fixed PlusEqual) ∷ (codes "-=", Fixed MinusEqual) ∷ (codes "*=", Fixed StarEqual)
-    ∷ (codes "/=", Fixed SlashEqual) ∷ (codes "//=", Fixed SlashSlashEqual) ∷ (codes "%=", Fixed PercentEqual)
-    ∷ (codes "==", Fixed EqualEqual) ∷ (codes "!=", Fixed BangEqual) ∷ (codes "<=", Fixed LessEqual)
-    ∷ (codes ">=", Fixed GreaterEqual) ∷ (codes "**", Fixed StarStar) ∷ (codes "->", Fixed MinusGreater)
-    ∷ (codes "=", Fixed Equal) ∷ (codes "<", Fixed LessThan) ∷ (codes ">", Fixed GreaterThan)
-    ∷ (codes "-", Fixed Minus) ∷ (codes "+", Fixed Plus) ∷ (codes "*", Fixed Star)
-    ∷ (codes "%", Fixed Percent) ∷ (codes "/", Fixed Slash) ∷ (codes "//", Fixed SlashSlash)
-    ∷ (codes ".", Fixed Dot) ∷ (codes "&", Fixed Ampersand) ∷ (codes "|", Fixed Pipe)
-    ∷ (codes "^", Fixed Caret) ∷ (codes "<<", Fixed LessLess) ∷ (codes ">>", Fixed GreaterGreater)
-    ∷ (codes "~", Fixed Tilde) ∷ (codes "&=", Fixed AmpersandEqual) ∷ (codes "|=", Fixed PipeEqual)
-    ∷ (codes "^=", Fixed CaretEqual) ∷ (codes "<<=", Fixed LessLessEqual) ∷ (codes ">>=", Fixed GreaterGreaterEqual)
-    ∷ (codes "...", Fixed Ellipsis) ∷ (codes "[", Fixed OpeningSquare) ∷ (codes "{", Fixed OpeningCurly)
-    ∷ (codes "(", Fixed OpeningRound) ∷ (codes "]", Fixed ClosingSquare) ∷ (codes "}", Fixed ClosingCurly)
-    ∷ (codes ")", Fixed ClosingRound)
-    ∷ []
+symbols = SYMBOLS.0 ++ (SYMBOLS.1 ++ SYMBOLS.2)
 
--- The keywords, and the words that are reserved.
 unfoldable pub names : List (Text × Class)
-names =
-    (codes "and", Fixed And) ∷ (codes "break", Fixed Break) ∷ (codes "continue", Fixed Continue) ∷ (codes "def", Fixed Def)
-    ∷ (codes "elif", Fixed Elif) ∷ (codes "else", Fixed Else) ∷ (codes "for", Fixed For) ∷ (codes "if", Fixed If)
-    ∷ (codes "in", Fixed In) ∷ (codes "lambda", Fixed Lambda) ∷ (codes "load", Fixed Load) ∷ (codes "not", Fixed Not)
-    ∷ (codes "or", Fixed Or) ∷ (codes "pass", Fixed Pass) ∷ (codes "return", Fixed Return)
-    ∷ (codes "as", Reserved) ∷ (codes "assert", Reserved) ∷ (codes "async", Reserved) ∷ (codes "await", Reserved)
-    ∷ (codes "class", Reserved) ∷ (codes "del", Reserved) ∷ (codes "except", Reserved) ∷ (codes "finally", Reserved)
-    ∷ (codes "from", Reserved) ∷ (codes "global", Reserved) ∷ (codes "import", Reserved) ∷ (codes "is", Reserved)
-    ∷ (codes "nonlocal", Reserved) ∷ (codes "raise", Reserved) ∷ (codes "try", Reserved) ∷ (codes "while", Reserved)
-    ∷ (codes "with", Reserved) ∷ (codes "yield", Reserved)
-    ∷ []
+names = NAMES.0 ++ (NAMES.1 ++ (NAMES.2 ++ (NAMES.3 ++ (NAMES.4 ++ (NAMES.5 ++ NAMES.6)))))
 
 -- one byte or more, each of which passes
 abbrev pub is_run : (ℕ → Bool) → Text → Bool

@@ -23,7 +23,7 @@ pub struct Opening {
     pub is_triple: bool,
 }
 
-/// A word that is a token of its own: a keyword or a symbol.
+/// A word that is a token of its own: a keyword or a symbol. Its text is in `terminals!`.
 #[derive(Clone, Copy, Debug, PartialEq, Eq)]
 pub enum Terminal {
     And,
@@ -108,3 +108,160 @@ pub enum Class {
     Float,
     Fixed(Terminal),
 }
+
+/// Hands the table of symbols, keywords and reserved words to a macro, after some arguments.
+///
+/// Words stand by their length in bytes. Reserved words follow the keywords of their length. Each
+/// text is there as bytes and as a string, since no macro makes one of the other.
+#[macro_export]
+macro_rules! terminals {
+    ($with:ident!($($arguments:tt)*)) => {
+        $with! {
+            ($($arguments)*)
+            symbols {
+                1 {
+                    b"," "," Comma,
+                    b";" ";" Semicolon,
+                    b":" ":" Colon,
+                    b"=" "=" Equal,
+                    b"<" "<" LessThan,
+                    b">" ">" GreaterThan,
+                    b"-" "-" Minus,
+                    b"+" "+" Plus,
+                    b"*" "*" Star,
+                    b"%" "%" Percent,
+                    b"/" "/" Slash,
+                    b"." "." Dot,
+                    b"&" "&" Ampersand,
+                    b"|" "|" Pipe,
+                    b"^" "^" Caret,
+                    b"~" "~" Tilde,
+                    b"[" "[" OpeningSquare,
+                    b"{" "{" OpeningCurly,
+                    b"(" "(" OpeningRound,
+                    b"]" "]" ClosingSquare,
+                    b"}" "}" ClosingCurly,
+                    b")" ")" ClosingRound,
+                }
+                2 {
+                    b"+=" "+=" PlusEqual,
+                    b"-=" "-=" MinusEqual,
+                    b"*=" "*=" StarEqual,
+                    b"/=" "/=" SlashEqual,
+                    b"%=" "%=" PercentEqual,
+                    b"==" "==" EqualEqual,
+                    b"!=" "!=" BangEqual,
+                    b"<=" "<=" LessEqual,
+                    b">=" ">=" GreaterEqual,
+                    b"&=" "&=" AmpersandEqual,
+                    b"|=" "|=" PipeEqual,
+                    b"^=" "^=" CaretEqual,
+                    b"**" "**" StarStar,
+                    b"//" "//" SlashSlash,
+                    b"<<" "<<" LessLess,
+                    b">>" ">>" GreaterGreater,
+                    b"->" "->" MinusGreater,
+                }
+                3 {
+                    b"//=" "//=" SlashSlashEqual,
+                    b"<<=" "<<=" LessLessEqual,
+                    b">>=" ">>=" GreaterGreaterEqual,
+                    b"..." "..." Ellipsis,
+                }
+            }
+            names {
+                2 {
+                    b"in" "in" In,
+                    b"if" "if" If,
+                    b"or" "or" Or,
+                    ; b"as" "as", b"is" "is"
+                }
+                3 {
+                    b"for" "for" For,
+                    b"def" "def" Def,
+                    b"not" "not" Not,
+                    b"and" "and" And,
+                    ; b"del" "del", b"try" "try"
+                }
+                4 {
+                    b"load" "load" Load,
+                    b"else" "else" Else,
+                    b"elif" "elif" Elif,
+                    b"pass" "pass" Pass,
+                    ; b"from" "from", b"with" "with"
+                }
+                5 {
+                    b"break" "break" Break,
+                    ; b"async" "async", b"await" "await", b"class" "class", b"raise" "raise", b"while" "while", b"yield" "yield"
+                }
+                6 {
+                    b"return" "return" Return,
+                    b"lambda" "lambda" Lambda,
+                    ; b"assert" "assert", b"except" "except", b"global" "global", b"import" "import"
+                }
+                7 {
+                    ; b"finally" "finally"
+                }
+                8 {
+                    b"continue" "continue" Continue,
+                    ; b"nonlocal" "nonlocal"
+                }
+            }
+        }
+    };
+}
+
+/// A `match` whose arms for keywords and symbols an arm's macro writes, after the other arms. It is
+/// given `"keyword"` or `"symbol"`, the name of the variant, and the text.
+#[macro_export]
+macro_rules! match_terminals {
+    (($of:expr, $type:ident, $arm:ident, { $($arms:tt)* })
+    symbols { $($len:literal { $($bytes:literal $text:literal $symbol:ident,)* })* }
+    names { $($name_len:literal {
+        $($name:literal $word:literal $keyword:ident,)*;
+        $($reserved:literal $reserved_text:literal),*
+    })* }) => {
+        match $of {
+            $($arms)*
+            $($($type::$symbol => $arm!("symbol" $symbol $text),)*)*
+            $($($type::$keyword => $arm!("keyword" $keyword $word),)*)*
+        }
+    };
+}
+
+/// The rows of symbols, by length.
+macro_rules! symbol_rows {
+    (() symbols { $($len:literal { $($bytes:literal $text:literal $name:ident,)* })* } names $names:tt) => {
+        ($([$((*$bytes, Class::Fixed(Terminal::$name)),)*],)*)
+    };
+}
+
+/// The rows of keywords and reserved words, by length.
+macro_rules! name_rows {
+    (() symbols $symbols:tt names { $($len:literal {
+        $($bytes:literal $text:literal $name:ident,)*; $($reserved:literal $word:literal),*
+    })* }) => {
+        ($([
+            $((*$bytes, Class::Fixed(Terminal::$name)),)*
+            $((*$reserved, Class::Reserved),)*
+        ],)*)
+    };
+}
+
+/// The symbols with their classes: those of one byte, of two, and of three.
+pub const SYMBOLS: (
+    [([u8; 1], Class); 22],
+    [([u8; 2], Class); 17],
+    [([u8; 3], Class); 4],
+) = terminals!(symbol_rows!());
+
+/// The keywords and reserved words with their classes: those of two bytes, and so on up to eight.
+pub const NAMES: (
+    [([u8; 2], Class); 5],
+    [([u8; 3], Class); 6],
+    [([u8; 4], Class); 6],
+    [([u8; 5], Class); 7],
+    [([u8; 6], Class); 6],
+    [([u8; 7], Class); 1],
+    [([u8; 8], Class); 2],
+) = terminals!(name_rows!());

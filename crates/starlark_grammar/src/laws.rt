@@ -11,6 +11,6 @@ pub use language_laws::{
 };
 pub use recovery_laws::{
     closed_texts_join, decided_faults_stay, faultless_texts_stay, faults_end_lines, found_inside,
-    line_cuts_join, newlines_cut,
+    line_cuts_join, newlines_cut, restarts_at_lines,
 };
 pub use text_laws::{joins_at_clean_cuts, kept_cuts_keep, line_ends_keep_tokens};

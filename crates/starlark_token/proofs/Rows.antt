@@ -4,7 +4,7 @@ use Rattle.std.specs.Prelude.{codes, encode_utf8, pos, neg_ℤ}
 use Rattle.std.specs.Fmt.{digits, debug_escape}
 use Rattle.std.proofs.Math.Utf8.{encode}
 use Rattle.starlark_grammar.specs.declared.class.Terminal.TheVariants as terminal
-use Rattle.starlark_grammar.specs.Words.{Text}
+use Rattle.starlark_grammar.specs.Words.{Text, names, symbols}
 use Rattle.starlark_grammar.specs.declared.class.LiteralKind.TheVariants.{FString as OfFString, Bytes as OfBytes}
 use Rattle.starlark_grammar.specs.declared.class.Quote.TheVariants.{Single as SingleQuote, Double as DoubleQuote}
 use Rattle.starlark_grammar.specs.Numbers.{Small, Big, integer_of, integer_in}
@@ -48,7 +48,7 @@ printed :
     × Prints (Opener OfFString DoubleQuote) (codes "starting f\"")
     × Prints (Opener OfBytes SingleQuote) (codes "starting b'")
     × Prints Octal (codes "octal integer literal")
-unfolding token_text fixed_text word_of big_text digits debug_escape encode
+unfolding token_text fixed_text word_of symbols names big_text digits debug_escape encode
 printed = (refl, refl, refl, refl, refl, refl, refl, refl, refl, refl, refl, refl, refl, refl)
 
 kinds :

@@ -1,11 +1,13 @@
 pub mod BigIntegers
 pub mod TokenInts
 pub mod TokenViews
+pub mod OwnedValues
 pub mod Lexemes
 pub mod TextItems
 pub mod TokenTexts
 pub mod NumberRefusals
 pub mod FaultTexts
+pub mod FaultCodes
 pub use Rattle.starlark_grammar.specs.Words
 pub use Rattle.starlark_grammar.specs.Front
 pub use Rattle.starlark_grammar.specs.Lengths

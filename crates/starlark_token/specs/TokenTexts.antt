@@ -1,12 +1,11 @@
 -- Names and printed forms of tokens.
-use Rattle.std.specs.Prelude.{◌≡◌, [], ◌++◌, if◌then◌else◌, length, slice_index, Option, Some, codes}
+use Rattle.std.specs.Prelude.{[], ◌++◌, if◌then◌else◌, length, slice_index, Option, Some, codes}
 use Rattle.std.specs.Char.{is_ascii_alphabetic}
 use Rattle.std.specs.Fmt.{decimal, debug_str, ◌++?◌}
 use Rattle.starlark_grammar.specs.PrintedWords.{word_of}
 use Rattle.starlark_grammar.specs.declared.class.Terminal.TheVariants as terminal
-use Rattle.starlark_grammar.specs.Words.{Text, class_in, language}
+use Rattle.starlark_grammar.specs.Words.{Text}
 use Rattle.starlark_grammar.specs.declared.class.Terminal.{Terminal}
-use Rattle.starlark_grammar.specs.declared.class.Class.TheVariants.{Fixed}
 use Rattle.starlark_grammar.specs.declared.class.Quote.{Quote}
 use Rattle.starlark_grammar.specs.declared.class.Quote.TheVariants.{Single as SingleQuote, Double as DoubleQuote}
 use Rattle.starlark_grammar.specs.declared.class.LiteralKind.{LiteralKind as Kind}

@@ -1,12 +1,12 @@
 -- Tokens of the code, as the grammar sees them.
-use Rattle.std.specs.Prelude.{true, false, string_bytes, ⊤}
+use Rattle.std.specs.Prelude.{true, false, string_bytes}
 use Rattle.starlark_grammar.specs.declared.class.Terminal.TheVariants as terminal
 use Rattle.starlark_grammar.specs.declared.class.Quote.{Quote}
 use Rattle.starlark_grammar.specs.declared.class.Quote.TheVariants.{Single as SingleQuote, Double as DoubleQuote}
 use Rattle.starlark_grammar.specs.declared.class.LiteralKind.{LiteralKind as Kind}
 use Rattle.starlark_grammar.specs.declared.class.LiteralKind.TheVariants.{Text as OfText, Bytes as OfBytes, FString as OfFString}
 use Rattle.starlark_grammar.specs.Tokens as grammar
-use Rattle.starlark_token.specs.TokenInts.{IsBig, integer_view}
+use Rattle.starlark_token.specs.TokenInts.{integer_view}
 use Rattle.starlark_token.specs.declared.fstring_style.FStringQuote.{FStringQuote}
 use Rattle.starlark_token.specs.declared.fstring_style.FStringQuote.TheVariants.{Single, Double, TripleSingle, TripleDouble}
 use Rattle.starlark_token.specs.declared.tokens.Token.{Token}
@@ -118,14 +118,3 @@ token_view token.OpeningRound = Whole (grammar.Word terminal.OpeningRound)
 token_view token.ClosingSquare = Whole (grammar.Word terminal.ClosingSquare)
 token_view token.ClosingCurly = Whole (grammar.Word terminal.ClosingCurly)
 token_view token.ClosingRound = Whole (grammar.Word terminal.ClosingRound)
-
--- a token whose value is allocated: a text, bytes, or an integer that doesn't fit in 32 bits
-abbrev pub OwnsMemory : TokenView → Type 0
-OwnsMemory (Whole (grammar.Comment text)) = ⊤
-OwnsMemory (Whole (grammar.Identifier name)) = ⊤
-OwnsMemory (Whole (grammar.Int value)) = IsBig value
-OwnsMemory (Whole (grammar.Float text)) = ⊤
-OwnsMemory (Whole (grammar.String value)) = ⊤
-OwnsMemory (Whole (grammar.Bytes value)) = ⊤
-OwnsMemory (Whole (grammar.FStringText value)) = ⊤
-OwnsMemory view = ⊥

@@ -1,6 +1,8 @@
 //! The errors of lexing a text.
 
-ghost use Rattle.std.specs.Prelude.{Some};
+ghost use Rattle.std.specs.Option.{option_map};
+ghost use Rattle.std.specs.Prelude.{◌≡◌, Some};
+ghost use Rattle.starlark_token.specs.FaultCodes.{error_code};
 ghost use Rattle.starlark_token.specs.FaultTexts.{fault_text};
 
 use std::fmt;
@@ -35,6 +37,30 @@ pub enum LexemeError {
     CannotParse(String, u32),
     /// An expression in an f-string is not closed by `}`.
     UnfinishedFStringExpression,
+}
+
+impl LexemeError {
+    /// The code of a fault of a text, as `SL008`, which no later version changes. `None` for the
+    /// variants that never come from a lexer.
+    #[tactic(auto, unfolding(crate::specs::FaultCodes::fault_code))]
+    pub fn code(&self) -> Option<&'static str>
+        ensures { option_map (λ code. code.now) result ≡ error_code self.now }
+    {
+        match self {
+            LexemeError::Indentation => Some("SL001"),
+            LexemeError::InvalidInput(_) => Some("SL002"),
+            LexemeError::InvalidTab => Some("SL003"),
+            LexemeError::UnfinishedStringLiteral => Some("SL004"),
+            LexemeError::InvalidEscapeSequence(_) => Some("SL005"),
+            LexemeError::EmptyEscapeSequence => Some("SL006"),
+            LexemeError::ReservedKeyword(_) => Some("SL007"),
+            LexemeError::StartsZero(_) => Some("SL008"),
+            LexemeError::UnfinishedFStringExpression => Some("SL009"),
+            LexemeError::IntParse(_) => None,
+            LexemeError::CommentSpanComputedIncorrectly => None,
+            LexemeError::CannotParse(_, _) => None,
+        }
+    }
 }
 
 /// Prints the message, as in ``Parse error: integer cannot have leading 0, got `01` ``.

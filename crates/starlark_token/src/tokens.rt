@@ -2,12 +2,29 @@
 
 ghost use Rattle.std.specs.Prelude.{◌≡◌, IfOk, OnErr};
 ghost use Rattle.starlark_token.specs.TokenTexts.{kind_of, fixed_text};
-ghost use Rattle.starlark_token.specs.TokenViews.{OwnsMemory, token_view};
+ghost use Rattle.starlark_token.specs.TokenViews.{token_view};
+ghost use Rattle.starlark_token.specs.OwnedValues.{OwnsMemory};
 
 use crate::fstring_style::FStringQuote;
 use crate::token_int::TokenInt;
+use starlark_grammar::{match_terminals, terminals};
 use std::alloc::{AllocError, Global};
 use std::fmt;
+
+/// The name of the variant of a keyword or symbol.
+macro_rules! name_of {
+    ($sort:literal $name:ident $text:literal) => { stringify!($name) };
+}
+
+/// The printed text of a keyword or symbol.
+macro_rules! text_of {
+    ($sort:literal $name:ident $text:literal) => { concat!($sort, " '", $text, "'") };
+}
+
+/// A copy of a keyword or symbol.
+macro_rules! copy_of {
+    ($sort:literal $name:ident $text:literal) => { Ok(Token::$name) };
+}
 
 /// A token, with its value where it has one.
 ///
@@ -195,7 +212,7 @@ impl Token {
     pub fn kind(&self) -> &'static str
         ensures { result.now ≡ kind_of (token_view self.now) }
     {
-        match self {
+        terminals!(match_terminals!(self, Token, name_of, {
             Token::Comment(_) => "Comment",
             Token::Tabs => "Tabs",
             Token::Indent => "Indent",
@@ -223,73 +240,15 @@ impl Token {
             Token::FStringExprEnd => "FStringExprEnd",
             Token::FStringBang => "FStringBang",
             Token::FStringEnd => "FStringEnd",
-            Token::And => "And",
-            Token::Break => "Break",
-            Token::Continue => "Continue",
-            Token::Def => "Def",
-            Token::Elif => "Elif",
-            Token::Else => "Else",
-            Token::For => "For",
-            Token::If => "If",
-            Token::In => "In",
-            Token::Lambda => "Lambda",
-            Token::Load => "Load",
-            Token::Not => "Not",
-            Token::Or => "Or",
-            Token::Pass => "Pass",
-            Token::Return => "Return",
-            Token::Comma => "Comma",
-            Token::Semicolon => "Semicolon",
-            Token::Colon => "Colon",
-            Token::PlusEqual => "PlusEqual",
-            Token::MinusEqual => "MinusEqual",
-            Token::StarEqual => "StarEqual",
-            Token::SlashEqual => "SlashEqual",
-            Token::SlashSlashEqual => "SlashSlashEqual",
-            Token::PercentEqual => "PercentEqual",
-            Token::EqualEqual => "EqualEqual",
-            Token::BangEqual => "BangEqual",
-            Token::LessEqual => "LessEqual",
-            Token::GreaterEqual => "GreaterEqual",
-            Token::StarStar => "StarStar",
-            Token::MinusGreater => "MinusGreater",
-            Token::Equal => "Equal",
-            Token::LessThan => "LessThan",
-            Token::GreaterThan => "GreaterThan",
-            Token::Minus => "Minus",
-            Token::Plus => "Plus",
-            Token::Star => "Star",
-            Token::Percent => "Percent",
-            Token::Slash => "Slash",
-            Token::SlashSlash => "SlashSlash",
-            Token::Dot => "Dot",
-            Token::Ampersand => "Ampersand",
-            Token::Pipe => "Pipe",
-            Token::Caret => "Caret",
-            Token::LessLess => "LessLess",
-            Token::GreaterGreater => "GreaterGreater",
-            Token::Tilde => "Tilde",
-            Token::AmpersandEqual => "AmpersandEqual",
-            Token::PipeEqual => "PipeEqual",
-            Token::CaretEqual => "CaretEqual",
-            Token::LessLessEqual => "LessLessEqual",
-            Token::GreaterGreaterEqual => "GreaterGreaterEqual",
-            Token::Ellipsis => "Ellipsis",
-            Token::OpeningSquare => "OpeningSquare",
-            Token::OpeningCurly => "OpeningCurly",
-            Token::OpeningRound => "OpeningRound",
-            Token::ClosingSquare => "ClosingSquare",
-            Token::ClosingCurly => "ClosingCurly",
-            Token::ClosingRound => "ClosingRound",
-        }
+        }))
     }
 
     /// The printed text of a token that has no value; empty for one that has.
-    #[tactic(auto, unfolding(crate::specs::TokenViews::token_view, crate::specs::TokenTexts::fixed_text, starlark_grammar::specs::PrintedWords::word_of))]
+    #[tactic(auto, unfolding(crate::specs::TokenViews::token_view, crate::specs::TokenTexts::fixed_text, starlark_grammar::specs::PrintedWords::word_of, starlark_grammar::specs::Words::symbols, starlark_grammar::specs::Words::names))]
     fn fixed_text(&self) -> &'static str
         ensures { result.now ≡ fixed_text (token_view self.now) }
     {
-        match self {
+        terminals!(match_terminals!(self, Token, text_of, {
             Token::Tabs => "",
             Token::Indent => "new indentation block",
             Token::Dedent => "end of indentation block",
@@ -310,64 +269,6 @@ impl Token {
             Token::FStringExprEnd => "f-string expression end '}'",
             Token::FStringBang => "f-string bang '!'",
             Token::FStringEnd => "f-string end",
-            Token::And => "keyword 'and'",
-            Token::Break => "keyword 'break'",
-            Token::Continue => "keyword 'continue'",
-            Token::Def => "keyword 'def'",
-            Token::Elif => "keyword 'elif'",
-            Token::Else => "keyword 'else'",
-            Token::For => "keyword 'for'",
-            Token::If => "keyword 'if'",
-            Token::In => "keyword 'in'",
-            Token::Lambda => "keyword 'lambda'",
-            Token::Load => "keyword 'load'",
-            Token::Not => "keyword 'not'",
-            Token::Or => "keyword 'or'",
-            Token::Pass => "keyword 'pass'",
-            Token::Return => "keyword 'return'",
-            Token::Comma => "symbol ','",
-            Token::Semicolon => "symbol ';'",
-            Token::Colon => "symbol ':'",
-            Token::PlusEqual => "symbol '+='",
-            Token::MinusEqual => "symbol '-='",
-            Token::StarEqual => "symbol '*='",
-            Token::SlashEqual => "symbol '/='",
-            Token::SlashSlashEqual => "symbol '//='",
-            Token::PercentEqual => "symbol '%='",
-            Token::EqualEqual => "symbol '=='",
-            Token::BangEqual => "symbol '!='",
-            Token::LessEqual => "symbol '<='",
-            Token::GreaterEqual => "symbol '>='",
-            Token::StarStar => "symbol '**'",
-            Token::MinusGreater => "symbol '->'",
-            Token::Equal => "symbol '='",
-            Token::LessThan => "symbol '<'",
-            Token::GreaterThan => "symbol '>'",
-            Token::Minus => "symbol '-'",
-            Token::Plus => "symbol '+'",
-            Token::Star => "symbol '*'",
-            Token::Percent => "symbol '%'",
-            Token::Slash => "symbol '/'",
-            Token::SlashSlash => "symbol '//'",
-            Token::Dot => "symbol '.'",
-            Token::Ampersand => "symbol '&'",
-            Token::Pipe => "symbol '|'",
-            Token::Caret => "symbol '^'",
-            Token::LessLess => "symbol '<<'",
-            Token::GreaterGreater => "symbol '>>'",
-            Token::Tilde => "symbol '~'",
-            Token::AmpersandEqual => "symbol '&='",
-            Token::PipeEqual => "symbol '|='",
-            Token::CaretEqual => "symbol '^='",
-            Token::LessLessEqual => "symbol '<<='",
-            Token::GreaterGreaterEqual => "symbol '>>='",
-            Token::Ellipsis => "symbol '...'",
-            Token::OpeningSquare => "symbol '['",
-            Token::OpeningCurly => "symbol '{'",
-            Token::OpeningRound => "symbol '('",
-            Token::ClosingSquare => "symbol ']'",
-            Token::ClosingCurly => "symbol '}'",
-            Token::ClosingRound => "symbol ')'",
             Token::Comment(_)
             | Token::Bytes(_)
             | Token::Identifier(_)
@@ -375,7 +276,7 @@ impl Token {
             | Token::Float(_)
             | Token::String(_)
             | Token::FStringText(_) => "",
-        }
+        }))
     }
 
     /// An equal token with a copy of the value. `AllocError` where memory for the value runs out.
@@ -386,7 +287,7 @@ impl Token {
         ensures value { IfOk result (λ copy. token_view copy ≡ token_view self.now) }
         ensures memory { OnErr result (OwnsMemory (token_view self.now)) }
     {
-        match self {
+        terminals!(match_terminals!(self, Token, copy_of, {
             Token::Comment(text) => Ok(Token::Comment(String::from_str(alloc, text.as_str())?)),
             Token::Tabs => Ok(Token::Tabs),
             Token::Indent => Ok(Token::Indent),
@@ -420,65 +321,7 @@ impl Token {
             Token::FStringExprEnd => Ok(Token::FStringExprEnd),
             Token::FStringBang => Ok(Token::FStringBang),
             Token::FStringEnd => Ok(Token::FStringEnd),
-            Token::And => Ok(Token::And),
-            Token::Break => Ok(Token::Break),
-            Token::Continue => Ok(Token::Continue),
-            Token::Def => Ok(Token::Def),
-            Token::Elif => Ok(Token::Elif),
-            Token::Else => Ok(Token::Else),
-            Token::For => Ok(Token::For),
-            Token::If => Ok(Token::If),
-            Token::In => Ok(Token::In),
-            Token::Lambda => Ok(Token::Lambda),
-            Token::Load => Ok(Token::Load),
-            Token::Not => Ok(Token::Not),
-            Token::Or => Ok(Token::Or),
-            Token::Pass => Ok(Token::Pass),
-            Token::Return => Ok(Token::Return),
-            Token::Comma => Ok(Token::Comma),
-            Token::Semicolon => Ok(Token::Semicolon),
-            Token::Colon => Ok(Token::Colon),
-            Token::PlusEqual => Ok(Token::PlusEqual),
-            Token::MinusEqual => Ok(Token::MinusEqual),
-            Token::StarEqual => Ok(Token::StarEqual),
-            Token::SlashEqual => Ok(Token::SlashEqual),
-            Token::SlashSlashEqual => Ok(Token::SlashSlashEqual),
-            Token::PercentEqual => Ok(Token::PercentEqual),
-            Token::EqualEqual => Ok(Token::EqualEqual),
-            Token::BangEqual => Ok(Token::BangEqual),
-            Token::LessEqual => Ok(Token::LessEqual),
-            Token::GreaterEqual => Ok(Token::GreaterEqual),
-            Token::StarStar => Ok(Token::StarStar),
-            Token::MinusGreater => Ok(Token::MinusGreater),
-            Token::Equal => Ok(Token::Equal),
-            Token::LessThan => Ok(Token::LessThan),
-            Token::GreaterThan => Ok(Token::GreaterThan),
-            Token::Minus => Ok(Token::Minus),
-            Token::Plus => Ok(Token::Plus),
-            Token::Star => Ok(Token::Star),
-            Token::Percent => Ok(Token::Percent),
-            Token::Slash => Ok(Token::Slash),
-            Token::SlashSlash => Ok(Token::SlashSlash),
-            Token::Dot => Ok(Token::Dot),
-            Token::Ampersand => Ok(Token::Ampersand),
-            Token::Pipe => Ok(Token::Pipe),
-            Token::Caret => Ok(Token::Caret),
-            Token::LessLess => Ok(Token::LessLess),
-            Token::GreaterGreater => Ok(Token::GreaterGreater),
-            Token::Tilde => Ok(Token::Tilde),
-            Token::AmpersandEqual => Ok(Token::AmpersandEqual),
-            Token::PipeEqual => Ok(Token::PipeEqual),
-            Token::CaretEqual => Ok(Token::CaretEqual),
-            Token::LessLessEqual => Ok(Token::LessLessEqual),
-            Token::GreaterGreaterEqual => Ok(Token::GreaterGreaterEqual),
-            Token::Ellipsis => Ok(Token::Ellipsis),
-            Token::OpeningSquare => Ok(Token::OpeningSquare),
-            Token::OpeningCurly => Ok(Token::OpeningCurly),
-            Token::OpeningRound => Ok(Token::OpeningRound),
-            Token::ClosingSquare => Ok(Token::ClosingSquare),
-            Token::ClosingCurly => Ok(Token::ClosingCurly),
-            Token::ClosingRound => Ok(Token::ClosingRound),
-        }
+        }))
     }
 }
 

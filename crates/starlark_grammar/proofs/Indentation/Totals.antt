@@ -10,7 +10,8 @@ use Rattle.starlark_grammar.specs.Words.{Text, Table}
 use Rattle.starlark_grammar.specs.Tokens.{Lexeme, moved, Dedent, Newline, Fault, Spanned, Outcome}
 use Rattle.starlark_grammar.specs.Margins.{margin_of, open_widths}
 use Rattle.starlark_grammar.specs.Pieces.{Before, Nothing, Layout, Gap, Other, Piece, Step, Stands, Fails, Ends}
-use Rattle.starlark_grammar.specs.Reading.{History, nothing, after, after_all, IsReading, pieces_len, lexemes_along, closing, outcome_of, outcome_in, read}
+use Rattle.starlark_grammar.specs.Reading.{History, nothing, after, after_all, pieces_len, lexemes_along, closing, outcome_of, outcome_in, read}
+use Rattle.starlark_grammar.specs.Longest.{IsReading}
 use Rattle.starlark_grammar.specs.Laws.{is_indent, is_dedent, indents, dedents}
 use Rattle.starlark_grammar.proofs.Reading.Steps.{is_nothing, margin_fits}
 use Rattle.starlark_grammar.proofs.Reading.Readings.{piece_fits, reading_fits, read_is}

@@ -9,7 +9,8 @@ use Rattle.starlark_grammar.specs.Words.{Text, Table, language}
 use Rattle.starlark_grammar.specs.Tokens.{Newline, Dedent, Lexeme, Spanned, moved, Fault, Outcome}
 use Rattle.starlark_grammar.specs.Margins.{open_widths}
 use Rattle.starlark_grammar.specs.Pieces.{Piece, Step, Stands, Fails, Ends, first_margin, step_at}
-use Rattle.starlark_grammar.specs.Reading.{History, nothing, after, after_all, situation, next_step, IsReading, IsLongestReading, pieces_len, read, read_from, lexemes_along, closing, before_fault, outcome_of, outcome_in, outcome}
+use Rattle.starlark_grammar.specs.Reading.{History, nothing, after, after_all, situation, next_step, pieces_len, read, read_from, lexemes_along, closing, before_fault, outcome_of, outcome_in, outcome}
+use Rattle.starlark_grammar.specs.Longest.{IsReading, IsLongestReading}
 use Rattle.starlark_grammar.specs.Cuts.{is_layout, is_clean_cut, is_clean_cut_in, is_faultless, is_settled, joined}
 use Rattle.starlark_grammar.specs.TextLaws.{CutsJoin}
 use Rattle.starlark_grammar.proofs.Lists.{drop-sum}

@@ -7,7 +7,8 @@ use Rattle.starlark_grammar.specs.Words.{Text, language}
 use Rattle.starlark_grammar.specs.Tokens.{Lexeme, moved}
 use Rattle.starlark_grammar.specs.Margins.{comment_lines, fits, has_tab, indentation, is_comment_only, is_content, lines, margin_of, open_widths, width_of}
 use Rattle.starlark_grammar.specs.Pieces.{Piece, Stands, margin_step}
-use Rattle.starlark_grammar.specs.Reading.{IsReading, after_all, lexemes_along, next_step, nothing, outcome, pieces_len, read}
+use Rattle.starlark_grammar.specs.Reading.{after_all, lexemes_along, next_step, nothing, outcome, pieces_len, read}
+use Rattle.starlark_grammar.specs.Longest.{IsReading}
 use Rattle.starlark_grammar.specs.Cuts.{is_clean_cut, without_closing}
 use Rattle.starlark_grammar.specs.Laws.{Begins}
 use Rattle.starlark_grammar.proofs.Choices.{either}

@@ -10,7 +10,8 @@ use Rattle.starlark_grammar.specs.Words.{Text, language}
 use Rattle.starlark_grammar.specs.Tokens.{Lexeme, moved, Outcome}
 use Rattle.starlark_grammar.specs.Margins.{margin_of}
 use Rattle.starlark_grammar.specs.Pieces.{Piece, Step, Fails, Situation}
-use Rattle.starlark_grammar.specs.Reading.{History, nothing, after_all, situation, IsLongestReading, pieces_len, read, outcome}
+use Rattle.starlark_grammar.specs.Reading.{History, nothing, after_all, situation, pieces_len, read, outcome}
+use Rattle.starlark_grammar.specs.Longest.{IsLongestReading}
 use Rattle.starlark_grammar.specs.Cuts.{is_layout, is_outside, is_settled, is_faultless, is_clean_cut, is_clean_cut_in, is_kept_cut, without_closing}
 use Rattle.starlark_grammar.specs.TextLaws.{LaterFaultsJoin, FailsLater, FaultsJoin, CutsOfJoined, TabsAfterCuts, KeptCutsKeep, HasFirstMargin}
 use Rattle.starlark_grammar.proofs.Reading.Readings.{one_longest, longest_onward, read_is}

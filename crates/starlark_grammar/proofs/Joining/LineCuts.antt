@@ -14,7 +14,8 @@ use Rattle.starlark_grammar.specs.Tokens.{Lexeme, Newline, Outcome, moved}
 use Rattle.starlark_grammar.specs.Margins.{is_comment_only, is_lf, lines, open_widths}
 use Rattle.starlark_grammar.specs.Depths.{is_balanced, open_fstring}
 use Rattle.starlark_grammar.specs.Pieces.{Piece, Stands}
-use Rattle.starlark_grammar.specs.Reading.{History, IsLongestReading, IsReading, after, after_all, lexemes_along, next_step, nothing, outcome, pieces_len, read}
+use Rattle.starlark_grammar.specs.Reading.{History, after, after_all, lexemes_along, next_step, nothing, outcome, pieces_len, read}
+use Rattle.starlark_grammar.specs.Longest.{IsLongestReading, IsReading}
 use Rattle.starlark_grammar.specs.Cuts.{is_clean_cut, is_kept_cut, without_closing}
 use Rattle.starlark_grammar.specs.Laws.{Begins}
 use Rattle.starlark_grammar.specs.TextLaws.{HasFirstMargin}

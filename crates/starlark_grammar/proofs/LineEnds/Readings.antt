@@ -16,7 +16,8 @@ use Rattle.starlark_grammar.specs.Tokens.{Token, Comment, Newline, Indent, Deden
 use Rattle.starlark_grammar.specs.Depths.{Mode, Outside, InText, AtTop, Deeper, open_fstring, mode_by, mode_after}
 use Rattle.starlark_grammar.specs.Margins.{is_lf, margin_of, margin_len, open_widths}
 use Rattle.starlark_grammar.specs.Pieces.{Before, Nothing, Layout, Gap, Other, Piece, Step, Stands, Fails, Ends, Situation, token, word_step, front_step, is_bang, takes_bang, in_code, by_place, by_before, step_at}
-use Rattle.starlark_grammar.specs.Reading.{tokens_onto, History, nothing, after, after_all, situation, next_step, IsReading, IsLongestReading, pieces_len, read, lexemes_along, closing, outcome_of, outcome}
+use Rattle.starlark_grammar.specs.Reading.{tokens_onto, History, nothing, after, after_all, situation, next_step, pieces_len, read, lexemes_along, closing, outcome_of, outcome}
+use Rattle.starlark_grammar.specs.Longest.{IsReading, IsLongestReading}
 use Rattle.starlark_grammar.specs.Cuts.{is_outside}
 use Rattle.starlark_grammar.specs.LineEnds.{holds_escaped_newline, opens_raw, is_raw_in, no_raw_newline}
 use Rattle.starlark_grammar.specs.TextLaws.{CrlfKeepsTokens}

@@ -12,7 +12,7 @@ use Rattle.std.proofs.lemmas.List.Sums.{sum_by-cons}
 use Rattle.std.proofs.lemmas.Str.{IsCharBoundary-end, IsCharBoundary-start, IsUtf8-drop}
 use Rattle.starlark_grammar.specs.Words.{Text}
 use Rattle.starlark_grammar.specs.Tokens.{Lexeme, Indent, Dedent}
-use Rattle.starlark_grammar.specs.Margins.{is_blank, is_lf, blanks_len, lines, begins_comment, is_comment_only, comment_part, comments_from, comment_lines, Margin, margin_of, margin_len, width_of, is_widest, indentation}
+use Rattle.starlark_grammar.specs.Margins.{begins_with_line_end, is_blank, is_lf, blanks_len, lines, begins_comment, is_comment_only, comment_part, comments_from, comment_lines, Margin, margin_of, margin_len, width_of, is_widest, indentation}
 use Rattle.starlark_grammar.specs.Gaps.{is_gap_byte, IsGap}
 use Rattle.starlark_grammar.specs.Laws.{AtBoundaries}
 use Rattle.starlark_grammar.proofs.Lists.{drop-sum}
@@ -26,7 +26,7 @@ Edges text lexemes = AllByRecursion (AtBoundaries text) lexemes
 -- a byte of a gap is ASCII
 gap_small : (b : ℕ) (bs : Text) → is_gap_byte (b ∷ bs) ≡ true → b < 128
 unfolding is_gap_byte
-gap_small b bs h = go (Rattle.starlark_grammar.specs.Gaps.begins_with_line_end bs) h
+gap_small b bs h = go (begins_with_line_end bs) h
   where
     go : (line : Bool) → (is_blank b || is_lf b || (b == byte "\\" && line)) ≡ true → b < 128
     go true h = grind (arith, nat_tests)

@@ -6,8 +6,8 @@ use Rattle.std.specs.Str.{byte}
 use Rattle.std.proofs.lemmas.Bool.{and_parts, cases_lt}
 use Rattle.starlark_grammar.specs.Words.{Text}
 use Rattle.starlark_grammar.specs.Tokens.{Lexeme, moved}
-use Rattle.starlark_grammar.specs.Margins.{is_blank, is_lf}
-use Rattle.starlark_grammar.specs.Gaps.{begins_with_line_end, is_gap_byte, IsGap, InOrder}
+use Rattle.starlark_grammar.specs.Margins.{is_blank, is_lf, begins_with_line_end}
+use Rattle.starlark_grammar.specs.Gaps.{is_gap_byte, IsGap, InOrder}
 use Rattle.starlark_grammar.proofs.Lists.{drop-sum}
 
 pub gap_none : (text : Text) (at : ℕ) → IsGap text at at

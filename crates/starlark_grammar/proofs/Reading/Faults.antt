@@ -5,7 +5,8 @@ use Rattle.std.proofs.lemmas.List.{length-drop}
 use Rattle.starlark_grammar.specs.Words.{Text, Table}
 use Rattle.starlark_grammar.specs.Tokens.{Fault, Spanned, moved}
 use Rattle.starlark_grammar.specs.Pieces.{Piece, Step, Stands, Fails, Ends}
-use Rattle.starlark_grammar.specs.Reading.{nothing, after_all, IsLongestReading, pieces_len, outcome_of, outcome_in, read}
+use Rattle.starlark_grammar.specs.Reading.{nothing, after_all, pieces_len, outcome_of, outcome_in, read}
+use Rattle.starlark_grammar.specs.Longest.{IsLongestReading}
 use Rattle.starlark_grammar.proofs.Reading.Readings.{fault_fits, reading_fits, read_is}
 
 abbrev Inside : Text → Spanned Fault → Type 0

@@ -7,7 +7,8 @@ use Rattle.starlark_grammar.specs.Tokens.{Fault, Spanned, Outcome}
 use Rattle.starlark_grammar.specs.Depths.{Mode, Outside, InText, AtTop, Deeper}
 use Rattle.starlark_grammar.specs.Items.{body_from, body_at}
 use Rattle.starlark_grammar.specs.Pieces.{Before, Nothing, Layout, Gap, Other, Piece, Step, Stands, Fails, Ends, Situation, chunk, by_place, by_before, step_at}
-use Rattle.starlark_grammar.specs.Reading.{History, nothing, after, after_all, situation, next_step, IsReading, IsLongestReading, pieces_len, read_onward, read_from, read, outcome_of, outcome_in, IsOutcome}
+use Rattle.starlark_grammar.specs.Reading.{History, nothing, after, after_all, situation, next_step, pieces_len, read_onward, read_from, read, outcome_of, outcome_in}
+use Rattle.starlark_grammar.specs.Longest.{IsReading, IsLongestReading, IsOutcome}
 use Rattle.starlark_grammar.specs.Laws.{Begins}
 use Rattle.starlark_grammar.proofs.Lists.{drop-sum, drop-remainder}
 use Rattle.starlark_grammar.proofs.Reading.Steps.{FaultFits, PieceFits, StepFits, is_nothing, least_len, step_fits}

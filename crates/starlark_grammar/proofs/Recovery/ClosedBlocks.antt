@@ -15,7 +15,8 @@ use Rattle.starlark_grammar.specs.Tokens.{Token, Newline, Dedent, Lexeme, moved}
 use Rattle.starlark_grammar.specs.Depths.{open_fstring, is_balanced, is_any_opening, is_any_closing}
 use Rattle.starlark_grammar.specs.Margins.{margin_of, margin_from, is_blank, is_lf, is_content, is_comment_only, blanks_len, lines, fits, indentation, open_widths}
 use Rattle.starlark_grammar.specs.Pieces.{Before, Nothing, Layout, Gap, Other, Piece, Stands, Situation, margin_step, line_end, by_before, step_at}
-use Rattle.starlark_grammar.specs.Reading.{History, tokens_onto, after, after_all, situation, next_step, IsReading, pieces_len, lexemes_along}
+use Rattle.starlark_grammar.specs.Reading.{History, tokens_onto, after, after_all, situation, next_step, pieces_len, lexemes_along}
+use Rattle.starlark_grammar.specs.Longest.{IsReading}
 use Rattle.starlark_grammar.specs.Cuts.{is_layout}
 use Rattle.starlark_grammar.proofs.Words.Fronts.{longest_front_is}
 use Rattle.starlark_grammar.proofs.Reading.Readings.{started, piece_fits}

@@ -18,13 +18,13 @@ use Rattle.starlark_grammar.proofs.Joining.Joined.{map_both, moved_both}
 use Rattle.starlark_grammar.proofs.Joining.Laws.{ends_behind}
 use Rattle.starlark_grammar.proofs.Joining.Tabs.{outcome_by}
 use Rattle.starlark_grammar.proofs.Order.Inside.{fault_within}
-use Rattle.starlark_grammar.specs.Joining.{ClosedAfterFaults, ClosedOfJoined, ClosedTextsJoin, begins_plainly, is_closed, is_closed_by, is_closed_from, is_decided, has_newline, is_between_lines, is_line_cut, recovered_joined, without_last_newline}
+use Rattle.starlark_grammar.specs.Joining.{ClosedAfterFaults, ClosedFaultless, ClosedOfJoined, ClosedTextsJoin, begins_plainly, is_closed, is_closed_by, is_closed_from, is_decided, has_newline, is_between_lines, is_line_cut, recovered_joined, without_last_newline}
 use Rattle.starlark_grammar.specs.Recovery.{Recovered, faults_of, lexemes_of, moved_outcome, outcomes, recovered, restart}
 use Rattle.starlark_grammar.proofs.Recovery.LineCuts.{has_newline_later, has_newline_moved, left_out_later, left_out_moved, line_cuts_join, line_cuts_of_joined, plain_some}
 use Rattle.starlark_grammar.proofs.Recovery.Order.{faults_moved, lexemes_moved}
 use Rattle.starlark_grammar.proofs.Recovery.Outcomes.{empty_faultless, faultless_recovers, lexes_on, restart_bounds, restart_later}
 use Rattle.starlark_grammar.proofs.Recovery.DecidedFaults.{decided, decided_faults_stay}
-use Rattle.starlark_grammar.proofs.Recovery.MovedRestarts.{plain_tab, restart_moved}
+use Rattle.starlark_grammar.proofs.Recovery.MovedRestarts.{not_zero, plain_tab, restart_moved}
 
 -- Whether a text is closed
 
@@ -58,6 +58,11 @@ pub closed_faultless : (text : Text) → 0 < length text → (outcome text).faul
 unfolding is_closed is_closed_from
 closed_faultless [] some none = absurd (omega (arith, some))
 closed_faultless (b ∷ bs) some none = by_none (b ∷ bs) (outcome (b ∷ bs)).fault (λ at. is_closed_from (at - 1) bs) none
+
+pub faultless_closed : ClosedFaultless
+unfolding is_closed is_closed_from
+faultless_closed [] none = refl
+faultless_closed (b ∷ bs) none = rw (not_zero (length (b ∷ bs)) (omega arith)) (closed_faultless (b ∷ bs) (omega arith) none)
 
 -- a closed text ends with an LF
 pub closed_ends : (text : Text) → 0 < length text → is_closed text ≡ true → ends_with nat_eq text (codes "\n") ≡ true

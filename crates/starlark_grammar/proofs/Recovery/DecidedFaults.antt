@@ -7,10 +7,10 @@ use Rattle.std.proofs.lemmas.List.{drop-append-le, length-drop}
 use Rattle.std.proofs.lemmas.List.Sums.{sum_by-cons}
 use Rattle.starlark_grammar.specs.Words.{Text, language}
 use Rattle.starlark_grammar.specs.Tokens.{Spanned, Fault, Lexeme, moved, Outcome}
-use Rattle.starlark_grammar.specs.Gaps.{begins_with_line_end}
-use Rattle.starlark_grammar.specs.Margins.{Margin, is_lf, margin_of, margin_len}
+use Rattle.starlark_grammar.specs.Margins.{begins_with_line_end, Margin, is_lf, margin_of, margin_len}
 use Rattle.starlark_grammar.specs.Pieces.{Piece, Step, Stands, Fails, Ends, first_margin}
-use Rattle.starlark_grammar.specs.Reading.{after_all, before_fault, nothing, IsLongestReading, pieces_len, outcome, outcome_of, read}
+use Rattle.starlark_grammar.specs.Reading.{after_all, before_fault, nothing, pieces_len, outcome, outcome_of, read}
+use Rattle.starlark_grammar.specs.Longest.{IsLongestReading}
 use Rattle.starlark_grammar.proofs.Lists.{drop-sum}
 use Rattle.starlark_grammar.proofs.Literals.Bodies.{starts_fits}
 use Rattle.starlark_grammar.proofs.Reading.Readings.{fault_fits, read_is}

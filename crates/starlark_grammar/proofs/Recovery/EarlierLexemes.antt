@@ -13,10 +13,11 @@ use Rattle.starlark_grammar.specs.Numbers.{integer_of}
 use Rattle.starlark_grammar.specs.Tokens.{Token, Newline, Dedent, Int, Opening, Lexeme, moved, Fault, Indentation, InvalidTab, Outcome, Spanned, FStringBang, FStringEnd, FStringExprStart}
 use Rattle.starlark_grammar.specs.Items.{Stop, Closing, Line, Ended, OpeningBrace, ClosingBrace, BadEscape, Body, body_at, body_len, body_value, closing_quotes}
 use Rattle.starlark_grammar.specs.Depths.{Mode, Outside, InText, AtTop, Deeper}
-use Rattle.starlark_grammar.specs.Margins.{Margin, margin_of, margin_len, is_content, has_tab, width_of, fits, is_widest, indentation}
-use Rattle.starlark_grammar.specs.Gaps.{InOrder, begins_with_line_end}
+use Rattle.starlark_grammar.specs.Margins.{Margin, margin_of, margin_len, is_content, has_tab, width_of, fits, is_widest, indentation, begins_with_line_end}
+use Rattle.starlark_grammar.specs.Gaps.{InOrder}
 use Rattle.starlark_grammar.specs.Pieces.{Before, Nothing, Layout, Gap, Other, Piece, Step, Stands, Fails, Situation, token, margin_step, first_margin, more_quotes, opening_of, escape_fault, literal_by, opener, chunk_text, chunk_piece, chunk_by, chunk, counts, starts_zero, word_step, front_step, takes_bang, is_bang, in_code, by_place, by_before, step_at}
-use Rattle.starlark_grammar.specs.Reading.{History, nothing, after, situation, next_step, IsReading, pieces_len, lexemes_along, before_fault}
+use Rattle.starlark_grammar.specs.Reading.{History, nothing, after, situation, next_step, pieces_len, lexemes_along, before_fault}
+use Rattle.starlark_grammar.specs.Longest.{IsReading}
 use Rattle.starlark_grammar.proofs.Choices.{either}
 use Rattle.starlark_grammar.proofs.Joining.Tabs.{first_step}
 use Rattle.starlark_grammar.proofs.Order.Gaps.{gap_none}

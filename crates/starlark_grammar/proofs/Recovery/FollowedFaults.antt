@@ -16,7 +16,8 @@ use Rattle.starlark_grammar.specs.Items.{Stop, Closing, Line, Ended, OpeningBrac
 use Rattle.starlark_grammar.specs.Depths.{Mode, Outside, InText, AtTop, Deeper}
 use Rattle.starlark_grammar.specs.Margins.{margin_of}
 use Rattle.starlark_grammar.specs.Pieces.{Before, Nothing, Layout, Gap, Other, Piece, Step, Stands, Fails, Situation, token, fault, margin_step, line_end, opening_of, more_quotes, is_plain, unfinished, escape_fault, literal_by, literal, opener, chunk_by, chunk, counts, word_step, front_step, takes_bang, is_bang, in_code, by_place, by_before, step_at}
-use Rattle.starlark_grammar.specs.Reading.{History, after, after_all, situation, next_step, IsReading, pieces_len}
+use Rattle.starlark_grammar.specs.Reading.{History, after, after_all, situation, next_step, pieces_len}
+use Rattle.starlark_grammar.specs.Longest.{IsReading}
 use Rattle.starlark_grammar.proofs.Lists.{drop-sum}
 use Rattle.starlark_grammar.proofs.Lines.{in_line, line_fits, language_lines}
 use Rattle.starlark_grammar.proofs.Literals.Bodies.{StopFits, body_fits}

@@ -11,7 +11,8 @@ use Rattle.starlark_grammar.specs.Tokens.{Newline, Lexeme, Spanned, moved, Fault
 use Rattle.starlark_grammar.specs.Depths.{mode_by, mode_after, open_fstring, is_balanced}
 use Rattle.starlark_grammar.specs.Margins.{open_widths}
 use Rattle.starlark_grammar.specs.Pieces.{Layout, Piece, Step, Stands, Fails, Ends, Situation, margin_step}
-use Rattle.starlark_grammar.specs.Reading.{History, nothing, after, after_all, situation, next_step, IsReading, IsLongestReading, pieces_len, read, lexemes_along, closing, before_fault, outcome_of, outcome_in, outcome}
+use Rattle.starlark_grammar.specs.Reading.{History, nothing, after, after_all, situation, next_step, pieces_len, read, lexemes_along, closing, before_fault, outcome_of, outcome_in, outcome}
+use Rattle.starlark_grammar.specs.Longest.{IsReading, IsLongestReading}
 use Rattle.starlark_grammar.specs.Cuts.{is_layout, is_outside, is_newline, is_faultless}
 use Rattle.starlark_grammar.proofs.Reading.Readings.{one_longest, longest_onward, read_is, reading_fits, ends_at_end, outcome_only}
 use Rattle.starlark_grammar.proofs.Reading.Steps.{is_nothing}

@@ -15,8 +15,7 @@ use Rattle.starlark_grammar.specs.Numbers.{integer_of}
 use Rattle.starlark_grammar.specs.Tokens.{Newline, Opening, Int, StartsZero, FStringBang, InvalidTab, UnfinishedFStringExpression, UnfinishedStringLiteral, Indentation, Lexeme, Spanned, Fault}
 use Rattle.starlark_grammar.specs.Items.{Stop, Closing, Line, Ended, OpeningBrace, ClosingBrace, BadEscape, Body, body_at}
 use Rattle.starlark_grammar.specs.Depths.{Mode, Outside, InText, AtTop, Deeper}
-use Rattle.starlark_grammar.specs.Margins.{Margin, margin_of, margin_len, is_content, has_tab, lines, width_of, fits}
-use Rattle.starlark_grammar.specs.Gaps.{begins_with_line_end}
+use Rattle.starlark_grammar.specs.Margins.{Margin, margin_of, margin_len, is_content, has_tab, lines, width_of, fits, begins_with_line_end}
 use Rattle.starlark_grammar.specs.Pieces.{Before, Nothing, Layout, Gap, Other, Piece, Step, Stands, Fails, Ends, Situation, token, fault, margin_step, first_margin, line_end, more_quotes, is_plain, unfinished, escape_fault, literal_by, opener, chunk_by, chunk, counts, starts_zero, word_step, front_step, takes_bang, is_bang, in_code, by_place, by_before, step_at}
 use Rattle.starlark_grammar.specs.Reading.{History, situation, next_step}
 use Rattle.starlark_grammar.proofs.Choices.{either}
@@ -24,6 +23,7 @@ use Rattle.starlark_grammar.proofs.Words.Classes.{all_fit, language_all_fit, non
 use Rattle.starlark_grammar.proofs.Words.Fronts.{front_sound}
 use Rattle.starlark_grammar.specs.Joining.{begins_plainly}
 use Rattle.starlark_grammar.specs.Recovery.{is_tab, line_end_len}
+use Rattle.starlark_grammar.proofs.Reading.Steps.{is_nothing}
 use Rattle.starlark_grammar.proofs.Recovery.FollowedFaults.{same_fault}
 
 -- Words of tabs, and line ends
@@ -197,6 +197,15 @@ pub record TabAt (text : Text) (found : Spanned Fault) : Type 0 where
   pub begin : found.begin ≡ 0
   pub stands : (first_margin text ≡ Fails found) ⊎ ((begins_with_tab text ≡ true) ⊎ LineFails text found)
 
+-- where a margin isn't the text's first
+pub record TabLater (text : Text) (found : Spanned Fault) : Type 0 where
+  pub begin : found.begin ≡ 0
+  pub end : found.end ≡ 0
+  pub stands : (begins_with_tab text ≡ true) ⊎ LineFails text found
+
+anywhere : {text : Text} {found : Spanned Fault} → TabLater text found → TabAt text found
+anywhere at = record { begin = at.begin; stands = inr at.stands }
+
 margin_begin : (len : ℕ) (lexemes : List Lexeme) (levels : List ℕ) (margin : Margin) (found : Spanned Fault) → margin_step len lexemes levels margin ≡ Fails found → found.begin ≡ 0
 unfolding margin_step
 margin_begin len lexemes levels margin found e = go (not (is_content margin.remainder)) (has_tab margin) (fits (width_of margin) levels) _ _ e
@@ -208,17 +217,34 @@ margin_begin len lexemes levels margin found e = go (not (is_content margin.rema
     go false false true one other e = cc
     go false false false one other e = sym (ap (λ (f : Spanned Fault). f.begin) (same_fault _ found e))
 
+-- the fault of a tab in a margin, which has one
+pub margin_tab : (len : ℕ) (lexemes : List Lexeme) (levels : List ℕ) (margin : Margin) (found : Spanned Fault) → is_tab found.node ≡ true → margin_step len lexemes levels margin ≡ Fails found → (has_tab margin ≡ true) × (found.end ≡ 0)
+unfolding margin_step
+margin_tab len lexemes levels margin found is e = go (not (is_content margin.remainder)) (has_tab margin) (fits (width_of margin) levels) _ _ e
+  where
+    go : (blank tab fitting : Bool) (one other : Piece)
+        → (if blank then Stands one else (if tab then Fails (record { begin = 0; node = InvalidTab; end = 0 }) else (if fitting then Stands other else Fails (record { begin = 0; node = Indentation; end = len + margin_len margin })))) ≡ Fails found → (tab ≡ true) × (found.end ≡ 0)
+    go true tab fitting one other e = cc
+    go false true fitting one other e = (refl, sym (ap (λ (f : Spanned Fault). f.end) (same_fault _ found e)))
+    go false false true one other e = cc
+    go false false false one other e = absurd (both_ways _ (ap (λ (f : Spanned Fault). is_tab f.node) (sym (same_fault _ found e))) is)
+
 module _ (s : Situation) (text : Text) (found : Spanned Fault) (tab : is_tab found.node ≡ true) where
-  by_class : (class : Class) (len : ℕ) → longest_front (class_in language) text ≡ Some (class, len) → word_step s class (take len text) (drop len text) ≡ Fails found → TabAt text found
+  by_class : (class : Class) (len : ℕ) → longest_front (class_in language) text ≡ Some (class, len) → word_step s class (take len text) (drop len text) ≡ Fails found → TabLater text found
   by_class word.Skipped len front e = cc
   by_class word.Comment len front e = cc
-  by_class word.Tabs len front e = record { begin = sym (ap (λ (f : Spanned Fault). f.begin) (same_fault _ found e)); stands = inr (inl (word_tab text len front)) }
+  by_class word.Tabs len front e = record {
+    begin = sym (ap (λ (f : Spanned Fault). f.begin) (same_fault _ found e));
+    end = sym (ap (λ (f : Spanned Fault). f.end) (same_fault _ found e));
+    stands = inl (word_tab text len front);
+  }
   by_class word.LineEnd len front e = go (counts s.place s.is_balanced) e
     where
-      go : (counted : Bool) → (if counted then line_end (length (take len text)) s.levels (drop len text) else Stands (record { len = length (take len text); lexemes = []; width = None; sort = Other })) ≡ Fails found → TabAt text found
+      go : (counted : Bool) → (if counted then line_end (length (take len text)) s.levels (drop len text) else Stands (record { len = length (take len text); lexemes = []; width = None; sort = Other })) ≡ Fails found → TabLater text found
       go true e = record {
         begin = margin_begin (length (take len text)) (record { begin = 0; node = Newline; end = length (take len text) } ∷ []) s.levels (margin_of (drop len text)) found e;
-        stands = inr (inr (record { len = len; size = length (take len text); levels = s.levels; lexemes = record { begin = 0; node = Newline; end = length (take len text) } ∷ []; line = word_line text len front; fails = e }));
+        end = (margin_tab (length (take len text)) (record { begin = 0; node = Newline; end = length (take len text) } ∷ []) s.levels (margin_of (drop len text)) found tab e).1;
+        stands = inr (record { len = len; size = length (take len text); levels = s.levels; lexemes = record { begin = 0; node = Newline; end = length (take len text) } ∷ []; line = word_line text len front; fails = e });
       }
       go false e = cc
   by_class (word.Opener kind is_raw quote) len front e = absurd (tab_not _ found (untabbed_opener s.place kind _ _ _) e tab)
@@ -231,22 +257,22 @@ module _ (s : Situation) (text : Text) (found : Spanned Fault) (tab : is_tab fou
   by_class word.Float len front e = cc
   by_class (word.Fixed terminal) len front e = cc
 
-  by_front : (front : Option (Class × ℕ)) → longest_front (class_in language) text ≡ front → front_step s text front ≡ Fails found → TabAt text found
+  by_front : (front : Option (Class × ℕ)) → longest_front (class_in language) text ≡ front → front_step s text front ≡ Fails found → TabLater text found
   by_front None front e = absurd (tab_not _ found refl e tab)
   by_front (Some front) known e = by_class front.0 front.1 known e
 
-  tab_in_code : in_code language s text ≡ Fails found → TabAt text found
+  tab_in_code : in_code language s text ≡ Fails found → TabLater text found
   tab_in_code e = go text refl e
     where
-      bang : (b : ℕ) (bs : Text) (bangs : Bool) → text ≡ b ∷ bs → (if bangs then token 1 FStringBang else front_step s (b ∷ bs) (longest_front (class_in language) (b ∷ bs))) ≡ Fails found → TabAt text found
+      bang : (b : ℕ) (bs : Text) (bangs : Bool) → text ≡ b ∷ bs → (if bangs then token 1 FStringBang else front_step s (b ∷ bs) (longest_front (class_in language) (b ∷ bs))) ≡ Fails found → TabLater text found
       bang b bs true same e = cc
       bang b bs false same e = by_front (longest_front (class_in language) text) refl (subst (λ (t : Text). front_step s t (longest_front (class_in language) t) ≡ Fails found) (sym same) e)
 
-      go : (t : Text) → text ≡ t → in_code language s t ≡ Fails found → TabAt text found
+      go : (t : Text) → text ≡ t → in_code language s t ≡ Fails found → TabLater text found
       go [] same e = cc
       go (b ∷ bs) same e = bang b bs (takes_bang s.place s.before && is_bang (b ∷ bs)) same e
 
-  tab_by_place : (place : Mode) → by_place language s place text ≡ Fails found → TabAt text found
+  tab_by_place : (place : Mode) → by_place language s place text ≡ Fails found → TabLater text found
   tab_by_place Outside e = tab_in_code e
   tab_by_place (InText opening) e = absurd (tab_not _ found (untabbed_chunk opening text) e tab)
   tab_by_place AtTop e = tab_in_code e
@@ -258,13 +284,39 @@ module _ (s : Situation) (text : Text) (found : Spanned Fault) (tab : is_tab fou
     where
       go : (before : Before) → by_before language s before text ≡ Fails found → TabAt text found
       go Nothing e = record { begin = margin_begin 0 [] [] (margin_of text) found e; stands = inl e }
-      go Layout e = tab_by_place s.place e
-      go Gap e = tab_by_place s.place e
-      go Other e = tab_by_place s.place e
+      go Layout e = anywhere (tab_by_place s.place e)
+      go Gap e = anywhere (tab_by_place s.place e)
+      go Other e = anywhere (tab_by_place s.place e)
+
+  later_step : is_nothing s.before ≡ false → step_at language s text ≡ Fails found → TabLater text found
+  unfolding step_at
+  later_step some e = go s.before some e
+    where
+      go : (before : Before) → is_nothing before ≡ false → by_before language s before text ≡ Fails found → TabLater text found
+      go Nothing some e = cc
+      go Layout some e = tab_by_place s.place e
+      go Gap some e = tab_by_place s.place e
+      go Other some e = tab_by_place s.place e
 
 pub tab_next : (history : History) (text : Text) (found : Spanned Fault) → is_tab found.node ≡ true → next_step language history text ≡ Fails found → TabAt text found
 unfolding next_step situation
 tab_next history text found tab e = tab_step (situation history) text found tab e
+
+-- at the first margin
+pub tab_first : (history : History) (text : Text) (found : Spanned Fault) → is_nothing history.before ≡ true → next_step language history text ≡ Fails found → first_margin text ≡ Fails found
+unfolding next_step situation step_at
+tab_first history text found none e = go history.before none e
+  where
+    go : (before : Before) → is_nothing before ≡ true → by_before language (situation history) before text ≡ Fails found → first_margin text ≡ Fails found
+    go Nothing none e = e
+    go Layout none e = cc
+    go Gap none e = cc
+    go Other none e = cc
+
+-- after the first margin
+pub tab_later : (history : History) (text : Text) (found : Spanned Fault) → is_tab found.node ≡ true → is_nothing history.before ≡ false → next_step language history text ≡ Fails found → TabLater text found
+unfolding next_step situation
+tab_later history text found tab some e = later_step (situation history) text found tab some e
 
 -- What such texts aren't
 

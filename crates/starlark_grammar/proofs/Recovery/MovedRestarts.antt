@@ -7,8 +7,7 @@ use Rattle.std.proofs.Math.Seq.{drop-append-add}
 use Rattle.std.proofs.lemmas.Bool.{both_ways, cases_lt, eqb-true}
 use Rattle.starlark_grammar.specs.Words.{Text, language}
 use Rattle.starlark_grammar.specs.Tokens.{Spanned, Fault, moved}
-use Rattle.starlark_grammar.specs.Gaps.{begins_with_line_end}
-use Rattle.starlark_grammar.specs.Margins.{blanks_len, has_tab, is_blank, is_comment_only, is_lf, lines, margin_of}
+use Rattle.starlark_grammar.specs.Margins.{begins_with_line_end, blanks_len, has_tab, is_blank, is_comment_only, is_lf, lines, margin_of}
 use Rattle.starlark_grammar.specs.Pieces.{Fails, first_margin}
 use Rattle.starlark_grammar.specs.Reading.{after_all, nothing, outcome, pieces_len}
 use Rattle.starlark_grammar.specs.TextLaws.{HasFirstMargin}
@@ -87,7 +86,7 @@ plain_tab text fault plain has tab = go (fault_read text fault has)
 
 -- Moved faults
 
-not_zero : (n : ℕ) → 0 < n → (n == 0) ≡ false
+pub not_zero : (n : ℕ) → 0 < n → (n == 0) ≡ false
 not_zero n some = go (n == 0) refl
   where
     go : (test : Bool) → (n == 0) ≡ test → test ≡ false

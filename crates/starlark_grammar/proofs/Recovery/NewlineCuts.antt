@@ -14,7 +14,8 @@ use Rattle.starlark_grammar.specs.Tokens.{Lexeme, Newline, Dedent, Outcome, move
 use Rattle.starlark_grammar.specs.Depths.{Mode, is_balanced, mode_after, open_fstring}
 use Rattle.starlark_grammar.specs.Margins.{comment_lines, fits, indentation, is_blank, is_comment_only, is_lf, lines, margin_of, open_widths}
 use Rattle.starlark_grammar.specs.Pieces.{Ends, Layout, Piece, Stands, Step, counts, margin_step, step_at}
-use Rattle.starlark_grammar.specs.Reading.{History, IsLongestReading, IsReading, after, after_all, closing, lexemes_along, next_step, nothing, outcome, pieces_len, read, situation}
+use Rattle.starlark_grammar.specs.Reading.{History, after, after_all, closing, lexemes_along, next_step, nothing, outcome, pieces_len, read, situation}
+use Rattle.starlark_grammar.specs.Longest.{IsLongestReading, IsReading}
 use Rattle.starlark_grammar.specs.Cuts.{is_faultless, is_newline, is_outside}
 use Rattle.starlark_grammar.proofs.Lists.{drop-sum}
 use Rattle.starlark_grammar.proofs.Words.Fronts.{front_sound}

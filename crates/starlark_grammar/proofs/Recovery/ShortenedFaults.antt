@@ -11,13 +11,13 @@ use Rattle.starlark_grammar.specs.declared.class.Class.{Class}
 use Rattle.starlark_grammar.specs.declared.class.LiteralKind.TheVariants.{Text as OfText, Bytes as OfBytes, FString as OfFString}
 use Rattle.starlark_grammar.specs.Characters.{first_character}
 use Rattle.starlark_grammar.specs.Front.{longest_front}
-use Rattle.starlark_grammar.specs.Gaps.{begins_with_line_end}
+use Rattle.starlark_grammar.specs.Margins.{begins_with_line_end, Margin, margin_of, margin_len, is_content, has_tab, width_of, fits}
 use Rattle.starlark_grammar.specs.Tokens.{Opening, FStringBang, Indentation, InvalidInput, InvalidTab, Lexeme, Newline, Spanned, Fault, Outcome}
 use Rattle.starlark_grammar.specs.Items.{Stop, Closing, Line, Ended, OpeningBrace, ClosingBrace, BadEscape, Body, body_at, body_len}
 use Rattle.starlark_grammar.specs.Depths.{Mode, Outside, InText, AtTop, Deeper}
-use Rattle.starlark_grammar.specs.Margins.{Margin, margin_of, margin_len, is_content, has_tab, width_of, fits}
 use Rattle.starlark_grammar.specs.Pieces.{Before, Nothing, Layout, Gap, Other, Piece, Step, Stands, Fails, Situation, token, fault, first_margin, margin_step, line_end, opening_of, more_quotes, escape_fault, literal_by, literal, opener, chunk_by, chunk, counts, word_step, front_step, takes_bang, is_bang, in_code, by_place, by_before, step_at}
-use Rattle.starlark_grammar.specs.Reading.{History, after, after_all, nothing, situation, next_step, IsReading, pieces_len, outcome}
+use Rattle.starlark_grammar.specs.Reading.{History, after, after_all, nothing, situation, next_step, pieces_len, outcome}
+use Rattle.starlark_grammar.specs.Longest.{IsReading}
 use Rattle.starlark_grammar.proofs.Lists.{drop-sum}
 use Rattle.starlark_grammar.proofs.Lines.{in_line, line_fits, language_lines}
 use Rattle.starlark_grammar.proofs.Literals.Bodies.{StopFits, body_fits}
@@ -262,7 +262,7 @@ later_some history text [] h reads = h
 later_some history text (piece ∷ pieces) h reads =
     later_some (after history piece) (drop piece.len text) pieces (started history piece (piece_fits language history text piece reads.0).sort) reads.1
 
-none_before : (history : History) (text : Text) (pieces : List Piece) → IsReading language history text pieces → is_nothing (after_all history pieces).before ≡ true → pieces_len pieces ≡ 0
+pub none_before : (history : History) (text : Text) (pieces : List Piece) → IsReading language history text pieces → is_nothing (after_all history pieces).before ≡ true → pieces_len pieces ≡ 0
 none_before history text [] reads h = refl
 none_before history text (piece ∷ pieces) reads h =
     absurd (both_ways _ (later_some (after history piece) (drop piece.len text) pieces (started history piece (piece_fits language history text piece reads.0).sort) reads.1) h)

@@ -3,7 +3,8 @@ use Rattle.std.proofs.Common.{◌≡◌, ℕ, zero, suc, ◌+◌, ◌<◌, ◌�
 use Rattle.std.specs.List.{list_all, prefix_len}
 use Rattle.std.specs.Option.{option_map}
 use Rattle.starlark_grammar.specs.Words.{Text}
-use Rattle.starlark_grammar.specs.Front.{longer, longest_front, IsLongestFront}
+use Rattle.starlark_grammar.specs.Front.{longer, longest_front}
+use Rattle.starlark_grammar.specs.Longest.{IsLongestFront}
 
 -- the parts of equal pairs
 some_parts : {C : Type 0} (x y : C × ℕ) → Some x ≡ Some y → (x.0 ≡ y.0) × (x.1 ≡ y.1)

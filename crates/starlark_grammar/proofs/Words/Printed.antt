@@ -1,66 +1,39 @@
 -- The words of the keywords and the symbols are read as what they are the words of.
-use Rattle.std.proofs.Common.{refl}
-use Rattle.starlark_grammar.specs.Words as terminal
-use Rattle.starlark_grammar.specs.Words.{class_in, openers, line_ends, symbols, names, patterns, language}
+use borrow.Enum.Match.{tag_small}
+use denote.Enum.Bare.{same_true}
+use denote.Enum.Declared.{tag_of, variants}
+use Rattle.std.proofs.Common.{◌≡◌, ℕ, Bool, true, false, nat_eq, length, map, refl, sym, ap, Option, Some, None, unwrap_or, ◌++◌, ◌<◌, []}
+use Rattle.std.proofs.lemmas.Bool.{agree_below_at}
+use Rattle.std.specs.Map.{lookup}
+use Rattle.starlark_grammar.specs.declared.class.Class.{Class}
+use Rattle.starlark_grammar.specs.declared.class.Class.TheVariants as class
+use Rattle.starlark_grammar.specs.declared.class.Terminal.{Terminal}
+use Rattle.starlark_grammar.specs.contracts.class.Terminal.{the_type}
+use Rattle.starlark_grammar.specs.Words.{Text, class_in, openers, line_ends, symbols, names, patterns, language}
 use Rattle.starlark_grammar.specs.PrintedWords.{word_of, PrintedWordsReadBack}
 
+-- whether a class is that of the keyword or symbol with this tag
+abbrev has_tag : ℕ → Class → Bool
+has_tag tag (class.Fixed terminal) = nat_eq tag (tag_of the_type terminal)
+has_tag tag other = false
+
+-- the word of the keyword or symbol with this tag
+abbrev word_by_tag : ℕ → Text
+word_by_tag tag = unwrap_or (lookup (has_tag tag) (map (λ row. (row.1, row.0)) (symbols ++ names))) []
+
+-- it is read as the one with this tag
+abbrev is_read : ℕ → Option Class → Bool
+is_read tag (Some class) = has_tag tag class
+is_read tag None = false
+
+each_is_read : (tag : ℕ) → tag < length (variants the_type) → is_read tag (class_in language (word_by_tag tag)) ≡ true
+unfolding class_in openers line_ends symbols names patterns language
+each_is_read tag small = agree_below_at (λ tag. is_read tag (class_in language (word_by_tag tag))) (λ _. true) (length (variants the_type)) tag refl small
+
+read_as : (terminal : Terminal) (found : Option Class) → is_read (tag_of the_type terminal) found ≡ true → found ≡ Some (class.Fixed terminal)
+read_as terminal (Some (class.Fixed other)) h = ap (λ terminal. Some (class.Fixed terminal)) (sym (same_true the_type tt terminal other h))
+read_as terminal found h = cc
+
 pub words_read_back : PrintedWordsReadBack
-unfolding class_in openers line_ends symbols names patterns language word_of
-words_read_back terminal.And = refl
-words_read_back terminal.Break = refl
-words_read_back terminal.Continue = refl
-words_read_back terminal.Def = refl
-words_read_back terminal.Elif = refl
-words_read_back terminal.Else = refl
-words_read_back terminal.For = refl
-words_read_back terminal.If = refl
-words_read_back terminal.In = refl
-words_read_back terminal.Lambda = refl
-words_read_back terminal.Load = refl
-words_read_back terminal.Not = refl
-words_read_back terminal.Or = refl
-words_read_back terminal.Pass = refl
-words_read_back terminal.Return = refl
-words_read_back terminal.Comma = refl
-words_read_back terminal.Semicolon = refl
-words_read_back terminal.Colon = refl
-words_read_back terminal.PlusEqual = refl
-words_read_back terminal.MinusEqual = refl
-words_read_back terminal.StarEqual = refl
-words_read_back terminal.SlashEqual = refl
-words_read_back terminal.SlashSlashEqual = refl
-words_read_back terminal.PercentEqual = refl
-words_read_back terminal.EqualEqual = refl
-words_read_back terminal.BangEqual = refl
-words_read_back terminal.LessEqual = refl
-words_read_back terminal.GreaterEqual = refl
-words_read_back terminal.StarStar = refl
-words_read_back terminal.MinusGreater = refl
-words_read_back terminal.Equal = refl
-words_read_back terminal.LessThan = refl
-words_read_back terminal.GreaterThan = refl
-words_read_back terminal.Minus = refl
-words_read_back terminal.Plus = refl
-words_read_back terminal.Star = refl
-words_read_back terminal.Percent = refl
-words_read_back terminal.Slash = refl
-words_read_back terminal.SlashSlash = refl
-words_read_back terminal.Dot = refl
-words_read_back terminal.Ampersand = refl
-words_read_back terminal.Pipe = refl
-words_read_back terminal.Caret = refl
-words_read_back terminal.LessLess = refl
-words_read_back terminal.GreaterGreater = refl
-words_read_back terminal.Tilde = refl
-words_read_back terminal.AmpersandEqual = refl
-words_read_back terminal.PipeEqual = refl
-words_read_back terminal.CaretEqual = refl
-words_read_back terminal.LessLessEqual = refl
-words_read_back terminal.GreaterGreaterEqual = refl
-words_read_back terminal.Ellipsis = refl
-words_read_back terminal.OpeningSquare = refl
-words_read_back terminal.OpeningCurly = refl
-words_read_back terminal.OpeningRound = refl
-words_read_back terminal.ClosingSquare = refl
-words_read_back terminal.ClosingCurly = refl
-words_read_back terminal.ClosingRound = refl
+unfolding word_of symbols names
+words_read_back terminal = read_as terminal (class_in language (word_of terminal)) (each_is_read (tag_of the_type terminal) (tag_small the_type terminal))

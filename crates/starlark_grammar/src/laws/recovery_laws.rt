@@ -1,8 +1,8 @@
 //! Laws of texts that are lexed on after their faults. Each function here has a law as its contract
 //! and nothing to do; programs don't call them.
 
-ghost use Rattle.starlark_grammar.specs.Joining.{ClosedAfterFaults, ClosedOfJoined, ClosedTextsJoin, DecidedFaultsStay, LastNewlineCuts, LineCutsJoin, LineCutsOfJoined, NewlinesCut};
-ghost use Rattle.starlark_grammar.specs.RecoveryLaws.{FaultlessIsOutcome, FaultlessRecovers, FaultsInOrder, LexemesAfterFaults, LexemesBeforeFaults, LexemesInOrder, LexemesInside, LexesOn, RestartsLater};
+ghost use Rattle.starlark_grammar.specs.Joining.{ClosedAfterFaults, ClosedFaultless, ClosedOfJoined, ClosedTextsJoin, DecidedFaultsStay, LastNewlineCuts, LineCutsJoin, LineCutsOfJoined, NewlinesCut};
+ghost use Rattle.starlark_grammar.specs.RecoveryLaws.{FaultlessIsOutcome, FaultlessRecovers, FaultsInOrder, LexemesAfterFaults, LexemesBeforeFaults, LexemesInOrder, LexemesInside, LexesOn, RestartsAfterTabs, RestartsAtLines, RestartsAtNextLine, RestartsLater};
 
 /// A text without fault has its outcome alone: its own lexemes, and no faults.
 pub fn faultless_texts_stay()
@@ -15,6 +15,14 @@ pub fn faultless_texts_stay()
 pub fn faults_end_lines()
     ensures outcomes { LexesOn }
     ensures restart { RestartsLater }
+{}
+
+/// Lexing begins again at the start of a line or at the end of the text: after the first LF from a
+/// fault's last byte on, or after the tab of a tab's fault.
+pub fn restarts_at_lines()
+    ensures line { RestartsAtLines }
+    ensures next { RestartsAtNextLine }
+    ensures tab { RestartsAfterTabs }
 {}
 
 /// All lexemes and all faults lie in the text, each in order: no two lexemes overlap, and no two
@@ -48,9 +56,10 @@ pub fn newlines_cut()
 {}
 
 /// What follows a closed text, and begins with content at the start of a line, is lexed by itself. So
-/// a text can be kept in parts, each lexed alone.
+/// a text can be kept in parts, each lexed alone. Which texts are closed, by their first faults.
 pub fn closed_texts_join()
     ensures recovered { ClosedTextsJoin }
     ensures closed { ClosedOfJoined }
+    ensures faultless { ClosedFaultless }
     ensures rest { ClosedAfterFaults }
 {}

@@ -15,7 +15,8 @@ use Rattle.starlark_grammar.specs.Tokens.{Lexeme, Outcome, Spanned, moved}
 use Rattle.starlark_grammar.specs.Depths.{Mode, is_balanced, mode_after}
 use Rattle.starlark_grammar.specs.Margins.{comment_lines, fits, has_tab, is_comment_only, is_content, lines, margin_of, open_widths, width_of}
 use Rattle.starlark_grammar.specs.Pieces.{Ends, Fails, Piece, Stands, counts, first_margin, line_end, margin_step}
-use Rattle.starlark_grammar.specs.Reading.{History, IsReading, after, after_all, lexemes_along, next_step, nothing, outcome, pieces_len, read, situation}
+use Rattle.starlark_grammar.specs.Reading.{History, after, after_all, lexemes_along, next_step, nothing, outcome, pieces_len, read, situation}
+use Rattle.starlark_grammar.specs.Longest.{IsReading}
 use Rattle.starlark_grammar.specs.Cuts.{is_clean_cut, is_layout, is_outside, without_closing}
 use Rattle.starlark_grammar.proofs.Lists.{drop-sum}
 use Rattle.starlark_grammar.proofs.Words.Fronts.{front_sound}

@@ -6,9 +6,8 @@ use Rattle.std.proofs.lemmas.List.Folds.{length-prefix_len}
 use Rattle.std.specs.List.{list_any, starts_with}
 use Rattle.std.specs.Prelude.{codes, if◌then◌else◌, not}
 use Rattle.starlark_grammar.specs.AfterFaults.{is_margin_tab, is_tab, line_end_len, margin_line, next_line, restart, stopped_at}
-use Rattle.starlark_grammar.specs.Gaps.{begins_with_line_end}
+use Rattle.starlark_grammar.specs.Margins.{begins_with_line_end, blanks_len, has_tab, is_blank, is_lf, lines, margin_len, margin_of}
 use Rattle.starlark_grammar.specs.Margins as grammar
-use Rattle.starlark_grammar.specs.Margins.{blanks_len, has_tab, is_blank, is_lf, lines, margin_len, margin_of}
 use Rattle.starlark_grammar.specs.Pieces as pieces
 use Rattle.starlark_grammar.specs.Tokens.{Fault, Indentation, InvalidTab, Spanned}
 use Rattle.starlark_grammar.specs.Words.{Text}
@@ -19,7 +18,8 @@ use Rattle.starlark_words.proofs.Literals.RunBytes.{longer_run}
 use Rattle.starlark_reader.specs.Inner.Layout.{IsFaultFound, IsMargin, margin_fault}
 use Rattle.starlark_reader.specs.Inner.Pieces.{IsLineEnd}
 use Rattle.starlark_reader.specs.Inner.Pending.{owed}
-use Rattle.starlark_reader.specs.Inner.Reads.{AtFault, HasRead, HasReadAt, IsMarginRead, search_reads}
+use Rattle.starlark_reader.specs.Inner.Reads.{AtFault, HasRead, HasReadAt, IsMarginRead}
+use Rattle.starlark_reader.specs.Searches.{search_reads}
 use Rattle.starlark_reader.specs.declared.margins.Margin.{Margin}
 use Rattle.starlark_reader.specs.declared.reader.Reader.{Reader}
 use Rattle.starlark_reader.specs.declared.reader.Stage.TheVariants as stages

@@ -5,7 +5,8 @@ use Rattle.starlark_grammar.specs.Words.{Text, language}
 use Rattle.starlark_grammar.specs.Tokens.{Fault, Outcome, Spanned, moved}
 use Rattle.starlark_grammar.specs.Margins.{margin_of}
 use Rattle.starlark_grammar.specs.Pieces.{Ends, Fails, Piece, Stands, Step, first_margin, step_at}
-use Rattle.starlark_grammar.specs.Reading.{History, IsLongestReading, after, after_all, closing, lexemes_along, next_step, nothing, outcome, outcome_in, outcome_of, pieces_len, read, read_from, situation}
+use Rattle.starlark_grammar.specs.Reading.{History, after, after_all, closing, lexemes_along, next_step, nothing, outcome, outcome_in, outcome_of, pieces_len, read, read_from, situation}
+use Rattle.starlark_grammar.specs.Longest.{IsLongestReading}
 use Rattle.starlark_reader.specs.Inner.Reader.{history_from, history_of, outcome_along, remaining_outcome}
 use Rattle.starlark_grammar.proofs.Reading.Readings.{longest_onward, one_longest, piece_fits, read_from_is, read_is, started, stops_here}
 use Rattle.starlark_grammar.proofs.Reading.Steps.{is_nothing}

@@ -6,7 +6,8 @@ use Rattle.starlark_grammar.specs.Tokens.{Fault, Spanned}
 use Rattle.starlark_grammar.specs.Words.{Text}
 use Rattle.starlark_token.specs.Lexemes.{fault_view}
 use Rattle.starlark_token.specs.declared.lexeme_error.LexemeError.{LexemeError}
-use Rattle.starlark_reader.specs.Inner.Reads.{is_tab_error, is_tab_view, search_reads}
+use Rattle.starlark_reader.specs.Inner.Reads.{is_tab_error, is_tab_view}
+use Rattle.starlark_reader.specs.Searches.{search_reads}
 use Rattle.starlark_reader.proofs.NextLines.{next_line_drop, next_line_later, restart_end, restart_line, stopped_begin, stopped_end}
 
 -- the search after the fault of a tab, and after another

@@ -13,7 +13,8 @@ use Rattle.starlark_grammar.specs.Tokens as grammar
 use Rattle.starlark_grammar.specs.Margins.{Margin, comment_lines, comments_from, fits, has_tab, indentation, is_content, is_widest, margin_len, margin_of, open_widths, width_of}
 use Rattle.starlark_grammar.specs.Pieces.{Ends, Fails, Layout, Piece, Stands, first_margin, line_end, margin_step}
 use Rattle.starlark_grammar.specs.Cuts.{is_layout}
-use Rattle.starlark_grammar.specs.Reading.{History, IsReading, after, after_all, closing, next_step, pieces_len, nothing, outcome, tokens_onto}
+use Rattle.starlark_grammar.specs.Reading.{History, after, after_all, closing, next_step, pieces_len, nothing, outcome, tokens_onto}
+use Rattle.starlark_grammar.specs.Longest.{IsReading}
 use Rattle.starlark_token.specs.Lexemes.{fault_view, lexeme_view, shown_lexeme}
 use Rattle.starlark_reader.specs.Inner.Layout.{IsRefused, IsTaken}
 use Rattle.starlark_reader.specs.Inner.Pending.{IsIdle, IsPending, lines_between, pending_lexemes}

@@ -11,7 +11,8 @@ use Rattle.starlark_grammar.specs.Pieces as pieces
 use Rattle.starlark_grammar.specs.Pieces.{Before, Gap, Layout, Other, Step, Piece, Fails, counts, is_bang}
 use Rattle.starlark_words.specs.Inner.Words.{word_view}
 use Rattle.starlark_words.specs.declared.scanner.word.Word.{Word}
-use Rattle.starlark_grammar.specs.Reading.{History, IsReading, Reading, after_all, nothing, pieces_len, lexemes_along, closing, next_step, read, read_from, outcome}
+use Rattle.starlark_grammar.specs.Reading.{History, Reading, after_all, nothing, pieces_len, lexemes_along, closing, next_step, read, read_from, outcome}
+use Rattle.starlark_grammar.specs.Longest.{IsReading}
 use Rattle.starlark_token.specs.Lexemes.{fault_view, lexeme_view, shown_lexeme}
 use Rattle.starlark_reader.specs.Inner.MarginCuts.{IsAfterLines, IsCutBefore, IsMarginAhead}
 use Rattle.starlark_reader.specs.Inner.Pending.{IsIdle, IsPending, pending_lexemes}

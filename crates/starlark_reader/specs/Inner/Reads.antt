@@ -1,11 +1,12 @@
 -- Numbers of reads of bytes, by what was read.
 use Rattle.std.specs.Prelude.{◌≡◌, ◌≤◌, ◌<◌, ◌+◌, ◌-◌, ◌*◌, if◌then◌else◌, Bool, true, false, ℕ, Option, None, Some, length, max}
-use Rattle.starlark_grammar.specs.AfterFaults.{is_tab, next_line, restart, stopped_at}
+use Rattle.starlark_grammar.specs.AfterFaults.{is_tab, next_line, restart}
 use Rattle.starlark_grammar.specs.Tokens.{Fault, Spanned}
 use Rattle.starlark_grammar.specs.Words.{Text}
 use Rattle.starlark_token.specs.Lexemes.{fault_view}
 use Rattle.starlark_token.specs.declared.lexeme_error.LexemeError.{LexemeError}
 use Rattle.starlark_words.specs.Inner.Reads.{AreReads, more_reads}
+use Rattle.starlark_reader.specs.Searches.{search_reads}
 use Rattle.starlark_reader.specs.declared.literal.pieces.Step.{Step}
 use Rattle.starlark_reader.specs.declared.literal.pieces.Step.TheVariants as step
 use Rattle.starlark_reader.specs.declared.reading.Piece.{Piece}
@@ -16,13 +17,6 @@ use Rattle.starlark_reader.specs.declared.reader.Reader.{Reader}
 use Rattle.starlark_reader.specs.declared.reader.Stage.{Stage}
 use Rattle.starlark_reader.specs.declared.reader.Stage.TheVariants as stage
 use Rattle.starlark_reader.specs.Inner.Pending.{owed}
-
--- reads that find where lexing begins again after a fault, at most: five for each byte from the
--- start of a tab's fault on, and five more; or one for each byte from where another fault stopped the
--- reading, and one more
-unfoldable pub search_reads : Text → Spanned Fault → ℕ
-search_reads text fault =
-    if is_tab fault.node then 5 * (restart text fault - fault.begin + 1) else restart text fault - stopped_at text fault + 1
 
 -- whether an error is the fault of a tab
 abbrev pub is_tab_view : Option Fault → Bool

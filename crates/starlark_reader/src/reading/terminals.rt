@@ -10,8 +10,14 @@ ghost use Rattle.starlark_grammar.specs.Tokens as Tokens;
 ghost use Rattle.starlark_grammar.specs.Tokens.{Word};
 
 use crate::nesting::{LexerMode, Nesting};
+use starlark_grammar::{match_terminals, terminals};
 use starlark_token::tokens::Token;
 use starlark_words::scanner::Terminal;
+
+/// The token of a keyword or symbol.
+macro_rules! token_of {
+    ($sort:literal $name:ident $text:literal) => { Token::$name };
+}
 
 /// The token of a keyword or symbol by itself, whatever the lexer mode.
 #[tactic(auto, unfolding(starlark_token::specs::TokenViews::token_view))]
@@ -19,66 +25,7 @@ use starlark_words::scanner::Terminal;
 pub fn own_token(terminal: Terminal) -> Token
     ensures { token_view result ≡ Whole (Word terminal) }
 {
-    match terminal {
-        Terminal::And => Token::And,
-        Terminal::Break => Token::Break,
-        Terminal::Continue => Token::Continue,
-        Terminal::Def => Token::Def,
-        Terminal::Elif => Token::Elif,
-        Terminal::Else => Token::Else,
-        Terminal::For => Token::For,
-        Terminal::If => Token::If,
-        Terminal::In => Token::In,
-        Terminal::Lambda => Token::Lambda,
-        Terminal::Load => Token::Load,
-        Terminal::Not => Token::Not,
-        Terminal::Or => Token::Or,
-        Terminal::Pass => Token::Pass,
-        Terminal::Return => Token::Return,
-        Terminal::Comma => Token::Comma,
-        Terminal::Semicolon => Token::Semicolon,
-        Terminal::Colon => Token::Colon,
-        Terminal::PlusEqual => Token::PlusEqual,
-        Terminal::MinusEqual => Token::MinusEqual,
-        Terminal::StarEqual => Token::StarEqual,
-        Terminal::SlashEqual => Token::SlashEqual,
-        Terminal::SlashSlashEqual => Token::SlashSlashEqual,
-        Terminal::PercentEqual => Token::PercentEqual,
-        Terminal::EqualEqual => Token::EqualEqual,
-        Terminal::BangEqual => Token::BangEqual,
-        Terminal::LessEqual => Token::LessEqual,
-        Terminal::GreaterEqual => Token::GreaterEqual,
-        Terminal::StarStar => Token::StarStar,
-        Terminal::MinusGreater => Token::MinusGreater,
-        Terminal::Equal => Token::Equal,
-        Terminal::LessThan => Token::LessThan,
-        Terminal::GreaterThan => Token::GreaterThan,
-        Terminal::Minus => Token::Minus,
-        Terminal::Plus => Token::Plus,
-        Terminal::Star => Token::Star,
-        Terminal::Percent => Token::Percent,
-        Terminal::Slash => Token::Slash,
-        Terminal::SlashSlash => Token::SlashSlash,
-        Terminal::Dot => Token::Dot,
-        Terminal::Ampersand => Token::Ampersand,
-        Terminal::Pipe => Token::Pipe,
-        Terminal::Caret => Token::Caret,
-        Terminal::LessLess => Token::LessLess,
-        Terminal::GreaterGreater => Token::GreaterGreater,
-        Terminal::Tilde => Token::Tilde,
-        Terminal::AmpersandEqual => Token::AmpersandEqual,
-        Terminal::PipeEqual => Token::PipeEqual,
-        Terminal::CaretEqual => Token::CaretEqual,
-        Terminal::LessLessEqual => Token::LessLessEqual,
-        Terminal::GreaterGreaterEqual => Token::GreaterGreaterEqual,
-        Terminal::Ellipsis => Token::Ellipsis,
-        Terminal::OpeningSquare => Token::OpeningSquare,
-        Terminal::OpeningCurly => Token::OpeningCurly,
-        Terminal::OpeningRound => Token::OpeningRound,
-        Terminal::ClosingSquare => Token::ClosingSquare,
-        Terminal::ClosingCurly => Token::ClosingCurly,
-        Terminal::ClosingRound => Token::ClosingRound,
-    }
+    terminals!(match_terminals!(terminal, Terminal, token_of, {}))
 }
 
 /// The token of a keyword or symbol in a lexer mode. At the top of an f-string expression a `}`

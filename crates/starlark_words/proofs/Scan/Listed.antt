@@ -1,44 +1,35 @@
 -- Lists of words, and the class that a word has by them.
-use Rattle.std.proofs.Common.{◌≡◌, ◌≢◌, ℕ, ◌<◌, ◌≤◌, length, arith, nat_lt, ◌∷◌, Bool, true, false, not, ◌||◌, ◌==◌, List, [], ◌∷◌, length, refl, sym, ap, ◌∙◌, Option, unwrap_or, None}
+use Rattle.std.proofs.Common.{◌≡◌, ◌≢◌, ℕ, ◌<◌, ◌≤◌, length, arith, nat_eq, nat_lt, Bool, true, false, not, ◌||◌, ◌==◌, List, [], ◌∷◌, refl, sym, ap, ◌∙◌, Option, unwrap_or, None}
 use Rattle.std.proofs.lemmas.Bool.{false_from_ne_true, agree_below, agree_below_at, and_parts, both_ways, eq-eqb, ne_eqb}
 use Rattle.std.proofs.lemmas.Bool.Decides.{nat_tests}
 use Rattle.std.proofs.lemmas.Map.Entries.{lookup-filter-keys}
 use Rattle.std.proofs.lemmas.Slice.Eq.{bytes_eq-Decides}
-use Rattle.std.specs.List.{list_all}
+use Rattle.std.specs.List.{filter, list_all, list_any}
 use Rattle.std.specs.Map.{lookup}
 use Rattle.std.specs.Str.{bytes_eq}
 use Rattle.starlark_grammar.specs.Words.{Text, openers, names}
 use Rattle.starlark_grammar.specs.declared.class.Class.{Class}
 use Rattle.starlark_grammar.specs.declared.class.Class.TheVariants.{Identifier}
-use Rattle.starlark_words.specs.Inner.Words.{class_by_length, is_other_length, names_by_length}
+use Rattle.starlark_words.specs.Inner.Words.{class_by_rows}
 
 -- the class of a name
 abbrev pub class_of_name : Text → Class
-class_of_name word = unwrap_or (lookup (bytes_eq word) names) Identifier
+class_of_name = class_by_rows names
 
 -- the opener that a word is
 abbrev pub opener_of : Text → Option Class
 opener_of word = lookup (bytes_eq word) openers
 
--- the word is none of a list's
-abbrev pub IsUnlisted : Text → List (Text × Class) → Type 0
-IsUnlisted word [] = Unit {0}
-IsUnlisted word (row ∷ rows) = (word ≢ row.0) × IsUnlisted word rows
-
-lookup_unlisted : (word : Text) (rows : List (Text × Class)) → IsUnlisted word rows → lookup (bytes_eq word) rows ≡ None
-lookup_unlisted word [] h = refl
-lookup_unlisted word (row ∷ rows) h =
-    rw (false_from_ne_true (bytes_eq word row.0) (λ e. h.0 ((bytes_eq-Decides word row.0).0 e))) (lookup_unlisted word rows h.1)
-
-pub no_name_by_length : (test : ℕ → Bool) (word : Text) → IsUnlisted word (names_by_length test) → class_by_length test word ≡ Identifier
-no_name_by_length test word h = ap (λ found. unwrap_or found Identifier) (lookup_unlisted word (names_by_length test) h)
-
--- names of other lengths can be left out
-pub class_of_its_length : (test : ℕ → Bool) (word : Text) → test (length word) ≡ true → class_by_length test word ≡ class_of_name word
-class_of_its_length test word h =
+-- words of other lengths can be left out
+pub among_its_length : (test : ℕ → Bool) (rows : List (Text × Class)) → filter (λ row. test (length row.0)) names ≡ rows → (word : Text) → test (length word) ≡ true → class_by_rows rows word ≡ class_of_name word
+among_its_length test rows e word h =
     let same : (key : Text) → bytes_eq word key ≡ true → test (length key) ≡ true =
     λ key e. ap (λ other. test (length other)) (sym ((bytes_eq-Decides word key).0 e)) ∙ h in
-    ap (λ found. unwrap_or found Identifier) (lookup-filter-keys (bytes_eq word) (λ key. test (length key)) true same names)
+    ap (λ rows. class_by_rows rows word) (sym e) ∙ ap (λ found. unwrap_or found Identifier) (lookup-filter-keys (bytes_eq word) (λ key. test (length key)) true same names)
+
+-- none of the lengths that most keywords and reserved words have
+abbrev pub is_other_length : ℕ → Bool
+is_other_length len = not (list_any (nat_eq len) (2 ∷ 3 ∷ 4 ∷ 5 ∷ 6 ∷ []))
 
 pub other_length : (n : ℕ) → n ≢ 2 → n ≢ 3 → n ≢ 4 → n ≢ 5 → n ≢ 6 → is_other_length n ≡ true
 other_length n two three four five six =

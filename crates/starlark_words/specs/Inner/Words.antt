@@ -1,12 +1,13 @@
 -- Words, and the tables and tests by which the scanner finds them.
-use Rattle.std.specs.Prelude.{◌≡◌, ℕ, ◌+◌, ◌<◌, if◌then◌else◌, Bool, true, false, not, ◌&&◌, ◌||◌, ◌==◌, nat_eq, List, [], ◌∷◌, ◌++◌, take, length, codes, Option, None, Some, unwrap_or}
-use Rattle.std.specs.List.{filter, list_any}
+use Rattle.std.specs.Prelude.{◌≡◌, ℕ, ◌+◌, ◌<◌, if◌then◌else◌, Bool, true, false, not, ◌&&◌, ◌||◌, ◌==◌, List, [], ◌∷◌, ◌++◌, get_or, take, Option, None, Some, unwrap_or}
+use Rattle.std.specs.List.{list_any}
 use Rattle.std.specs.Map.{lookup}
 use Rattle.std.specs.Option.{option_map}
 use Rattle.std.specs.Str.{bytes_eq}
 use Rattle.std.specs.Char.{is_ascii_digit}
 use Rattle.starlark_grammar.specs.Words as grammar
 use Rattle.starlark_grammar.specs.declared.class.Class.{Class}
+use Rattle.starlark_grammar.specs.declared.class.TheConstants.{SYMBOLS}
 use Rattle.starlark_grammar.specs.declared.class.Class.TheVariants.{Binary, Decimal, Fixed, Float, Hexadecimal, Identifier, Octal, Opener, Reserved}
 use Rattle.starlark_grammar.specs.declared.class.LiteralKind.TheVariants.{Text as OfText}
 use Rattle.starlark_grammar.specs.declared.class.Quote.{Quote}
@@ -38,29 +39,32 @@ listing_view (Keyword terminal) = Fixed terminal
 listing_view OfReserved = Reserved
 listing_view Not = Identifier
 
--- the keywords and the reserved words whose length passes a test
-abbrev pub names_by_length : (ℕ → Bool) → List (grammar.Text × Class)
-names_by_length test = filter (λ row. test (length row.0)) grammar.names
+-- the class of a name by some keywords and reserved words
+abbrev pub class_by_rows : List (grammar.Text × Class) → grammar.Text → Class
+class_by_rows rows name = unwrap_or (lookup (bytes_eq name) rows) Identifier
 
--- the class of a name by its entry among some keywords and reserved words
-abbrev pub class_by_length : (ℕ → Bool) → grammar.Text → Class
-class_by_length test word = unwrap_or (lookup (bytes_eq word) (names_by_length test)) Identifier
+-- a word of some rows has this byte at an offset
+abbrev pub has_byte_at : ℕ → ℕ → List (grammar.Text × Class) → Bool
+has_byte_at offset b rows = list_any (λ row. get_or row.0 offset 0 == b) rows
 
--- none of the lengths that most keywords and reserved words have
-abbrev pub is_other_length : ℕ → Bool
-is_other_length len = not (list_any (nat_eq len) (2 ∷ 3 ∷ 4 ∷ 5 ∷ 6 ∷ []))
+-- a symbol of one byte; the first byte of a longer symbol
+abbrev pub is_short_symbol : ℕ → Bool
+is_short_symbol b = has_byte_at 0 b SYMBOLS.0
+
+abbrev pub begins_longer : ℕ → Bool
+begins_longer b = has_byte_at 0 b SYMBOLS.1 || has_byte_at 0 b SYMBOLS.2
 
 -- a mark of one byte that begins no longer one
 abbrev pub is_lone_mark : ℕ → Bool
-is_lone_mark b = list_any (nat_eq b) (codes "\n,;:~[{(]})")
+is_lone_mark b = b == 10 || (is_short_symbol b && not (begins_longer b))
 
 -- a byte that is a symbol and begins longer ones
 abbrev pub is_symbol : ℕ → Bool
-is_symbol b = list_any (nat_eq b) (codes "=.<>-+*%/&|^")
+is_symbol b = is_short_symbol b && begins_longer b
 
 -- a symbol may go on with the byte after it; only a point goes on with a point or a digit
 abbrev pub goes_on : ℕ → ℕ → Bool
-goes_on b c = list_any (nat_eq c) (codes "=*/<>") || (b == 46 && list_any (nat_eq c) (codes ".0123456789"))
+goes_on b c = has_byte_at 1 c SYMBOLS.1 || (b == 46 && (c == 46 || is_ascii_digit c))
 
 -- the first byte is a mark that the next byte doesn't extend
 abbrev pub is_mark_alone : grammar.Text → Bool

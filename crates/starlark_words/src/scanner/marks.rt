@@ -8,6 +8,31 @@ ghost use Rattle.starlark_grammar.specs.Words.{class_in};
 
 use super::first::{goes_on, is_lone_mark, is_symbol};
 use super::{Class, Terminal, Word};
+use starlark_grammar::terminals;
+
+/// A `match` on the symbols of a length, after other arms.
+macro_rules! match_symbols {
+    ((1, $($of:tt)*) symbols { 1 $rows:tt $($more:tt)* } names $names:tt) => {
+        symbol_class!($rows $($of)*)
+    };
+    ((2, $($of:tt)*) symbols { 1 $one:tt 2 $rows:tt $($more:tt)* } names $names:tt) => {
+        symbol_class!($rows $($of)*)
+    };
+    ((3, $($of:tt)*) symbols { 1 $one:tt 2 $two:tt 3 $rows:tt } names $names:tt) => {
+        symbol_class!($rows $($of)*)
+    };
+}
+
+/// A `match` on some symbols, after other arms.
+macro_rules! symbol_class {
+    ({ $($bytes:literal $text:literal $symbol:ident,)* } $of:expr, { $($arms:tt)* }) => {
+        match $of {
+            $($arms)*
+            $($bytes => Some(Class::Fixed(Terminal::$symbol)),)*
+            _ => None,
+        }
+    };
+}
 
 /// Whether the first byte of a text is a mark that the next byte doesn't extend.
 #[inline(always)]
@@ -32,32 +57,9 @@ pub(crate) fn is_mark_alone(text: &[u8]) -> bool
 fn single(byte: u8) -> Option<Class>
     ensures { result ≡ class_in marks (byte ∷ []) }
 {
-    match byte {
-        b'\n' => Some(Class::LineEnd),
-        b',' => Some(Class::Fixed(Terminal::Comma)),
-        b';' => Some(Class::Fixed(Terminal::Semicolon)),
-        b':' => Some(Class::Fixed(Terminal::Colon)),
-        b'=' => Some(Class::Fixed(Terminal::Equal)),
-        b'<' => Some(Class::Fixed(Terminal::LessThan)),
-        b'>' => Some(Class::Fixed(Terminal::GreaterThan)),
-        b'-' => Some(Class::Fixed(Terminal::Minus)),
-        b'+' => Some(Class::Fixed(Terminal::Plus)),
-        b'*' => Some(Class::Fixed(Terminal::Star)),
-        b'%' => Some(Class::Fixed(Terminal::Percent)),
-        b'/' => Some(Class::Fixed(Terminal::Slash)),
-        b'.' => Some(Class::Fixed(Terminal::Dot)),
-        b'&' => Some(Class::Fixed(Terminal::Ampersand)),
-        b'|' => Some(Class::Fixed(Terminal::Pipe)),
-        b'^' => Some(Class::Fixed(Terminal::Caret)),
-        b'~' => Some(Class::Fixed(Terminal::Tilde)),
-        b'[' => Some(Class::Fixed(Terminal::OpeningSquare)),
-        b'{' => Some(Class::Fixed(Terminal::OpeningCurly)),
-        b'(' => Some(Class::Fixed(Terminal::OpeningRound)),
-        b']' => Some(Class::Fixed(Terminal::ClosingSquare)),
-        b'}' => Some(Class::Fixed(Terminal::ClosingCurly)),
-        b')' => Some(Class::Fixed(Terminal::ClosingRound)),
-        _ => None,
-    }
+    terminals!(match_symbols!(1, &[byte], {
+        b"\n" => Some(Class::LineEnd),
+    }))
 }
 
 /// The class of a mark of two bytes.
@@ -66,28 +68,10 @@ fn single(byte: u8) -> Option<Class>
 fn double(first: u8, second: u8) -> Option<Class>
     ensures { result ≡ class_in marks (first ∷ second ∷ []) }
 {
-    match (first, second) {
-        (b'\r', b'\n') => Some(Class::LineEnd),
-        (b'\\', b'\n') => Some(Class::Skipped),
-        (b'+', b'=') => Some(Class::Fixed(Terminal::PlusEqual)),
-        (b'-', b'=') => Some(Class::Fixed(Terminal::MinusEqual)),
-        (b'*', b'=') => Some(Class::Fixed(Terminal::StarEqual)),
-        (b'/', b'=') => Some(Class::Fixed(Terminal::SlashEqual)),
-        (b'%', b'=') => Some(Class::Fixed(Terminal::PercentEqual)),
-        (b'=', b'=') => Some(Class::Fixed(Terminal::EqualEqual)),
-        (b'!', b'=') => Some(Class::Fixed(Terminal::BangEqual)),
-        (b'<', b'=') => Some(Class::Fixed(Terminal::LessEqual)),
-        (b'>', b'=') => Some(Class::Fixed(Terminal::GreaterEqual)),
-        (b'&', b'=') => Some(Class::Fixed(Terminal::AmpersandEqual)),
-        (b'|', b'=') => Some(Class::Fixed(Terminal::PipeEqual)),
-        (b'^', b'=') => Some(Class::Fixed(Terminal::CaretEqual)),
-        (b'*', b'*') => Some(Class::Fixed(Terminal::StarStar)),
-        (b'/', b'/') => Some(Class::Fixed(Terminal::SlashSlash)),
-        (b'<', b'<') => Some(Class::Fixed(Terminal::LessLess)),
-        (b'>', b'>') => Some(Class::Fixed(Terminal::GreaterGreater)),
-        (b'-', b'>') => Some(Class::Fixed(Terminal::MinusGreater)),
-        _ => None,
-    }
+    terminals!(match_symbols!(2, &[first, second], {
+        b"\r\n" => Some(Class::LineEnd),
+        b"\\\n" => Some(Class::Skipped),
+    }))
 }
 
 /// The class of a mark of three bytes.
@@ -96,14 +80,9 @@ fn double(first: u8, second: u8) -> Option<Class>
 fn triple(first: u8, second: u8, third: u8) -> Option<Class>
     ensures { result ≡ class_in marks (first ∷ second ∷ third ∷ []) }
 {
-    match (first, second, third) {
-        (b'\\', b'\r', b'\n') => Some(Class::Skipped),
-        (b'/', b'/', b'=') => Some(Class::Fixed(Terminal::SlashSlashEqual)),
-        (b'<', b'<', b'=') => Some(Class::Fixed(Terminal::LessLessEqual)),
-        (b'>', b'>', b'=') => Some(Class::Fixed(Terminal::GreaterGreaterEqual)),
-        (b'.', b'.', b'.') => Some(Class::Fixed(Terminal::Ellipsis)),
-        _ => None,
-    }
+    terminals!(match_symbols!(3, &[first, second, third], {
+        b"\\\r\n" => Some(Class::Skipped),
+    }))
 }
 
 /// Whether a text begins with `!=`, or with a symbol that begins longer ones and is no point.

@@ -1,23 +1,26 @@
 //! Words that begin with a letter or `_`: keywords, reserved words, identifiers, and openers with a
 //! prefix.
 
-ghost use Rattle.std.specs.Prelude.{◌≡◌, ◌≤◌, ◌<◌, ◌+◌, ◌-◌, ◌*◌, ◌^◌, IfSome, None, Some, false, get_or, length, nat_eq, take, true, unwrap_or};
+ghost use Rattle.std.specs.Prelude.{◌≡◌, ◌≤◌, ◌<◌, ◌+◌, ◌-◌, ◌*◌, ◌^◌, ◌++◌, IfSome, None, Some, false, get_or, length, nat_eq, take, true, unwrap_or};
 ghost use Rattle.std.specs.List.{prefix_len};
 ghost use Rattle.std.specs.Map.{lookup};
 ghost use Rattle.std.specs.Option.{option_map};
 ghost use Rattle.std.specs.Str.{bytes_eq};
 ghost use Rattle.starlark_grammar.specs.Front.{language_front};
 ghost use Rattle.starlark_words.specs.Inner.Reads.{AreReads};
-ghost use Rattle.starlark_words.specs.Inner.Words.{class_by_length, is_other_length, is_quote, listing_view, word_view};
+ghost use Rattle.starlark_words.specs.Inner.Words.{class_by_rows, is_quote, listing_view, word_view};
 ghost use Rattle.starlark_grammar.specs.Words as grammar;
+ghost use Rattle.starlark_grammar.specs.declared.class.TheConstants.{NAMES};
 ghost use Rattle.starlark_grammar.specs.declared.class.Class.TheVariants as class;
 
 use super::openers::opener_class;
 use super::{Class, Terminal, Word};
 use crate::names::name_len;
 use crate::reads::ReadCounter;
+use starlark_grammar::terminals;
 
 /// Entry of a name in the table of keywords and reserved words.
+// Not a `Class`: of that the caller would compare all cases (2 % of a mix).
 #[derive(Clone, Copy)]
 enum Listing {
     Keyword(Terminal),
@@ -31,19 +34,28 @@ const PREFIX_LEN: usize = 2;
 /// The greatest length of a keyword or a reserved word.
 const LISTED_LEN: usize = 8;
 
-// A number for each byte: its bit n is set if a keyword or a reserved word of n + 1 letters begins
-// with the byte. The fourth row is of the bytes from 96 on: the letter a is its second.
-static LENGTHS: [u8; 256] = [
-    0, 0, 0, 0, 0, 0, 0, 0, 0, 0, 0, 0, 0, 0, 0, 0, 0, 0, 0, 0, 0, 0, 0, 0, 0, 0, 0, 0, 0, 0, 0, 0,
-    0, 0, 0, 0, 0, 0, 0, 0, 0, 0, 0, 0, 0, 0, 0, 0, 0, 0, 0, 0, 0, 0, 0, 0, 0, 0, 0, 0, 0, 0, 0, 0,
-    0, 0, 0, 0, 0, 0, 0, 0, 0, 0, 0, 0, 0, 0, 0, 0, 0, 0, 0, 0, 0, 0, 0, 0, 0, 0, 0, 0, 0, 0, 0, 0,
-    0, 54, 16, 144, 4, 40, 76, 32, 0, 34, 0, 0, 40, 0, 132, 2, 8, 0, 48, 0, 4, 0, 0, 24, 0, 16, 0,
-    0, 0, 0, 0, 0, 0, 0, 0, 0, 0, 0, 0, 0, 0, 0, 0, 0, 0, 0, 0, 0, 0, 0, 0, 0, 0, 0, 0, 0, 0, 0, 0,
-    0, 0, 0, 0, 0, 0, 0, 0, 0, 0, 0, 0, 0, 0, 0, 0, 0, 0, 0, 0, 0, 0, 0, 0, 0, 0, 0, 0, 0, 0, 0, 0,
-    0, 0, 0, 0, 0, 0, 0, 0, 0, 0, 0, 0, 0, 0, 0, 0, 0, 0, 0, 0, 0, 0, 0, 0, 0, 0, 0, 0, 0, 0, 0, 0,
-    0, 0, 0, 0, 0, 0, 0, 0, 0, 0, 0, 0, 0, 0, 0, 0, 0, 0, 0, 0, 0, 0, 0, 0, 0, 0, 0, 0, 0, 0, 0, 0,
-    0, 0, 0, 0, 0,
-];
+/// The bits of the lengths of the words that begin with a letter, by its last five bits.
+macro_rules! lengths_by {
+    (($letter:literal) symbols $symbols:tt names { $($len:literal {
+        $($bytes:literal $text:literal $keyword:ident,)*;
+        $($reserved:literal $word:literal),*
+    })* }) => {
+        0 $(
+            $(| (($bytes[0] & 31 == $letter) as u8) << ($len - 1))*
+            $(| (($reserved[0] & 31 == $letter) as u8) << ($len - 1))*
+        )*
+    };
+}
+
+/// Those bits for some letters.
+macro_rules! lengths {
+    ($($letter:literal)*) => { [$(terminals!(lengths_by!($letter))),*] };
+}
+
+// Bit n is set if a keyword or a reserved word of n + 1 letters begins with the letter.
+static LENGTHS: [u8; 32] = lengths! {
+    0 1 2 3 4 5 6 7 8 9 10 11 12 13 14 15 16 17 18 19 20 21 22 23 24 25 26 27 28 29 30 31
+};
 
 /// Whether a keyword or a reserved word begins with the first letter of a name, and is as long.
 // By a table, without a jump by the letter, which the processor can't foresee (5 % of the time of a
@@ -54,92 +66,97 @@ fn may_be_listed(name: &[u8]) -> bool
 {
     match name {
         [first, ..] => {
-            name.len() <= LISTED_LEN && (LENGTHS[*first as usize] >> (name.len() - 1)) & 1 == 1
+            name.len() <= LISTED_LEN
+                && (LENGTHS[(*first & 31) as usize] >> (name.len() - 1)) & 1 == 1
         }
         [] => false,
     }
 }
 
-/// Entry of a name of two letters in the table of keywords.
+/// A `match` of a name on the keywords and reserved words of a length.
+macro_rules! match_name {
+    ((2, $name:ident) symbols $symbols:tt names { 2 $rows:tt $($more:tt)* }) => {
+        listing_among!($name $rows)
+    };
+    ((3, $name:ident) symbols $symbols:tt names { 2 $two:tt 3 $rows:tt $($more:tt)* }) => {
+        listing_among!($name $rows)
+    };
+    ((4, $name:ident) symbols $symbols:tt names { 2 $two:tt 3 $three:tt 4 $rows:tt $($more:tt)* }) => {
+        listing_among!($name $rows)
+    };
+    ((5, $name:ident) symbols $symbols:tt names { 2 $two:tt 3 $three:tt 4 $four:tt 5 $rows:tt $($more:tt)* }) => {
+        listing_among!($name $rows)
+    };
+    ((6, $name:ident) symbols $symbols:tt names { 2 $two:tt 3 $three:tt 4 $four:tt 5 $five:tt 6 $rows:tt $($more:tt)* }) => {
+        listing_among!($name $rows)
+    };
+    ((7.., $name:ident) symbols $symbols:tt names { 2 $two:tt 3 $three:tt 4 $four:tt 5 $five:tt 6 $six:tt 7 $seven:tt 8 $eight:tt }) => {
+        listing_among!($name $seven $eight)
+    };
+}
+
+/// A `match` of a name on some keywords and reserved words.
+macro_rules! listing_among {
+    ($name:ident $({
+        $($bytes:literal $text:literal $keyword:ident,)*;
+        $($reserved:literal $word:literal),*
+    })*) => {
+        match $name {
+            $(
+                $($text => Listing::Keyword(Terminal::$keyword),)*
+                $($word => Listing::Reserved,)*
+            )*
+            _ => Listing::Not,
+        }
+    };
+}
+
+/// Entry of a name of two letters.
 fn two_letters(name: &str) -> Listing
-    ensures { listing_view result ≡ class_by_length (nat_eq 2) name.now }
+    ensures { listing_view result ≡ class_by_rows NAMES.0 name.now }
 {
-    match name {
-        "in" => Listing::Keyword(Terminal::In),
-        "if" => Listing::Keyword(Terminal::If),
-        "or" => Listing::Keyword(Terminal::Or),
-        "as" | "is" => Listing::Reserved,
-        _ => Listing::Not,
-    }
+    terminals!(match_name!(2, name))
 }
 
-/// Entry of a name of three letters in the table of keywords.
+/// Entry of a name of three letters.
 fn three_letters(name: &str) -> Listing
-    ensures { listing_view result ≡ class_by_length (nat_eq 3) name.now }
+    ensures { listing_view result ≡ class_by_rows NAMES.1 name.now }
 {
-    match name {
-        "for" => Listing::Keyword(Terminal::For),
-        "def" => Listing::Keyword(Terminal::Def),
-        "not" => Listing::Keyword(Terminal::Not),
-        "and" => Listing::Keyword(Terminal::And),
-        "del" | "try" => Listing::Reserved,
-        _ => Listing::Not,
-    }
+    terminals!(match_name!(3, name))
 }
 
-/// Entry of a name of four letters in the table of keywords.
+/// Entry of a name of four letters.
 fn four_letters(name: &str) -> Listing
-    ensures { listing_view result ≡ class_by_length (nat_eq 4) name.now }
+    ensures { listing_view result ≡ class_by_rows NAMES.2 name.now }
 {
-    match name {
-        "load" => Listing::Keyword(Terminal::Load),
-        "else" => Listing::Keyword(Terminal::Else),
-        "elif" => Listing::Keyword(Terminal::Elif),
-        "pass" => Listing::Keyword(Terminal::Pass),
-        "from" | "with" => Listing::Reserved,
-        _ => Listing::Not,
-    }
+    terminals!(match_name!(4, name))
 }
 
-/// Entry of a name of five letters in the table of keywords.
+/// Entry of a name of five letters.
 fn five_letters(name: &str) -> Listing
-    ensures { listing_view result ≡ class_by_length (nat_eq 5) name.now }
+    ensures { listing_view result ≡ class_by_rows NAMES.3 name.now }
 {
-    match name {
-        "break" => Listing::Keyword(Terminal::Break),
-        "async" | "await" | "class" | "raise" | "while" | "yield" => Listing::Reserved,
-        _ => Listing::Not,
-    }
+    terminals!(match_name!(5, name))
 }
 
-/// Entry of a name of six letters in the table of keywords.
+/// Entry of a name of six letters.
 fn six_letters(name: &str) -> Listing
-    ensures { listing_view result ≡ class_by_length (nat_eq 6) name.now }
+    ensures { listing_view result ≡ class_by_rows NAMES.4 name.now }
 {
-    match name {
-        "return" => Listing::Keyword(Terminal::Return),
-        "lambda" => Listing::Keyword(Terminal::Lambda),
-        "assert" | "except" | "global" | "import" => Listing::Reserved,
-        _ => Listing::Not,
-    }
+    terminals!(match_name!(6, name))
 }
 
-/// Entry of a name in the table of keywords, if it has one letter, or seven or more.
+/// Entry of a name of one letter, or of seven or more.
 fn more_letters(name: &str) -> Listing
-    ensures { listing_view result ≡ class_by_length is_other_length name.now }
+    ensures { listing_view result ≡ class_by_rows (NAMES.5 ++ NAMES.6) name.now }
 {
-    match name {
-        "continue" => Listing::Keyword(Terminal::Continue),
-        "finally" | "nonlocal" => Listing::Reserved,
-        _ => Listing::Not,
-    }
+    terminals!(match_name!(7.., name))
 }
 
-/// Entry of a name in the table of keywords: it is compared with the words of its length, frequent
-/// ones first.
+/// Entry of a name: it is compared with the words of its length, frequent ones first.
 #[inline(never)]
 fn listing_of(name: &str) -> Listing
-    ensures { listing_view result ≡ unwrap_or (lookup (bytes_eq name.now) grammar.names) class.Identifier }
+    ensures { listing_view result ≡ class_by_rows grammar.names name.now }
 {
     match name.len() {
         2 => two_letters(name),
@@ -154,7 +171,7 @@ fn listing_of(name: &str) -> Listing
 /// The class of a name. For most names the first letter and the length show that it is no keyword.
 #[inline(always)]
 fn name_class(name: &str) -> Class
-    ensures { result ≡ unwrap_or (lookup (bytes_eq name.now) grammar.names) class.Identifier }
+    ensures { result ≡ class_by_rows grammar.names name.now }
 {
     if !may_be_listed(name.as_bytes()) {
         return Class::Identifier;

@@ -1,4 +1,4 @@
-use Rattle.std.proofs.Common.{◌≡◌, true, false, sym}
+use Rattle.std.proofs.Common.{◌≡◌, false, sym}
 use Rattle.starlark_grammar.specs.Numbers.{is_number}
 use Rattle.starlark_token.proofs.Integers.Parsed.{no_number}
 use Rattle.starlark_token.proofs.number_text.number_in.Goals as goal

@@ -13,7 +13,7 @@ returns-in-empty c = λ no. lookup_fails (λ word. nat_lt 0 (length word)) c.arg
 
 -- whether the bit of a word's length is set for its first letter
 abbrev has_length : Text → Bool
-has_length word = nat_eq (bit_and (get_or LENGTHS (get_or word 0 0) 0 / 2 ^ (length word - 1)) 1) 1
+has_length word = nat_eq (bit_and (get_or LENGTHS (bit_and (get_or word 0 0) 31) 0 / 2 ^ (length word - 1)) 1) 1
 
 pub returns-then-name-le-LISTED_LEN : goal.returns-then-name-le-LISTED_LEN
 unfolding names
