@@ -1,7 +1,8 @@
 -- Worked rows, closed by computing: which place is kept, and what is printed.
 use Rattle.std.proofs.Common.{◌≡◌, refl, ◌++◌, None, Some}
 use Rattle.std.specs.Prelude.{codes}
-use Rattle.starlark_base.specs.Diagnostics.{Diagnosed, unplaced, with_span, diagnosed_text}
+use Rattle.starlark_base.specs.Diagnostics.{Diagnosed, unplaced, with_span}
+use Rattle.starlark_base.specs.DiagnosedTexts.{diagnosed_text}
 use Rattle.starlark_base.specs.Sources.{file_span_text}
 use Rattle.starlark_base.specs.declared.codemap.file_span.FileSpan.{FileSpan}
 

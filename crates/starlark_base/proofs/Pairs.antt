@@ -1,5 +1,5 @@
 -- Characters of two UTF-16 units along a text.
-use Rattle.std.proofs.Common.{◌≡◌, ◌≢◌, ℕ, suc, ◌+◌, ◌-◌, ◌<◌, ◌≤◌, Bool, true, false, cond, not, [], ◌∷◌, ◌++◌, length, drop, take, take-add, add-one, get_or, subst, refl, ap, sym, ◌∙◌, arith, append_assoc, append-nil, reverse, length-append, length-drop, count_by}
+use Rattle.std.proofs.Common.{◌≡◌, ◌≢◌, ℕ, suc, ◌+◌, ◌-◌, ◌<◌, ◌≤◌, true, false, cond, not, [], ◌∷◌, ◌++◌, length, drop, take, take-add, add-one, get_or, ap, sym, ◌∙◌, arith, append_assoc, append-nil, length-append, length-drop, count_by}
 use Rattle.std.proofs.Math.Seq.{split_at}
 use Rattle.std.proofs.lemmas.List.Sums.{sum_by-append, count_by-le-length, suffix_len-le-length}
 use Rattle.std.proofs.lemmas.Bool.{and_parts, not-true}

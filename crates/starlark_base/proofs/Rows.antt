@@ -4,7 +4,8 @@ use Rattle.std.specs.Prelude.{codes, encode_utf8, true, false, [], ◌∷◌, �
 use Rattle.std.proofs.Math.Utf8.{encode}
 use Rattle.std.specs.Str.{chars, is_utf8}
 use Rattle.std.specs.Fmt.{digits}
-use Rattle.starlark_base.specs.Spans.{ByteSpan, merged_all}
+use Rattle.starlark_base.specs.Spans.{ByteSpan}
+use Rattle.starlark_base.specs.SpanPairs.{merged_all}
 use Rattle.starlark_base.specs.Places.{Text, place_after, place_at, span_text}
 use Rattle.starlark_base.specs.Lines.{line_count, line_span, line_text, trimmed_line_span}
 use Rattle.starlark_base.specs.Sources.{SourceFile, holds, file_span_text}

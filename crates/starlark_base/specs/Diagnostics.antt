@@ -1,8 +1,6 @@
 -- Values with a file span and a call stack.
-use Rattle.std.specs.Prelude.{List, [], Option, Some, None, ◌≢◌, refl, unwrap_or, ◌++◌, codes}
-use Rattle.starlark_base.specs.Spans.{ByteSpan}
-use Rattle.starlark_base.specs.Places.{Text}
-use Rattle.starlark_base.specs.Sources.{SourceFile, file_span_text}
+use Rattle.std.specs.Prelude.{List, [], Option, Some, None, ◌≢◌, refl, unwrap_or}
+use Rattle.starlark_base.specs.Spans.{ByteSpan, SourceFile, Text}
 use Rattle.starlark_base.specs.declared.codemap.file_span.FileSpan.{FileSpan}
 
 -- a value, its file span if that is known, and the calls that led there
@@ -31,13 +29,3 @@ with_value d value = record { value = value; span = d.span; call_stack = d.call_
 -- the value with the span, unless it has one: the first is kept
 abbrev pub with_span : {T : Type 0} → Diagnosed T → FileSpan → Diagnosed T
 with_span d span = record d { span = Some (unwrap_or d.span span) }
-
--- ` at ` and the file span, if it is known
-abbrev pub place_suffix : Option FileSpan → Text
-place_suffix None = []
-place_suffix (Some span) = codes " at " ++ file_span_text span.file span.span
-
--- the printed text of the value, if that is stated, and the file span
-abbrev pub diagnosed_text : Option Text → Option FileSpan → Option Text
-diagnosed_text None span = None
-diagnosed_text (Some text) span = Some (text ++ place_suffix span)

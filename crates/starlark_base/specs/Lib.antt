@@ -6,6 +6,7 @@ pub use Rattle.starlark_text.specs.Indices
 pub use Rattle.starlark_text.specs.Cursors
 pub use Rattle.starlark_text.specs.Formats
 pub mod Spans
+pub mod SpanPairs
 pub mod Places
 pub mod Lines
 pub mod Sources
@@ -13,5 +14,6 @@ pub mod SourceFiles
 pub mod Refusals
 pub mod Starts
 pub mod Diagnostics
+pub mod DiagnosedTexts
 pub mod Positions
 pub mod Inner

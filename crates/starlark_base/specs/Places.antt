@@ -1,15 +1,12 @@
 -- Lines and columns, and how they are printed. Both count from 0 and are printed from 1.
-use Rattle.std.specs.Prelude.{◌≡◌, ◌<◌, ℕ, ◌+◌, Bool, ◌==◌, if◌then◌else◌, ◌⊎◌, List, ◌++◌, length, take, count_by, codes}
+use Rattle.std.specs.Prelude.{◌≡◌, ◌<◌, ℕ, ◌+◌, Bool, ◌==◌, if◌then◌else◌, ◌⊎◌, ◌++◌, length, take, count_by, codes}
 use Rattle.std.specs.List.{after_last}
 use Rattle.std.specs.Str.{chars}
 use Rattle.std.specs.Fmt.{decimal}
 use Rattle.starlark_base.specs.Spans.{ByteSpan}
+pub use Rattle.starlark_base.specs.Spans.{Text}
 use Rattle.starlark_base.specs.declared.codemap.resolved.ResolvedPos.{ResolvedPos}
 use Rattle.starlark_base.specs.declared.codemap.resolved.ResolvedSpan.{ResolvedSpan}
-
--- the bytes of a text
-abbrev pub Text : Type 0
-Text = List ℕ
 
 -- LF
 abbrev pub is_lf : ℕ → Bool

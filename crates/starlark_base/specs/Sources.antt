@@ -1,15 +1,10 @@
 -- Code maps as their users see them, the spans that lie in them, and their printed forms.
-use Rattle.std.specs.Prelude.{ℕ, Bool, ◌&&◌, nat_le, ◌++◌, length, take, codes, if◌then◌else◌}
+use Rattle.std.specs.Prelude.{Bool, ◌&&◌, nat_le, ◌++◌, length, take, codes, if◌then◌else◌}
 use Rattle.std.specs.Str.{is_utf8, IsCharBoundary}
 use Rattle.std.specs.Fmt.{decimal}
-use Rattle.starlark_base.specs.Spans.{ByteSpan}
-use Rattle.starlark_base.specs.Places.{Text, place_at, span_text}
-
--- a source text with its number and its file's name
-pub record SourceFile : Type 0 where
-  pub id : ℕ
-  pub filename : Text
-  pub source : Text
+use Rattle.starlark_base.specs.Spans.{ByteSpan, Text}
+pub use Rattle.starlark_base.specs.Spans.{SourceFile}
+use Rattle.starlark_base.specs.Places.{place_at, span_text}
 
 -- both ends of the span are character boundaries of the text
 pub record Holds (text : Text) (span : ByteSpan) : Type 0 where

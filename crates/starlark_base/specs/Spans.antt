@@ -1,21 +1,17 @@
--- Spans, by the byte offsets of their begin and their end.
-use Rattle.std.specs.Prelude.{◌≤◌, ℕ, min, max, List, [], ◌∷◌, fold}
+-- Spans, by the byte offsets of their begin and their end, and source texts.
+use Rattle.std.specs.Prelude.{ℕ, List}
+
+-- the bytes of a text
+abbrev pub Text : Type 0
+Text = List ℕ
 
 -- what lies between two positions
 pub record ByteSpan : Type 0 where
   pub begin : ℕ
   pub end : ℕ
 
--- the span from the lesser begin to the greater end
-abbrev pub merged : ByteSpan → ByteSpan → ByteSpan
-merged a b = record { begin = min a.begin b.begin; end = max a.end b.end }
-
--- the span from the least begin to the greatest end, and 0..0 where there are no spans
-abbrev pub merged_all : List ByteSpan → ByteSpan
-merged_all [] = record { begin = 0; end = 0 }
-merged_all (span ∷ spans) = fold merged span spans
-
--- each begins at or before the end of the other
-pub record Meets (a b : ByteSpan) : Type 0 where
-  pub begins : a.begin ≤ b.end
-  pub ends : b.begin ≤ a.end
+-- a source text with its number and its file's name
+pub record SourceFile : Type 0 where
+  pub id : ℕ
+  pub filename : Text
+  pub source : Text

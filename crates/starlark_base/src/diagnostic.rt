@@ -167,7 +167,7 @@ impl<T> WithDiagnostic<T> {
 
 /// Prints the value, and ` at ` with its file span where that is known. Calls aren't printed.
 impl<T: fmt::Display> fmt::Display for WithDiagnostic<T> {
-    ghost use Rattle.starlark_base.specs.Diagnostics.{diagnosed_text};
+    ghost use Rattle.starlark_base.specs.DiagnosedTexts.{diagnosed_text};
 
     ghost output = { λ it. diagnosed_text (T.output it.value) it.span };
 
@@ -182,7 +182,7 @@ impl<T: fmt::Display> fmt::Display for WithDiagnostic<T> {
 
 /// Prints what `Display` prints.
 impl<T: fmt::Display> fmt::Debug for WithDiagnostic<T> {
-    ghost use Rattle.starlark_base.specs.Diagnostics.{diagnosed_text};
+    ghost use Rattle.starlark_base.specs.DiagnosedTexts.{diagnosed_text};
 
     ghost debug_output = { λ it. diagnosed_text (T.output it.value) it.span };
 

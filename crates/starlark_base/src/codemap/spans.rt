@@ -2,7 +2,8 @@
 
 ghost use Rattle.std.specs.Prelude.{◌≡◌, ◌≤◌, ◌↔◌, IsTrue, List};
 ghost use Rattle.std.specs.Iterator.{Drains, IsFinite};
-ghost use Rattle.starlark_base.specs.Spans.{ByteSpan, merged, merged_all, Meets};
+ghost use Rattle.starlark_base.specs.Spans.{ByteSpan};
+ghost use Rattle.starlark_base.specs.SpanPairs.{merged, merged_all, Meets};
 
 use crate::codemap::Pos;
 use std::marker::Model;

@@ -1,8 +1,7 @@
-use Rattle.std.proofs.Common.{◌≡◌, ◌≤◌, ◌∙◌, ap, arith, drop, length, length-take-le, refl, sym, take, take-add, ◌++◌, ◌-◌}
+use Rattle.std.proofs.Common.{◌≡◌, ◌∙◌, ap, arith, length, length-take-le, refl, sym, take}
 use Rattle.std.proofs.lemmas.Str.{IsUtf8-take}
 use Rattle.starlark_base.specs.declared.position.Position.{Position}
 use Rattle.starlark_base.proofs.PlacesAlong.{column_bound, line_bound, place_onward}
-use Rattle.starlark_base.specs.Positions.{pairs_in_line, pairs_before}
 use Rattle.starlark_base.proofs.Pairs.{pairs_bound, pairs_onward}
 use Rattle.starlark_base.proofs.position.Position.moved.Goals as goal
 

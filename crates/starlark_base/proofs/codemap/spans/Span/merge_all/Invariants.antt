@@ -1,5 +1,5 @@
 use Rattle.std.proofs.Common.{◌≡◌, fold}
-use Rattle.starlark_base.specs.Spans.{merged}
+use Rattle.starlark_base.specs.SpanPairs.{merged}
 use Rattle.starlark_base.proofs.codemap.spans.Span.merge_all.Given as goal
 
 abbrev pub invariant-loop-span : goal.invariant-loop-span
