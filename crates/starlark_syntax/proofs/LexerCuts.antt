@@ -5,7 +5,7 @@ use Rattle.std.specs.Prelude.{Option}
 use Rattle.starlark_grammar.specs.Reading.{outcome}
 use Rattle.starlark_reader.specs.Inner.MarginCuts.{IsCutBefore}
 use Rattle.starlark_syntax.specs.Inner.LexerStates.{IsLexing, left_in}
-use Rattle.starlark_syntax.specs.Lexer.{IsCutAfter}
+use Rattle.starlark_syntax.specs.CutAfter.{IsCutAfter}
 use Rattle.starlark_syntax.specs.declared.lexer_state.LexerState.{LexerState}
 use Rattle.starlark_token.specs.Lexemes.{shown_lexeme}
 

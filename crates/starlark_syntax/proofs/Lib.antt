@@ -1,3 +1,25 @@
+-- Where each proof is. What belongs to one function is in a folder that has its name.
+-- LexerReads: reads: of a piece, after each step, and of the lexer by its lookahead.
+-- Reaches: lookahead: words are on a line; lookahead that failed stays before the line where lexing begins again.
+-- LexerItems, LexerStates: items: items by their number, inside of the text; what a call on the state returns is
+--   the next.
+-- FoundWords, PlainLexemes: the fast path: the state at a word that the scanner has found, and after a lexeme was
+--   passed; a plain lexeme as the grammar sees it.
+-- LexedTexts/Collected, Within, Boundaries: lists of lexemes: lexemes so far; what holds of ends holds in the list.
+-- LexedTexts/CleanCuts, Newlines: clean cuts: by what is open at the end; the last `Newline`.
+-- LexedTexts/KeptCuts, HeldCuts: kept cuts: lexemes before one; the list has all.
+-- LexedTexts/Joined, Parts: joins: joined lexed texts.
+-- LexedTexts/Begins, Relexed, Edits: edits: where lexing starts again, and the outcome case by case.
+-- LexedTexts/Meetings, Puts, Moves: meetings: two texts that end alike after a clean cut each; the lists that are
+--   changed in place.
+-- Held: code maps: the code map of a text holds its outcome.
+-- NextLines: the place: the next line begins at a character boundary.
+-- RestartReads: its reads: what a margin and the search of the next line take.
+-- Items: items: all items of a text, by its own and those of the rest.
+-- Lefts: what is left: before and after each answer.
+-- ErrorRows: worked rows, by computing.
+-- LexerCuts: where a lexer may cut its text.
+-- Passes: a fault that was passed.
 mod ErrorRows
 pub mod FoundWords
 pub mod LexerItems

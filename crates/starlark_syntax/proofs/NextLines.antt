@@ -7,8 +7,7 @@ use Rattle.std.proofs.lemmas.Str.{IsCharBoundary-after_ascii}
 use Rattle.std.specs.List.{prefix_len, starts_with}
 use Rattle.std.specs.Prelude.{codes, if◌then◌else◌, max}
 use Rattle.std.specs.Str.{IsCharBoundary, IsUtf8}
-use Rattle.starlark_grammar.specs.Gaps.{begins_with_line_end}
-use Rattle.starlark_grammar.specs.Margins.{is_lf}
+use Rattle.starlark_grammar.specs.Margins.{begins_with_line_end, is_lf}
 use Rattle.starlark_grammar.specs.Words.{Text}
 use Rattle.starlark_grammar.specs.Tokens.{Fault, Spanned}
 use Rattle.starlark_syntax.specs.Recovery.{is_margin_tab, is_tab, line_end_len, margin_line, next_line, stopped_at}

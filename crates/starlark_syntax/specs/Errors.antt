@@ -1,6 +1,7 @@
 -- Kinds of errors, their printed forms, and their lines and columns.
 use Rattle.std.specs.Prelude.{◌≡◌, ℕ, List, Option, Some, None, IfSome, string_bytes, ⊤}
-use Rattle.starlark_base.specs.Diagnostics.{Diagnosed, diagnosed_text}
+use Rattle.starlark_base.specs.Diagnostics.{Diagnosed}
+use Rattle.starlark_base.specs.DiagnosedTexts.{diagnosed_text}
 use Rattle.starlark_base.specs.Places.{resolved}
 use Rattle.starlark_base.specs.Sources.{Holds}
 use Rattle.starlark_base.specs.declared.codemap.file_span.FileSpan.{FileSpan}

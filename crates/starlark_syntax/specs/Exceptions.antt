@@ -1,6 +1,6 @@
 -- Exceptions of faults.
 use Rattle.std.specs.Prelude.{◌≡◌, Option, Some, None, ⊤}
-use Rattle.starlark_base.specs.Sources.{SourceFile}
+use Rattle.starlark_base.specs.Spans.{SourceFile}
 use Rattle.starlark_base.specs.Diagnostics.{Diagnosed, place_in, unplaced, with_span}
 use Rattle.starlark_syntax.specs.declared.error.kinds.ErrorKind.{ErrorKind}
 use Rattle.starlark_syntax.specs.declared.error.kinds.ErrorKind.TheVariants.{Parser}

@@ -1,20 +1,17 @@
 -- Lexers, as their users see them, and the items that they yield.
-use Rattle.std.specs.Prelude.{◌≡◌, ◌<◌, ◌≤◌, IfSome, ℕ, ◌+◌, ◌-◌, ◌*◌, ◌||◌, if◌then◌else◌, Bool, true, false, length, take, Option, Some, None, Result, Ok, Err, ⊤}
-use Rattle.std.specs.Iterator.{Count, at_most}
-use Rattle.std.specs.List.{slice_get}
+use Rattle.std.specs.Prelude.{◌≡◌, ◌≤◌, IfSome, ℕ, ◌+◌, ◌*◌, Bool, true, false, length, Option, Some, None, Result, Ok, Err, ⊤}
 use Rattle.std.specs.Str.{IsCharBoundary}
-use Rattle.starlark_base.specs.Sources.{SourceFile}
+use Rattle.starlark_base.specs.Spans.{SourceFile}
 use Rattle.starlark_base.specs.Diagnostics.{Diagnosed}
 use Rattle.starlark_text.specs.declared.or_memory.OrMemory.{OrMemory}
 use Rattle.starlark_text.specs.declared.or_memory.OrMemory.TheVariants as refusal
 use Rattle.starlark_syntax.specs.declared.error.kinds.ErrorKind.{ErrorKind}
 pub use Rattle.starlark_syntax.specs.Exceptions.{IsException}
 use Rattle.starlark_grammar.specs.AfterFaults.{restart}
-use Rattle.starlark_grammar.specs.Cuts.{is_kept_cut, without_closing}
 use Rattle.starlark_grammar.specs.Reading.{outcome}
 use Rattle.starlark_grammar.specs.Tokens.{Fault, Spanned}
 use Rattle.starlark_grammar.specs.Words.{Text}
-unfoldable pub use Rattle.starlark_reader.specs.Inner.Reads.{search_reads}
+unfoldable pub use Rattle.starlark_reader.specs.Searches.{search_reads}
 pub use Rattle.starlark_token.specs.Lexemes.{IsWithin}
 use Rattle.starlark_token.specs.Lexemes.{lexeme_view}
 pub use Rattle.starlark_token.specs.TextItems.{LexerItem, Given, Refused, items}
@@ -83,21 +80,3 @@ HasReadFor text None reads = (length text ≤ reads) × (reads ≤ most_reads te
 HasReadFor text (Some (Err refusal.Memory)) reads = ⊤
 HasReadFor text (Some (Err (refusal.Error exception))) reads = (reads ≤ most_reads text) × HasReadToFault text reads
 HasReadFor text (Some (Ok found)) reads = reads ≤ most_reads text
-
--- byte `at` is a kept cut before the text's end, and `count` lexemes are before it
-pub record IsCutAfter (text : Text) (count at : ℕ) : Type 0 where
-  pub inside : at < length text
-  pub is_kept : is_kept_cut text at ≡ true
-  pub lexemes : length (without_closing (outcome (take at text)).lexemes) ≡ count
-
--- what one call of a lexer returns, and the lexer after it; after an error a call returns `None`
-pub record IsNextOf (old : LexerView) (answer : Option (Result (ℕ × Token × ℕ) (OrMemory (Diagnosed ErrorKind)))) (new : LexerView) : Type 0 where
-  pub item : AnswersNext old.code_map (if old.has_ended then None else slice_get (items old.text) old.yielded_count) answer
-  pub within : AnswersWithin old.text answer
-  pub between : AnswersBetween old.text answer
-  pub after : new ≡ record old { yielded_count = old.yielded_count + yielded_by answer; has_ended = old.has_ended || is_ended_by answer; reads = new.reads }
-  pub reads : old.has_ended ≡ false → HasReadFor old.text answer new.reads
-
--- the greatest number of items that are left
-abbrev pub items_left : LexerView → Count
-items_left lexer = at_most (if lexer.has_ended then 0 else length (items lexer.text) - lexer.yielded_count)

@@ -1,6 +1,8 @@
 pub mod Errors
 pub mod Exceptions
 pub mod Lexer
+pub mod LexerIterator
+pub mod CutAfter
 pub mod PlainLexemes
 pub mod Inner
 pub mod LexedTexts

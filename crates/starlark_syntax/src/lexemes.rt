@@ -2,7 +2,8 @@
 
 ghost use Rattle.std.specs.Prelude.{◌≡◌, ◌≤◌, ◌+◌, ◌*◌, ◌^◌, ◌↔◌, ◌||◌, None, Some, length, true, false, IfOk, IfSome, IsErr};
 ghost use Rattle.std.specs.List.{slice_get};
-ghost use Rattle.starlark_syntax.specs.Lexer.{AnswersBetween, AnswersNext, AnswersWithin, HasReadFor, IsCutAfter, is_ended_by, most_reads, yielded_by};
+ghost use Rattle.starlark_syntax.specs.Lexer.{AnswersBetween, AnswersNext, AnswersWithin, HasReadFor, is_ended_by, most_reads, yielded_by};
+ghost use Rattle.starlark_syntax.specs.CutAfter.{IsCutAfter};
 ghost use Rattle.starlark_syntax.specs.PlainLexemes.{IsPlainIn, passed_by, plain_view};
 ghost use Rattle.starlark_token.specs.TextItems.{Given, items};
 
@@ -156,7 +157,7 @@ impl<'a> Lexer<'a> {
 }
 
 impl<'a> Iterator for Lexer<'a> {
-    ghost use Rattle.starlark_syntax.specs.Lexer.{IsNextOf, items_left};
+    ghost use Rattle.starlark_syntax.specs.LexerIterator.{IsNextOf, items_left};
 
     type Item = Lexeme;
 

@@ -1,5 +1,3 @@
-use Rattle.std.proofs.Common.{refl}
-use Rattle.std.specs.Prelude.{Err, Ok}
 use Rattle.starlark_syntax.proofs.LexerReads.{further_after}
 use Rattle.starlark_syntax.proofs.lexer_state.LexerState.item_in_code.Goals as goal
 

@@ -1,4 +1,4 @@
-use Rattle.std.proofs.Common.{◌≡◌, ◌+◌, ◌≤◌, ◌^◌, arith, map, refl, rules}
+use Rattle.std.proofs.Common.{◌≡◌, ◌+◌, ◌≤◌, ◌^◌, arith, refl, rules}
 use Rattle.starlark_grammar.proofs.Order.Inside.{lexemes_few}
 use Rattle.starlark_syntax.proofs.FoundWords.{past_lexing}
 use Rattle.starlark_syntax.proofs.lexer_state.LexerState.item_of.Goals as goal
