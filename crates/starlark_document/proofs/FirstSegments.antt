@@ -46,7 +46,7 @@ unfolding begins_plainly
 plain_some [] plain = cc
 plain_some (b ∷ bs) plain = omega arith
 
-plain_below : (text : Text) (at : ℕ) → begins_plainly (drop at text) ≡ true → at < length text
+pub plain_below : (text : Text) (at : ℕ) → begins_plainly (drop at text) ≡ true → at < length text
 plain_below text at plain = omega (arith, length-drop at text, plain_some (drop at text) plain)
 
 -- a length that was tested

@@ -20,7 +20,7 @@ use Rattle.starlark_document.specs.Documents.{IsChange, IsRange, SameOutside, ed
 use Rattle.starlark_document.specs.declared.document.Change.{Change}
 use Rattle.starlark_grammar.specs.Tokens as grammar
 use Rattle.starlark_document.specs.Inner.Fronts.{IsFirstSegment}
-use Rattle.starlark_document.specs.Inner.Costs.{IsPaid}
+use Rattle.starlark_document.specs.Inner.Costs.{IsPartCost}
 use Rattle.starlark_document.specs.Inner.Parts.{IsLexedPart, IsPart, IsPlaceIn, IsReplaced}
 use Rattle.starlark_document.specs.Inner.Segments.{AreLaid, AreOpen, Follows, text_in, text_of}
 use Rattle.starlark_document.specs.declared.parts.LexedPart.{LexedPart}
@@ -315,8 +315,8 @@ module _ (segments : List Segment) (part : Part) (text : Text) (end len read : �
 
   -- where it ends, all is lexed
   pub lexing_ends : (more : LexedPart) → (is_last ≡ true → end ≡ length segments) → (is_last ≡ false → end < length segments)
-      → more.segments.items ≡ done ++ (x ∷ []) → more.end ≡ end → more.len ≡ len + x.len → len + x.len ≡ length text → more.len ≤ more.cost.lexed → IsPaid more.cost → IsLexedPart segments part more
-  lexing_ends more last inner is_more at_end lens all least paid = record {
+      → more.segments.items ≡ done ++ (x ∷ []) → more.end ≡ end → more.len ≡ len + x.len → len + x.len ≡ length text → more.len ≤ more.cost.lexed → IsPartCost more.len more.cost → IsLexedPart segments part more
+  lexing_ends more last inner is_more at_end lens all least cost = record {
     order = omega (arith, is.order, at_end);
     within = omega (arith, is.within, at_end);
     len = lens ∙ len_more ∙ ap (λ (xs : List Segment). length (text_of xs)) (sym is_more);
@@ -324,7 +324,7 @@ module _ (segments : List Segment) (part : Part) (text : Text) (end len read : �
     inner = λ less. subst (AreOpen (nat_eq part.first.index 0)) (sym is_more) (by_inner is_last refl (omega (arith, less, at_end)));
     last = λ e. subst (AreLaid (nat_eq part.first.index 0)) (sym is_more) (by_last is_last refl (sym at_end ∙ e));
     least = least;
-    paid = paid;
+    cost = cost;
   }
     where
       none_left : drop x.len is.rest ≡ []
@@ -457,10 +457,16 @@ module _ (segments : List Segment) (new : Text) (part : Part) (lexed : LexedPart
           (lexemes_outside (take part.first.index segments) (slice_range segments part.first.index lexed.end) lexed.segments.items (drop lexed.end segments) old_laid replaced_laid);
       faults = outside_at _ _ _ _ _ _ _ _ _ _ begin_is old_is new_is (ap (λ (xs : List Segment). faults_of (text_of xs)) (sym old_parts)) (ap (λ (xs : List Segment). faults_of (text_of xs)) (sym is_items))
           (faults_outside (take part.first.index segments) (slice_range segments part.first.index lexed.end) lexed.segments.items (drop lexed.end segments) old_laid replaced_laid);
-      lexed = omega (arith, begin, new_end, read, is.least);
-      reads = omega (arith, read, starts, reads, is.paid);
+      least_lexed = omega (arith, begin, new_end, read, is.least);
+      most_lexed = rw (read, starts, new_len_is) is.cost.most;
+      most_starts = omega (arith, read, starts, is.cost.few);
+      most_reads = omega (arith, read, starts, reads, is.cost.paid);
+      least_reads = λ one. omega (arith, read, reads, is.cost.least (sym starts ∙ one));
     }
       where
+        new_len_is : change.new_end - change.begin ≡ lexed.len
+        new_len_is = omega (arith, begin, new_end)
+
         same_len : length (text_of items) ≡ length new
         same_len = ap (λ (xs : List Segment). length (text_of xs)) is_items ∙ ap length replaced_text
 

@@ -1,5 +1,5 @@
 -- Documents, as their users see them: texts that change by edits, what is found in them, and what an edit changed.
-use Rattle.std.specs.Prelude.{◌≡◌, ◌≤◌, ◌<◌, ◌+◌, ◌^◌, ◌↔◌, ℕ, Bool, nat_le, List, [], ◌∷◌, ◌++◌, map, length, take, drop, Option, Some, None, IfSome, ⊤}
+use Rattle.std.specs.Prelude.{◌≡◌, ◌≤◌, ◌<◌, ◌+◌, ◌-◌, ◌*◌, ◌^◌, ◌↔◌, ℕ, Bool, nat_le, List, [], ◌∷◌, ◌++◌, map, length, take, drop, codes, Option, Some, None, IfSome, ⊤}
 use Rattle.std.specs.Borrow.{Bor}
 use Rattle.std.specs.Iterator.{Count, at_most}
 use Rattle.std.specs.List.{AllByRecursion, slice_get}
@@ -7,7 +7,7 @@ use Rattle.std.specs.Str.{IsCharBoundary}
 use Rattle.starlark_document.specs.declared.document.Change.{Change}
 use Rattle.starlark_document.specs.declared.document.Edit.{Edit}
 use Rattle.starlark_document.specs.declared.document.EditError.{EditError}
-use Rattle.starlark_document.specs.declared.document.EditError.TheVariants.{BadRange, TooLong}
+use Rattle.starlark_document.specs.declared.document.EditError.TheVariants.{BadRange, TooLong, Memory}
 use Rattle.starlark_grammar.specs.Tokens as grammar
 use Rattle.starlark_grammar.specs.Words.{Text}
 use Rattle.starlark_syntax.specs.Recovery.{recovered}
@@ -68,6 +68,12 @@ faults_of text = (recovered text).faults
 abbrev pub ends_by : {A : Type 0} → ℕ → grammar.Spanned A → Bool
 ends_by at x = nat_le x.end at
 
+-- the printed text of an error of an edit
+abbrev pub edit_error_text : EditError → Text
+edit_error_text BadRange = codes "the range isn't one of the text"
+edit_error_text TooLong = codes "the text would be longer than 4294967295 bytes"
+edit_error_text Memory = codes "out of memory"
+
 -- the kind of error that a fault of the grammar is
 abbrev pub IsKindOf : grammar.Fault → ErrorKind → Type 0
 IsKindOf fault kind = (error : LexemeError) × (fault_view error ≡ Some fault) × (kind ≡ Parser (Lexeme error))
@@ -90,16 +96,20 @@ pub record SameOutside {A : Type 0} (begin first_end second_end : ℕ) (first se
   pub all_second : AllInside begin second_end second_inside
 
 -- Outside of the ranges of a change, the lexemes and faults of the new text are those of the old one, and what is after
--- them has moved with the text. At least the bytes of the new range were lexed, and there were at most so many reads for the
--- bytes that were lexed and the starts of lexing.
+-- them has moved with the text. At least the bytes of the new range were lexed, and at each start of lexing at most those;
+-- lexing started at most twice for each byte that was lexed, and once more. There were at most so many reads for the bytes
+-- that were lexed and the starts of lexing; where lexing started once, each byte was read.
 pub record IsChange (old new : Text) (change : Change) : Type 0 where
   pub order : change.begin ≤ change.new_end
   pub within : change.new_end ≤ length new
   pub lengths : change.new_end + length old ≡ change.old_end + length new
   pub lexemes : SameOutside change.begin change.old_end change.new_end (lexemes_of old) (lexemes_of new)
   pub faults : SameOutside change.begin change.old_end change.new_end (faults_of old) (faults_of new)
-  pub lexed : change.new_end ≤ change.begin + change.lexed
-  pub reads : change.reads ≤ most_reads_on change.lexed change.starts
+  pub least_lexed : change.new_end ≤ change.begin + change.lexed
+  pub most_lexed : change.lexed ≤ change.starts * (change.new_end - change.begin)
+  pub most_starts : change.starts ≤ 2 * change.lexed + 1
+  pub most_reads : change.reads ≤ most_reads_on change.lexed change.starts
+  pub least_reads : change.starts ≡ 1 → change.lexed ≤ change.reads
 
 -- what a call of an iterator over lexemes returns, and what is left after it
 pub record IsNextLexeme (old : List (grammar.Spanned TokenView)) (answer : Option (ℕ × Bor Token × ℕ)) (new : List (grammar.Spanned TokenView)) : Type 0 where

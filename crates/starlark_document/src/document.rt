@@ -1,7 +1,6 @@
 //! Documents: texts that stay lexed while they are edited.
 
 ghost use Rattle.std.specs.Prelude.{◌≡◌, ◌≤◌, ◌<◌, ◌^◌, ◌↔◌, ◌==◌, Err, IfErr, IfOk, IfSome, IsNone, IsTrue, OnErr, OnOk, Some, drop, length, map, slice_range, string_bytes, true, ℕ};
-ghost use Rattle.std.specs.Io.KnownBytes.{Appends};
 ghost use Rattle.std.specs.List.{prefix_len, splice};
 ghost use Rattle.std.specs.Str.{IsCharBoundary};
 ghost use Rattle.starlark_base.specs.Lines.{line_count};
@@ -11,6 +10,7 @@ ghost use Rattle.starlark_document.specs.Inner.Parts.{IsLexedPart, IsPart};
 ghost use Rattle.starlark_document.specs.Inner.Segments.{AreLaid, text_of};
 ghost use Rattle.starlark_document.specs.Places.{StandsAt, place_of};
 ghost use Rattle.starlark_grammar.specs.Words.{Text};
+ghost use Rattle.starlark_run.specs.Calls.{WritesText};
 
 use crate::line_places::{Place, newlines_in, offset_in_segments, place_in};
 use crate::parts::{
@@ -18,9 +18,9 @@ use crate::parts::{
     write_texts,
 };
 use crate::segments::{Faults, Lexemes, Segment, SegmentPlace, passed_len, segment_at};
+use starlark_run::devices::WriteDevice;
 use starlark_syntax::codemap::{CodeMap, CodeMapId, OrMemory, SourceTooLong};
 use std::alloc::{AllocError, Global};
-use std::io::Write;
 use std::marker::Model;
 use std::{fmt, io};
 
@@ -96,6 +96,11 @@ pub enum EditError {
 }
 
 impl fmt::Display for EditError {
+    ghost use Rattle.std.specs.Prelude.{Some};
+    ghost use Rattle.starlark_document.specs.Documents.{edit_error_text};
+
+    ghost output = { λ error. Some (edit_error_text error) };
+
     fn fmt<W: fmt::Write>(&self, f: &mut fmt::Formatter<W>) -> fmt::Result {
         f.write_str(match self {
             EditError::BadRange => "the range isn't one of the text",
@@ -350,10 +355,11 @@ impl Document {
 
     /// Writes the whole text to a writer, without a copy of it.
     ///
-    /// Makes one `write_all` for each segment. Allocates nothing itself, and doesn't flush the
-    /// writer. Fails where a write fails; then a beginning of the text may be written.
-    pub fn write_to<W: Write>(&self, writer: &mut W) -> io::Result<()>
-        ensures { OnOk result (Appends (W.contents writer.old) (W.contents writer.new) self.now) }
+    /// Writes each segment by itself, allocates nothing, and doesn't flush the writer. Fails at the
+    /// first write that fails or takes nothing, which isn't tried again. Then a beginning of the text
+    /// is written.
+    pub fn write_to<W: WriteDevice>(&self, writer: &mut W) -> io::Result<()>
+        ensures { WritesText W.calls writer.old writer.new self.now result }
     {
         write_texts(&self.segments, writer)
     }

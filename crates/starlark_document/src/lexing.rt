@@ -1,7 +1,7 @@
 //! Makes segments: lexes a text from the start of a segment on.
 
-ghost use Rattle.std.specs.Prelude.{◌≡◌, ◌≤◌, ◌<◌, ◌+◌, ◌^◌, IfOk, IfSome, IsSome, count_by, length, map, take, true};
-ghost use Rattle.starlark_document.specs.Inner.Costs.{IsPaid, cost_sum};
+ghost use Rattle.std.specs.Prelude.{◌≡◌, ◌≤◌, ◌<◌, ◌+◌, ◌^◌, IfOk, IfSome, IsNone, IsSome, count_by, length, map, take, true};
+ghost use Rattle.starlark_document.specs.Inner.Costs.{IsTextCost, cost_sum};
 ghost use Rattle.starlark_document.specs.Inner.Fronts.{IsFirstSegment, IsFront, last_newline_at, without_newline};
 ghost use Rattle.std.specs.Str.{IsCharBoundary};
 ghost use Rattle.starlark_document.specs.Inner.Segments.{text_in};
@@ -179,6 +179,7 @@ fn whole_segment(
     requires front { IsFront text.now (all_items text.now) front }
     ensures segment { IfOk result (λ found. IfSome found (IsFirstSegment text.now is_last)) }
     ensures last { IfOk result (λ found. is_last ≡ true → IsSome found) }
+    ensures none { IfOk result (λ found. IsNone found → 0 < length text.now) }
 {
     if is_last {
         return Ok(Some(segment(alloc, text, front)?));
@@ -205,8 +206,9 @@ pub fn lex_segment(
     requires fits { length text.now < 2 ^ 32 }
     ensures segment { IfOk result (λ found. IfSome found.segment (IsFirstSegment text.now is_last)) }
     ensures last { IfOk result (λ found. is_last ≡ true → IsSome found.segment) }
-    ensures lexed { IfOk result (λ found. found.cost.lexed ≡ length text.now) }
-    ensures reads { IfOk result (λ found. IsPaid found.cost) }
+    ensures none { IfOk result (λ found. IsNone found.segment → 0 < length text.now) }
+    ensures cost { IfOk result (λ found. IsTextCost (length text.now) found.cost) }
+    ensures whole { IfOk result (λ found. IfSome found.segment (λ segment. segment.len ≡ length text.now → found.cost.starts ≡ 1 → length text.now ≤ found.cost.reads)) }
 {
     let lexer = RecoveringLexer::new(alloc, text, &Dialect::Standard, file.dupe()?);
     let mut lexer = lexer.map_err(|_| AllocError)?;

@@ -1,21 +1,21 @@
 //! Parts of a document: the segments that an edit touches, with their text after it.
 
 ghost use Rattle.std.specs.Prelude.{◌≡◌, ◌≤◌, ◌<◌, ◌+◌, ◌++◌, ◌^◌, ◌↔◌, Some, IfOk, IfSome, IsNone, IsTrue, OnOk, length, string_bytes, true};
-ghost use Rattle.std.specs.Io.KnownBytes.{Appends};
 ghost use Rattle.std.specs.List.{slice_get};
 ghost use Rattle.std.specs.Str.{IsCharBoundary};
 ghost use Rattle.starlark_document.specs.Documents.{IsRange, edited};
 ghost use Rattle.starlark_document.specs.Inner.Parts.{IsLexedPart, IsPart, IsPlaceIn, IsRangeIn, IsReplaced};
 ghost use Rattle.starlark_document.specs.Inner.Segments.{AreLaid, HaveLens, text_of};
 ghost use Rattle.starlark_grammar.specs.Words.{Text};
+ghost use Rattle.starlark_run.specs.Calls.{WritesText};
 
 use crate::fronts::begins_plainly;
 use crate::lexing::{LexingCost, lex_segment};
 use crate::segments::{Segment, SegmentPlace, segment_at};
+use starlark_run::devices::{WriteDevice, write_all};
 use starlark_syntax::codemap::CodeMap;
 use std::alloc::{AllocError, Global};
 use std::io;
-use std::io::Write;
 
 /// The segments that hold the ends of a range of a text.
 #[derive(Clone, Copy)]
@@ -183,12 +183,12 @@ pub fn append_texts(text: &mut String, segments: &[Segment]) -> Result<(), Alloc
     Ok(())
 }
 
-/// Writes the texts of segments to a writer, each with one `write_all`.
-pub fn write_texts<W: Write>(segments: &[Segment], writer: &mut W) -> io::Result<()>
-    ensures { OnOk result (Appends (W.contents writer.old) (W.contents writer.new) (text_of segments.now)) }
+/// Writes the texts of segments to a writer, each by itself.
+pub fn write_texts<W: WriteDevice>(segments: &[Segment], writer: &mut W) -> io::Result<()>
+    ensures { WritesText W.calls writer.old writer.new (text_of segments.now) result }
 {
     for segment in segments {
-        writer.write_all(segment.content.text.as_bytes())?;
+        write_all(writer, segment.content.text.as_bytes())?;
     }
     Ok(())
 }

@@ -82,6 +82,7 @@ fn print_edited<W: Write>(
     let mut reader = Watched::new(text);
     let mut writer = Watched::new(Vec::with_capacity(alloc, MOST_PRINTED)?);
     let outcome = run_edits(alloc, "<stdin>", &mut reader, edits, &mut writer);
+    let outcome = outcome.map(|edited| edited.status);
     print_outcome(out, number, &outcome, writer.device().as_slice())
 }
 

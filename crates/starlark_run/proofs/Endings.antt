@@ -7,7 +7,8 @@ use Rattle.starlark_run.specs.Calls.{WriterCalls, Done, Went}
 use Rattle.starlark_run.specs.Output.{output}
 use Rattle.starlark_run.specs.Watch.{Watch}
 use Rattle.starlark_run.specs.Writing.{Writes, WritesAll}
-use Rattle.starlark_run.specs.Runs.{IsPrinted, IsRun, IsWhole, status_of}
+use Rattle.starlark_run.specs.Runs.{IsPrinted, IsRun, IsWhole, ending_of, status_of}
+use Rattle.starlark_run.specs.declared.edited_runs.EditedRun.{EditedRun}
 use Rattle.starlark_run.specs.declared.ends.RunFault.{RunFault}
 use Rattle.starlark_run.specs.declared.ends.RunFault.TheVariants as fault
 use Rattle.starlark_run.specs.declared.ends.RunStatus.{RunStatus}
@@ -106,3 +107,20 @@ module _ {R W : Type 0} (calls : WriterCalls W) (name came : Text) (last : Resul
   write_told before (Err fault.TooLong) (inr whole) = printed_told before last (Err fault.TooLong) whole.2
   write_told before (Err fault.Memory) (inl stopped) = (λ e. cc, λ e. absurd (untouched_sound before stopped.1 e))
   write_told before (Err fault.Memory) (inr whole) = printed_told before last (Err fault.Memory) whole.2
+
+  -- a run over edits fails as its ending does
+  fails_alike : (r : Result EditedRun RunFault) (e : RunFault) → IsErrOf r e ↔ IsErrOf (ending_of r) e
+  fails_alike (Ok edited) e = (λ i. cc, λ i. cc)
+  fails_alike (Err why) e = (λ i. let same : why ≡ e = cc in ap Err same, λ i. let same : why ≡ e = cc in ap Err same)
+
+  pub edited_read_told : (r : Result EditedRun RunFault) → IsRun calls name came last reader old new (ending_of r) → IsErrOf r fault.Read ↔ (reader.failed ≡ true)
+  edited_read_told r run =
+      let told = read_told (ending_of r) run in
+      let alike = fails_alike r fault.Read in
+      (λ e. told.0 (alike.0 e), λ e. alike.1 (told.1 e))
+
+  pub edited_write_told : old.failed ≡ false → (r : Result EditedRun RunFault) → IsRun calls name came last reader old new (ending_of r) → IsErrOf r fault.Write ↔ (new.failed ≡ true)
+  edited_write_told before r run =
+      let told = write_told before (ending_of r) run in
+      let alike = fails_alike r fault.Write in
+      (λ e. told.0 (alike.0 e), λ e. alike.1 (told.1 e))

@@ -4,7 +4,7 @@ use Rattle.std.specs.Io.KnownBytes.{Keeps}
 use Rattle.std.proofs.lemmas.Bool.{eq-eqb, ne_eqb}
 use Rattle.starlark_base.specs.Places.{Text}
 use Rattle.starlark_run.proofs.Calls.{went_broken, went_done, went_nil, went_trans}
-use Rattle.starlark_run.specs.Calls.{WriterCalls, Flushed, Ending, Going, Done, Broken}
+use Rattle.starlark_run.specs.Calls.{WriterCalls, Flushed, Ending, Going, Done, Broken, WritesText}
 use Rattle.starlark_run.specs.Watch.{Watch, is_nothing}
 use Rattle.starlark_run.specs.Writing.{Takes, TakesBeginning, Writes, WritesAll}
 use Rattle.starlark_run.specs.declared.ends.RunFault.{RunFault}
@@ -56,6 +56,15 @@ module _ {W : Type 0} (calls : WriterCalls W) where
   pub writes_sound : {T : Type 0} (a b : Watch W) (x waiting : Text) (t : T) → Writes calls a b x waiting (Ok t) → b.failed ≡ false
   unfolding Writes
   writes_sound a b x waiting t h = h.1
+
+  -- a text that went by calls of the writer alone
+  pub writes_text : (T U E : Type 0) (a b : Watch W) (text : Text) (t : T) (u : U) → WritesText {E = E} calls a.device b.device text (Ok t) → b.failed ≡ false → Writes calls a b text [] (Ok u)
+  unfolding WritesText Writes
+  writes_text T U E a b text t u went sound = ((text, went, append-nil text), sound)
+
+  pub writes_text_stopped : (T U E : Type 0) (a b : Watch W) (text : Text) (e : E) → WritesText {T = T} calls a.device b.device text (Err e) → b.failed ≡ true → Writes {T = U} calls a b text [] (Err Write)
+  unfolding WritesText Writes
+  writes_text_stopped T U E a b text e went failed = ((went.1, (went.0, went.2, went.3)), failed)
 
   -- a step that gave up for want of memory before it wrote anything
   pub writes_refused : (T : Type 0) (a : Watch W) (text waiting : Text) → a.failed ≡ false → Writes {T = T} calls a a text waiting (Err Memory)

@@ -153,3 +153,9 @@ pub record Went {W : Type 0} (calls : WriterCalls W) (ending : Ending) (old new 
   pub some : AllByRecursion TookSome log
   pub given : flat_map taken_by log ≡ taken
   pub ended : EndedBy ending last
+
+-- the result of writing a text by calls of a writer: it took all of it, or a beginning of it before a call that failed;
+-- it wasn't flushed
+unfoldable pub WritesText : {W T E : Type 0} → WriterCalls W → W → W → Text → Result T E → Type 0
+WritesText calls old new text (Ok x) = Went calls Going old new text
+WritesText calls old new text (Err e) = (taken : Text) × (left : Text) × Went calls Broken old new taken × (taken ++ left ≡ text)

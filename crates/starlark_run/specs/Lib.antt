@@ -6,4 +6,6 @@ pub mod Writing
 pub mod Runs
 pub mod Inner
 pub mod Edits
+pub mod Relexed
 pub mod ExitStatus
+pub mod RunFaults

@@ -8,6 +8,7 @@ use Rattle.starlark_run.specs.Calls.{WriterCalls, Going, Done, Broken, Went}
 use Rattle.starlark_run.specs.Output.{output}
 use Rattle.starlark_run.specs.Watch.{Watch}
 use Rattle.starlark_run.specs.Writing.{TakesBeginning}
+use Rattle.starlark_run.specs.declared.edited_runs.EditedRun.{EditedRun}
 use Rattle.starlark_run.specs.declared.ends.TheConstants.{GREATEST_LEN}
 use Rattle.starlark_run.specs.declared.ends.RunFault.{RunFault}
 use Rattle.starlark_run.specs.declared.ends.RunFault.TheVariants.{NotUtf8, TooLong, BadEdit, Read, Write, Memory}
@@ -86,3 +87,8 @@ IsRun calls name came last reader old new (Err Memory) =
     (IsStopped reader came × IsUntouched old new)
     ⊎ (IsWhole reader came × IsUtf8 came × IsPrinted calls name last old new (Err Memory))
 IsRun calls name came last reader old new result = IsWhole reader came × IsUtf8 came × IsPrinted calls name last old new result
+
+-- how a run over edits ended, without its counts of reads
+abbrev pub ending_of : Result EditedRun RunFault → Result RunStatus RunFault
+ending_of (Ok edited) = Ok edited.status
+ending_of (Err fault) = Err fault

@@ -26,23 +26,16 @@ impl Model for Buffer {
     ghost view = { λ buffer. buffer.waiting.items };
 }
 
-/// Writes all bytes, in as many calls of the writer as it needs.
-///
-/// Fails with `Write` at the first call that fails or takes nothing. That call is the last one.
+/// Writes all bytes. Fails with `Write` at the first call that fails or takes nothing.
 #[tactic(auto, unfolding(crate::specs::Writing::Writes))]
 fn write_all<W: WriteDevice>(writer: &mut Watched<W>, bytes: &[u8]) -> Result<(), RunFault>
     requires { writer.old.failed ≡ false }
     ensures { Writes W.calls writer.old writer.new bytes.now [] result }
 {
-    let mut written = 0;
-    while written < bytes.len() {
-        match writer.write(&bytes[written..]) {
-            Ok(0) => return Err(RunFault::Write),
-            Err(_) => return Err(RunFault::Write),
-            Ok(count) => written += count,
-        }
+    match writer.write_all(bytes) {
+        Ok(()) => Ok(()),
+        Err(_) => Err(RunFault::Write),
     }
-    Ok(())
 }
 
 impl Buffer {

@@ -3,10 +3,10 @@
 ghost use Rattle.std.specs.Prelude.{◌≡◌, IfErr, IfOk};
 ghost use Rattle.std.specs.Io.{ReadsAtMost, WritesAtMost};
 ghost use Rattle.std.specs.Io.KnownBytes.{Keeps, ReadConsumes, WriteAppends};
-ghost use Rattle.starlark_run.specs.Calls.{ReaderCalls, WriterCalls, count_of, is_ok_of, std_reader, std_writer};
+ghost use Rattle.starlark_run.specs.Calls.{ReaderCalls, WriterCalls, WritesText, count_of, is_ok_of, std_reader, std_writer};
 
 use std::io;
-use std::io::{Read, Write};
+use std::io::{ErrorKind, Read, Write};
 
 /// A reader whose contract states what each call does. Each `std::io::Read` is one.
 ///
@@ -62,4 +62,22 @@ impl<W: Write> WriteDevice for W {
     fn flush_once(&mut self) -> io::Result<()> {
         self.flush()
     }
+}
+
+/// Writes all bytes to a writer, in as many calls as it needs, and doesn't flush it.
+///
+/// Fails at the first call that fails, or that takes nothing. That call is the last one.
+#[tactic(auto, unfolding(crate::specs::Calls::WritesText))]
+pub fn write_all<W: WriteDevice>(writer: &mut W, bytes: &[u8]) -> io::Result<()>
+    ensures { WritesText W.calls writer.old writer.new bytes.now result }
+{
+    let mut written = 0;
+    while written < bytes.len() {
+        match writer.write_once(&bytes[written..]) {
+            Ok(0) => return Err(io::Error::from(ErrorKind::WriteZero)),
+            Err(error) => return Err(error),
+            Ok(count) => written += count,
+        }
+    }
+    Ok(())
 }

@@ -1,10 +1,11 @@
 //! Reads a text, edits it, and prints the lexemes of the edited text.
 
-ghost use Rattle.std.specs.Prelude.{◌≡◌, ◌↔◌, ℕ, List, true, false, OnOk, IsErrOf};
+ghost use Rattle.std.specs.Prelude.{◌≡◌, ◌↔◌, ℕ, List, true, false, OnOk, IfOk, IsErrOf};
 ghost use Rattle.std.specs.Io.KnownBytes.{IsAtEnd};
 ghost use Rattle.starlark_run.specs.Calls.{Came};
-ghost use Rattle.starlark_run.specs.Runs.{IsRun};
+ghost use Rattle.starlark_run.specs.Runs.{IsRun, ending_of};
 ghost use Rattle.starlark_run.specs.Edits.{text_after};
+ghost use Rattle.starlark_run.specs.Relexed.{AreLexed};
 
 use crate::devices::{ReadDevice, WriteDevice};
 use crate::edits::Edit;
@@ -14,6 +15,15 @@ use crate::lexed_printing::print_lexed;
 use crate::versions::{relexed, versions_of};
 use crate::watched::Watched;
 use std::alloc::Global;
+
+/// What `run_edits` printed, and what lexing the texts took.
+#[derive(Debug, Drop)]
+pub struct EditedRun {
+    /// What was printed of the text after all edits.
+    pub status: RunStatus,
+    /// How often bytes were read, of the first text and of the text after each edit.
+    pub reads: Vec<u64>,
+}
 
 /// Reads a text to its end, edits it, and prints what `run` prints for the edited text.
 ///
@@ -27,14 +37,16 @@ pub fn run_edits<R: ReadDevice, W: WriteDevice>(
     reader: &mut Watched<R>,
     edits: &[Edit<'_>],
     writer: &mut Watched<W>,
-) -> Result<RunStatus, RunFault>
+) -> Result<EditedRun, RunFault>
     requires reader_sound { reader.old.failed ≡ false }
     requires reader_not_ended { reader.old.ended ≡ false }
     requires writer_sound { writer.old.failed ≡ false }
 
-    // What was read and written, by which calls, for each result.
+    // What was read and written, by which calls, for each result. The text after each edit was
+    // lexed from the one before it.
     ensures run { (came : List ℕ) × Came R.calls reader.old.device reader.new.device reader.new.ended reader.new.failed came
-        × IsRun W.calls name.now came (text_after 0 came edits.now) reader.new writer.old writer.new result }
+        × IsRun W.calls name.now came (text_after 0 came edits.now) reader.new writer.old writer.new (ending_of result)
+        × IfOk result (λ edited. AreLexed came edits.now edited.reads.items) }
 
     // `Read` and `Write` are returned exactly if a call of the reader or writer failed.
     ensures read { IsErrOf result RunFault.Read ↔ (reader.new.failed ≡ true) }
@@ -46,6 +58,10 @@ pub fn run_edits<R: ReadDevice, W: WriteDevice>(
 {
     let first = read_text(alloc, reader)?;
     let versions = versions_of(alloc, first.as_str(), edits)?;
-    let lexed = relexed(alloc, first.as_str(), &versions)?;
-    print_lexed(alloc, name, &lexed, writer)
+    let last = relexed(alloc, first.as_str(), &versions)?;
+    let status = print_lexed(alloc, name, &last.lexed, writer)?;
+    Ok(EditedRun {
+        status,
+        reads: last.reads,
+    })
 }

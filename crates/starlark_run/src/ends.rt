@@ -4,7 +4,8 @@ ghost use Rattle.std.specs.Prelude.{◌≡◌};
 ghost use Rattle.starlark_run.specs.ExitStatus.{exit_status as exit_status_of};
 
 use std::alloc::AllocError;
-use thiserror::Error;
+use std::error::Error;
+use std::fmt;
 
 /// The greatest length of a text, in bytes.
 pub const GREATEST_LEN: usize = 4_294_967_295;
@@ -24,27 +25,41 @@ pub enum RunStatus {
 /// Why a run wrote nothing, or not the whole output.
 ///
 /// Only with `Write` and `Memory` may a part of the output be written: always its beginning.
-#[derive(Debug, Drop, Error, PartialEq)]
+#[derive(Debug, Drop, PartialEq)]
 pub enum RunFault {
     /// The input is not UTF-8.
-    #[error("input is not UTF-8")]
     NotUtf8,
     /// The input, or the text after an edit, is longer than `GREATEST_LEN` bytes.
-    #[error("input is longer than 4294967295 bytes")]
     TooLong,
     /// The edit of this index, from 0, doesn't fit the text that the edits before it leave.
-    #[error("edit {0} does not fit the text")]
     BadEdit(usize),
     /// A read failed. The reader wasn't called after that.
-    #[error("cannot read the input")]
     Read,
     /// A write or the flush failed, or a write took nothing. The writer wasn't called after that.
-    #[error("cannot write the output")]
     Write,
     /// An allocation failed.
-    #[error("out of memory")]
     Memory,
 }
+
+impl fmt::Display for RunFault {
+    ghost use Rattle.std.specs.Prelude.{Some};
+    ghost use Rattle.starlark_run.specs.RunFaults.{run_fault_text};
+
+    ghost output = { λ fault. Some (run_fault_text fault) };
+
+    fn fmt<W: fmt::Write>(&self, f: &mut fmt::Formatter<W>) -> fmt::Result {
+        match self {
+            RunFault::NotUtf8 => f.write_str("input is not UTF-8"),
+            RunFault::TooLong => f.write_str("input is longer than 4294967295 bytes"),
+            RunFault::BadEdit(index) => write!(f, "edit {index} does not fit the text"),
+            RunFault::Read => f.write_str("cannot read the input"),
+            RunFault::Write => f.write_str("cannot write the output"),
+            RunFault::Memory => f.write_str("out of memory"),
+        }
+    }
+}
+
+impl Error for RunFault {}
 
 impl From<AllocError> for RunFault {
     ghost use Rattle.std.specs.Prelude.{◌≡◌};

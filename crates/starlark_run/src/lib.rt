@@ -18,7 +18,7 @@ mod printing;
 mod versions;
 pub mod watched;
 
-pub use edited_runs::run_edits;
+pub use edited_runs::{EditedRun, run_edits};
 pub use edits::Edit;
 pub use ends::{GREATEST_LEN, RunFault, RunStatus, TROUBLE, exit_status};
 pub use plain_runs::run;

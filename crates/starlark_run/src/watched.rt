@@ -3,10 +3,10 @@
 ghost use Rattle.std.specs.Prelude.{◌≡◌, ◌||◌, true, false, is_err, IfErr};
 ghost use Rattle.std.specs.Io.{ReadsAtMost, WritesAtMost};
 ghost use Rattle.std.specs.Io.KnownBytes.{Keeps, ReadConsumes, WriteAppends};
-ghost use Rattle.starlark_run.specs.Calls.{count_of, is_ok_of};
+ghost use Rattle.starlark_run.specs.Calls.{WritesText, count_of, is_ok_of};
 ghost use Rattle.starlark_run.specs.Watch.{reads_end, fails_to_write};
 
-use crate::devices::{ReadDevice, WriteDevice};
+use crate::devices::{ReadDevice, WriteDevice, write_all};
 use std::io;
 use std::marker::Model;
 
@@ -110,6 +110,19 @@ impl<D: WriteDevice> Watched<D> {
             }
             Err(_) => self.failed = true,
         }
+        result
+    }
+
+    /// Writes all bytes by as many calls of the writer as it needs, and doesn't flush it.
+    ///
+    /// Fails at the first call that fails, or that takes nothing. That call is the last one.
+    pub fn write_all(&mut self, bytes: &[u8]) -> io::Result<()>
+        ensures text { WritesText D.calls self.old.device self.new.device bytes.now result }
+        ensures failed { self.new.failed ≡ (self.old.failed || is_err result) }
+        ensures ended { self.new.ended ≡ self.old.ended }
+    {
+        let result = write_all(&mut self.device, bytes);
+        self.failed = self.failed || result.is_err();
         result
     }
 

@@ -1,5 +1,5 @@
 -- What lexing takes.
-use Rattle.std.specs.Prelude.{◌≤◌, ◌+◌, min, ℕ}
+use Rattle.std.specs.Prelude.{◌≡◌, ◌≤◌, ◌<◌, ◌+◌, ◌*◌, min, ℕ}
 use Rattle.starlark_document.specs.declared.lexing.LexingCost.{LexingCost}
 use Rattle.starlark_syntax.specs.RecoveringLexer.{most_reads_on}
 
@@ -18,3 +18,23 @@ cost_sum first second = record {
   starts = saturated_sum first.starts second.starts;
   reads = saturated_sum first.reads second.reads;
 }
+
+-- what lexing a text of `len` bytes took: it started at least once, and at most once more than there are bytes
+pub record IsTextCost (len : ℕ) (cost : LexingCost) : Type 0 where
+  pub lexed : cost.lexed ≡ len
+  pub some : 0 < cost.starts
+  pub few : cost.starts ≤ len + 1
+  pub paid : IsPaid cost
+
+-- what lexing texts of some bytes took, each of which lies in `len` bytes
+pub record IsCostSoFar (len : ℕ) (cost : LexingCost) : Type 0 where
+  pub most : cost.lexed ≤ cost.starts * len
+  pub few : cost.starts ≤ 2 * cost.lexed
+  pub paid : IsPaid cost
+
+-- what lexing a part of `len` bytes took; where lexing started once, each byte was read
+pub record IsPartCost (len : ℕ) (cost : LexingCost) : Type 0 where
+  pub most : cost.lexed ≤ cost.starts * len
+  pub few : cost.starts ≤ 2 * cost.lexed + 1
+  pub paid : IsPaid cost
+  pub least : cost.starts ≡ 1 → cost.lexed ≤ cost.reads

@@ -2,7 +2,7 @@
 use Rattle.std.specs.Prelude.{◌≡◌, ◌≤◌, ◌<◌, ◌+◌, ◌==◌, ℕ, true, List, Some, ◌++◌, length, take, drop, string_bytes, ◌⊎◌}
 use Rattle.std.specs.List.{slice_get}
 use Rattle.starlark_document.specs.Documents.{IsRange}
-use Rattle.starlark_document.specs.Inner.Costs.{IsPaid}
+use Rattle.starlark_document.specs.Inner.Costs.{IsPartCost}
 use Rattle.starlark_document.specs.Inner.Segments.{AreLaid, AreOpen, text_of}
 use Rattle.starlark_document.specs.declared.parts.LexedPart.{LexedPart}
 use Rattle.starlark_document.specs.declared.parts.Part.{Part}
@@ -49,4 +49,4 @@ pub record IsLexedPart (segments : List Segment) (part : Part) (lexed : LexedPar
   pub inner : lexed.end < length segments → AreOpen (part.first.index == 0) lexed.segments.items
   pub last : lexed.end ≡ length segments → AreLaid (part.first.index == 0) lexed.segments.items
   pub least : lexed.len ≤ lexed.cost.lexed
-  pub paid : IsPaid lexed.cost
+  pub cost : IsPartCost lexed.len lexed.cost

@@ -47,7 +47,7 @@ fn missing(wanted: usize, sink: &Sink<'_>) -> &'static str {
     }
 }
 
-/// What a run over a text prints where no device fails. Its writer fails only for want of memory.
+/// What a run over a text prints where no device fails. Its writer fails only out of memory.
 fn lines_of(alloc: Global, text: &str) -> Result<Vec<u8>, AllocError> {
     let mut reader = Watched::new(text.as_bytes());
     let mut writer = Watched::new(Vec::new(alloc));

@@ -1,12 +1,12 @@
 -- The versions of a text, as the code stores them.
-use Rattle.std.specs.Prelude.{◌≡◌, ◌≤◌, ◌+◌, ◌*◌, List, [], ◌∷◌, length, take, string_bytes, Result, Err, ⊤}
+use Rattle.std.specs.Prelude.{◌≡◌, ◌≤◌, ℕ, List, [], ◌∷◌, length, take, string_bytes, Result, Err, ⊤}
 use Rattle.std.specs.Str.{IsCharBoundary}
 use Rattle.starlark_base.specs.Places.{Text}
 use Rattle.starlark_base.specs.Sources.{Holds}
-use Rattle.starlark_run.specs.Edits.{edit_span}
+use Rattle.starlark_run.specs.Edits.{edit_span, edited_text}
+use Rattle.starlark_run.specs.Relexed.{IsCutBefore, IsReadOn}
 use Rattle.starlark_run.specs.declared.edits.Edit.{Edit}
 use Rattle.starlark_run.specs.declared.versions.Version.{Version}
-use Rattle.starlark_syntax.specs.LexedTexts.{LexedView, IsReadFrom}
 use Rattle.starlark_run.specs.declared.ends.TheConstants.{GREATEST_LEN}
 use Rattle.starlark_run.specs.declared.ends.RunFault.{RunFault}
 use Rattle.starlark_run.specs.declared.ends.RunFault.TheVariants.{TooLong, BadEdit, Memory}
@@ -33,17 +33,28 @@ abbrev pub newest_text : Text → List Version → Text
 newest_text text [] = text
 newest_text text (version ∷ versions) = newest_text (string_bytes version.text) versions
 
--- the lexed text of the last version was made from the first one version by version: each was read
--- from the last kept cut before its edit on, and the lexemes before that cut were kept
-abbrev pub WasRelexed : LexedView → List Version → LexedView → Type 0
-WasRelexed first [] last = last ≡ first
-WasRelexed first (version ∷ versions) last =
-    (next : LexedView) × (next.text ≡ string_bytes version.text) × IsReadFrom first (string_bytes version.text) version.from next × WasRelexed next versions last
+-- the version is the text after an edit
+pub record IsVersion (text : Text) (edit : Edit) (version : Version) : Type 0 where
+  pub from : version.from ≡ edit.from
+  pub edited : string_bytes version.text ≡ edited_text text edit
 
--- the whole text was lexed, and its bytes were read about sixteen times at most
-pub record WasLexed (text : Text) (lexed : LexedView) : Type 0 where
-  pub same : lexed.text ≡ text
-  pub most : lexed.reads ≤ 16 * (length text + 1)
+-- the versions are the texts after edits, one after another
+abbrev pub AreVersionsAfter : Text → List Edit → List Version → Type 0
+AreVersionsAfter text [] [] = ⊤
+AreVersionsAfter text (edit ∷ edits) (version ∷ versions) = IsVersion text edit version × AreVersionsAfter (string_bytes version.text) edits versions
+AreVersionsAfter text edits versions = ⊥
+
+-- each version was read from the last kept cut on of the text before it
+abbrev pub AreVersionsRelexed : Text → List Version → List ℕ → Type 0
+AreVersionsRelexed text [] [] = ⊤
+AreVersionsRelexed text (version ∷ versions) (reads ∷ more) =
+    ((at : ℕ) × IsCutBefore text version.from at × IsReadOn (string_bytes version.text) at reads) × AreVersionsRelexed (string_bytes version.text) versions more
+AreVersionsRelexed text versions reads = ⊥
+
+-- the first text was lexed from its start, and each version from the one before it
+abbrev pub AreVersionsLexed : Text → List Version → List ℕ → Type 0
+AreVersionsLexed text versions [] = ⊥
+AreVersionsLexed text versions (reads ∷ more) = IsReadOn text 0 reads × AreVersionsRelexed text versions more
 
 -- why there are no versions: an edit fails, or memory runs out
 abbrev pub IsRefusal : Result Text RunFault → RunFault → Type 0

@@ -1,8 +1,10 @@
-use Rattle.std.proofs.Common.{◌≡◌, ◌∷◌, ◌++◌, ℕ, List, Some, [], ap, append_assoc, arith, drop, subst, sym, ◌∙◌}
+use Rattle.std.proofs.Common.{◌≡◌, ◌≤◌, ◌∷◌, ◌++◌, ℕ, List, Some, [], ap, append_assoc, arith, drop, length, refl, subst, sym, ◌∙◌}
 use Rattle.starlark_syntax.specs.RecoveringLexer.{AreReadsOn, HasReadOn, RecoveringView, all_items, is_memory}
-use Rattle.starlark_document.proofs.Costs.{goes_on, reads_on}
-use Rattle.starlark_document.specs.Inner.Costs.{IsPaid}
-use Rattle.starlark_document.proofs.FirstSegments.{cut_first, next_item}
+use Rattle.starlark_document.proofs.Costs.{goes_on, reads_on, some_anyhow}
+use Rattle.starlark_document.specs.Inner.Costs.{IsTextCost}
+use Rattle.starlark_document.proofs.FirstSegments.{cut_first, next_item, plain_below}
+use Rattle.starlark_document.specs.declared.lexing.LexingCost.{LexingCost}
+use Rattle.starlark_document.specs.declared.segments.Segment.{Segment}
 use Rattle.starlark_document.proofs.lexing.lex_segment.Goals as goal
 
 pub take-requires-clause-answered : goal.take-requires-clause-answered
@@ -52,12 +54,19 @@ cost_of-requires c =
     let paid = reads_on c.args.text.now c.next.new.self.fault_count c.next.new.self.reads c.in-Some.item (c.in_ok-ends_before.ensures.going c.if-branch.true) read in
     omega (arith, paid.few, c.requires.fits)
 
-pub returns-then-branch-clause-reads : goal.returns-then-branch-clause-reads
-returns-then-branch-clause-reads c =
+pub returns-then-branch-clause-cost : goal.returns-then-branch-clause-cost
+returns-then-branch-clause-cost c =
     let inv = c.loop-item.invariant in
     let read = subst (λ (t : List ℕ). HasReadOn t c.next.new.self.fault_count (Some c.in-Some.item) c.next.new.self.reads) inv.source (c.in-Some.ensures.reads inv.going) in
     let paid = reads_on c.args.text.now c.next.new.self.fault_count c.next.new.self.reads c.in-Some.item (c.in_ok-ends_before.ensures.going c.if-branch.true) read in
-    subst IsPaid (sym c.cost_of.ensures) paid.most
+    subst (IsTextCost (length c.args.text.now)) (sym c.cost_of.ensures) (record { lexed = refl; some = omega arith; few = omega (arith, paid.few); paid = paid.most })
+
+pub returns-then-branch-clause-whole : goal.returns-then-branch-clause-whole
+returns-then-branch-clause-whole c = λ whole one.
+    let found = c.loop-item.invariant.found in
+    let ends = found.2.cut (c.in_ok-ends_before.ensures.cut c.if-branch.true) in
+    let below = plain_below c.args.text.now c.loop-item.front.line_end ends.plain in
+    absurd (omega (arith, below, whole, c.in_ok-cut_segment.ensures.len))
 
 pub cost_of-requires-2 : goal.cost_of-requires-2
 cost_of-requires-2 c =
@@ -65,8 +74,17 @@ cost_of-requires-2 c =
     let paid = subst (λ (t : List ℕ). AreReadsOn t c.next.new.self.fault_count c.next.new.self.reads) inv.source (c.in_default.ensures.reads inv.going).0 in
     omega (arith, paid.few, c.requires.fits)
 
-pub returns-clause-reads : goal.returns-clause-reads
-returns-clause-reads c =
+pub returns-clause-cost : goal.returns-clause-cost
+returns-clause-cost c =
     let inv = c.loop-item.invariant in
     let paid = subst (λ (t : List ℕ). AreReadsOn t c.next.new.self.fault_count c.next.new.self.reads) inv.source (c.in_default.ensures.reads inv.going).0 in
-    subst IsPaid (sym c.cost_of-2.ensures) paid.most
+    subst (IsTextCost (length c.args.text.now)) (sym c.cost_of-2.ensures) (record { lexed = refl; some = omega arith; few = omega (arith, paid.few); paid = paid.most })
+
+pub returns-clause-whole : goal.returns-clause-whole
+returns-clause-whole c =
+    let inv = c.loop-item.invariant in
+    let starts = ap (λ (cost : LexingCost). cost.starts) c.cost_of-2.ensures in
+    let reads = ap (λ (cost : LexingCost). cost.reads) c.cost_of-2.ensures in
+    let all = (c.in_default.ensures.reads inv.going).1 in
+    some_anyhow (λ (segment : Segment). segment.len ≡ length c.args.text.now → c.cost_of-2.result.starts ≡ 1 → length c.args.text.now ≤ c.cost_of-2.result.reads) _
+    (λ segment whole one. let read = all (omega (arith, starts, one)) in omega (arith, read, reads, ap length inv.source))

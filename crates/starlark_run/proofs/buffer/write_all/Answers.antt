@@ -1,57 +1,9 @@
-use Rattle.std.proofs.Common.{◌≡◌, ◌<◌, Some, None, length, take, drop, refl, ◌∙◌, take-append-drop, length-drop, arith, rules}
-use Rattle.std.proofs.lemmas.List.{take_rest}
-use Rattle.starlark_run.specs.Calls.{Wrote}
-use Rattle.starlark_run.specs.Writing.{Writes}
-use Rattle.starlark_run.proofs.Calls.{keeps_none, went_broken, went_more, went_nil}
-use Rattle.starlark_run.proofs.Writing.{is_nothing-some, is_nothing-none}
+use Rattle.std.proofs.Common.{◌∙◌, refl}
+use Rattle.starlark_run.proofs.Writing.{writes_text, writes_text_stopped}
 use Rattle.starlark_run.proofs.buffer.write_all.Goals as goal
 
-pub loop-written-init : goal.loop-written-init
-loop-written-init g c = record {
-  within = omega arith;
-  taken = went_nil g.W.WriteDevice.calls c.args.writer.now.device;
-  sound = c.requires;
-}
-
-pub loop-written-preserved : goal.loop-written-preserved
-unfolding Writes
-loop-written-preserved g c =
-    let inv = c.loop-written.invariant in
-    let bytes = c.args.bytes.now in
-    let written = c.loop-written.written in
-    let bound = rw take_rest at c.in-Ok.ensures.bound in
-    let more = rw take_rest at c.in-Ok.ensures.bytes in
-    let call = rw take_rest at c.in-Ok.ensures.call in
-    let some = c.in-Ok.count-test.1 in
-    record {
-      within = omega (arith, inv.within, bound, length-drop written bytes);
-      taken = went_more g.W.WriteDevice.calls _ _ _ bytes written c.in-Ok.count inv.taken more call (omega (arith, some));
-      sound = c.in-Ok.ensures.failed ∙ rw inv.sound (is_nothing-some c.in-Ok.count _ c.in-Ok.count-test.1);
-    }
-
-pub returns-in-Ok-eq0 : goal.returns-in-Ok-eq0
-unfolding Writes
-returns-in-Ok-eq0 g c =
-    let inv = c.loop-written.invariant in
-    let bytes = c.args.bytes.now in
-    let written = c.loop-written.written in
-    let zero : c.in-Ok-eq0.field-0 ≡ 0 = search rules in
-    let none = rw zero at c.in-Ok-eq0.ensures.bytes in
-    let call = rw take_rest at c.in-Ok-eq0.ensures.call in
-    let some : 0 < length (drop written bytes) = omega (arith, c.loop-written-test.true, length-drop written bytes) in
-    let last = Wrote (drop written bytes) (Some c.in-Ok-eq0.field-0) c.write.new.self.device in
-    let broken = went_broken g.W.WriteDevice.calls _ _ _ _ last inv.taken (keeps_none _ _ none) (call, refl) (zero, some) in (
-      (drop written bytes, (take written bytes, broken, take-append-drop written bytes)),
-      c.in-Ok-eq0.ensures.failed ∙ rw (inv.sound, take_rest) (is_nothing-none c.in-Ok-eq0.field-0 _ zero some),
-    )
+pub returns-in-Ok : goal.returns-in-Ok
+returns-in-Ok g c = writes_text g.W.WriteDevice.calls _ _ _ _ _ _ _ _ c.in-Ok.ensures.text (c.in-Ok.ensures.failed ∙ rw c.requires refl)
 
 pub returns-in-Err : goal.returns-in-Err
-unfolding Writes
-returns-in-Err g c =
-    let inv = c.loop-written.invariant in
-    let bytes = c.args.bytes.now in
-    let written = c.loop-written.written in
-    let call = rw take_rest at c.in-Err.ensures.call in
-    let last = Wrote (drop written bytes) None c.write.new.self.device in
-    let broken = went_broken g.W.WriteDevice.calls _ _ _ _ last inv.taken c.in-Err.ensures.bytes (call, refl) tt in
-    ((drop written bytes, (take written bytes, broken, take-append-drop written bytes)), c.in-Err.ensures.failed ∙ rw inv.sound refl)
+returns-in-Err g c = writes_text_stopped g.W.WriteDevice.calls _ _ _ _ _ _ _ c.in-Err.ensures.text (c.in-Err.ensures.failed ∙ rw c.requires refl)

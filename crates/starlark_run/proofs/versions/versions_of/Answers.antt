@@ -1,7 +1,7 @@
-use Rattle.std.proofs.Common.{◌≡◌, ◌≤◌, ◌+◌, ◌++◌, ◌∷◌, [], ap, drop, length, string_bytes, subst, sym, true, is_ok, ◌∙◌}
-use Rattle.starlark_run.proofs.Edited.{newest_fits, newest_more, one_taken, versions_more}
+use Rattle.std.proofs.Common.{◌≡◌, ◌≤◌, ◌+◌, ◌++◌, ◌∷◌, [], ap, drop, length, string_bytes, subst, sym, take, true, is_ok, ◌∙◌}
+use Rattle.starlark_run.proofs.Edited.{newest_fits, newest_more, one_taken, versions_after, versions_more}
 use Rattle.starlark_run.specs.Edits.{text_after}
-use Rattle.starlark_run.specs.Inner.Versions.{AreVersions, newest_text}
+use Rattle.starlark_run.specs.Inner.Versions.{AreVersions, AreVersionsAfter, newest_text}
 use Rattle.starlark_run.specs.declared.ends.TheConstants.{GREATEST_LEN}
 use Rattle.starlark_run.proofs.versions.versions_of.Goals as goal
 
@@ -25,5 +25,6 @@ loop-at-preserved c =
     let left = one_taken at (newest_text first versions) (string_bytes next.text) edits _ c.loop-at-test.true taken in
     record {
       versions = subst (AreVersions first) (sym items) (versions_more first versions next inv.versions (rw newest at c.in_ok-version.ensures.follows));
+      edited = subst (AreVersionsAfter first (take (at + 1) edits)) (sym items) (versions_after first edits versions at _ next c.loop-at-test.true inv.edited (rw newest at c.in_ok-version.ensures.edited));
       left = inv.left ∙ left ∙ ap (λ t. text_after (at + 1) t (drop (at + 1) edits)) (sym (newest_more first versions next) ∙ ap (newest_text first) (sym items));
     }

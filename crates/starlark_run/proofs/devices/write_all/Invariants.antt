@@ -1,0 +1,13 @@
+use Rattle.std.proofs.Common.{◌-◌, ◌≤◌, length, take}
+use Rattle.starlark_run.specs.Calls.{Going, Went}
+use Rattle.starlark_run.proofs.devices.write_all.Given as goal
+
+-- the bytes before `written` are taken
+abbrev pub invariant-loop-written : goal.invariant-loop-written
+invariant-loop-written g l = record {
+  within : l.written ≤ length l.bytes;
+  taken : Went g.W.WriteDevice.calls Going l.initial.writer l.writer (take l.written l.bytes);
+}
+
+abbrev pub decreases-loop-written : goal.decreases-loop-written
+decreases-loop-written g l = length l.bytes - l.written
