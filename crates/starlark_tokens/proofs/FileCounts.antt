@@ -1,9 +1,7 @@
 -- Totals of sources, as one more is counted.
-use Rattle.std.proofs.Common.{◌≡◌, ℕ, zero, suc, ◌+◌, Bool, true, false, cond, not, ◌||◌, nat_lt, List, [], ◌∷◌, ◌++◌, refl, ap, sym, ◌∙◌, arith, Some, None, count_by}
+use Rattle.std.proofs.Common.{◌≡◌, ℕ, zero, suc, ◌+◌, Bool, true, false, cond, not, nat_lt, List, [], ◌∷◌, ◌++◌, refl, ap, sym, ◌∙◌, arith, Some, None, count_by}
 use Rattle.std.proofs.lemmas.Bool.{lt-ltb}
-use Rattle.std.proofs.lemmas.List.Folds.{list_any-append}
 use Rattle.std.proofs.lemmas.List.Sums.{sum_by-append}
-use Rattle.std.specs.List.{list_any}
 use Rattle.std.specs.Prelude.{Option, if◌then◌else◌, sum_by}
 use Rattle.starlark_base.specs.Places.{Text}
 use Rattle.starlark_tokens.specs.Reports.{fault_count}
@@ -32,37 +30,35 @@ still_some : (n : ℕ) → nat_lt 0 (in_64_bits n) ≡ nat_lt 0 n
 still_some zero = refl
 still_some (suc n) = lt-ltb 0 (in_64_bits (suc n)) (omega arith) ∙ sym (lt-ltb 0 (suc n) (omega arith))
 
-abbrev totals : (files faulty_files faults : ℕ) → Bool → Totals
-totals files faulty_files faults has_failed = record { files = files; faulty_files = faulty_files; faults = faults; has_failed = has_failed }
+abbrev totals : (files faulty_files faults unreadable : ℕ) → Totals
+totals files faulty_files faults unreadable = record { files = files; faulty_files = faulty_files; faults = faults; unreadable = unreadable }
 
-same_totals : (a b c d e f : ℕ) (g h : Bool) → a ≡ b → c ≡ d → e ≡ f → g ≡ h → totals a c e g ≡ totals b d f h
+same_totals : (a b c d e f g h : ℕ) → a ≡ b → c ≡ d → e ≡ f → g ≡ h → totals a c e g ≡ totals b d f h
 same_totals a b c d e f g h p q r s = cc
 
 faulty_by : (b : Bool) (c : ℕ) → (if b then in_64_bits (in_64_bits c + 1) else in_64_bits c) ≡ in_64_bits (in_64_bits c + cond b 1 0)
 faulty_by true c = refl
 faulty_by false c = omega arith
 
-or_false : (b : Bool) → b ≡ (b || false)
-or_false true = refl
-or_false false = refl
+-- how many couldn't be read, with one source more
+lost_counted : (lost : ℕ) (sources : List (Option Text)) (source : Option Text)
+    → in_64_bits (in_64_bits (lost + count_by is_lost sources) + cond (is_lost source) 1 0) ≡ in_64_bits (lost + count_by is_lost (sources ++ source ∷ []))
+lost_counted lost sources source =
+    let all = sum_by-append (λ x. cond (is_lost x) 1 0) sources (source ∷ []) in
+    omega (arith, all)
 
-or_true : (b : Bool) → true ≡ (b || true)
-or_true true = refl
-or_true false = refl
+kept : (n : ℕ) → in_64_bits n ≡ in_64_bits (in_64_bits n + 0)
+kept n = omega arith
 
 -- totals with one source more are those of all of them
-pub with_next : (sources : List (Option Text)) (source : Option Text) → with_source (totals_of sources) source ≡ totals_of (sources ++ source ∷ [])
-with_next sources (Some text) =
+pub with_next : (lost : ℕ) (sources : List (Option Text)) (source : Option Text) → with_source (totals_of lost sources) source ≡ totals_of lost (sources ++ source ∷ [])
+with_next lost sources (Some text) =
     let c = count_by is_faulty sources in
     let faulty = ap (λ b. if b then in_64_bits (in_64_bits c + 1) else in_64_bits c) (still_some (fault_count text)) ∙ faulty_by (nat_lt 0 (fault_count text)) c ∙ counted is_faulty sources (Some text) in
-    let failed = or_false (list_any is_lost sources) ∙ sym (list_any-append is_lost sources (Some text ∷ [])) in
-    same_totals _ _ _ _ _ _ _ _ (counted is_read sources (Some text)) faulty (summed sources (Some text)) failed
-with_next sources None =
+    let unreadable = kept (lost + count_by is_lost sources) ∙ lost_counted lost sources (Some text) in
+    same_totals _ _ _ _ _ _ _ _ (counted is_read sources (Some text)) faulty (summed sources (Some text)) unreadable
+with_next lost sources None =
     let read = kept (count_by is_read sources) ∙ counted is_read sources None in
     let faulty = kept (count_by is_faulty sources) ∙ counted is_faulty sources None in
     let faults = kept (sum_by faults_in sources) ∙ summed sources None in
-    let failed = or_true (list_any is_lost sources) ∙ sym (list_any-append is_lost sources (None ∷ [])) in
-    same_totals _ _ _ _ _ _ _ _ read faulty faults failed
-  where
-    kept : (n : ℕ) → in_64_bits n ≡ in_64_bits (in_64_bits n + 0)
-    kept n = omega arith
+    same_totals _ _ _ _ _ _ _ _ read faulty faults (lost_counted lost sources None)

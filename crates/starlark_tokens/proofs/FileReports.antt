@@ -1,112 +1,159 @@
 -- Sources that are counted and printed, as one more comes.
-use Rattle.std.proofs.Common.{◌≡◌, ℕ, ◌+◌, ◌<◌, Bor, List, [], ◌∷◌, ◌++◌, add-one, ap, append-nil, codes, get_or, length, map, refl, subst, sym, take, ◌∙◌}
+use Rattle.std.proofs.Common.{◌≡◌, ℕ, ◌+◌, ◌<◌, List, [], ◌∷◌, ◌++◌, add-one, ap, append_assoc, append-nil, get_or, length, map, refl, subst, sym, take, ◌∙◌}
 use Rattle.std.proofs.Math.Seq.{take-suc}
 use Rattle.std.proofs.KnownBytes.{Appends-kept, Appends-nil, Appends-trans}
 use Rattle.std.proofs.lemmas.Grind.{flat_map-append}
-use Rattle.std.proofs.lemmas.List.{map-append}
+use Rattle.std.proofs.lemmas.List.{length-map, map-append}
 use Rattle.std.specs.Io.KnownBytes.{Appends, Keeps}
-use Rattle.std.specs.Prelude.{None, Option, Some}
+use Rattle.std.specs.List.{AllByRecursion}
+use Rattle.std.specs.Prelude.{None, Option, Some, drop, false, if◌then◌else◌, true}
+use Rattle.starlark_tokens.specs.Documents.{closing, is_collected, opening}
 use Rattle.starlark_base.specs.Places.{Text}
+use Rattle.starlark_run.proofs.Calls.{all_append}
 use Rattle.starlark_tokens.specs.Reports.{fault_count, report}
 use Rattle.starlark_tokens.specs.declared.form.Form.{Form}
 use Rattle.starlark_tokens.proofs.FileCounts.{with_next}
-use Rattle.starlark_tokens.specs.FileReports.{AreReported, IsReported, Source, reported_name, reports, source_names, source_report}
-use Rattle.starlark_tokens.specs.Requests.{form_of}
-use Rattle.starlark_tokens.specs.Totals.{in_64_bits, totals_of, with_file, with_source}
-use Rattle.starlark_tokens.specs.declared.requests.Reports.{Reports as ReportsRecord}
+use Rattle.starlark_tokens.specs.FileReports.{AreReported, AreReportedAlone, Giving, IsDocument, IsReported, ReadSource, reports, source_report}
+use Rattle.starlark_tokens.specs.SourceNames.{name_of}
+use Rattle.starlark_tokens.specs.Totals.{AreTotalsOf, in_64_bits, totals_of, with_file, with_source}
+use Rattle.starlark_tokens.specs.declared.sources.Source.{Source}
+use Rattle.starlark_tokens.specs.declared.sources.Sources.{Sources}
 use Rattle.starlark_tokens.specs.declared.totals.Totals.{Totals}
 
 -- a text that was read, and reported by its name
-pub text_reported : (form : Form) (name shown text : Text) (old new : Totals) (faults : ℕ) (before after : Option Text)
-    → shown ≡ reported_name name → faults ≡ in_64_bits (fault_count text) → new ≡ with_file old faults
-    → Appends before after (report form shown text) → IsReported form name old new before after
-text_reported form name shown text old new faults before after same_name all counted written = record {
-  source = record { name = name; text = Some text };
-  named = refl;
+pub text_reported : (gives : Giving) (form : Form) (source : Source) (shown text : Text) (old new : Totals) (faults : ℕ) (before after : Option Text)
+    → gives source (Some text) → shown ≡ name_of source → faults ≡ in_64_bits (fault_count text) → new ≡ with_file old faults
+    → Appends before after (report form shown text) → IsReported gives form source old new before after
+text_reported gives form source shown text old new faults before after given same_name all counted written = record {
+  text = Some text;
+  given = given;
   counted = counted ∙ ap (with_file old) all;
   written = subst (λ by. Appends before after (report form by text)) same_name written;
 }
 
 -- a source that couldn't be read: known bytes that stay grow by nothing
-pub failure_reported : (form : Form) (name : Text) (old new : Totals) (before after : Option Text)
-    → new ≡ with_source old None → Keeps before after → IsReported form name old new before after
-failure_reported form name old new before after counted kept = record {
-  source = record { name = name; text = None };
-  named = refl;
+pub failure_reported : (gives : Giving) (form : Form) (source : Source) (old new : Totals) (before after : Option Text)
+    → gives source None → new ≡ with_source old None → Keeps before after → IsReported gives form source old new before after
+failure_reported gives form source old new before after given counted kept = record {
+  text = None;
+  given = given;
   counted = counted;
   written = Appends-kept before before after [] (Appends-nil before) kept;
 }
 
-abbrev named : List Source → List Text
-named sources = map (λ source. source.name) sources
+abbrev sources_of : List ReadSource → List Source
+sources_of reads = map (λ read. read.source) reads
 
-abbrev texts : List Source → List (Option Text)
-texts sources = map (λ source. source.text) sources
+abbrev texts_of : List ReadSource → List (Option Text)
+texts_of reads = map (λ read. read.text) reads
 
--- sources of these names are counted and printed
-pub record SoFar (form : Form) (names : List Text) (before after : Option Text) (totals : Totals) : Type 0 where
-  pub sources : List Source
-  pub are_named : named sources ≡ names
-  pub counted : totals ≡ totals_of (texts sources)
-  pub written : Appends before after (reports form sources)
+-- these sources are counted and printed
+pub record SoFar (gives : Giving) (form : Form) (lost : ℕ) (sources : List Source) (before after : Option Text) (totals : Totals) : Type 0 where
+  pub reads : List ReadSource
+  pub each : sources_of reads ≡ sources
+  pub given : AllByRecursion (λ read. gives read.source read.text) reads
+  pub counted : totals ≡ totals_of lost (texts_of reads)
+  pub written : Appends before after (reports form reads)
 
 -- before the first source
-pub none_yet : (form : Form) (before : Option Text) → SoFar form [] before before (totals_of [])
-none_yet form before = record {
-  sources = [];
-  are_named = refl;
+pub none_yet : (gives : Giving) (form : Form) (lost : ℕ) (before : Option Text) → SoFar gives form lost [] before before (totals_of lost [])
+none_yet gives form lost before = record {
+  reads = [];
+  each = refl;
+  given = tt;
   counted = refl;
   written = Appends-nil before;
 }
 
 -- one source more
-pub one_more : (form : Form) (names : List Text) (name : Text) (before middle after : Option Text) (old new : Totals)
-    → SoFar form names before middle old → IsReported form name old new middle after → SoFar form (names ++ name ∷ []) before after new
-one_more form names name before middle after old new so_far next =
-    let sources = so_far.sources in
-    let source = next.source in
-    let all = sources ++ source ∷ [] in
-    let name_added = map-append (λ (s : Source). s.name) sources (source ∷ []) in
-    let text_added = map-append (λ (s : Source). s.text) sources (source ∷ []) in
-    let counted = next.counted ∙ ap (λ totals. with_source totals source.text) so_far.counted ∙ with_next (texts sources) source.text in
-    let printed = flat_map-append (source_report form) sources (source ∷ []) in
-    let alone = append-nil (source_report form source) in
-    let written = Appends-trans before middle after (reports form sources) (source_report form source) so_far.written next.written in
+pub one_more : (gives : Giving) (form : Form) (lost : ℕ) (sources : List Source) (source : Source) (before middle after : Option Text) (old new : Totals)
+    → SoFar gives form lost sources before middle old → IsReported gives form source old new middle after → SoFar gives form lost (sources ++ source ∷ []) before after new
+one_more gives form lost sources source before middle after old new so_far next =
+    let reads = so_far.reads in
+    let last : ReadSource = record { source = source; text = next.text } in
+    let all = reads ++ last ∷ [] in
+    let sources_added = map-append (λ (r : ReadSource). r.source) reads (last ∷ []) in
+    let texts_added = map-append (λ (r : ReadSource). r.text) reads (last ∷ []) in
+    let counted = next.counted ∙ ap (λ totals. with_source totals next.text) so_far.counted ∙ with_next lost (texts_of reads) next.text in
+    let printed = flat_map-append (source_report form) reads (last ∷ []) in
+    let alone = append-nil (source_report form last) in
+    let written = Appends-trans before middle after (reports form reads) (source_report form last) so_far.written next.written in
     record {
-      sources = all;
-      are_named = name_added ∙ ap (λ front. front ++ source.name ∷ []) so_far.are_named ∙ ap (λ last. names ++ last ∷ []) next.named;
-      counted = counted ∙ ap totals_of (sym text_added);
-      written = subst (Appends before after) (ap (λ t. reports form sources ++ t) (sym alone) ∙ sym printed) written;
+      reads = all;
+      each = sources_added ∙ ap (λ front. front ++ source ∷ []) so_far.each;
+      given = all_append (λ (r : ReadSource). gives r.source r.text) reads (last ∷ []) so_far.given (next.given, tt);
+      counted = counted ∙ ap (totals_of lost) (sym texts_added);
+      written = subst (Appends before after) (ap (λ t. reports form reads ++ t) (sym alone) ∙ sym printed) written;
     }
 
--- the names that are given, as texts
-abbrev pub as_texts : List (Bor Text) → List Text
-as_texts names = map (λ name. name.now) names
+-- one source more, which is the next of all
+pub next_source : (gives : Giving) (form : Form) (lost : ℕ) (sources seen : List Source) (done : ℕ) (other : Source) (before middle after : Option Text) (old new : Totals)
+    → seen ≡ sources → done < length seen
+    → SoFar gives form lost (take done sources) before middle old → IsReported gives form (get_or seen done other) old new middle after
+    → SoFar gives form lost (take (done + 1) sources) before after new
+next_source gives form lost sources seen done other before middle after old new same less so_far next =
+    let source = get_or seen done other in
+    let more = one_more gives form lost (take done sources) source before middle after old new so_far next in
+    let taken = take-suc seen done other less ∙ ap (λ all. take done all ++ source ∷ []) same in
+    let all_taken = ap (λ all. take (done + 1) all) (sym same) ∙ ap (λ k. take k seen) (add-one done) ∙ taken in
+    subst (λ all. SoFar gives form lost all before after new) (sym all_taken) more
 
--- one source more, of the next name
-pub next_name : (form given : Form) (names seen : List (Bor Text)) (done : ℕ) (other : Bor Text) (before middle after : Option Text) (old new : Totals)
-    → given ≡ form → seen ≡ names → done < length seen
-    → SoFar form (as_texts (take done names)) before middle old → IsReported given (get_or seen done other).now old new middle after
-    → SoFar form (as_texts (take (done + 1) names)) before after new
-next_name form given names seen done other before middle after old new same_form same_names less so_far next =
-    let name = get_or seen done other in
-    let next_is = subst (λ f. IsReported f name.now old new middle after) same_form next in
-    let more = one_more form (as_texts (take done names)) name.now before middle after old new so_far next_is in
-    let taken = take-suc seen done other less ∙ ap (λ all. take done all ++ name ∷ []) same_names in
-    let all_taken = ap (λ all. take (done + 1) all) (sym same_names) ∙ ap (λ k. take k seen) (add-one done) ∙ taken in
-    let texts_are = ap as_texts all_taken ∙ map-append (λ (n : Bor Text). n.now) (take done names) (name ∷ []) in
-    subst (λ all. SoFar form all before after new) (sym texts_are) more
+-- all sources
+pub all_reported : (gives : Giving) (form : Form) (sources : Sources) (before after : Option Text) (totals : Totals)
+    → SoFar gives form sources.lost sources.all.items before after totals → AreReportedAlone gives form sources before after totals
+all_reported gives form sources before after totals so_far = record {
+  reads = so_far.reads;
+  each = so_far.each;
+  given = so_far.given;
+  counted = so_far.counted;
+  written = so_far.written;
+}
 
--- where no file is named, standard input is all
-pub standard_input : (wanted : ReportsRecord) (given : Form) (before after : Option Text) (new : Totals)
-    → given ≡ form_of wanted → wanted.names.items ≡ []
-    → IsReported given (codes "-") (totals_of []) new before after → AreReported wanted before after new
-standard_input wanted given before after new same_form none next =
-    let next_is = subst (λ f. IsReported f (codes "-") (totals_of []) new before after) same_form next in
-    let all = one_more (form_of wanted) [] (codes "-") before before after (totals_of []) new (none_yet (form_of wanted) before) next_is in
+-- a text before the reports of all sources, and one after them
+pub between : (around : Totals → Text → Text) (gives : Giving) (form : Form) (sources : Sources) (a b c d e f : Option Text) (opening closing : Text) (totals : Totals) (part : Text → Text)
+    → ((reports : Text) → opening ++ (part reports ++ closing) ≡ around totals reports)
+    → Appends a b opening → AreReportedAlone gives form sources c d totals → ((reports : Text) → Appends c d reports → Appends b e (part reports)) → Appends e f closing
+    → AreReported around gives form sources a f totals
+between around gives form sources a b c d e f opening closing totals part is opened reported kept closed =
+    let all = reports form reported.reads in
+    let middle = Appends-trans a b e opening (part all) opened (kept all reported.written) in
+    let whole = Appends-trans a e f (opening ++ part all) closing middle closed in
     record {
-      sources = all.sources;
-      named = all.are_named ∙ sym (ap (λ names. source_names (as_texts names)) none);
-      counted = all.counted;
-      written = all.written;
+      reads = reported.reads;
+      each = reported.each;
+      given = reported.given;
+      counted = reported.counted;
+      written = subst (Appends a f) (append_assoc opening (part all) closing ∙ is all) whole;
     }
+
+-- the reports of all sources as a document, in a form that is collected and in one that isn't
+pub collected : (gives : Giving) (form : Form) (sources : Sources) (before after : Option Text) (totals : Totals)
+    → is_collected form ≡ true → AreReported (λ totals reports. opening form ++ (drop 1 reports ++ closing form totals)) gives form sources before after totals
+    → IsDocument gives form sources before after totals
+collected gives form sources before after totals is reported = record {
+  reads = reported.reads;
+  each = reported.each;
+  given = reported.given;
+  counted = reported.counted;
+  written = subst (λ b. Appends before after (opening form ++ ((if b then drop 1 (reports form reported.reads) else reports form reported.reads) ++ closing form totals))) (sym is) reported.written;
+}
+
+pub streamed : (gives : Giving) (form : Form) (sources : Sources) (before after : Option Text) (totals : Totals)
+    → is_collected form ≡ false → AreReported (λ totals reports. opening form ++ (reports ++ closing form totals)) gives form sources before after totals
+    → IsDocument gives form sources before after totals
+streamed gives form sources before after totals is reported = record {
+  reads = reported.reads;
+  each = reported.each;
+  given = reported.given;
+  counted = reported.counted;
+  written = subst (λ b. Appends before after (opening form ++ ((if b then drop 1 (reports form reported.reads) else reports form reported.reads) ++ closing form totals))) (sym is) reported.written;
+}
+
+-- totals of all sources are totals of as many texts
+pub totals_alone : (around : Totals → Text → Text) (gives : Giving) (form : Form) (sources : Sources) (before after : Option Text) (totals : Totals)
+    → AreReported around gives form sources before after totals → AreTotalsOf sources totals
+totals_alone around gives form sources before after totals reported = record {
+  texts = texts_of reported.reads;
+  each = length-map reported.reads (λ (r : ReadSource). r.text) ∙ sym (length-map reported.reads (λ (r : ReadSource). r.source)) ∙ ap length reported.each;
+  found = reported.counted;
+}

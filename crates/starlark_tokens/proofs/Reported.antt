@@ -20,6 +20,7 @@ use Rattle.starlark_syntax.specs.declared.error.kinds.ErrorKind.TheVariants.{Par
 use Rattle.starlark_syntax.specs.declared.error.kinds.ParserMessage.TheVariants as message
 use Rattle.starlark_text.specs.declared.or_memory.OrMemory.{OrMemory}
 use Rattle.starlark_text.specs.declared.or_memory.OrMemory.TheVariants as refusal
+use Rattle.starlark_token.specs.FaultCodes.{fault_code}
 use Rattle.starlark_token.specs.FaultTexts.{fault_text}
 use Rattle.starlark_token.specs.Lexemes.{fault_view, lexeme_view}
 use Rattle.starlark_token.specs.TokenViews.{TokenView, token_view}
@@ -28,7 +29,7 @@ use Rattle.starlark_token.specs.declared.lexeme_error.LexemeError.{LexemeError}
 use Rattle.starlark_token.specs.declared.lexeme_error.LexemeError.TheVariants as error
 use Rattle.starlark_token.specs.declared.tokens.Token.{Token}
 use Rattle.starlark_tokens.specs.declared.form.Form.{Form}
-use Rattle.starlark_tokens.specs.Inner.ShownKinds.{shown_of_kind}
+use Rattle.starlark_tokens.specs.Inner.ShownKinds.{code_of_kind, shown_of_kind}
 use Rattle.starlark_base.specs.Positions.{position_at}
 use Rattle.starlark_tokens.specs.Reports.{fault_count, fault_report, is_fault, item_report, items_report, prefix_of, report, token_report}
 use Rattle.starlark_tokens.specs.ShownPlaces.{shown_at, shown_of}
@@ -64,6 +65,10 @@ shown_is error.CommentSpanComputedIncorrectly node e = cc
 shown_is (error.CannotParse text base) node e = cc
 shown_is error.UnfinishedFStringExpression node e = let same : token.UnfinishedFStringExpression ≡ node = cc in ap shown_of same
 
+-- the code of an error of the lexer
+code_is : (error : LexemeError) (node : Fault) → fault_view error ≡ Some node → code_of_kind (Parser (message.Lexeme error)) ≡ fault_code node
+code_is error node e = rw e refl
+
 -- what is printed of an item that was answered as a lexeme
 pub given_report : (form : Form) (prefix text : Text) (file : SourceFile) (next : LexerItem) (found : ℕ × Token × ℕ) → Answers file next (Ok found) → item_report form prefix text next ≡ token_report form prefix (position_at text found.0) (position_at text found.2) (token_view found.1)
 unfolding item_report
@@ -75,7 +80,7 @@ given_count file (Given lexeme) found answers = refl
 given_count file (Refused fault) found answers = absurd answers
 
 -- what is printed of an item that was answered as an exception
-fault_is : (form : Form) (prefix text : Text) (file : SourceFile) (fault : Spanned Fault) (exception : Diagnosed ErrorKind) (place : FileSpan) → IsException file fault exception → exception.span ≡ Some place → item_report form prefix text (Refused fault) ≡ fault_report form prefix text (position_at text (shown_at text (shown_of_kind exception.value) place.span.begin place.span.end)) (position_at text place.span.begin) (position_at text place.span.end) (kind_text exception.value)
+fault_is : (form : Form) (prefix text : Text) (file : SourceFile) (fault : Spanned Fault) (exception : Diagnosed ErrorKind) (place : FileSpan) → IsException file fault exception → exception.span ≡ Some place → item_report form prefix text (Refused fault) ≡ fault_report form prefix text (position_at text (shown_at text (shown_of_kind exception.value) place.span.begin place.span.end)) (position_at text place.span.begin) (position_at text place.span.end) (code_of_kind exception.value) (kind_text exception.value)
 unfolding item_report
 fault_is form prefix text file fault exception place thrown known =
     let span : ByteSpan = record { begin = fault.begin; end = fault.end } in
@@ -83,9 +88,10 @@ fault_is form prefix text file fault exception place thrown known =
     let at : place ≡ place_in file span = cc in
     let said : kind_text exception.value ≡ message_of fault.node = ap (λ (d : Diagnosed ErrorKind). kind_text d.value) thrown.2 ∙ message_is thrown.0 fault.node thrown.1 in
     let shown : shown_of_kind exception.value ≡ shown_of fault.node = ap (λ (d : Diagnosed ErrorKind). shown_of_kind d.value) thrown.2 ∙ shown_is thrown.0 fault.node thrown.1 in
-    rw (at, said, shown) refl
+    let code : code_of_kind exception.value ≡ fault_code fault.node = ap (λ (d : Diagnosed ErrorKind). code_of_kind d.value) thrown.2 ∙ code_is thrown.0 fault.node thrown.1 in
+    rw (at, said, shown, code) refl
 
-pub refused_report : (form : Form) (prefix text : Text) (file : SourceFile) (next : LexerItem) (exception : Diagnosed ErrorKind) (place : FileSpan) → Answers file next (Err (refusal.Error exception)) → exception.span ≡ Some place → item_report form prefix text next ≡ fault_report form prefix text (position_at text (shown_at text (shown_of_kind exception.value) place.span.begin place.span.end)) (position_at text place.span.begin) (position_at text place.span.end) (kind_text exception.value)
+pub refused_report : (form : Form) (prefix text : Text) (file : SourceFile) (next : LexerItem) (exception : Diagnosed ErrorKind) (place : FileSpan) → Answers file next (Err (refusal.Error exception)) → exception.span ≡ Some place → item_report form prefix text next ≡ fault_report form prefix text (position_at text (shown_at text (shown_of_kind exception.value) place.span.begin place.span.end)) (position_at text place.span.begin) (position_at text place.span.end) (code_of_kind exception.value) (kind_text exception.value)
 refused_report form prefix text file (Given lexeme) exception place answers known = absurd answers
 refused_report form prefix text file (Refused fault) exception place answers known = fault_is form prefix text file fault exception place answers known
 

@@ -1,12 +1,14 @@
 -- Lines of tokens and faults: for people, as JSON, and with the line of the source.
-use Rattle.std.specs.Prelude.{ℕ, ◌+◌, ◌-◌, max, Bool, ◌&&◌, not, ◌==◌, if◌then◌else◌, List, [], ◌∷◌, ◌++◌, map, length, take, drop, codes, count_by, encode_utf8, replicate, slice_index}
+use Rattle.std.specs.Prelude.{ℕ, ◌+◌, ◌-◌, ◌^◌, max, min, Bool, ◌&&◌, not, ◌==◌, nat_eq, if◌then◌else◌, List, [], ◌∷◌, ◌++◌, map, length, take, drop, codes, count_by, encode_utf8, replicate, slice_index, sum_by}
 use Rattle.std.specs.Fmt.{decimal}
-use Rattle.std.specs.List.{after_last, flat_map, prefix_len}
+use Rattle.std.specs.List.{after_last, flat_map, prefix_len, starts_with}
 use Rattle.std.specs.Str.{chars}
 use Rattle.starlark_base.specs.Places.{Text, is_lf, place_at, place_text}
 use Rattle.starlark_base.specs.declared.codemap.resolved.ResolvedPos.{ResolvedPos}
 use Rattle.starlark_text.specs.Characters.{starts_character}
 use Rattle.starlark_base.specs.Positions.{utf16_column}
+use Rattle.starlark_tokens.specs.CharacterWidths.{width}
+use Rattle.starlark_tokens.specs.JsonStrings.{json_string}
 use Rattle.starlark_tokens.specs.PythonLiterals.{is_hidden, one_line}
 use Rattle.starlark_base.specs.declared.position.Position.{Position}
 
@@ -36,6 +38,11 @@ json_head prefix begin end kind =
 abbrev pub json_line : (prefix : Text) → (begin end : Position) → (kind value : Text) → Text
 json_line prefix begin end kind value = json_head prefix begin end kind ++ (value ++ codes "}\n")
 
+-- the line of an object of JSON of a fault
+unfoldable pub json_fault : (prefix : Text) → (begin end : Position) → (code message : Text) → Text
+json_fault prefix begin end code message =
+    json_head prefix begin end (codes "Fault") ++ (json_string message ++ (codes ",\"code\":\"" ++ (code ++ codes "\"}\n")))
+
 -- the bytes of a line before an offset
 abbrev pub line_front : Text → ℕ → Text
 line_front text at = after_last is_lf (take at text)
@@ -57,29 +64,66 @@ source_text part = flat_map source_char (chars part)
 abbrev pub without_cr : Text → Text
 without_cr text = if slice_index text (length text - 1) == 13 then take (length text - 1) text else text
 
+-- how many columns a character of the source takes
+abbrev pub shown_width : ℕ → ℕ
+shown_width c = if is_hidden c then 1 else width c
+
+-- how many columns the first characters of a text take
+abbrev pub columns : Text → (count : ℕ) → ℕ
+columns text count = min (sum_by shown_width (take count (chars text))) (2 ^ 64 - 1)
+
 -- carets: so many, but at least one
 abbrev pub carets : ℕ → Text
 carets count = replicate (max 1 count) 94
 
--- what is below a character that is before the fault: a tab below a tab, else a space
+-- what is below a character that is before the fault: a tab below a tab, else spaces
 abbrev pub below : ℕ → Text
-below c = (if c == 9 then 9 else 32) ∷ []
+below c = if c == 9 then codes "\t" else replicate (shown_width c) 32
+
+-- a message without the words that all messages begin with
+abbrev pub reason : (message : Text) → Text
+reason message = if starts_with nat_eq message (codes "Parse error: ") then drop 13 message else message
+
+-- what begins bold text on a terminal, what begins red text, and what ends both; nothing where it isn't painted
+abbrev pub bold : (is_painted : Bool) → Text
+bold is_painted = if is_painted then codes "\u{1b}[1m" else []
+
+abbrev pub red : (is_painted : Bool) → Text
+red is_painted = if is_painted then codes "\u{1b}[1;31m" else []
+
+abbrev pub plain : (is_painted : Bool) → Text
+plain is_painted = if is_painted then codes "\u{1b}[0m" else []
+
+-- the place of a fault
+unfoldable pub fault_place : (is_painted : Bool) → (prefix : Text) → ResolvedPos → Text
+fault_place is_painted prefix place = bold is_painted ++ (prefix ++ (place_text place ++ (codes ":" ++ plain is_painted)))
+
+-- that a fault is an error
+unfoldable pub error_word : (is_painted : Bool) → Text
+error_word is_painted = codes " " ++ (red is_painted ++ (codes "error:" ++ (plain is_painted ++ codes " ")))
+
+-- what a fault is, and its code
+unfoldable pub fault_words : (code message : Text) → Text
+fault_words code message = one_line (reason message) ++ (codes " [" ++ (code ++ codes "]\n"))
 
 -- the line of a fault's place and message
-unfoldable pub fault_line : (prefix : Text) → ResolvedPos → (message : Text) → Text
-fault_line prefix place message = prefix ++ (place_text place ++ (codes ": " ++ (one_line message ++ codes "\n")))
+unfoldable pub fault_line : (is_painted : Bool) → (prefix : Text) → ResolvedPos → (code message : Text) → Text
+fault_line is_painted prefix place code message =
+    fault_place is_painted prefix place ++ (error_word is_painted ++ fault_words code message)
 
 -- the line of the source, by what is before the fault and from it on
 unfoldable pub source_line : (front back : Text) → Text
 source_line front back = source_text front ++ (source_text (without_cr back) ++ codes "\n")
 
 -- the line with carets below the characters that begin in the fault on that line: at least one
-unfoldable pub caret_line : (front back : Text) → (len : ℕ) → Text
-caret_line front back len = flat_map below (chars front) ++ (carets (count_by starts_character (take len back)) ++ codes "\n")
+unfoldable pub caret_line : (is_painted : Bool) → (front back : Text) → (len : ℕ) → Text
+caret_line is_painted front back len =
+    flat_map below (chars front) ++ (red is_painted ++ (carets (columns back (count_by starts_character (take len back)))
+    ++ (plain is_painted ++ codes "\n")))
 
 -- The lines of a fault: its place and message, the line of the source, and carets. `front` and `back`
 -- are that line before the place where the fault is shown and from it on. `len` bytes from there on
 -- belong to the fault.
-unfoldable pub fault_lines : (prefix : Text) → ResolvedPos → (message front back : Text) → (len : ℕ) → Text
-fault_lines prefix place message front back len =
-    fault_line prefix place message ++ (source_line front back ++ caret_line front back len)
+unfoldable pub fault_lines : (is_painted : Bool) → (prefix : Text) → ResolvedPos → (code message front back : Text) → (len : ℕ) → Text
+fault_lines is_painted prefix place code message front back len =
+    fault_line is_painted prefix place code message ++ (source_line front back ++ caret_line is_painted front back len)

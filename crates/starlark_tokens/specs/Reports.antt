@@ -1,5 +1,8 @@
 -- Reports of a text: what is printed of its tokens and faults.
 use Rattle.std.specs.Prelude.{ℕ, ◌-◌, Bool, true, false, [], ◌∷◌, ◌++◌, codes, List, count_by}
+use Rattle.starlark_token.specs.FaultCodes.{fault_code}
+use Rattle.starlark_tokens.specs.GithubLines.{github_line, property}
+use Rattle.starlark_tokens.specs.SarifResults.{sarif_prefix, sarif_result}
 use Rattle.std.specs.List.{flat_map}
 use Rattle.starlark_base.specs.Places.{Text}
 use Rattle.starlark_grammar.specs.Tokens.{Fault, Spanned}
@@ -9,14 +12,14 @@ use Rattle.starlark_token.specs.TextItems.{LexerItem, Given, Refused}
 use Rattle.starlark_token.specs.TokenTexts.{kind_of}
 use Rattle.starlark_token.specs.TokenViews.{TokenView}
 use Rattle.starlark_tokens.specs.JsonStrings.{json_string}
-use Rattle.starlark_tokens.specs.Lines.{fault_lines, json_line, line_back, line_front, readable_line}
+use Rattle.starlark_tokens.specs.Lines.{fault_lines, json_fault, json_line, line_back, line_front, readable_line}
 use Rattle.starlark_base.specs.Positions.{position_at}
 use Rattle.starlark_tokens.specs.ShownPlaces.{shown_at, shown_of}
 use Rattle.starlark_tokens.specs.PythonLiterals.{quoted, shown_name}
 use Rattle.starlark_tokens.specs.Values.{json_of, readable}
 use Rattle.starlark_base.specs.declared.position.Position.{Position}
 use Rattle.starlark_tokens.specs.declared.form.Form.{Form}
-use Rattle.starlark_tokens.specs.declared.form.Form.TheVariants.{Tokens, NamedTokens, Json, Faults, JsonFaults}
+use Rattle.starlark_tokens.specs.declared.form.Form.TheVariants.{Tokens, NamedTokens, Json, Faults, PaintedFaults, JsonFaults, Github, Sarif}
 
 -- what each line begins with, by the text's name
 unfoldable pub prefix_of : Form → (name : Text) → Text
@@ -25,23 +28,33 @@ prefix_of NamedTokens name = shown_name name ++ codes ":"
 prefix_of Json name = codes "{\"file\":" ++ json_string name ++ codes ",\"kind\":\""
 prefix_of Faults name = shown_name name ++ codes ":"
 prefix_of JsonFaults name = codes "{\"file\":" ++ json_string name ++ codes ",\"kind\":\""
+prefix_of PaintedFaults name = shown_name name ++ codes ":"
+prefix_of Github name = codes "::error file=" ++ (property name ++ codes ",line=")
+prefix_of Sarif name = sarif_prefix name
 
 -- what is printed of a token
 unfoldable pub token_report : Form → (prefix : Text) → (begin end : Position) → TokenView → Text
 token_report Tokens prefix begin end node = readable_line prefix begin end (kind_of node) (readable node)
 token_report NamedTokens prefix begin end node = readable_line prefix begin end (kind_of node) (readable node)
 token_report Json prefix begin end node = json_line prefix begin end (kind_of node) (json_of node)
-token_report Faults prefix begin end node = []
-token_report JsonFaults prefix begin end node = []
+token_report form prefix begin end node = []
 
--- What is printed of a fault with this message. Only with the line of the source it is printed where it is shown.
-unfoldable pub fault_report : Form → (prefix text : Text) → (shown begin end : Position) → (message : Text) → Text
-fault_report Tokens prefix text shown begin end message = readable_line prefix begin end (codes "Fault") (32 ∷ quoted message)
-fault_report NamedTokens prefix text shown begin end message = readable_line prefix begin end (codes "Fault") (32 ∷ quoted message)
-fault_report Json prefix text shown begin end message = json_line prefix begin end (codes "Fault") (json_string message)
-fault_report Faults prefix text shown begin end message =
-    fault_lines prefix shown.place message (line_front text shown.at) (line_back text shown.at) (end.at - shown.at)
-fault_report JsonFaults prefix text shown begin end message = json_line prefix begin end (codes "Fault") (json_string message)
+-- what is printed of a fault with the line of the source
+abbrev pub source_fault : (is_painted : Bool) → (prefix text : Text) → (shown end : Position) → (code message : Text) → Text
+source_fault is_painted prefix text shown end code message =
+    fault_lines is_painted prefix shown.place code message (line_front text shown.at) (line_back text shown.at) (end.at - shown.at)
+
+-- What is printed of a fault with this code and message. In lines of tokens and in JSON it has the bytes of its span, and
+-- else the place where it is shown.
+unfoldable pub fault_report : Form → (prefix text : Text) → (shown begin end : Position) → (code message : Text) → Text
+fault_report Tokens prefix text shown begin end code message = readable_line prefix begin end (codes "Fault") (32 ∷ quoted message)
+fault_report NamedTokens prefix text shown begin end code message = readable_line prefix begin end (codes "Fault") (32 ∷ quoted message)
+fault_report Json prefix text shown begin end code message = json_fault prefix begin end code message
+fault_report JsonFaults prefix text shown begin end code message = json_fault prefix begin end code message
+fault_report Faults prefix text shown begin end code message = source_fault false prefix text shown end code message
+fault_report PaintedFaults prefix text shown begin end code message = source_fault true prefix text shown end code message
+fault_report Github prefix text shown begin end code message = github_line prefix shown.place code message
+fault_report Sarif prefix text shown begin end code message = sarif_result prefix shown.place code message
 
 -- the position where a fault is shown
 abbrev pub shown_position : (text : Text) → Spanned Fault → Position
@@ -51,7 +64,8 @@ shown_position text fault = position_at text (shown_at text (shown_of fault.node
 unfoldable pub item_report : Form → (prefix text : Text) → LexerItem → Text
 item_report form prefix text (Given lexeme) = token_report form prefix (position_at text lexeme.begin) (position_at text lexeme.end) lexeme.node
 item_report form prefix text (Refused fault) =
-    fault_report form prefix text (shown_position text fault) (position_at text fault.begin) (position_at text fault.end) (message_of fault.node)
+    fault_report form prefix text (shown_position text fault) (position_at text fault.begin) (position_at text fault.end)
+    (fault_code fault.node) (message_of fault.node)
 
 -- what is printed of items of a text
 unfoldable pub items_report : Form → (prefix text : Text) → List LexerItem → Text

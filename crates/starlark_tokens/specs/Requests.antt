@@ -1,35 +1,42 @@
--- What the arguments of the program ask for.
-use Rattle.std.specs.Prelude.{◌≡◌, ℕ, Bool, true, false, map, ◌++◌, ◌&&◌, ◌||◌, not, nat_eq, nat_lt, length, codes, List, [], ◌∷◌, Option, Some, None, if◌then◌else◌}
-use Rattle.std.specs.List.{list_any, prefix_len, starts_with}
-use Rattle.std.specs.Str.{bytes_eq}
+-- What the words of a command line ask for.
+use Rattle.std.specs.Prelude.{◌≡◌, Bool, true, false, map, ◌++◌, ◌&&◌, ◌||◌, not, length, codes, drop, List, [], ◌∷◌, Option, Some, None, if◌then◌else◌}
+use Rattle.std.specs.List.{list_any}
 use Rattle.starlark_base.specs.Places.{Text}
+use Rattle.starlark_tokens.specs.Words.{begins_with, is_same}
 use Rattle.starlark_tokens.specs.declared.form.Form.{Form}
-use Rattle.starlark_tokens.specs.declared.form.Form.TheVariants.{Tokens, NamedTokens, Json, Faults, JsonFaults}
+use Rattle.starlark_tokens.specs.declared.form.Form.TheVariants as shown
+use Rattle.starlark_tokens.specs.declared.requests.Format.{Format}
+use Rattle.starlark_tokens.specs.declared.requests.Format.TheVariants.{Text as AsText, Json, Github, Sarif}
 use Rattle.starlark_tokens.specs.declared.requests.Reports.{Reports as ReportsRecord}
 use Rattle.starlark_tokens.specs.declared.requests.Request.{Request}
-use Rattle.starlark_tokens.specs.declared.requests.Request.TheVariants.{Unknown, Help, Version, Reports}
+use Rattle.starlark_tokens.specs.declared.requests.Request.TheVariants.{Unknown, Help, Version, Explain, Reports}
+use Rattle.starlark_tokens.specs.declared.words.Words.{Words as WordsRecord}
 
--- the two texts are the same
-abbrev pub is_same : Text → Text → Bool
-is_same = bytes_eq
-
--- an argument that is an option: it begins with `-` and isn't `-` alone
+-- a word that is an option: it begins with `-` and isn't `-` alone
 abbrev pub is_option : Text → Bool
-is_option word = starts_with nat_eq word (codes "-") && not (is_same word (codes "-"))
+is_option word = begins_with (codes "-") word && not (is_same word (codes "-"))
 
--- an option that the program has
-abbrev pub is_known : Text → Bool
-is_known word =
-    is_same word (codes "--check") || is_same word (codes "--json") || is_same word (codes "--quiet")
-    || is_same word (codes "--version") || is_same word (codes "--help")
+-- an option without a value
+abbrev pub is_flag : Text → Bool
+is_flag word =
+    is_same word (codes "--check") || is_same word (codes "--json") || is_same word (codes "--quiet") || is_same word (codes "-q")
+    || is_same word (codes "--version") || is_same word (codes "-V") || is_same word (codes "--help") || is_same word (codes "-h")
+
+-- an option that names a format
+abbrev pub is_format : Text → Bool
+is_format word =
+    is_same word (codes "--format=text") || is_same word (codes "--format=json") || is_same word (codes "--format=github")
+    || is_same word (codes "--format=sarif")
+
+-- an option with a value, which may be any
+abbrev pub is_valued : Text → Bool
+is_valued word =
+    begins_with (codes "--exclude=") word || begins_with (codes "--include=") word || begins_with (codes "--files-from=") word
+    || begins_with (codes "--stdin-filename=") word || begins_with (codes "--explain=") word
 
 -- an option that the program doesn't have
 abbrev pub is_unknown : Text → Bool
-is_unknown word = is_option word && not (is_known word)
-
--- how many words are before the first `--`
-abbrev pub leading_count : List Text → ℕ
-leading_count words = prefix_len (λ word. not (is_same word (codes "--"))) words
+is_unknown word = is_option word && not (is_flag word || is_format word || is_valued word)
 
 -- the word is among others
 abbrev pub is_among : Text → List Text → Bool
@@ -40,39 +47,82 @@ abbrev pub first_unknown : List Text → Option Text
 first_unknown [] = None
 first_unknown (word ∷ words) = if is_unknown word then Some word else first_unknown words
 
+-- the values of an option, which ends with `=`
+abbrev pub values : (option : Text) → List Text → List Text
+values option [] = []
+values option (word ∷ words) = if begins_with option word then drop (length option) word ∷ values option words else values option words
+
+-- the first value of an option, which ends with `=`
+abbrev pub first_value : (option : Text) → List Text → Option Text
+first_value option [] = None
+first_value option (word ∷ words) = if begins_with option word then Some (drop (length option) word) else first_value option words
+
 -- the words that aren't options
 abbrev pub names_in : List Text → List Text
 names_in [] = []
 names_in (word ∷ words) = if is_option word then names_in words else word ∷ names_in words
 
+-- the words before the first `--`
+abbrev pub leading : WordsRecord → List Text
+leading words = map (λ word. word.items) words.leading.items
+
 -- the names of files: those before the first `--` that aren't options, and all after it
-abbrev pub names : (leading trailing : List Text) → List Text
-names leading trailing = names_in leading ++ trailing
+abbrev pub names : WordsRecord → List Text
+names words = names_in (leading words) ++ map (λ word. word.items) words.trailing.items
 
--- the reports that arguments ask for, by those before the first `--` and those after it
-pub record Wants (leading trailing : List Text) (reports : ReportsRecord) : Type 0 where
-  pub check : reports.check ≡ is_among (codes "--check") leading
-  pub json : reports.json ≡ is_among (codes "--json") leading
-  pub quiet : reports.quiet ≡ is_among (codes "--quiet") leading
-  pub files : map (λ name. name.now) reports.names.items ≡ names leading trailing
+-- the format that words ask for
+abbrev pub format_of : List Text → Format
+format_of words =
+    if is_among (codes "--format=sarif") words then Sarif
+    else (if is_among (codes "--format=github") words then Github
+    else (if is_among (codes "--format=json") words || is_among (codes "--json") words then Json else AsText))
 
--- the form of reports: a line of a token has the name of its file only where several files are named
-abbrev pub form : (check json : Bool) → (files : ℕ) → Form
-form true true files = JsonFaults
-form true false files = Faults
-form false true files = Json
-form false false files = if nat_lt 1 files then NamedTokens else Tokens
+-- no count of faults is asked for
+abbrev pub is_quiet : List Text → Bool
+is_quiet words = is_among (codes "--quiet") words || is_among (codes "-q") words
+
+-- the reports that words ask for
+pub record Wants (words : WordsRecord) (reports : ReportsRecord) : Type 0 where
+  pub check : reports.check ≡ is_among (codes "--check") (leading words)
+  pub format : reports.format ≡ format_of (leading words)
+  pub quiet : reports.quiet ≡ is_quiet (leading words)
+  pub excluded : map (λ glob. glob.now) reports.excluded.items ≡ values (codes "--exclude=") (leading words)
+  pub included : map (λ glob. glob.now) reports.included.items ≡ values (codes "--include=") (leading words)
+  pub lists : map (λ name. name.now) reports.lists.items ≡ values (codes "--files-from=") (leading words)
+  pub stdin_names : map (λ name. name.now) reports.stdin_names.items ≡ values (codes "--stdin-filename=") (leading words)
+  pub files : map (λ name. name.now) reports.names.items ≡ names words
+
+-- the form of reports: by their format, whether faults alone are asked for, whether each line of a token has a name, and
+-- whether the output is painted
+abbrev pub form : Format → (check are_named is_painted : Bool) → Form
+form Sarif check are_named is_painted = shown.Sarif
+form Github check are_named is_painted = shown.Github
+form Json true are_named is_painted = shown.JsonFaults
+form Json false are_named is_painted = shown.Json
+form AsText true are_named is_painted = if is_painted then shown.PaintedFaults else shown.Faults
+form AsText false are_named is_painted = if are_named then shown.NamedTokens else shown.Tokens
 
 -- the form of the reports that are asked for
-abbrev pub form_of : ReportsRecord → Form
-form_of reports = form reports.check reports.json (length reports.names.items)
+abbrev pub form_of : ReportsRecord → (are_named is_painted : Bool) → Form
+form_of reports are_named is_painted = form reports.format reports.check are_named is_painted
 
--- what arguments ask for: an unknown option comes before all else, then `--help`, then `--version`
-abbrev pub Asks : (leading trailing : List Text) → Request → Type 0
-Asks leading trailing (Unknown option) = first_unknown leading ≡ Some option.now
-Asks leading trailing Help = (first_unknown leading ≡ None) × (is_among (codes "--help") leading ≡ true)
-Asks leading trailing Version =
-    (first_unknown leading ≡ None) × (is_among (codes "--help") leading ≡ false) × (is_among (codes "--version") leading ≡ true)
-Asks leading trailing (Reports reports) =
-    (first_unknown leading ≡ None) × (is_among (codes "--help") leading ≡ false) × (is_among (codes "--version") leading ≡ false)
-    × Wants leading trailing reports
+-- help is asked for
+abbrev pub asks_help : List Text → Bool
+asks_help words = is_among (codes "--help") words || is_among (codes "-h") words
+
+-- the version is asked for
+abbrev pub asks_version : List Text → Bool
+asks_version words = is_among (codes "--version") words || is_among (codes "-V") words
+
+-- what words ask for: an unknown option comes before all else, then help, the version, and the first code to explain
+abbrev pub Asks : (words : WordsRecord) → Request → Type 0
+Asks words (Unknown option) = first_unknown (leading words) ≡ Some option.now
+Asks words Help = (first_unknown (leading words) ≡ None) × (asks_help (leading words) ≡ true)
+Asks words Version =
+    (first_unknown (leading words) ≡ None) × (asks_help (leading words) ≡ false) × (asks_version (leading words) ≡ true)
+Asks words (Explain code) =
+    (first_unknown (leading words) ≡ None) × (asks_help (leading words) ≡ false) × (asks_version (leading words) ≡ false)
+    × (first_value (codes "--explain=") (leading words) ≡ Some code.now)
+Asks words (Reports reports) =
+    (first_unknown (leading words) ≡ None) × (asks_help (leading words) ≡ false) × (asks_version (leading words) ≡ false)
+    × (first_value (codes "--explain=") (leading words) ≡ None) × Wants words reports

@@ -1,8 +1,8 @@
 -- What was found in the sources of a run: for each the text that was read, or nothing where it couldn't be read.
-use Rattle.std.specs.Prelude.{◌≡◌, ℕ, ◌+◌, ◌-◌, ◌^◌, max, min, Bool, true, false, not, nat_lt, if◌then◌else◌, List, length, count_by, sum_by, Option, Some, None}
-use Rattle.std.specs.List.{list_any}
+use Rattle.std.specs.Prelude.{◌≡◌, ℕ, ◌+◌, ◌-◌, ◌^◌, min, Bool, true, false, not, nat_lt, if◌then◌else◌, List, length, count_by, sum_by, Option, Some, None}
 use Rattle.starlark_base.specs.Places.{Text}
 use Rattle.starlark_tokens.specs.Reports.{fault_count}
+use Rattle.starlark_tokens.specs.declared.sources.Sources.{Sources}
 use Rattle.starlark_tokens.specs.declared.totals.Totals.{Totals}
 
 -- a count, which stops at the greatest number of 64 bits
@@ -18,14 +18,14 @@ abbrev pub faults_in : Option Text → ℕ
 faults_in (Some text) = fault_count text
 faults_in None = 0
 
--- how many files were read, how many of them have faults, how many faults these are, and whether some file couldn't
--- be read
-abbrev pub totals_of : List (Option Text) → Totals
-totals_of sources = record {
+-- How many files were read, how many of them have faults, how many faults these are, and how many files couldn't be read:
+-- some of the sources, and so many others.
+abbrev pub totals_of : (lost : ℕ) → List (Option Text) → Totals
+totals_of lost sources = record {
   files = in_64_bits (count_by is_read sources);
   faulty_files = in_64_bits (count_by (λ source. nat_lt 0 (faults_in source)) sources);
   faults = in_64_bits (sum_by faults_in sources);
-  has_failed = list_any (λ source. not (is_read source)) sources;
+  unreadable = in_64_bits (lost + count_by (λ source. not (is_read source)) sources);
 }
 
 -- totals with one file more, which has so many faults
@@ -34,16 +34,16 @@ with_file totals faults = record {
   files = in_64_bits (totals.files + 1);
   faulty_files = if nat_lt 0 faults then in_64_bits (totals.faulty_files + 1) else totals.faulty_files;
   faults = in_64_bits (totals.faults + faults);
-  has_failed = totals.has_failed;
+  unreadable = totals.unreadable;
 }
 
 -- totals with one source more
 abbrev pub with_source : Totals → Option Text → Totals
 with_source totals (Some text) = with_file totals (in_64_bits (fault_count text))
-with_source totals None = record totals { has_failed = true }
+with_source totals None = record totals { unreadable = in_64_bits (totals.unreadable + 1) }
 
--- The totals are those of as many sources as files are named, or of one, standard input, where none is named.
-pub record AreTotalsOf (names : ℕ) (totals : Totals) : Type 0 where
-  pub sources : List (Option Text)
-  pub each : length sources ≡ max 1 names
-  pub found : totals ≡ totals_of sources
+-- The totals are those of as many sources as are read, and of those that are lost.
+pub record AreTotalsOf (sources : Sources) (totals : Totals) : Type 0 where
+  pub texts : List (Option Text)
+  pub each : length texts ≡ length sources.all.items
+  pub found : totals ≡ totals_of sources.lost texts

@@ -1,15 +1,29 @@
 //! The lines of a fault: its place and message, the line of the source, and carets.
 
-ghost use Rattle.std.specs.Prelude.{◌≡◌, ◌-◌, ◌++◌, OnOk, count_by, string_bytes, take};
+ghost use Rattle.std.specs.Prelude.{◌≡◌, ◌<◌, ◌-◌, ◌++◌, OnOk, count_by, replicate, string_bytes, take};
 ghost use Rattle.starlark_text.specs.Characters.{starts_character};
 ghost use Rattle.std.specs.List.{flat_map};
 ghost use Rattle.std.specs.Str.{IsCharBoundary, chars};
 ghost use Rattle.starlark_tokens.specs.Lines as spec;
 
+use crate::character_widths::width;
 use crate::python_literals::{is_hidden, push_ascii, push_one_line};
 use starlark_base::position::Position;
 use starlark_text::character_starts::count_starts;
 use std::alloc::AllocError;
+
+/// What the lexer's messages begin with.
+const MESSAGE_BEGIN: &str = "Parse error: ";
+
+/// A message without what all messages begin with.
+pub fn reason(message: &str) -> &str
+    ensures { result.now ≡ spec.reason message.now }
+{
+    match message.strip_prefix(MESSAGE_BEGIN) {
+        Some(reason) => reason,
+        None => message,
+    }
+}
 
 /// The line before byte `at` of a text.
 pub fn line_front(text: &str, at: usize) -> &str
@@ -66,14 +80,36 @@ fn push_source(line: &mut String, part: &str) -> Result<(), AllocError>
     Ok(())
 }
 
-/// Appends what is below a character before a fault: a tab below a tab, else a space.
+/// Number of columns of a terminal that a character of the source takes.
+fn shown_width(character: char) -> usize
+    ensures { result ≡ spec.shown_width character }
+{
+    if is_hidden(character) {
+        1
+    } else {
+        width(character)
+    }
+}
+
+/// Appends so many copies of an ASCII character.
+fn push_copies(line: &mut String, character: char, count: usize) -> Result<(), AllocError>
+    requires { character < 128 }
+    ensures { OnOk result (string_bytes line.new ≡ string_bytes line.old ++ replicate count character) }
+{
+    for _ in 0..count {
+        push_ascii(line, character)?;
+    }
+    Ok(())
+}
+
+/// Appends what is below a character before a fault: a tab below a tab, else spaces.
 fn push_below_char(line: &mut String, character: char) -> Result<(), AllocError>
     ensures { OnOk result (string_bytes line.new ≡ string_bytes line.old ++ spec.below character) }
 {
     if character == '\t' {
         return line.push_str("\t");
     }
-    line.push_str(" ")
+    push_copies(line, ' ', shown_width(character))
 }
 
 /// Appends what is below the characters before a fault.
@@ -97,30 +133,75 @@ fn marked_count(back: &str, len: usize) -> usize
     count_starts(bytes)
 }
 
-/// Appends so many carets, but at least one.
-fn push_carets(line: &mut String, count: usize) -> Result<(), AllocError>
-    ensures { OnOk result (string_bytes line.new ≡ string_bytes line.old ++ spec.carets count) }
+/// Number of columns that the first `count` characters of a text take.
+fn columns(text: &str, count: usize) -> usize
+    ensures { result ≡ spec.columns text.now count }
 {
-    for _ in 0..count.max(1) {
-        push_ascii(line, '^')?;
+    let mut sum: usize = 0;
+    for character in text.chars().take(count) {
+        sum = sum.saturating_add(shown_width(character));
     }
-    Ok(())
+    sum
 }
 
-/// Appends the line of a fault's place and message.
-#[tactic(auto, unfolding(crate::specs::Lines::fault_line))]
-fn push_fault_line(
+/// What begins bold text on a terminal, if it is painted.
+fn bold(is_painted: bool) -> &'static str
+    ensures { result.now ≡ spec.bold is_painted }
+{
+    if is_painted { "\x1b[1m" } else { "" }
+}
+
+/// What begins red text on a terminal, if it is painted.
+fn red(is_painted: bool) -> &'static str
+    ensures { result.now ≡ spec.red is_painted }
+{
+    if is_painted { "\x1b[1;31m" } else { "" }
+}
+
+/// What ends bold and red text on a terminal, if it is painted.
+fn plain(is_painted: bool) -> &'static str
+    ensures { result.now ≡ spec.plain is_painted }
+{
+    if is_painted { "\x1b[0m" } else { "" }
+}
+
+/// Appends the place of a fault.
+#[tactic(auto, unfolding(crate::specs::Lines::fault_place))]
+fn push_fault_place(
     line: &mut String,
+    is_painted: bool,
     prefix: &str,
     begin: Position,
-    message: &str,
 ) -> Result<(), AllocError>
-    ensures { OnOk result (string_bytes line.new ≡ string_bytes line.old ++ spec.fault_line prefix.now begin.place message.now) }
+    ensures { OnOk result (string_bytes line.new ≡ string_bytes line.old ++ spec.fault_place is_painted prefix.now begin.place) }
 {
+    line.push_str(bold(is_painted))?;
     line.push_str(prefix)?;
-    write!(line, "{}: ", begin.place)?;
-    push_one_line(line, message)?;
-    line.push_str("\n")
+    write!(line, "{}:", begin.place)?;
+    line.push_str(plain(is_painted))
+}
+
+/// Appends that a fault is an error.
+#[tactic(auto, unfolding(crate::specs::Lines::error_word))]
+fn push_error_word(line: &mut String, is_painted: bool) -> Result<(), AllocError>
+    ensures { OnOk result (string_bytes line.new ≡ string_bytes line.old ++ spec.error_word is_painted) }
+{
+    line.push_str(" ")?;
+    line.push_str(red(is_painted))?;
+    line.push_str("error:")?;
+    line.push_str(plain(is_painted))?;
+    line.push_str(" ")
+}
+
+/// Appends what a fault is, and its code.
+#[tactic(auto, unfolding(crate::specs::Lines::fault_words))]
+fn push_fault_words(line: &mut String, code: &str, message: &str) -> Result<(), AllocError>
+    ensures { OnOk result (string_bytes line.new ≡ string_bytes line.old ++ spec.fault_words code.now message.now) }
+{
+    push_one_line(line, reason(message))?;
+    line.push_str(" [")?;
+    line.push_str(code)?;
+    line.push_str("]\n")
 }
 
 /// Appends a line of the source without the CR at its end.
@@ -140,21 +221,53 @@ fn push_source_line(line: &mut String, front: &str, back: &str) -> Result<(), Al
     line.push_str("\n")
 }
 
-/// Appends carets below the characters that begin in the first `len` bytes of the rest of a line.
+/// Appends carets below the characters that begin in the first `len` bytes of the rest of a line,
+/// but at least one.
 fn push_marks(line: &mut String, back: &str, len: usize) -> Result<(), AllocError>
-    ensures { OnOk result (string_bytes line.new ≡ string_bytes line.old ++ spec.carets (count_by starts_character (take len back.now))) }
+    ensures { OnOk result (string_bytes line.new ≡ string_bytes line.old ++ spec.carets (spec.columns back.now (count_by starts_character (take len back.now)))) }
 {
-    push_carets(line, marked_count(back, len))
+    push_copies(line, '^', columns(back, marked_count(back, len)).max(1))
 }
 
 /// Appends the line with carets.
 #[tactic(auto, unfolding(crate::specs::Lines::caret_line))]
-fn push_caret_line(line: &mut String, front: &str, back: &str, len: usize) -> Result<(), AllocError>
-    ensures { OnOk result (string_bytes line.new ≡ string_bytes line.old ++ spec.caret_line front.now back.now len) }
+fn push_caret_line(
+    line: &mut String,
+    is_painted: bool,
+    front: &str,
+    back: &str,
+    len: usize,
+) -> Result<(), AllocError>
+    ensures { OnOk result (string_bytes line.new ≡ string_bytes line.old ++ spec.caret_line is_painted front.now back.now len) }
 {
     push_below(line, front)?;
+    line.push_str(red(is_painted))?;
     push_marks(line, back, len)?;
+    line.push_str(plain(is_painted))?;
     line.push_str("\n")
+}
+
+/// A fault, as its lines show it.
+#[derive(Clone, Copy)]
+pub struct ShownFault<'a> {
+    /// Whether the lines have colours of a terminal.
+    pub is_painted: bool,
+    /// Where it is shown.
+    pub shown: Position,
+    /// Its code.
+    pub code: &'a str,
+    /// Its message.
+    pub message: &'a str,
+}
+
+/// Appends the line of a fault's place and message.
+#[tactic(auto, unfolding(crate::specs::Lines::fault_line))]
+fn push_fault_line(line: &mut String, prefix: &str, fault: ShownFault<'_>) -> Result<(), AllocError>
+    ensures { OnOk result (string_bytes line.new ≡ string_bytes line.old ++ spec.fault_line fault.entry.is_painted prefix.now fault.entry.shown.place fault.entry.code.now fault.entry.message.now) }
+{
+    push_fault_place(line, fault.is_painted, prefix, fault.shown)?;
+    push_error_word(line, fault.is_painted)?;
+    push_fault_words(line, fault.code, fault.message)
 }
 
 /// Appends the lines of a fault, by its line before the place where it is shown and from it on.
@@ -163,35 +276,34 @@ fn push_caret_line(line: &mut String, front: &str, back: &str, len: usize) -> Re
 fn push_parted_lines(
     line: &mut String,
     prefix: &str,
-    shown: Position,
-    message: &str,
+    fault: ShownFault<'_>,
     front: &str,
     back: &str,
     len: usize,
 ) -> Result<(), AllocError>
     ensures { OnOk result (string_bytes line.new ≡ string_bytes line.old
-        ++ spec.fault_lines prefix.now shown.place message.now front.now back.now len) }
+        ++ spec.fault_lines fault.entry.is_painted prefix.now fault.entry.shown.place fault.entry.code.now fault.entry.message.now front.now back.now len) }
 {
-    push_fault_line(line, prefix, shown, message)?;
+    push_fault_line(line, prefix, fault)?;
     push_source_line(line, front, back)?;
-    push_caret_line(line, front, back, len)
+    push_caret_line(line, fault.is_painted, front, back, len)
 }
 
-/// Appends the lines of a fault that is shown from a position on, and ends at byte `end` of a text.
+/// Appends the lines of a fault that ends at byte `end` of a text.
 pub fn push_fault_lines(
     line: &mut String,
     prefix: &str,
     text: &str,
-    shown: Position,
+    fault: ShownFault<'_>,
     end: usize,
-    message: &str,
 ) -> Result<(), AllocError>
-    requires { IsCharBoundary text.now shown.at }
+    requires { IsCharBoundary text.now fault.shown.at }
     ensures { OnOk result (string_bytes line.new ≡ string_bytes line.old
-        ++ spec.fault_lines prefix.now shown.place message.now (spec.line_front text.now shown.at) (spec.line_back text.now shown.at) (end - shown.at)) }
+        ++ spec.fault_lines fault.entry.is_painted prefix.now fault.entry.shown.place fault.entry.code.now fault.entry.message.now
+        (spec.line_front text.now fault.entry.shown.at) (spec.line_back text.now fault.entry.shown.at) (end - fault.entry.shown.at)) }
 {
-    let front = line_front(text, shown.at);
-    let back = line_back(text, shown.at);
-    let len = end.saturating_sub(shown.at);
-    push_parted_lines(line, prefix, shown, message, front, back, len)
+    let at = fault.shown.at;
+    let front = line_front(text, at);
+    let back = line_back(text, at);
+    push_parted_lines(line, prefix, fault, front, back, end.saturating_sub(at))
 }

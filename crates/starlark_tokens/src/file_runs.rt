@@ -1,49 +1,31 @@
-//! The run of `starlark_tokens`: goes over files, and reports each.
+//! The run of `starlark_tokens`: goes over its sources, and reports each.
 
 ghost use Rattle.std.specs.IoError.{error_kind};
-ghost use Rattle.std.specs.Prelude.{◌≡◌, ◌≤◌, IfOk, OnOk, length, string_bytes};
-ghost use Rattle.starlark_run.specs.declared.ends.TheConstants.{GREATEST_LEN};
-ghost use Rattle.starlark_tokens.specs.ExitStatus.{EndsRun, status_of_output};
-ghost use Rattle.starlark_tokens.specs.FileReports.{AreReported, IsReported, reported_name};
+ghost use Rattle.std.specs.Prelude.{◌≡◌, ◌++◌, IfOk, OnOk, drop};
+ghost use Rattle.starlark_tokens.specs.ExitStatus.{status_of_output, status_of_run};
+ghost use Rattle.starlark_tokens.specs.Documents as documents;
+ghost use Rattle.starlark_tokens.specs.FileReports.{AreReported, AreReportedAlone, IsDocument, IsReported};
 ghost use Rattle.starlark_tokens.specs.Requests as requests;
 ghost use Rattle.starlark_tokens.specs.Totals.{AreTotalsOf};
 
+use crate::counts::count_line;
+use crate::documents::{closing, opening};
 use crate::form::Form;
-use crate::python_literals::push_name;
+use crate::messages::say;
 use crate::report::report_text;
-use crate::requests::Reports;
+use crate::requests::{Format, Reports};
 use crate::screen::Screen;
-use crate::sources::{SourceFault, read_source};
+use crate::sources::{Source, Sources, Texts};
 use crate::totals::Totals;
 use starlark_run::TROUBLE;
-use std::alloc::AllocError;
-use std::fmt::Display;
+use std::io;
 use std::io::{BufWriter, ErrorKind, Write};
-use std::{fs, io};
 
 /// The exit status where nobody reads the output, by the shell's convention for a closed pipe.
 const CLOSED_PIPE: u8 = 141;
 
-/// The name that stands for standard input.
-const STDIN: &str = "<stdin>";
-
 /// Bytes that are kept before they are written.
 const BUFFER_LEN: usize = 65_536;
-
-/// A name on one line.
-fn one_line(rt: &HostRuntime, name: &str) -> Result<String, AllocError> {
-    let mut line = String::new(rt.alloc());
-    push_name(&mut line, name)?;
-    Ok(line)
-}
-
-/// Says something of a file or an option on standard error, in the name of `starlark_tokens`.
-pub fn say<D: Display>(rt: &HostRuntime, name: &str, what: &D) {
-    let _ = match one_line(rt, name) {
-        Ok(name) => eprintln!(rt; "starlark_tokens: {name}: {what}"),
-        Err(_) => eprintln!(rt; "starlark_tokens: {what}"),
-    };
-}
 
 /// The exit status where the output can't be written, or memory ran out for it; says which, unless
 /// the output's pipe is closed.
@@ -61,135 +43,184 @@ pub fn unwritable(rt: &HostRuntime, error: &io::Error) -> u8
     TROUBLE
 }
 
-/// The form of the reports.
-fn form_of(wanted: &Reports<'_>) -> Form
-    ensures { result ≡ requests.form_of wanted.now }
+/// The form of the reports, by whether lines of tokens have names, and whether output is painted.
+fn form_of(wanted: &Reports<'_>, are_named: bool, is_painted: bool) -> Form
+    ensures { result ≡ requests.form_of wanted.now are_named is_painted }
 {
-    match (wanted.check, wanted.json) {
-        (true, true) => Form::JsonFaults,
-        (true, false) => Form::Faults,
-        (false, true) => Form::Json,
-        (false, false) if wanted.names.len() > 1 => Form::NamedTokens,
-        (false, false) => Form::Tokens,
+    match (wanted.format, wanted.check) {
+        (Format::Sarif, _) => Form::Sarif,
+        (Format::Github, _) => Form::Github,
+        (Format::Json, true) => Form::JsonFaults,
+        (Format::Json, false) => Form::Json,
+        (Format::Text, true) if is_painted => Form::PaintedFaults,
+        (Format::Text, true) => Form::Faults,
+        (Format::Text, false) if are_named => Form::NamedTokens,
+        (Format::Text, false) => Form::Tokens,
     }
 }
 
-/// Reads the text of a file, or of standard input for `-`.
-fn text_of(rt: &HostRuntime, name: &str) -> Result<String, SourceFault>
-    ensures { IfOk result (λ text. length (string_bytes text) ≤ GREATEST_LEN) }
-{
-    if name == "-" {
-        return read_source(rt.alloc(), rt.stdin());
-    }
-    read_source(rt.alloc(), fs::open(rt, name)?)
-}
-
-/// The name by which a source is reported.
-fn reported_name(name: &str) -> &str
-    ensures { result.now ≡ reported_name name.now }
-{
-    if name == "-" { STDIN } else { name }
-}
-
-/// Reports one file, and counts it. Only a failure of the output is returned.
-fn report_file<W: Write>(
+/// Reports one source, and counts it. Only a failure of the output is returned.
+fn report_source<S: Texts, W: Write>(
     rt: &HostRuntime,
     form: Form,
-    name: &str,
+    texts: &S,
+    source: &Source,
     totals: &mut Totals,
     output: &mut W,
 ) -> io::Result<()>
-    ensures { OnOk result (IsReported form name.now totals.old totals.new (W.contents output.old) (W.contents output.new)) }
+    ensures { OnOk result (IsReported (S.gives texts.now) form source.now totals.old totals.new (W.contents output.old) (W.contents output.new)) }
 {
-    let shown = reported_name(name);
-    match text_of(rt, name) {
+    match texts.text(source) {
         Ok(text) => {
-            let faults = report_text(rt.alloc(), form, shown, text.as_str(), output)?;
+            let faults = report_text(rt.alloc(), form, source.name(), text.as_str(), output)?;
             totals.add(faults);
         }
         Err(fault) => {
             totals.add_failure();
             output.flush()?;
-            say(rt, shown, &fault);
+            say(rt, source.name().as_bytes(), &fault);
         }
     }
     Ok(())
 }
 
-/// Reports the named files one after another, or standard input if none is named.
-fn report_each<W: Write>(
+/// Reports all sources one after another.
+fn report_each<S: Texts, W: Write>(
     rt: &HostRuntime,
-    wanted: &Reports<'_>,
+    form: Form,
+    texts: &S,
+    sources: &Sources,
     screen: &mut Screen<'_, W>,
 ) -> io::Result<Totals>
-    ensures { IfOk result (AreReported wanted.now (W.contents screen.old.output) (W.contents screen.new.output)) }
+    ensures { IfOk result (AreReportedAlone (S.gives texts.now) form sources.now (W.contents screen.old.output) (W.contents screen.new.output)) }
 {
-    let form = form_of(wanted);
-    let mut totals = Totals::NONE;
-    if wanted.names.is_empty() {
-        report_file(rt, form, "-", &mut totals, screen)?;
-        return Ok(totals);
-    }
-    for (done, name) in wanted.names.iter().enumerate() {
+    let mut totals = Totals::of_unreadable(sources.lost);
+    for (done, source) in sources.all.iter().enumerate() {
         screen.show(done);
-        report_file(rt, form, name, &mut totals, screen)?;
+        report_source(rt, form, texts, source, &mut totals, screen)?;
     }
     Ok(totals)
 }
 
-/// Reports all files, and returns what was found in them once all is written.
+/// Writes an opening, the reports of all sources, and a closing.
+fn report_streamed<S: Texts, W: Write>(
+    rt: &HostRuntime,
+    form: Form,
+    texts: &S,
+    sources: &Sources,
+    screen: &mut Screen<'_, W>,
+) -> io::Result<Totals>
+    ensures { IfOk result (AreReported (λ totals reports. documents.opening form ++ (reports ++ documents.closing form totals))
+        (S.gives texts.now) form sources.now (W.contents screen.old.output) (W.contents screen.new.output)) }
+{
+    screen.write_all(opening(rt.alloc(), form)?.as_bytes())?;
+    let totals = report_each(rt, form, texts, sources, screen)?;
+    screen.write_all(closing(rt.alloc(), form, totals)?.as_bytes())?;
+    Ok(totals)
+}
+
+/// Bytes without the first one.
+fn without_first(bytes: &[u8]) -> &[u8]
+    ensures { result.now ≡ drop 1 bytes.now }
+{
+    if bytes.is_empty() { bytes } else { &bytes[1..] }
+}
+
+/// Writes an opening, the reports of all sources without their first byte, and a closing, once all
+/// sources are read.
+fn report_collected<S: Texts, W: Write>(
+    rt: &HostRuntime,
+    form: Form,
+    texts: &S,
+    sources: &Sources,
+    screen: &mut Screen<'_, W>,
+) -> io::Result<Totals>
+    ensures { IfOk result (AreReported (λ totals reports. documents.opening form ++ (drop 1 reports ++ documents.closing form totals))
+        (S.gives texts.now) form sources.now (W.contents screen.old.output) (W.contents screen.new.output)) }
+{
+    let mut results = Screen::new(rt, Vec::new(rt.alloc()), sources.all.len());
+    let totals = report_each(rt, form, texts, sources, &mut results)?;
+    results.clear();
+    screen.write_all(opening(rt.alloc(), form)?.as_bytes())?;
+    screen.write_all(without_first(results.output().as_slice()))?;
+    screen.write_all(closing(rt.alloc(), form, totals)?.as_bytes())?;
+    Ok(totals)
+}
+
+/// Writes the document of all sources.
+fn report_document<S: Texts, W: Write>(
+    rt: &HostRuntime,
+    form: Form,
+    texts: &S,
+    sources: &Sources,
+    screen: &mut Screen<'_, W>,
+) -> io::Result<Totals>
+    ensures { IfOk result (IsDocument (S.gives texts.now) form sources.now (W.contents screen.old.output) (W.contents screen.new.output)) }
+{
+    if form.is_collected() {
+        return report_collected(rt, form, texts, sources, screen);
+    }
+    report_streamed(rt, form, texts, sources, screen)
+}
+
+/// Writes the document of all sources, and returns what was found in them once all is written.
 ///
 /// The contract holds for every output. Of standard output, whose bytes std's `Write` doesn't know,
 /// it promises the totals alone.
-fn report_to<W: Write>(
+fn report_to<S: Texts, W: Write>(
     rt: &HostRuntime,
-    wanted: &Reports<'_>,
+    form: Form,
+    texts: &S,
+    sources: &Sources,
     screen: &mut Screen<'_, W>,
 ) -> io::Result<Totals>
-    ensures { IfOk result (AreReported wanted.now (W.contents screen.old.output) (W.contents screen.new.output)) }
+    ensures { IfOk result (IsDocument (S.gives texts.now) form sources.now (W.contents screen.old.output) (W.contents screen.new.output)) }
 {
-    let found = report_each(rt, wanted, screen);
+    let found = report_document(rt, form, texts, sources, screen);
     screen.clear();
     let totals = found?;
     screen.flush()?;
     Ok(totals)
 }
 
-/// Reports all files over standard output, and returns what was found in them.
-fn report_all(rt: &HostRuntime, wanted: &Reports<'_>) -> io::Result<Totals>
-    ensures { IfOk result (AreTotalsOf (length wanted.now.names.items)) }
+/// Reports all sources over standard output, and returns what was found in them.
+pub fn report_sources(
+    rt: &HostRuntime,
+    wanted: &Reports<'_>,
+    sources: &Sources,
+    is_painted: bool,
+) -> io::Result<Totals>
+    ensures { IfOk result (AreTotalsOf sources.now) }
 {
+    let are_named = sources.are_found || sources.all.len().saturating_add(sources.lost) > 1;
+    let form = form_of(wanted, are_named, is_painted);
     let output = BufWriter::with_capacity(rt.alloc(), BUFFER_LEN, rt.stdout())?;
-    let mut screen = Screen::new(rt, output, wanted.names.len());
-    report_to(rt, wanted, &mut screen)
+    let mut screen = Screen::new(rt, output, sources.all.len());
+    report_to(rt, form, rt, sources, &mut screen)
 }
 
 /// Says how many faults were found, in how many files.
 fn say_count(rt: &HostRuntime, totals: Totals) {
-    let Totals {
-        files,
-        faulty_files,
-        faults,
-        ..
-    } = totals;
-    let _ = eprintln!(rt; "{faults} faults in {faulty_files} of {files} files");
+    let _ = match count_line(rt.alloc(), totals) {
+        Ok(line) => rt.eprint(line.as_str()),
+        Err(_) => eprintln!(rt; "starlark_tokens: out of memory"),
+    };
 }
 
-/// Reports files over standard output, one after another, or standard input if none is named, and
-/// returns the exit status.
+/// Ends a run, and returns its exit status: that of what was found, or of why it failed.
 ///
-/// What can't be read, or written, is said on standard error. With `check`, and not `quiet`, so is
-/// the count of faults.
-pub fn report_files(rt: &HostRuntime, wanted: &Reports<'_>) -> u8
-    ensures { EndsRun (length wanted.now.names.items) result }
+/// Of a failure it says why on standard error. With `check`, and not `quiet`, it says there how many
+/// faults were found.
+pub fn end_run(rt: &HostRuntime, wanted: &Reports<'_>, run: &io::Result<Totals>) -> u8
+    ensures { result ≡ status_of_run run.now }
 {
-    match report_all(rt, wanted) {
+    match run {
         Ok(totals) => {
             if wanted.check && !wanted.quiet {
-                say_count(rt, totals);
+                say_count(rt, *totals);
             }
             totals.status()
         }
-        Err(error) => unwritable(rt, &error),
+        Err(error) => unwritable(rt, error),
     }
 }

@@ -1,10 +1,11 @@
 //! What a report shows, and in which form.
 
 ghost use Rattle.std.specs.Prelude.{◌≡◌};
+ghost use Rattle.starlark_tokens.specs.Documents.{is_collected};
 ghost use Rattle.starlark_tokens.specs.Inner.Reporters.{has_only_faults};
 
 /// The form of a report.
-#[derive(Clone, Copy, Debug, PartialEq, Eq)]
+#[derive(Clone, Copy)]
 pub enum Form {
     /// A line for each token and fault.
     Tokens,
@@ -14,8 +15,14 @@ pub enum Form {
     Json,
     /// The place and message of each fault, with the line of the source. No tokens.
     Faults,
+    /// The same lines with colours of a terminal. No tokens.
+    PaintedFaults,
     /// An object of JSON for each fault, one a line. No tokens.
     JsonFaults,
+    /// An annotation of GitHub for each fault, one a line. No tokens.
+    Github,
+    /// A result of SARIF for each fault. No tokens.
+    Sarif,
 }
 
 impl Form {
@@ -23,6 +30,13 @@ impl Form {
     pub fn has_only_faults(self) -> bool
         ensures { result ≡ has_only_faults self }
     {
-        matches!(self, Form::Faults | Form::JsonFaults)
+        !matches!(self, Form::Tokens | Form::NamedTokens | Form::Json)
+    }
+
+    /// Whether all reports are collected before they are written.
+    pub fn is_collected(self) -> bool
+        ensures { result ≡ is_collected self }
+    {
+        matches!(self, Form::Sarif)
     }
 }

@@ -2,18 +2,19 @@
 
 ghost use Rattle.std.specs.Prelude.{◌≡◌, ◌++◌, ◌∷◌, OnOk, codes, string_bytes};
 ghost use Rattle.std.specs.Str.{IsCharBoundary};
-ghost use Rattle.starlark_tokens.specs.JsonStrings.{json_string};
-ghost use Rattle.starlark_tokens.specs.Lines.{fault_lines, json_line, line_back, line_front, readable_line};
+ghost use Rattle.starlark_tokens.specs.Lines.{json_fault, json_line, readable_line};
 ghost use Rattle.starlark_tokens.specs.PythonLiterals.{quoted};
-ghost use Rattle.starlark_tokens.specs.Reports.{fault_report, token_report};
+ghost use Rattle.starlark_tokens.specs.Reports.{fault_report, source_fault, token_report};
 ghost use Rattle.starlark_tokens.specs.Values.{json_of, readable};
 ghost use Rattle.starlark_token.specs.TokenTexts.{kind_of};
 ghost use Rattle.starlark_token.specs.TokenViews.{token_view};
 
-use crate::fault_lines::push_fault_lines;
+use crate::fault_lines::{ShownFault, push_fault_lines};
 use crate::form::Form;
+use crate::github_lines::push_github_fault;
 use crate::json_strings::push_json_string;
 use crate::python_literals::push_quoted;
+use crate::sarif_results::push_sarif_fault;
 use crate::token_lines::{push_json_head, push_readable_head};
 use crate::token_values::{push_json_value, push_readable};
 use starlark_base::position::Position;
@@ -67,7 +68,10 @@ pub fn push_token(
         Form::NamedTokens => push_readable_token(lines, prefix, begin, end, token),
         Form::Json => push_json_token(lines, prefix, begin, end, token),
         Form::Faults => Ok(()),
+        Form::PaintedFaults => Ok(()),
         Form::JsonFaults => Ok(()),
+        Form::Github => Ok(()),
+        Form::Sarif => Ok(()),
     }
 }
 
@@ -88,51 +92,95 @@ fn push_readable_fault(
 }
 
 /// Appends the object of JSON of a fault.
+#[tactic(auto, unfolding(crate::specs::Lines::json_fault))]
 fn push_json_fault(
     lines: &mut String,
     prefix: &str,
     begin: Position,
     end: Position,
+    code: &str,
     message: &str,
 ) -> Result<(), AllocError>
-    ensures { OnOk result (string_bytes lines.new ≡ string_bytes lines.old ++ json_line prefix.now begin end (codes "Fault") (json_string message.now)) }
+    ensures { OnOk result (string_bytes lines.new ≡ string_bytes lines.old ++ json_fault prefix.now begin end code.now message.now) }
 {
     push_json_head(lines, prefix, begin, end, "Fault")?;
     push_json_string(lines, message)?;
-    lines.push_str("}\n")
+    lines.push_str(",\"code\":\"")?;
+    lines.push_str(code)?;
+    lines.push_str("\"}\n")
 }
 
-/// Where a fault of a text is.
+/// Appends the lines of a fault with its source, in colours or without.
+fn push_source_fault(
+    lines: &mut String,
+    is_painted: bool,
+    prefix: &str,
+    text: &str,
+    fault: Fault<'_>,
+) -> Result<(), AllocError>
+    requires { IsCharBoundary text.now fault.shown.at }
+    ensures { OnOk result (string_bytes lines.new ≡ string_bytes lines.old
+        ++ source_fault is_painted prefix.now text.now fault.entry.shown fault.entry.end fault.entry.code.now fault.entry.message.now) }
+{
+    let Fault {
+        end,
+        shown,
+        code,
+        message,
+        ..
+    } = fault;
+    let shown = ShownFault {
+        is_painted,
+        shown,
+        code,
+        message,
+    };
+    push_fault_lines(lines, prefix, text, shown, end.at)
+}
+
+/// A fault of a text.
 #[derive(Clone, Copy)]
-pub struct FaultPositions {
+pub struct Fault<'a> {
     /// Where it begins.
     pub begin: Position,
     /// Where it ends.
     pub end: Position,
     /// Where it is shown with its line of the source.
     pub shown: Position,
+    /// Its code.
+    pub code: &'a str,
+    /// Its message.
+    pub message: &'a str,
 }
 
-/// Appends what is printed of a fault of a text, with a message.
+/// Appends what is printed of a fault of a text.
 #[tactic(auto, unfolding(crate::specs::Reports::fault_report))]
 pub fn push_fault(
     lines: &mut String,
     form: Form,
     prefix: &str,
     text: &str,
-    positions: FaultPositions,
-    message: &str,
+    fault: Fault<'_>,
 ) -> Result<(), AllocError>
-    requires { IsCharBoundary text.now positions.shown.at }
+    requires { IsCharBoundary text.now fault.shown.at }
     ensures { OnOk result (string_bytes lines.new ≡ string_bytes lines.old
-        ++ fault_report form prefix.now text.now positions.shown positions.begin positions.end message.now) }
+        ++ fault_report form prefix.now text.now fault.entry.shown fault.entry.begin fault.entry.end fault.entry.code.now fault.entry.message.now) }
 {
-    let FaultPositions { begin, end, shown } = positions;
+    let Fault {
+        begin,
+        end,
+        shown,
+        code,
+        message,
+    } = fault;
     match form {
         Form::Tokens => push_readable_fault(lines, prefix, begin, end, message),
         Form::NamedTokens => push_readable_fault(lines, prefix, begin, end, message),
-        Form::Json => push_json_fault(lines, prefix, begin, end, message),
-        Form::Faults => push_fault_lines(lines, prefix, text, shown, end.at, message),
-        Form::JsonFaults => push_json_fault(lines, prefix, begin, end, message),
+        Form::Json => push_json_fault(lines, prefix, begin, end, code, message),
+        Form::Faults => push_source_fault(lines, false, prefix, text, fault),
+        Form::PaintedFaults => push_source_fault(lines, true, prefix, text, fault),
+        Form::JsonFaults => push_json_fault(lines, prefix, begin, end, code, message),
+        Form::Github => push_github_fault(lines, prefix, shown, code, message),
+        Form::Sarif => push_sarif_fault(lines, prefix, shown, code, message),
     }
 }

@@ -1,65 +1,84 @@
-//! `starlark_tokens [OPTIONS] [FILE]..` prints the tokens and faults of Starlark files.
+//! `starlark_tokens [OPTIONS] [FILE or FOLDER]..` prints the tokens and faults of Starlark files.
 //!
 //! The exit status is 0 where no file has a fault, and 1 where one has. It is 2 where a file couldn't
 //! be read or an option is wrong, and 141 where nobody reads the output any more.
 #![tactic(auto)]
 
+mod arguments;
+mod build;
+mod character_widths;
+mod counts;
+mod documents;
+mod explanations;
 mod fault_lines;
+mod file_names;
 mod file_runs;
+mod folders;
 mod form;
+mod github_lines;
+mod globs;
 mod item_lines;
 mod json_strings;
 mod laws;
+mod messages;
+mod name_lists;
 mod python_literals;
 mod report;
 mod reporter;
 mod requests;
+mod rules;
+mod sarif_results;
 mod screen;
 mod shown_places;
 mod sources;
 mod token_lines;
 mod token_values;
 mod totals;
+mod words;
 
-use crate::file_runs::{report_files, say, unwritable};
-use crate::requests::{Request, asked};
+use crate::arguments::arguments;
+use crate::build::BUILD;
+use crate::explanations::explanation;
+use crate::file_runs::{end_run, report_sources, unwritable};
+use crate::folders::sources_of;
+use crate::messages::say;
+use crate::requests::{Reports, Request, asked};
+use crate::words::{takes_value, words_of};
 use starlark_run::TROUBLE;
+use std::alloc::AllocError;
+use std::env;
+use std::io::IsTerminal;
 use std::process::ExitCode;
-use std::{env, io};
 
 /// What `--help` prints.
 const HELP: &str = "\
-usage: starlark_tokens [OPTIONS] [FILE]..
+usage: starlark_tokens [OPTIONS] [FILE or FOLDER]..
 
-Prints a line for each token and each lexical fault of Starlark files. Without FILE, or for `-`, it
-reads standard input.
+Prints the tokens and lexical faults of Starlark files. Of a folder it takes BUILD, BUILD.bazel,
+WORKSPACE*, MODULE.bazel, BUCK, *.bzl, *.star, *.sky and *.bxl, in all its folders that aren't
+hidden. Without a name, or for `-`, it reads standard input.
 
-  --check    print no tokens: each fault with the line of the source
-  --json     print an object of JSON for each token and fault, one a line
-  --quiet    print no count of faults
-  --version  print the version
-  --help     print this text
-  --         take all that follows as names of files
+  --check                print no tokens: each fault with the line of the source
+  --format FORMAT        text, json, github or sarif; the last two print no tokens
+  --json                 the same as --format json
+  --include GLOB         take such files of folders too; `*` stands for any characters
+  --exclude GLOB         leave out such files and folders of folders
+  --files-from FILE      take the names in FILE, each ended by a zero byte or else an LF
+  --stdin-filename NAME  report standard input by this name
+  --explain CODE         say what the code of a fault means, and how to mend it
+  -q, --quiet            print no count of faults
+  -V, --version          print the version, and whether this build is proved
+  -h, --help             print this text
+  --                     take all that follows as names
 
 The exit status is 0 if there are no faults, 1 if there are, and 2 if a file can't be read, isn't
 UTF-8 or is too long, or if an option is wrong.
 
-  starlark_tokens BUILD
-  starlark_tokens --check $(git ls-files '*.bzl')
-  starlark_tokens --json BUILD | jq -r 'select(.kind == \"String\").value'
+  starlark_tokens --check .    # all faults of a repository
 ";
 
-/// What `--version` prints.
-const VERSION: &str = "starlark_tokens 0.1.0\n";
-
-/// The arguments without the program's name.
-fn arguments(rt: &HostRuntime) -> io::Result<Vec<String>> {
-    let mut words = Vec::new(rt.alloc());
-    for word in env::args(rt)?.skip(1) {
-        words.push(word)?;
-    }
-    Ok(words)
-}
+/// The version that `--version` prints.
+const VERSION: &str = "0.2.0";
 
 /// Prints a text, and returns the exit status.
 fn print_text(rt: &HostRuntime, text: &str) -> u8 {
@@ -69,25 +88,73 @@ fn print_text(rt: &HostRuntime, text: &str) -> u8 {
     }
 }
 
-/// Does what the arguments ask for, and returns the exit status.
-fn answer(rt: &HostRuntime) -> io::Result<u8> {
-    let words = arguments(rt)?;
-    match asked(rt.alloc(), words.as_slice())? {
-        Request::Unknown(option) => {
-            say(rt, option, &"unknown option; --help lists them");
-            Ok(TROUBLE)
+/// Prints the version.
+fn print_version(rt: &HostRuntime) -> u8 {
+    match println!(rt; "starlark_tokens {VERSION} ({BUILD})") {
+        Ok(()) => 0,
+        Err(error) => unwritable(rt, &error),
+    }
+}
+
+/// Says that an option isn't one.
+fn refuse_option(rt: &HostRuntime, option: &[u8]) -> u8 {
+    if takes_value(option) {
+        say(rt, option, &"needs a value; --help lists the options");
+    } else {
+        say(rt, option, &"unknown option; --help lists them");
+    }
+    TROUBLE
+}
+
+/// Prints what a code means.
+fn explain(rt: &HostRuntime, code: &[u8]) -> u8 {
+    match str::from_utf8(code).ok().and_then(explanation) {
+        Some(text) => print_text(rt, text),
+        None => {
+            say(rt, code, &"no fault has this code; they are SL001 to SL009");
+            TROUBLE
         }
+    }
+}
+
+/// Whether a variable of the environment is set, and not empty.
+fn is_set(rt: &HostRuntime, name: &str) -> bool {
+    match env::var(rt, name) {
+        Ok(value) => !value.is_empty(),
+        Err(error) => error != env::VarError::NotPresent,
+    }
+}
+
+/// Whether lines for people have colours: standard output is a terminal, and `NO_COLOR` isn't set.
+fn is_painted(rt: &HostRuntime) -> bool {
+    rt.stdout().is_terminal() && !is_set(rt, "NO_COLOR")
+}
+
+/// Reports what is asked for, and returns the exit status.
+fn report_all(rt: &HostRuntime, wanted: &Reports<'_>) -> Result<u8, AllocError> {
+    let sources = sources_of(rt, wanted)?;
+    let run = report_sources(rt, wanted, &sources, is_painted(rt));
+    Ok(end_run(rt, wanted, &run))
+}
+
+/// Does what the arguments ask for, and returns the exit status.
+fn answer(rt: &HostRuntime) -> Result<u8, AllocError> {
+    let arguments = arguments(rt)?;
+    let words = words_of(rt.alloc(), arguments.as_slice())?;
+    match asked(rt.alloc(), &words)? {
+        Request::Unknown(option) => Ok(refuse_option(rt, option)),
         Request::Help => Ok(print_text(rt, HELP)),
-        Request::Version => Ok(print_text(rt, VERSION)),
-        Request::Reports(wanted) => Ok(report_files(rt, &wanted)),
+        Request::Version => Ok(print_version(rt)),
+        Request::Explain(code) => Ok(explain(rt, code)),
+        Request::Reports(wanted) => report_all(rt, &wanted),
     }
 }
 
 fn main(rt: HostRuntime) -> ExitCode {
     match answer(&rt) {
         Ok(status) => ExitCode::from(status),
-        Err(error) => {
-            let _ = eprintln!(rt; "starlark_tokens: {error}");
+        Err(_) => {
+            let _ = eprintln!(rt; "starlark_tokens: out of memory");
             ExitCode::from(TROUBLE)
         }
     }

@@ -1,11 +1,13 @@
 //! Makes the lines of the tokens and faults of one text.
 
 ghost use Rattle.std.specs.Prelude.{◌≡◌, ◌≤◌, ◌++◌, IfOk, OnOk, codes, string_bytes};
+ghost use Rattle.starlark_tokens.specs.GithubLines.{property};
 ghost use Rattle.starlark_tokens.specs.JsonStrings.{json_string};
+ghost use Rattle.starlark_tokens.specs.SarifResults as sarif;
 ghost use Rattle.starlark_tokens.specs.PythonLiterals.{shown_name};
 ghost use Rattle.std.specs.Str.{IsCharBoundary};
 ghost use Rattle.starlark_tokens.specs.Inner.Reporters.{IsReady, Keeps};
-ghost use Rattle.starlark_tokens.specs.Inner.ShownKinds.{shown_of_kind};
+ghost use Rattle.starlark_tokens.specs.Inner.ShownKinds.{code_of_kind, shown_of_kind};
 ghost use Rattle.starlark_base.specs.Positions.{IsPosition, position_at};
 ghost use Rattle.starlark_tokens.specs.Reports.{fault_report, prefix_of, token_report};
 ghost use Rattle.starlark_tokens.specs.ShownPlaces.{shown_at};
@@ -13,13 +15,15 @@ ghost use Rattle.starlark_syntax.specs.Errors.{kind_text};
 ghost use Rattle.starlark_token.specs.TokenViews.{token_view};
 
 use crate::form::Form;
-use crate::item_lines::{FaultPositions, push_fault, push_token};
+use crate::github_lines::push_property;
+use crate::item_lines::{Fault, push_fault, push_token};
 use crate::json_strings::push_json_string;
 use crate::python_literals::push_name;
+use crate::sarif_results::push_uri;
 use crate::shown_places::shown_position;
 use starlark_base::codemap::Span;
 use starlark_base::position::Position;
-use starlark_syntax::error::ErrorKind;
+use starlark_syntax::error::{ErrorKind, ParserMessage};
 use starlark_token::tokens::Token;
 use std::alloc::{AllocError, Global};
 
@@ -56,6 +60,29 @@ fn json_prefix(alloc: Global, name: &str) -> Result<String, AllocError>
     Ok(prefix)
 }
 
+/// The start of each annotation, up to the line.
+fn github_prefix(alloc: Global, name: &str) -> Result<String, AllocError>
+    ensures { IfOk result (λ prefix. string_bytes prefix ≡ codes "::error file=" ++ (property name.now ++ codes ",line=")) }
+{
+    let mut prefix = String::from_str(alloc, "::error file=")?;
+    push_property(&mut prefix, name)?;
+    prefix.push_str(",line=")?;
+    Ok(prefix)
+}
+
+/// What is between a result's message and its line.
+fn sarif_prefix(alloc: Global, name: &str) -> Result<String, AllocError>
+    ensures { IfOk result (λ prefix. string_bytes prefix ≡ sarif.sarif_prefix name.now) }
+{
+    let mut prefix = String::from_str(
+        alloc,
+        "},\"locations\":[{\"physicalLocation\":{\"artifactLocation\":{\"uri\":\"",
+    )?;
+    push_uri(&mut prefix, name)?;
+    prefix.push_str("\"},\"region\":{\"startLine\":")?;
+    Ok(prefix)
+}
+
 /// What each line begins with, by the form and the text's name.
 #[tactic(auto, unfolding(crate::specs::Reports::prefix_of))]
 fn prefix(alloc: Global, form: Form, name: &str) -> Result<String, AllocError>
@@ -66,7 +93,20 @@ fn prefix(alloc: Global, form: Form, name: &str) -> Result<String, AllocError>
         Form::NamedTokens => named_prefix(alloc, name),
         Form::Json => json_prefix(alloc, name),
         Form::Faults => named_prefix(alloc, name),
+        Form::PaintedFaults => named_prefix(alloc, name),
         Form::JsonFaults => json_prefix(alloc, name),
+        Form::Github => github_prefix(alloc, name),
+        Form::Sarif => sarif_prefix(alloc, name),
+    }
+}
+
+/// The code of a fault; empty for an error that is none.
+fn code_of(kind: &ErrorKind) -> &'static str
+    ensures { result.now ≡ code_of_kind kind.now }
+{
+    match kind {
+        ErrorKind::Parser(ParserMessage::Lexeme(error)) => error.code().unwrap_or(""),
+        _ => "",
     }
 }
 
@@ -132,7 +172,7 @@ impl<'t> Reporter<'t> {
         ensures kept { OnOk result (Keeps self.old self.new) }
         ensures lines { OnOk result (string_bytes self.new.lines ≡ fault_report self.old.form (string_bytes self.old.prefix) self.old.text.now
             (position_at self.old.text.now (shown_at self.old.text.now (shown_of_kind kind.now) span.begin span.end))
-            (position_at self.old.text.now span.begin) (position_at self.old.text.now span.end) (kind_text kind.now)) }
+            (position_at self.old.text.now span.begin) (position_at self.old.text.now span.end) (code_of_kind kind.now) (kind_text kind.now)) }
     {
         let begin = span.begin().get() as usize;
         let begin = Position::nearest(self.here, self.last_fault, self.text, begin);
@@ -148,8 +188,13 @@ impl<'t> Reporter<'t> {
             self.form,
             self.prefix.as_str(),
             self.text,
-            FaultPositions { begin, end, shown },
-            self.message.as_str(),
+            Fault {
+                begin,
+                end,
+                shown,
+                code: code_of(kind),
+                message: self.message.as_str(),
+            },
         )
     }
 }

@@ -1,23 +1,39 @@
 //! What the arguments of `starlark_tokens` ask for.
 
-ghost use Rattle.std.specs.Prelude.{◌≡◌, ◌≤◌, IfOk, length, map, string_bytes};
+ghost use Rattle.std.specs.Prelude.{◌≡◌, ◌≤◌, IfOk, length, map};
 ghost use Rattle.std.specs.Option.{option_map};
 ghost use Rattle.starlark_tokens.specs.Requests as spec;
 ghost use Rattle.starlark_tokens.specs.Requests.{Asks, Wants};
 
+use crate::words::{Words, begins_with, is_same};
 use std::alloc::{AllocError, Global};
 
 /// What the arguments ask for.
 #[derive(Drop)]
 pub enum Request<'a> {
     /// An option that the program doesn't have.
-    Unknown(&'a str),
+    Unknown(&'a [u8]),
     /// How the program is used.
     Help,
     /// The program's version.
     Version,
+    /// What a fault's code means.
+    Explain(&'a [u8]),
     /// Reports of files.
     Reports(Reports<'a>),
+}
+
+/// In which format faults are reported.
+#[derive(Clone, Copy)]
+pub enum Format {
+    /// Lines for people.
+    Text,
+    /// Objects of JSON, one a line.
+    Json,
+    /// Annotations of GitHub.
+    Github,
+    /// One document of SARIF.
+    Sarif,
 }
 
 /// Which reports are asked for.
@@ -25,58 +41,76 @@ pub enum Request<'a> {
 pub struct Reports<'a> {
     /// Whether faults alone are reported.
     pub check: bool,
-    /// Whether reports are in JSON.
-    pub json: bool,
+    pub format: Format,
     /// Whether no count of faults is printed.
     pub quiet: bool,
-    /// The names of the files. `-` is standard input.
-    pub names: Vec<&'a str>,
+    /// Globs of files and folders that are left out.
+    pub excluded: Vec<&'a [u8]>,
+    /// Globs of files that are read besides those that are read anyway.
+    pub included: Vec<&'a [u8]>,
+    /// Files that have names of files. `-` is standard input.
+    pub lists: Vec<&'a [u8]>,
+    /// The name of standard input: the first of these.
+    pub stdin_names: Vec<&'a [u8]>,
+    /// The names of files and folders. `-` is standard input.
+    pub names: Vec<&'a [u8]>,
 }
 
-/// Number of arguments before the first `--`.
-fn leading_count(arguments: &[String]) -> usize
-    ensures within { result ≤ length arguments.now }
-    ensures value { result ≡ spec.leading_count (map string_bytes arguments.now) }
-{
-    for (index, word) in arguments.iter().enumerate() {
-        if word.as_str() == "--" {
-            return index;
-        }
-    }
-    arguments.len()
-}
-
-/// Whether an argument is an option: it begins with `-` and isn't `-` alone.
-fn is_option(word: &str) -> bool
+/// Whether a word is an option: it begins with `-` and isn't `-` alone.
+fn is_option(word: &[u8]) -> bool
     ensures { result ≡ spec.is_option word.now }
 {
-    word.starts_with("-") && word != "-"
+    begins_with(word, "-") && !is_same(word, "-")
 }
 
-/// Whether the program has an option.
-fn is_known(word: &str) -> bool
-    ensures { result ≡ spec.is_known word.now }
+/// Whether the program has an option that has no value.
+fn is_flag(word: &[u8]) -> bool
+    ensures { result ≡ spec.is_flag word.now }
 {
-    word == "--check"
-        || word == "--json"
-        || word == "--quiet"
-        || word == "--version"
-        || word == "--help"
+    is_same(word, "--check")
+        || is_same(word, "--json")
+        || is_same(word, "--quiet")
+        || is_same(word, "-q")
+        || is_same(word, "--version")
+        || is_same(word, "-V")
+        || is_same(word, "--help")
+        || is_same(word, "-h")
 }
 
-/// Whether the program doesn't have an option.
-fn is_unknown(word: &str) -> bool
+/// Whether a word is a format that the program has.
+fn is_format(word: &[u8]) -> bool
+    ensures { result ≡ spec.is_format word.now }
+{
+    is_same(word, "--format=text")
+        || is_same(word, "--format=json")
+        || is_same(word, "--format=github")
+        || is_same(word, "--format=sarif")
+}
+
+/// Whether a word is an option with its value that may be any.
+fn is_valued(word: &[u8]) -> bool
+    ensures { result ≡ spec.is_valued word.now }
+{
+    begins_with(word, "--exclude=")
+        || begins_with(word, "--include=")
+        || begins_with(word, "--files-from=")
+        || begins_with(word, "--stdin-filename=")
+        || begins_with(word, "--explain=")
+}
+
+/// Whether a word is an option that the program doesn't have.
+fn is_unknown(word: &[u8]) -> bool
     ensures { result ≡ spec.is_unknown word.now }
 {
-    is_option(word) && !is_known(word)
+    is_option(word) && !(is_flag(word) || is_format(word) || is_valued(word))
 }
 
-/// Whether an option is among arguments.
-fn has(words: &[String], option: &str) -> bool
-    ensures { result ≡ spec.is_among option.now (map string_bytes words.now) }
+/// Whether an option is among words.
+fn has(words: &[Vec<u8>], option: &str) -> bool
+    ensures { result ≡ spec.is_among option.now (map (λ word. word.items) words.now) }
 {
     for word in words {
-        if word.as_str() == option {
+        if is_same(word.as_slice(), option) {
             return true;
         }
     }
@@ -84,80 +118,136 @@ fn has(words: &[String], option: &str) -> bool
 }
 
 /// The first option that the program doesn't have.
-fn first_unknown(words: &[String]) -> Option<&str>
-    ensures { option_map (λ word. word.now) result ≡ spec.first_unknown (map string_bytes words.now) }
+fn first_unknown(words: &[Vec<u8>]) -> Option<&[u8]>
+    ensures { option_map (λ word. word.now) result ≡ spec.first_unknown (map (λ word. word.items) words.now) }
 {
     for word in words {
-        if is_unknown(word.as_str()) {
-            return Some(word.as_str());
+        if is_unknown(word.as_slice()) {
+            return Some(word.as_slice());
         }
     }
     None
 }
 
-/// The names among arguments: those before the first `--` that aren't options, and those after it.
-fn names_of<'a>(
-    alloc: Global,
-    leading: &'a [String],
-    trailing: &'a [String],
-) -> Result<Vec<&'a str>, AllocError>
-    ensures { IfOk result (λ names. map (λ name. name.now) names.items ≡ spec.names (map string_bytes leading.now) (map string_bytes trailing.now)) }
+/// The first value of an option, which ends with `=`.
+fn first_value<'a>(words: &'a [Vec<u8>], option: &str) -> Option<&'a [u8]>
+    ensures { option_map (λ value. value.now) result ≡ spec.first_value option.now (map (λ word. word.items) words.now) }
 {
-    let mut names = Vec::new(alloc);
-    for word in leading {
-        if !is_option(word.as_str()) {
-            names.push(word.as_str())?;
+    for word in words {
+        let word = word.as_slice();
+        if begins_with(word, option) {
+            return Some(&word[option.len()..]);
         }
     }
-    for name in trailing {
-        names.push(name.as_str())?;
+    None
+}
+
+/// The values of an option, which ends with `=`, in order.
+fn values<'a>(
+    alloc: Global,
+    words: &'a [Vec<u8>],
+    option: &str,
+) -> Result<Vec<&'a [u8]>, AllocError>
+    ensures { IfOk result (λ values. map (λ value. value.now) values.items ≡ spec.values option.now (map (λ word. word.items) words.now)) }
+{
+    let mut values = Vec::new(alloc);
+    for word in words {
+        let word = word.as_slice();
+        if begins_with(word, option) {
+            values.push(&word[option.len()..])?;
+        }
+    }
+    Ok(values)
+}
+
+/// The names among words: those before the first `--` that aren't options, and those after it.
+fn names_of<'a>(alloc: Global, words: &'a Words) -> Result<Vec<&'a [u8]>, AllocError>
+    ensures { IfOk result (λ names. map (λ name. name.now) names.items ≡ spec.names words.now) }
+{
+    let mut names = Vec::new(alloc);
+    for word in &words.leading {
+        if !is_option(word.as_slice()) {
+            names.push(word.as_slice())?;
+        }
+    }
+    for name in &words.trailing {
+        names.push(name.as_slice())?;
     }
     Ok(names)
 }
 
-/// Which reports arguments ask for.
-fn wanted<'a>(
-    alloc: Global,
-    leading: &'a [String],
-    trailing: &'a [String],
-) -> Result<Reports<'a>, AllocError>
-    ensures { IfOk result (Wants (map string_bytes leading.now) (map string_bytes trailing.now)) }
+/// The format that words ask for.
+fn format_of(words: &[Vec<u8>]) -> Format
+    ensures { result ≡ spec.format_of (map (λ word. word.items) words.now) }
 {
-    let names = names_of(alloc, leading, trailing)?;
+    if has(words, "--format=sarif") {
+        Format::Sarif
+    } else if has(words, "--format=github") {
+        Format::Github
+    } else if has(words, "--format=json") || has(words, "--json") {
+        Format::Json
+    } else {
+        Format::Text
+    }
+}
+
+/// Whether words ask for no count of faults.
+fn is_quiet(words: &[Vec<u8>]) -> bool
+    ensures { result ≡ spec.is_quiet (map (λ word. word.items) words.now) }
+{
+    has(words, "--quiet") || has(words, "-q")
+}
+
+/// Whether words ask for help.
+fn asks_help(words: &[Vec<u8>]) -> bool
+    ensures { result ≡ spec.asks_help (map (λ word. word.items) words.now) }
+{
+    has(words, "--help") || has(words, "-h")
+}
+
+/// Whether words ask for the version.
+fn asks_version(words: &[Vec<u8>]) -> bool
+    ensures { result ≡ spec.asks_version (map (λ word. word.items) words.now) }
+{
+    has(words, "--version") || has(words, "-V")
+}
+
+/// Which reports words ask for.
+fn wanted<'a>(alloc: Global, words: &'a Words) -> Result<Reports<'a>, AllocError>
+    ensures { IfOk result (Wants words.now) }
+{
+    let leading = words.leading.as_slice();
     Ok(Reports {
         check: has(leading, "--check"),
-        json: has(leading, "--json"),
-        quiet: has(leading, "--quiet"),
-        names,
+        format: format_of(leading),
+        quiet: is_quiet(leading),
+        excluded: values(alloc, leading, "--exclude=")?,
+        included: values(alloc, leading, "--include=")?,
+        lists: values(alloc, leading, "--files-from=")?,
+        stdin_names: values(alloc, leading, "--stdin-filename=")?,
+        names: names_of(alloc, words)?,
     })
 }
 
-/// What arguments ask for, by those before the first `--` and those after it.
+/// What the words of a command line ask for.
 ///
-/// An unknown option comes before all else, then `--help`, then `--version`.
-fn asked_by<'a>(
-    alloc: Global,
-    leading: &'a [String],
-    trailing: &'a [String],
-) -> Result<Request<'a>, AllocError>
-    ensures { IfOk result (Asks (map string_bytes leading.now) (map string_bytes trailing.now)) }
+/// An unknown option comes before all else, then `--help`, `--version` and `--explain`.
+pub fn asked<'a>(alloc: Global, words: &'a Words) -> Result<Request<'a>, AllocError>
+    ensures { IfOk result (Asks words.now) }
 {
+    let leading = words.leading.as_slice();
     if let Some(option) = first_unknown(leading) {
         return Ok(Request::Unknown(option));
     }
-    if has(leading, "--help") {
+    if asks_help(leading) {
         return Ok(Request::Help);
     }
-    if has(leading, "--version") {
+    if asks_version(leading) {
         return Ok(Request::Version);
     }
-    let reports = wanted(alloc, leading, trailing)?;
+    if let Some(code) = first_value(leading, "--explain=") {
+        return Ok(Request::Explain(code));
+    }
+    let reports = wanted(alloc, words)?;
     Ok(Request::Reports(reports))
-}
-
-/// What arguments ask for.
-pub fn asked(alloc: Global, arguments: &[String]) -> Result<Request<'_>, AllocError> {
-    let count = leading_count(arguments);
-    let trailing = arguments.get(count.saturating_add(1)..).unwrap_or(&[]);
-    asked_by(alloc, &arguments[..count], trailing)
 }

@@ -81,6 +81,13 @@ impl<'a, W> Screen<'a, W> {
         }
     }
 
+    /// The output.
+    pub fn output(&self) -> &W
+        ensures { result.now ≡ self.now.output }
+    {
+        &self.output
+    }
+
     /// Shows how many files are done, if that is due.
     pub fn show(&mut self, done: usize)
         ensures { self.new.output ≡ self.old.output }

@@ -1,15 +1,52 @@
-//! Reads the text of a file or of standard input.
+//! The sources of a run: standard input and files. Reads the text of one.
 
-ghost use Rattle.std.specs.Prelude.{◌≤◌, IfOk, length, string_bytes};
+ghost use Rattle.std.specs.Prelude.{◌≡◌, ◌≤◌, ⊤, IfOk, IfSome, Option, length, string_bytes};
+ghost use Rattle.starlark_base.specs.Places.{Text};
 ghost use Rattle.starlark_run.specs.declared.ends.TheConstants.{GREATEST_LEN};
+ghost use Rattle.starlark_tokens.specs.SourceNames.{name_of, text_in};
 
 use starlark_base::codemap::ResolvedPos;
 use starlark_base::position::Position;
 use starlark_run::GREATEST_LEN;
 use std::alloc::{AllocError, Global};
-use std::io;
 use std::io::Read;
+use std::{fs, io};
 use thiserror::Error;
+
+/// The name of standard input among names of files.
+pub const STDIN: &str = "-";
+
+/// A source of a run.
+#[derive(Drop)]
+pub enum Source {
+    /// Standard input, by the name that reports have.
+    Input(String),
+    /// The file of a name.
+    File(String),
+}
+
+impl Source {
+    /// The name by which it is reported.
+    pub fn name(&self) -> &str
+        ensures { result.now ≡ name_of self.now }
+    {
+        match self {
+            Source::Input(name) => name.as_str(),
+            Source::File(name) => name.as_str(),
+        }
+    }
+}
+
+/// The sources of a run.
+#[derive(Drop)]
+pub struct Sources {
+    /// Those that are read, in order.
+    pub all: Vec<Source>,
+    /// How many others there are, which can't be read.
+    pub lost: usize,
+    /// Whether some were found in a folder.
+    pub are_found: bool,
+}
 
 /// Why a source has no text.
 #[derive(Debug, Drop, Error)]
@@ -33,7 +70,8 @@ impl From<io::Error> for SourceFault {
 
 /// Reads a reader to its end, or one byte more than a text may have.
 fn read_source_bytes<R: Read + Drop>(alloc: Global, reader: R) -> Result<Vec<u8>, SourceFault>
-    ensures { IfOk result (λ bytes. length bytes.items ≤ GREATEST_LEN) }
+    ensures short { IfOk result (λ bytes. length bytes.items ≤ GREATEST_LEN) }
+    ensures whole { IfOk result (λ bytes. IfSome (R.remaining reader) (λ all. bytes.items ≡ all)) }
 {
     let mut bytes = Vec::new(alloc);
     reader
@@ -56,9 +94,10 @@ fn bad_byte(bytes: &[u8], at: usize) -> SourceFault {
     SourceFault::NotUtf8 { byte, place }
 }
 
-/// Reads the text of a source.
-pub fn read_source<R: Read + Drop>(alloc: Global, reader: R) -> Result<String, SourceFault>
-    ensures { IfOk result (λ text. length (string_bytes text) ≤ GREATEST_LEN) }
+/// Reads the text of a reader.
+pub fn read_text<R: Read + Drop>(alloc: Global, reader: R) -> Result<String, SourceFault>
+    ensures short { IfOk result (λ text. length (string_bytes text) ≤ GREATEST_LEN) }
+    ensures whole { IfOk result (λ text. IfSome (R.remaining reader) (λ bytes. string_bytes text ≡ bytes)) }
 {
     let bytes = read_source_bytes(alloc, reader)?;
     match String::from_utf8(bytes) {
@@ -66,6 +105,31 @@ pub fn read_source<R: Read + Drop>(alloc: Global, reader: R) -> Result<String, S
         Err(error) => {
             let at = error.utf8_error().valid_up_to();
             Err(bad_byte(error.as_bytes(), at))
+        }
+    }
+}
+
+/// What the texts of sources are read from.
+pub trait Texts {
+    ghost use Rattle.starlark_tokens.specs.declared.sources.Source.{Source};
+
+    /// Whether reading a source gives this text, or nothing where it can't be read.
+    ghost gives: { Self → Source → Option Text → Type 0 };
+
+    /// Reads the text of a source.
+    fn text(&self, source: &Source) -> Result<String, SourceFault>
+        ensures short { IfOk result (λ text. length (string_bytes text) ≤ GREATEST_LEN) }
+        ensures given { gives self.now source.now (text_in result) };
+}
+
+/// The files of the system and its standard input. No contract says what they have.
+impl Texts for HostRuntime {
+    ghost gives = { λ _ _ _. ⊤ };
+
+    fn text(&self, source: &Source) -> Result<String, SourceFault> {
+        match source {
+            Source::Input(_) => read_text(self.alloc(), self.stdin()),
+            Source::File(name) => read_text(self.alloc(), fs::open(self, name.as_str())?),
         }
     }
 }

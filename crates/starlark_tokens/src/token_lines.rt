@@ -30,7 +30,7 @@ fn from_one(number: usize) -> u128
 }
 
 /// Appends the text before a number, and the number as one that counts from 1.
-fn push_field(line: &mut String, before: &str, number: usize) -> Result<(), AllocError>
+pub fn push_field(line: &mut String, before: &str, number: usize) -> Result<(), AllocError>
     ensures { OnOk result (string_bytes line.new ≡ string_bytes line.old ++ (before.now ++ decimal (number + 1))) }
 {
     let number = from_one(number);

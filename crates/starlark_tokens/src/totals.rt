@@ -1,8 +1,8 @@
 //! What was found in all files of a run.
 
-ghost use Rattle.std.specs.Prelude.{◌≡◌, None};
+ghost use Rattle.std.specs.Prelude.{◌≡◌, [], None};
 ghost use Rattle.starlark_tokens.specs.ExitStatus.{status_of};
-ghost use Rattle.starlark_tokens.specs.Totals.{with_file, with_source};
+ghost use Rattle.starlark_tokens.specs.Totals.{totals_of, with_file, with_source};
 
 use starlark_run::TROUBLE;
 
@@ -18,18 +18,22 @@ pub struct Totals {
     pub faulty_files: usize,
     /// How many faults they have.
     pub faults: usize,
-    /// Whether a file couldn't be read.
-    pub has_failed: bool,
+    /// How many files couldn't be read.
+    pub unreadable: usize,
 }
 
 impl Totals {
-    /// No files.
-    pub const NONE: Totals = Totals {
-        files: 0,
-        faulty_files: 0,
-        faults: 0,
-        has_failed: false,
-    };
+    /// No file, but for those that can't be read.
+    pub fn of_unreadable(unreadable: usize) -> Totals
+        ensures { result ≡ totals_of unreadable [] }
+    {
+        Totals {
+            files: 0,
+            faulty_files: 0,
+            faults: 0,
+            unreadable,
+        }
+    }
 
     /// Counts a file with this many faults.
     pub fn add(&mut self, faults: usize)
@@ -46,14 +50,14 @@ impl Totals {
     pub fn add_failure(&mut self)
         ensures { self.new ≡ with_source self.old None }
     {
-        self.has_failed = true;
+        self.unreadable = self.unreadable.saturating_add(1);
     }
 
     /// The exit status.
     pub fn status(self) -> u8
         ensures { result ≡ status_of self }
     {
-        if self.has_failed {
+        if self.unreadable > 0 {
             TROUBLE
         } else if self.faults == 0 {
             0

@@ -3,7 +3,7 @@ use Rattle.std.specs.Prelude.{◌≡◌, Bool, true, false, string_bytes}
 use Rattle.starlark_base.specs.Places.{Text}
 use Rattle.starlark_base.specs.Positions.{IsPosition}
 use Rattle.starlark_tokens.specs.declared.form.Form.{Form}
-use Rattle.starlark_tokens.specs.declared.form.Form.TheVariants.{Tokens, NamedTokens, Json, Faults, JsonFaults}
+use Rattle.starlark_tokens.specs.declared.form.Form.TheVariants.{Tokens, NamedTokens, Json}
 use Rattle.starlark_tokens.specs.declared.reporter.Reporter.{Reporter}
 
 -- both positions are some of the text
@@ -22,5 +22,4 @@ abbrev pub has_only_faults : Form → Bool
 has_only_faults Tokens = false
 has_only_faults NamedTokens = false
 has_only_faults Json = false
-has_only_faults Faults = true
-has_only_faults JsonFaults = true
+has_only_faults form = true

@@ -1,4 +1,7 @@
--- Where the fault of an error is shown.
+-- Where the fault of an error is shown, and its code.
+use Rattle.std.specs.Prelude.{Option, Some, None, []}
+use Rattle.starlark_base.specs.Places.{Text}
+use Rattle.starlark_token.specs.FaultCodes.{error_code}
 use Rattle.starlark_tokens.specs.declared.shown_places.Shown.{Shown}
 use Rattle.starlark_tokens.specs.declared.shown_places.Shown.TheVariants.{Begin, Tab, LastLine}
 use Rattle.starlark_syntax.specs.declared.error.kinds.ErrorKind.{ErrorKind}
@@ -11,3 +14,12 @@ abbrev pub shown_of_kind : ErrorKind → Shown
 shown_of_kind (Parser (Lexeme Indentation)) = LastLine
 shown_of_kind (Parser (Lexeme InvalidTab)) = Tab
 shown_of_kind kind = Begin
+
+abbrev or_empty : Option Text → Text
+or_empty None = []
+or_empty (Some code) = code
+
+-- the code of a fault; empty for an error that is none
+abbrev pub code_of_kind : ErrorKind → Text
+code_of_kind (Parser (Lexeme error)) = or_empty (error_code error)
+code_of_kind kind = []

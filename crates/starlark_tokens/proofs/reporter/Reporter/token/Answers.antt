@@ -4,7 +4,7 @@ use Rattle.starlark_token.specs.TokenViews.{TokenView}
 use Rattle.starlark_tokens.specs.Inner.Reporters.{has_only_faults}
 use Rattle.starlark_tokens.specs.Reports.{token_report}
 use Rattle.starlark_tokens.specs.declared.form.Form.{Form}
-use Rattle.starlark_tokens.specs.declared.form.Form.TheVariants.{Tokens, NamedTokens, Json, Faults, JsonFaults}
+use Rattle.starlark_tokens.specs.declared.form.Form.TheVariants.{Tokens, NamedTokens, Json, Faults, PaintedFaults, JsonFaults, Github, Sarif}
 use Rattle.starlark_base.specs.declared.position.Position.{Position}
 use Rattle.starlark_tokens.proofs.reporter.Reporter.token.Goals as goal
 
@@ -15,6 +15,9 @@ no_token NamedTokens prefix begin end node is = cc
 no_token Json prefix begin end node is = cc
 no_token Faults prefix begin end node is = refl
 no_token JsonFaults prefix begin end node is = refl
+no_token PaintedFaults prefix begin end node is = refl
+no_token Github prefix begin end node is = refl
+no_token Sarif prefix begin end node is = refl
 
 pub returns-then-has_only_faults-clause-lines : goal.returns-then-has_only_faults-clause-lines
 returns-then-has_only_faults-clause-lines c =

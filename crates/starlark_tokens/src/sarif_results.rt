@@ -1,0 +1,88 @@
+//! Results of SARIF.
+
+ghost use Rattle.std.specs.Prelude.{◌≡◌, ◌+◌, ◌++◌, OnOk, codes, string_bytes};
+ghost use Rattle.std.specs.List.{flat_map};
+ghost use Rattle.starlark_tokens.specs.SarifResults as spec;
+
+use crate::fault_lines::reason;
+use crate::json_strings::push_json_string;
+use crate::python_literals::{push_ascii, push_hex_pair};
+use crate::token_lines::push_field;
+use starlark_base::position::Position;
+use std::alloc::AllocError;
+
+/// Whether a byte stands for itself in a URI's path.
+fn is_unreserved(byte: u8) -> bool
+    ensures { result ≡ spec.is_unreserved byte }
+{
+    byte.is_ascii_alphanumeric() || matches!(byte, b'-' | b'.' | b'/' | b'_' | b'~')
+}
+
+/// Appends a byte of a path as a URI has it.
+fn push_uri_byte(line: &mut String, byte: u8) -> Result<(), AllocError>
+    ensures { OnOk result (string_bytes line.new ≡ string_bytes line.old ++ spec.uri_byte byte) }
+{
+    if is_unreserved(byte) {
+        return push_ascii(line, byte as char);
+    }
+    push_ascii(line, '%')?;
+    push_hex_pair(line, byte)
+}
+
+/// Appends the bytes of a path as a URI has them.
+fn push_uri_bytes(line: &mut String, path: &str) -> Result<(), AllocError>
+    ensures { OnOk result (string_bytes line.new ≡ string_bytes line.old ++ flat_map spec.uri_byte path.now) }
+{
+    for &byte in path.as_bytes() {
+        push_uri_byte(line, byte)?;
+    }
+    Ok(())
+}
+
+/// Appends a path as a URI: one that isn't absolute as a reference.
+pub fn push_uri(line: &mut String, path: &str) -> Result<(), AllocError>
+    ensures { OnOk result (string_bytes line.new ≡ string_bytes line.old ++ spec.uri path.now) }
+{
+    if path.starts_with("/") {
+        line.push_str("file://")?;
+    }
+    push_uri_bytes(line, path)
+}
+
+/// Appends the code and message of a result, after a comma.
+#[tactic(auto, unfolding(crate::specs::SarifResults::sarif_words))]
+fn push_sarif_words(line: &mut String, code: &str, message: &str) -> Result<(), AllocError>
+    ensures { OnOk result (string_bytes line.new ≡ string_bytes line.old ++ spec.sarif_words code.now message.now) }
+{
+    line.push_str(",\n{\"ruleId\":\"")?;
+    line.push_str(code)?;
+    line.push_str("\",\"level\":\"error\",\"message\":{\"text\":")?;
+    push_json_string(line, reason(message))?;
+    Ok(())
+}
+
+/// Appends the place of a result.
+#[tactic(auto, unfolding(crate::specs::SarifResults::sarif_place))]
+fn push_sarif_place(line: &mut String, prefix: &str, shown: Position) -> Result<(), AllocError>
+    ensures { OnOk result (string_bytes line.new ≡ string_bytes line.old ++ spec.sarif_place prefix.now shown.place) }
+{
+    push_field(line, prefix, shown.place.line)?;
+    push_field(line, ",\"startColumn\":", shown.place.column)?;
+    line.push_str("}}}]}")?;
+    Ok(())
+}
+
+/// Appends a fault as a result, after a comma.
+#[tactic(auto, unfolding(crate::specs::SarifResults::sarif_result))]
+pub fn push_sarif_fault(
+    line: &mut String,
+    prefix: &str,
+    shown: Position,
+    code: &str,
+    message: &str,
+) -> Result<(), AllocError>
+    ensures { OnOk result (string_bytes line.new ≡ string_bytes line.old ++ spec.sarif_result prefix.now shown.place code.now message.now) }
+{
+    push_sarif_words(line, code, message)?;
+    push_sarif_place(line, prefix, shown)
+}
