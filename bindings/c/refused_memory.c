@@ -1,9 +1,9 @@
-/* Refuses each allocation of a call of starlark_lex or starlark_lex_recovering in turn, and looks at
- * what the call tells.
+/* Refuses each allocation of a call of starlark_lex or starlark_lex_recovering in turn, and looks
+ * at what the call tells.
  *
- * It is linked with -Wl,--wrap=malloc,--wrap=realloc. Where an allocation was refused the status has
- * to be STARLARK_MEMORY, with the first lexemes and faults of the text in the buffers; else all is
- * as it is with enough memory. Half of the calls have buffers that are too small. */
+ * It is linked with -Wl,--wrap=malloc,--wrap=realloc. Where an allocation was refused the status
+ * has to be STARLARK_STATUS_MEMORY, with the first lexemes and faults of the text in the buffers;
+ * else all is as it is with enough memory. Half of the calls have buffers that are too small. */
 #include "starlark_lex.h"
 
 #include <stdbool.h>
@@ -59,7 +59,8 @@ static void lex(call *into, const char *text, size_t lexemes, long refused)
     memset(into, 0, sizeof *into);
     was_refused = false;
     until_refused = refused;
-    starlark_lex((const uint8_t *)text, strlen(text), into->lexemes, lexemes, into->values, ROOM, &into->outcome);
+    starlark_lex((const uint8_t *)text, strlen(text), into->lexemes, lexemes, into->values, ROOM,
+                 &into->outcome);
     until_refused = -1;
 }
 
@@ -67,10 +68,11 @@ static void lex(call *into, const char *text, size_t lexemes, long refused)
 static bool begins(const call *one, const call *other)
 {
     return memcmp(one->lexemes, other->lexemes, one->outcome.lexemes * sizeof(starlark_lexeme)) == 0
-        && memcmp(one->values, other->values, one->outcome.values) == 0;
+           && memcmp(one->values, other->values, one->outcome.values) == 0;
 }
 
-/* Refuses each allocation in turn. Returns how many were, or -1 where a call told something wrong. */
+/* Refuses each allocation in turn. Returns how many were, or -1 where a call told something wrong.
+ */
 static long refuse_each(const char *text, size_t lexemes)
 {
     static call whole, with_memory, without;
@@ -80,7 +82,7 @@ static long refuse_each(const char *text, size_t lexemes)
         lex(&without, text, lexemes, number);
         if (!was_refused)
             return memcmp(&without, &with_memory, sizeof without) == 0 ? number : -1;
-        if (without.outcome.status != STARLARK_MEMORY || !begins(&without, &whole))
+        if (without.outcome.status != STARLARK_STATUS_MEMORY || !begins(&without, &whole))
             return -1;
     }
 }
@@ -94,13 +96,14 @@ typedef struct recovery {
 
 /* A call of starlark_lex_recovering whose allocation of a number, from 0, is refused; none is where
  * that is below 0. */
-static void lex_recovering(recovery *into, const char *text, size_t lexemes, size_t faults, long refused)
+static void lex_recovering(recovery *into, const char *text, size_t lexemes, size_t faults,
+                           long refused)
 {
     memset(into, 0, sizeof *into);
     was_refused = false;
     until_refused = refused;
-    starlark_lex_recovering((const uint8_t *)text, strlen(text), into->lexemes, lexemes, into->values, ROOM, into->faults, faults,
-                            &into->outcome);
+    starlark_lex_recovering((const uint8_t *)text, strlen(text), into->lexemes, lexemes,
+                            into->values, ROOM, into->faults, faults, &into->outcome);
     until_refused = -1;
 }
 
@@ -119,12 +122,15 @@ static bool begins_and_ends(const void *one, const void *other, size_t end, size
 static bool begins_recovered(const recovery *one, const recovery *other)
 {
     const starlark_recovered *told = &one->outcome;
-    return told->status == STARLARK_MEMORY && told->next == 0 && told->wanted_lexemes == 0 && told->wanted_values == 0
-        && told->wanted_faults == 0 && told->lexemes <= other->outcome.lexemes && told->values <= other->outcome.values
-        && told->faults <= other->outcome.faults
-        && begins_and_ends(one->lexemes, other->lexemes, told->lexemes * sizeof(starlark_lexeme), sizeof one->lexemes)
-        && begins_and_ends(one->values, other->values, told->values, sizeof one->values)
-        && begins_and_ends(one->faults, other->faults, told->faults * sizeof(starlark_found_fault), sizeof one->faults);
+    return told->status == STARLARK_STATUS_MEMORY && told->next == 0 && told->wanted_lexemes == 0
+           && told->wanted_values == 0 && told->wanted_faults == 0
+           && told->lexemes <= other->outcome.lexemes && told->values <= other->outcome.values
+           && told->faults <= other->outcome.faults
+           && begins_and_ends(one->lexemes, other->lexemes, told->lexemes * sizeof(starlark_lexeme),
+                              sizeof one->lexemes)
+           && begins_and_ends(one->values, other->values, told->values, sizeof one->values)
+           && begins_and_ends(one->faults, other->faults,
+                              told->faults * sizeof(starlark_found_fault), sizeof one->faults);
 }
 
 /* Whether two calls did the same. Their outcomes are compared without the bytes between fields. */
@@ -134,7 +140,9 @@ static bool is_same(const recovery *one, const recovery *other)
     const starlark_recovered *wanted = &other->outcome;
     size_t counts = offsetof(starlark_recovered, lexemes);
     return memcmp(one, other, offsetof(recovery, outcome)) == 0 && told->status == wanted->status
-        && memcmp((const uint8_t *)told + counts, (const uint8_t *)wanted + counts, sizeof *told - counts) == 0;
+           && memcmp((const uint8_t *)told + counts, (const uint8_t *)wanted + counts,
+                     sizeof *told - counts)
+                  == 0;
 }
 
 /* Refuses each allocation of starlark_lex_recovering in turn. Returns how many were, or -1 where a
@@ -144,7 +152,7 @@ static long refuse_each_recovering(const char *text, size_t lexemes, size_t faul
     static recovery whole, with_memory, without;
     lex_recovering(&whole, text, ROOM, ROOM, -1);
     lex_recovering(&with_memory, text, lexemes, faults, -1);
-    if (whole.outcome.status != STARLARK_WHOLE)
+    if (whole.outcome.status != STARLARK_STATUS_WHOLE)
         return -1;
     for (long number = 0;; number++) {
         lex_recovering(&without, text, lexemes, faults, number);
@@ -167,7 +175,8 @@ int main(void)
     for (size_t at = 0; at < sizeof texts / sizeof *texts; at++) {
         for (size_t lexemes = 0; lexemes <= 40; lexemes++) {
             size_t room = lexemes == 40 ? ROOM : lexemes;
-            long found = sum(refuse_each_recovering(texts[at], room, ROOM), refuse_each_recovering(texts[at], ROOM, room));
+            long found = sum(refuse_each_recovering(texts[at], room, ROOM),
+                             refuse_each_recovering(texts[at], ROOM, room));
             found = sum(found, refuse_each(texts[at], room));
             if (found < 0) {
                 fprintf(stderr, "refused_memory: text %zu, with %zu records\n", at, lexemes);

@@ -4,15 +4,27 @@
  * that it frees again. So calls may run at once in any number of threads, as long as no two of them
  * write into one buffer.
  *
- * A buffer is a pointer and its length: the number of its records, or of its bytes. The pointer
- * must not be NULL, not even with a length of 0. What a call reads and what it writes must not
- * overlap.
+ * A buffer is a pointer and its length: the number of its records, or of its bytes. With a length
+ * of 0 the pointer may be NULL. No buffer has more than PTRDIFF_MAX bytes, which no allocation has.
+ * What a call reads and what it writes must not overlap.
  *
  * Offsets and lengths count bytes, from 0. Texts are UTF-8 and have no terminating zero; a zero
  * byte is a character like others.
+ *
+ * The library is built for x86-64-v2 or 64-bit ARM, with the GNU C library 2.17 or later.
  */
 #ifndef STARLARK_LEX_H
 #define STARLARK_LEX_H
+
+/* The version of this header. starlark_lex_version tells that of the library. */
+#define STARLARK_LEX_VERSION_MAJOR 0
+#define STARLARK_LEX_VERSION_MINOR 2
+#define STARLARK_LEX_VERSION_PATCH 0
+
+/* The version as one number: 2000 for 0.2.0. */
+#define STARLARK_LEX_VERSION \
+    (1000000 * STARLARK_LEX_VERSION_MAJOR + 1000 * STARLARK_LEX_VERSION_MINOR \
+     + STARLARK_LEX_VERSION_PATCH)
 
 #include <stdbool.h>
 #include <stddef.h>
@@ -123,16 +135,16 @@ enum starlark_quotes {
 /* How lexing a text ended: what starlark_lex returns. starlark_lex_recovering returns some of them,
  * and says there what they mean. */
 enum starlark_status {
-    STARLARK_WHOLE = 0,    /* the text has no fault, and all its lexemes are in the buffers */
-    STARLARK_FAULT = 1,    /* the text has a fault; all lexemes before it are in the buffers */
-    STARLARK_FULL = 2,     /* the buffers have no room for the text, or the text is a front: they
-                              have a piece of it, if `next` isn't 0 */
-    STARLARK_NOT_UTF8 = 3, /* the bytes are not UTF-8 */
-    STARLARK_TOO_LONG = 4, /* the text has more than 4294967295 bytes */
-    STARLARK_MEMORY = 5    /* malloc or realloc returned NULL */
+    STARLARK_STATUS_WHOLE = 0,    /* the text has no fault, and the buffers have all its lexemes */
+    STARLARK_STATUS_FAULT = 1,    /* the text has a fault; the buffers have all lexemes before it */
+    STARLARK_STATUS_FULL = 2,     /* the buffers have no room for the text, or the text is a front:
+                                     they have a piece of it, if `next` isn't 0 */
+    STARLARK_STATUS_NOT_UTF8 = 3, /* the bytes are not UTF-8 */
+    STARLARK_STATUS_TOO_LONG = 4, /* the text has more than 4294967295 bytes */
+    STARLARK_STATUS_MEMORY = 5    /* malloc or realloc returned NULL */
 };
 
-/* A lexeme. 32 bytes, without padding where a size_t has 64 bits. */
+/* A lexeme: 32 bytes without padding. */
 typedef struct starlark_lexeme {
     uint32_t begin;     /* offset of its first byte in the text */
     uint32_t end;       /* offset in the text after its last byte */
@@ -153,39 +165,89 @@ typedef struct starlark_lexeme {
                            STARLARK_KIND_BYTES: the bytes with their escapes decoded */
 } starlark_lexeme;
 
-/* What a call of starlark_lex did. A field is 0 where its comment doesn't name the status. */
+/* What a call of starlark_lex did. A field that names statuses is 0 with all others. */
 typedef struct starlark_outcome {
     uint32_t status;          /* an enum starlark_status */
-    uint32_t fault_kind;      /* STARLARK_FAULT: an enum starlark_fault */
-    uint32_t fault_begin;     /* STARLARK_FAULT: offset of its first byte in the text */
-    uint32_t fault_end;       /* STARLARK_FAULT: offset in the text after its last byte */
-    size_t fault_value_begin; /* STARLARK_FAULT: offset in the buffer of values of the text that the
-                                 fault names */
-    size_t fault_value_len;   /* STARLARK_FAULT: length of that text in bytes; 0 for a kind that
-                                 names none */
+    uint32_t fault_kind;      /* FAULT: an enum starlark_fault */
+    uint32_t fault_begin;     /* FAULT: offset of its first byte in the text */
+    uint32_t fault_end;       /* FAULT: offset in the text after its last byte */
+    size_t fault_value_begin; /* FAULT: offset in the buffer of values of the text that it names */
+    size_t fault_value_len;   /* FAULT: length of that text; 0 for a kind that names none */
     size_t lexemes;           /* how many records in the buffer are right */
     size_t values;            /* how many bytes in the buffer of values are right */
-    size_t next;              /* STARLARK_WHOLE: the length of the text;
-                                 STARLARK_FULL: offset of a clean cut, where to go on; 0 where the
-                                     buffers have no room for the first piece;
-                                 STARLARK_NOT_UTF8: offset of the first byte that is not UTF-8 */
-    size_t wanted_lexemes;    /* STARLARK_FULL with next == 0: how many records the first piece of
-                                 the text needs */
-    size_t wanted_values;     /* STARLARK_FULL with next == 0: how many bytes of values it needs */
+    size_t next;              /* WHOLE: the length of the text;
+                                 FULL: offset of a clean cut, where to go on; 0 where the buffers
+                                     have no room for the first piece;
+                                 NOT_UTF8: offset of the first byte that is not UTF-8 */
+    size_t wanted_lexemes;    /* FULL with next == 0: how many records the first piece needs */
+    size_t wanted_values;     /* FULL with next == 0: how many bytes of values it needs */
 } starlark_outcome;
+
+/* A fault of a text that is lexed on after it: 40 bytes without padding. */
+typedef struct starlark_found_fault {
+    uint32_t kind;         /* an enum starlark_fault */
+    uint32_t begin;        /* offset of its first byte in the text */
+    uint32_t end;          /* offset in the text after its last byte */
+    uint32_t reserved;     /* 0 */
+    size_t lexemes_before; /* how many lexemes of the text are before it */
+    size_t value_begin;    /* offset in the buffer of values of the text that it names */
+    size_t value_len;      /* length of that text in bytes; 0 for a kind that names none */
+} starlark_found_fault;
+
+/* What a call of starlark_lex_recovering did. A field that names statuses is 0 with all others. */
+typedef struct starlark_recovered {
+    uint32_t status;       /* a STARLARK_STATUS_: all but FAULT */
+    size_t lexemes;        /* WHOLE, MEMORY: how many records in the buffer of lexemes are right */
+    size_t values;         /* WHOLE, MEMORY: how many bytes in the buffer of values are right */
+    size_t faults;         /* WHOLE, MEMORY: how many records in the buffer of faults are right */
+    size_t next;           /* WHOLE: the length of the text;
+                              NOT_UTF8: offset of the first byte that is not UTF-8 */
+    size_t wanted_lexemes; /* FULL: how many records of lexemes the whole text needs */
+    size_t wanted_values;  /* FULL: how many bytes of values it needs */
+    size_t wanted_faults;  /* FULL: how many records of faults it needs */
+} starlark_recovered;
+
+/* The line and columns of an offset in a text. Each counts from 0. */
+typedef struct starlark_text_place {
+    size_t line;         /* how many LF are before the offset */
+    size_t column;       /* how many characters are on the line before the offset */
+    size_t utf16_column; /* how many units of UTF-16 these take */
+} starlark_text_place;
+
+#if defined(__cplusplus) && __cplusplus >= 201103L
+#define STARLARK_LEX_ASSERT(test) static_assert(test, #test)
+#elif defined(__STDC_VERSION__) && __STDC_VERSION__ >= 201112L
+#define STARLARK_LEX_ASSERT(test) _Static_assert(test, #test)
+#else
+#define STARLARK_LEX_ASSERT(test) extern int starlark_lex_assert[(test) ? 1 : -1]
+#endif
+STARLARK_LEX_ASSERT(sizeof(size_t) == 8);
+STARLARK_LEX_ASSERT(sizeof(bool) == 1);
+STARLARK_LEX_ASSERT(sizeof(starlark_lexeme) == 32);
+STARLARK_LEX_ASSERT(sizeof(starlark_outcome) == 72);
+STARLARK_LEX_ASSERT(sizeof(starlark_found_fault) == 40);
+STARLARK_LEX_ASSERT(sizeof(starlark_recovered) == 64);
+STARLARK_LEX_ASSERT(sizeof(starlark_text_place) == 24);
+#undef STARLARK_LEX_ASSERT
+
+/* The version of the library, as STARLARK_LEX_VERSION has that of the header. */
+uint32_t starlark_lex_version(void);
 
 /* Lexes a text into two buffers, says in *outcome how that ended, and returns its status.
  *
  * Up to the counts in *outcome the buffers have the records of the text's lexemes, in order, and
  * their values, one after another. After a fault's lexemes the values have the text that the fault
  * names, and `values` counts it. After what is counted the buffers are as they were, except with
- * STARLARK_FULL.
+ * STARLARK_STATUS_FULL: then they have some more lexemes of the text, and are as they were after
+ * those.
  *
  * Where the buffers are full they have the lexemes up to offset `next` of the text, a clean cut: a
  * line ends there, and no bracket, block or f-string is open. The text from there on is lexed by a
  * next call, whose offsets count from there. The lexemes of all calls, one after another, are those
  * of the whole text. Each call tests that all bytes which it is given are UTF-8.
- */
+ *
+ * A text of n bytes has at most 2n + 1 lexemes, and n bytes of values with the text that its fault
+ * names. So buffers for these are never too small. */
 uint32_t starlark_lex(const uint8_t *text, size_t text_len,
                       starlark_lexeme *lexemes, size_t lexemes_cap,
                       uint8_t *values, size_t values_cap,
@@ -194,19 +256,46 @@ uint32_t starlark_lex(const uint8_t *text, size_t text_len,
 /* Lexes the front of a longer text up to the last offset in it where the lexer finds that the text
  * may be cut. Does all else as starlark_lex with the front.
  *
- * With STARLARK_FULL and `next` above 0 the buffers have the lexemes up to the clean cut `next`, which
- * are the first of the longer text, whatever follows the front. The text from there on is lexed by a
- * next call. With any other status no such offset was found that the buffers have room for. Then
- * STARLARK_WHOLE and STARLARK_FAULT say how the front ends as a text of its own, and not yet how the
- * longer text goes on: lex a longer front, or all that is left by starlark_lex.
+ * With STARLARK_STATUS_FULL and `next` above 0 the buffers have the lexemes up to the clean cut
+ * `next`, which are the first of the longer text, whatever follows the front. The text from there
+ * on is lexed by a next call. With any other status no such offset was found that the buffers have
+ * room for. Then STARLARK_STATUS_WHOLE and STARLARK_STATUS_FAULT say how the front ends as a text
+ * of its own. How the longer text goes on is known only of a fault that is final: see
+ * starlark_fault_is_final. Else lex a longer front, or all that is left by starlark_lex.
  *
  * A front ends at a character boundary, so best after an LF. It is tested for UTF-8 once. So a text
- * of any length is lexed with small buffers that stay in the caches of the processor, and a text that
- * is still being read is lexed as far as it is known. */
+ * of any length is lexed with small buffers that stay in the caches of the processor, and a text
+ * that is still being read is lexed as far as it is known. */
 uint32_t starlark_lex_front(const uint8_t *front, size_t front_len,
                             starlark_lexeme *lexemes, size_t lexemes_cap,
                             uint8_t *values, size_t values_cap,
                             starlark_outcome *outcome);
+
+/* Returns whether the fault of a front, which ends at an offset, is final: then it and all lexemes
+ * before it are those of the longer text, whatever follows the front. It is final where the front
+ * goes on after it, and ends with an LF. Give a longer front where it isn't. */
+bool starlark_fault_is_final(const uint8_t *front, size_t front_len, uint32_t fault_end);
+
+/* Lexes a whole text, on after each of its faults, into three buffers. Says in *outcome how that
+ * ended, and returns its status.
+ *
+ * With STARLARK_STATUS_WHOLE the buffers have all lexemes and all faults of the text, each in
+ * order, and their values. The values are one after another in the order of the text: what a fault
+ * names is after the values of the lexemes before it. All offsets count from the first byte of the
+ * text. After a fault lexing begins again where starlark_restart says.
+ *
+ * With STARLARK_STATUS_FULL one of the buffers has no room for all. A next call with buffers of the
+ * wanted sizes has room. So one call with empty buffers tells how much a text needs. The buffers
+ * have the lexemes and faults before the first that has no room, of which nothing is counted. With
+ * STARLARK_STATUS_MEMORY they have the first lexemes and faults of the text. After what they have
+ * they are as they were.
+ *
+ * The call tests once that the bytes are UTF-8, and lexes each byte once. */
+uint32_t starlark_lex_recovering(const uint8_t *text, size_t text_len,
+                                 starlark_lexeme *lexemes, size_t lexemes_cap,
+                                 uint8_t *values, size_t values_cap,
+                                 starlark_found_fault *faults, size_t faults_cap,
+                                 starlark_recovered *outcome);
 
 /* What starlark_restart returns where no fault of the text has the numbers. */
 #define STARLARK_NO_RESTART SIZE_MAX
@@ -226,90 +315,53 @@ uint32_t starlark_lex_front(const uint8_t *front, size_t front_len,
  *         size_t rest_len = text_len - from;
  *         starlark_lex(rest, rest_len, lexemes, lexemes_cap, values, values_cap, &outcome);
  *         show(from, lexemes, values, &outcome);
- *         if (outcome.status == STARLARK_FAULT)
+ *         if (outcome.status == STARLARK_STATUS_FAULT)
  *             from += starlark_restart(rest, rest_len, outcome.fault_begin, outcome.fault_end,
  *                                      outcome.fault_kind);
  *         else
  *             from += outcome.next;
- *     } while (outcome.status == STARLARK_FAULT
- *              || (outcome.status == STARLARK_FULL && outcome.next > 0));
+ *     } while (outcome.status == STARLARK_STATUS_FAULT
+ *              || (outcome.status == STARLARK_STATUS_FULL && outcome.next > 0));
  *
- * where offsets of lexemes and faults count from `from`. With STARLARK_FULL and `next` 0 larger
- * buffers are wanted. Both calls test that all bytes from there on are UTF-8. So a text with n
- * faults, far from each other, is read n times. starlark_lex_recovering finds the same in one call,
- * and reads the text once. */
+ * where offsets of lexemes and faults count from `from`. With STARLARK_STATUS_FULL and `next` 0
+ * larger buffers are wanted. Both calls test that all bytes from there on are UTF-8. So a text with
+ * n faults, far from each other, is read n times. starlark_lex_recovering finds the same in one
+ * call, and reads the text once. */
 size_t starlark_restart(const uint8_t *text, size_t text_len,
                         uint32_t fault_begin, uint32_t fault_end, uint32_t fault_kind);
-
-/* A fault of a text that is lexed on after it. 40 bytes, without padding where a size_t has 64
- * bits. */
-typedef struct starlark_found_fault {
-    uint32_t kind;         /* an enum starlark_fault */
-    uint32_t begin;        /* offset of its first byte in the text */
-    uint32_t end;          /* offset in the text after its last byte */
-    uint32_t reserved;     /* 0 */
-    size_t lexemes_before; /* how many lexemes of the text are before it */
-    size_t value_begin;    /* offset in the buffer of values of the text that it names */
-    size_t value_len;      /* length of that text in bytes; 0 for a kind that names none */
-} starlark_found_fault;
-
-/* What a call of starlark_lex_recovering did. A field is 0 where its comment doesn't name the
- * status. */
-typedef struct starlark_recovered {
-    uint32_t status;       /* STARLARK_WHOLE, STARLARK_FULL, STARLARK_NOT_UTF8, STARLARK_TOO_LONG or
-                              STARLARK_MEMORY */
-    size_t lexemes;        /* STARLARK_WHOLE, STARLARK_MEMORY: how many records in the buffer of
-                              lexemes are right */
-    size_t values;         /* STARLARK_WHOLE, STARLARK_MEMORY: how many bytes in the buffer of
-                              values are right */
-    size_t faults;         /* STARLARK_WHOLE, STARLARK_MEMORY: how many records in the buffer of
-                              faults are right */
-    size_t next;           /* STARLARK_WHOLE: the length of the text;
-                              STARLARK_NOT_UTF8: offset of the first byte that is not UTF-8 */
-    size_t wanted_lexemes; /* STARLARK_FULL: how many records of lexemes the whole text needs */
-    size_t wanted_values;  /* STARLARK_FULL: how many bytes of values it needs */
-    size_t wanted_faults;  /* STARLARK_FULL: how many records of faults it needs */
-} starlark_recovered;
-
-/* Lexes a whole text, on after each of its faults, into three buffers. Says in *outcome how that
- * ended, and returns its status.
- *
- * With STARLARK_WHOLE the buffers have all lexemes and all faults of the text, each in order, and
- * their values. The values are one after another in the order of the text: what a fault names is
- * after the values of the lexemes before it. All offsets count from the first byte of the text.
- * After a fault lexing begins again where starlark_restart says.
- *
- * With STARLARK_FULL one of the buffers has no room for all, and nothing in them is right. A next
- * call with buffers of the wanted sizes has room. So one call with empty buffers tells how much a
- * text needs. With STARLARK_MEMORY the buffers have the first lexemes and faults of the text. After
- * what is counted the buffers are as they were, except with STARLARK_FULL.
- *
- * The call tests once that the bytes are UTF-8, and lexes each byte once. */
-uint32_t starlark_lex_recovering(const uint8_t *text, size_t text_len,
-                                 starlark_lexeme *lexemes, size_t lexemes_cap,
-                                 uint8_t *values, size_t values_cap,
-                                 starlark_found_fault *faults, size_t faults_cap,
-                                 starlark_recovered *outcome);
-
-/* The line and columns of an offset in a text. Each counts from 0. */
-typedef struct starlark_text_place {
-    size_t line;         /* how many LF are before the offset */
-    size_t column;       /* how many characters are on the line before the offset */
-    size_t utf16_column; /* how many units of UTF-16 these take */
-} starlark_text_place;
 
 /* Tells the line and columns of an offset in *place, and returns true. Where the offset is past the
  * end of the text, or the text up to it is not UTF-8, as inside a character, it returns false, and
  * *place is as it was. It reads the text up to the offset. */
 bool starlark_place(const uint8_t *text, size_t text_len, size_t at, starlark_text_place *place);
 
+/* Moves *place from one offset of a text to a later one, and returns true. It has to be the place
+ * of the first offset, and is then what starlark_place tells of the later one. Where the offsets
+ * are out of order or past the end of the text, or the bytes between are not UTF-8, it returns
+ * false, and *place is as it was. It reads only the bytes between. So all places of a text cost one
+ * pass:
+ *
+ *     starlark_text_place place = {0, 0, 0};
+ *     size_t at = 0;
+ *     for (size_t index = 0; index < outcome.lexemes; index++) {
+ *         starlark_move_place(text, text_len, at, lexemes[index].begin, &place);
+ *         at = lexemes[index].begin;
+ *         show(&lexemes[index], &place);
+ *     } */
+bool starlark_move_place(const uint8_t *text, size_t text_len, size_t from, size_t to,
+                         starlark_text_place *place);
+
 /* Writes the name of a kind, such as "Identifier", if there is room for it, without a terminating
  * zero. Returns its length in bytes, which is 0 for a number that no kind has. */
 size_t starlark_kind_name(uint32_t kind, uint8_t *name, size_t name_cap);
 
+/* Writes the code of a fault, such as "SL008", if there is room for it, without a terminating zero.
+ * Returns its length in bytes, which is 0 for a number that no fault has. A code never changes. */
+size_t starlark_fault_code(uint32_t kind, uint8_t *code, size_t code_cap);
+
 /* Writes the message of a fault, if there is room for it, without a terminating zero. `named` is
- * the text that the fault names. Returns the message's length in bytes, which is 0 for a number that
- * no fault has. */
+ * the text that the fault names. Returns the message's length in bytes, which is 0 for a number
+ * that no fault has. */
 size_t starlark_fault_message(uint32_t kind, const uint8_t *named, size_t named_len,
                               uint8_t *message, size_t message_cap);
 

@@ -2,12 +2,12 @@
  *
  *     stored_texts STDIN STDOUT
  *
- * The files are those of crates/starlark_rows. Their parts `texts` are texts, and the lines that are
- * printed of each. Of a record that isn't a plain text (its fronts, a repetition, an edit) nothing is
- * compared. Each text of at most 64 bytes is also lexed in pieces, with buffers of each smaller size:
- * the pieces joined have to be the whole, what a call says it wants has to be enough for the next
- * one, and nothing may be written outside of what a call tells. Each text is also lexed front by
- * front, a short one with fronts of each length.
+ * The files are those of crates/starlark_rows. Their parts `texts` are texts, and the lines that
+ * are printed of each. Of a record that isn't a plain text (its fronts, a repetition, an edit)
+ * nothing is compared. Each text of at most 64 bytes is also lexed in pieces, with buffers of each
+ * smaller size: the pieces joined have to be the whole, what a call says it wants has to be enough
+ * for the next one, and nothing may be written outside of what a call tells. Each text is also
+ * lexed front by front, a short one with fronts of each length.
  *
  * Their parts `recovered` are texts that are lexed on after their faults, with buffers of each size
  * from 0 to what the whole text needs: by starlark_lex and starlark_restart, and by
@@ -26,7 +26,8 @@
 #define UNTOUCHED 0xA5
 
 _Static_assert(sizeof(size_t) != 8 || sizeof(starlark_lexeme) == 32, "a lexeme has 32 bytes");
-_Static_assert(sizeof(size_t) != 8 || sizeof(starlark_found_fault) == 40, "a found fault has 40 bytes");
+_Static_assert(sizeof(size_t) != 8 || sizeof(starlark_found_fault) == 40,
+               "a found fault has 40 bytes");
 
 typedef struct bytes {
     uint8_t *at;
@@ -170,7 +171,8 @@ static void add_value(text *line, const starlark_lexeme *lexeme, const uint8_t *
 }
 
 /* Appends the line of a lexeme of the text from an offset on. */
-static void add_lexeme(text *line, bytes source, size_t from, const starlark_lexeme *lexeme, const uint8_t *values)
+static void add_lexeme(text *line, bytes source, size_t from, const starlark_lexeme *lexeme,
+                       const uint8_t *values)
 {
     uint8_t name[32];
     size_t len = starlark_kind_name(lexeme->kind, name, sizeof name);
@@ -201,12 +203,15 @@ static starlark_found_fault fault_of(const starlark_outcome *outcome)
 }
 
 /* Appends the line of a fault of the text from an offset on. */
-static void add_fault(text *line, bytes source, size_t from, const starlark_found_fault *fault, const uint8_t *values)
+static void add_fault(text *line, bytes source, size_t from, const starlark_found_fault *fault,
+                      const uint8_t *values)
 {
     const uint8_t *named = values + fault->value_begin;
-    size_t len = starlark_fault_message(fault->kind, named, fault->value_len, (uint8_t *)line->at, 0);
+    size_t len =
+        starlark_fault_message(fault->kind, named, fault->value_len, (uint8_t *)line->at, 0);
     uint8_t *message = room_for(len);
-    if (len == 0 || starlark_fault_message(fault->kind, named, fault->value_len, message, len) != len)
+    if (len == 0
+        || starlark_fault_message(fault->kind, named, fault->value_len, message, len) != len)
         stop("a fault without a message");
     add_word(line, "fault ");
     add_number(line, from + fault->begin);
@@ -221,20 +226,23 @@ static void add_fault(text *line, bytes source, size_t from, const starlark_foun
 }
 
 /* Appends the lines of what a call found in the text from an offset on. */
-static void add_found(text *line, bytes source, size_t from, const starlark_outcome *outcome, const starlark_lexeme *lexemes, const uint8_t *values)
+static void add_found(text *line, bytes source, size_t from, const starlark_outcome *outcome,
+                      const starlark_lexeme *lexemes, const uint8_t *values)
 {
     for (size_t at = 0; at < outcome->lexemes; at++)
         add_lexeme(line, source, from, &lexemes[at], values);
-    if (outcome->status == STARLARK_FAULT) {
+    if (outcome->status == STARLARK_STATUS_FAULT) {
         starlark_found_fault fault = fault_of(outcome);
         add_fault(line, source, from, &fault, values);
     }
 }
 
 /* The lines that starlark_lex prints of a lexed text, after one with its number and status. */
-static void add_lines(text *line, size_t number, bytes source, const starlark_outcome *outcome, const starlark_lexeme *lexemes, const uint8_t *values)
+static void add_lines(text *line, size_t number, bytes source, const starlark_outcome *outcome,
+                      const starlark_lexeme *lexemes, const uint8_t *values)
 {
-    static const char *const said[] = {"clean", "fault", "full", "input is not UTF-8", "too long", "memory"};
+    static const char *const said[] = {"clean",    "fault", "full", "input is not UTF-8",
+                                       "too long", "memory"};
     add_word(line, "text ");
     add_number(line, number);
     add_word(line, ": ");
@@ -262,7 +270,8 @@ typedef struct buffers {
 
 static buffers buffers_of(size_t lexemes, size_t values)
 {
-    buffers made = {room_for((lexemes + GUARD) * sizeof(starlark_lexeme)), lexemes, room_for(values + GUARD), values};
+    buffers made = {room_for((lexemes + GUARD) * sizeof(starlark_lexeme)), lexemes,
+                    room_for(values + GUARD), values};
     memset(made.lexemes, UNTOUCHED, (lexemes + GUARD) * sizeof(starlark_lexeme));
     memset(made.values, UNTOUCHED, values + GUARD);
     return made;
@@ -275,13 +284,15 @@ static void release(buffers given)
 }
 
 /* starlark_lex or starlark_lex_front. */
-typedef uint32_t lex_call(const uint8_t *, size_t, starlark_lexeme *, size_t, uint8_t *, size_t, starlark_outcome *);
+typedef uint32_t lex_call(const uint8_t *, size_t, starlark_lexeme *, size_t, uint8_t *, size_t,
+                          starlark_outcome *);
 
 static starlark_outcome lex_by(lex_call *call, bytes source, buffers into)
 {
     starlark_outcome outcome;
     memset(&outcome, UNTOUCHED, sizeof outcome);
-    uint32_t status = call(source.at, source.len, into.lexemes, into.lexemes_cap, into.values, into.values_cap, &outcome);
+    uint32_t status = call(source.at, source.len, into.lexemes, into.lexemes_cap, into.values,
+                           into.values_cap, &outcome);
     if (status != outcome.status)
         stop("another status was returned than told");
     return outcome;
@@ -292,14 +303,16 @@ static starlark_outcome lex(bytes source, buffers into)
     return lex_by(starlark_lex, source, into);
 }
 
-/* Whether nothing is written after what an outcome counts, or after the buffers where they are full. */
+/* Whether nothing is written after what an outcome counts, or after the buffers where they are
+ * full. */
 static bool is_kept(buffers into, const starlark_outcome *outcome)
 {
-    bool is_full = outcome->status == STARLARK_FULL;
+    bool is_full = outcome->status == STARLARK_STATUS_FULL;
     size_t lexemes = is_full ? into.lexemes_cap : outcome->lexemes;
     size_t values = is_full ? into.values_cap : outcome->values;
-    return is_untouched(into.lexemes + lexemes, (into.lexemes_cap + GUARD - lexemes) * sizeof(starlark_lexeme))
-        && is_untouched(into.values + values, into.values_cap + GUARD - values);
+    return is_untouched(into.lexemes + lexemes,
+                        (into.lexemes_cap + GUARD - lexemes) * sizeof(starlark_lexeme))
+           && is_untouched(into.values + values, into.values_cap + GUARD - values);
 }
 
 /* A text that was lexed at once: what a call that had room for it did. */
@@ -310,31 +323,39 @@ typedef struct lexed {
 } lexed;
 
 /* Whether a record of a piece that begins at an offset is the record of the whole text. */
-static bool is_same(const lexed *whole, size_t index, size_t from, const starlark_lexeme *lexeme, const uint8_t *values)
+static bool is_same(const lexed *whole, size_t index, size_t from, const starlark_lexeme *lexeme,
+                    const uint8_t *values)
 {
     const starlark_lexeme *wanted = &whole->into.lexemes[index];
     return lexeme->begin + from == wanted->begin && lexeme->end + from == wanted->end
-        && lexeme->kind == wanted->kind && lexeme->detail == wanted->detail && lexeme->integer == wanted->integer
-        && lexeme->value_len == wanted->value_len
-        && memcmp(values + lexeme->value_begin, whole->into.values + wanted->value_begin, wanted->value_len) == 0;
+           && lexeme->kind == wanted->kind && lexeme->detail == wanted->detail
+           && lexeme->integer == wanted->integer && lexeme->value_len == wanted->value_len
+           && memcmp(values + lexeme->value_begin, whole->into.values + wanted->value_begin,
+                     wanted->value_len)
+                  == 0;
 }
 
 /* Whether the fault of the last piece, which begins at an offset, is that of the whole text. */
-static bool is_same_fault(const lexed *whole, size_t from, const starlark_outcome *last, const uint8_t *values)
+static bool is_same_fault(const lexed *whole, size_t from, const starlark_outcome *last,
+                          const uint8_t *values)
 {
     const starlark_outcome *wanted = &whole->outcome;
-    if (wanted->status != STARLARK_FAULT)
+    if (wanted->status != STARLARK_STATUS_FAULT)
         return last->fault_kind == 0;
     return last->fault_kind == wanted->fault_kind && last->fault_begin + from == wanted->fault_begin
-        && last->fault_end + from == wanted->fault_end && last->fault_value_len == wanted->fault_value_len
-        && memcmp(values + last->fault_value_begin, whole->into.values + wanted->fault_value_begin, wanted->fault_value_len) == 0;
+           && last->fault_end + from == wanted->fault_end
+           && last->fault_value_len == wanted->fault_value_len
+           && memcmp(values + last->fault_value_begin,
+                     whole->into.values + wanted->fault_value_begin, wanted->fault_value_len)
+                  == 0;
 }
 
 /* Whether a call's records are those of the whole text from an index on. */
-static bool are_next(const lexed *whole, size_t index, size_t from, const starlark_outcome *outcome, buffers into)
+static bool are_next(const lexed *whole, size_t index, size_t from, const starlark_outcome *outcome,
+                     buffers into)
 {
-    if (!is_kept(into, outcome) || outcome->lexemes > into.lexemes_cap || outcome->values > into.values_cap
-        || index + outcome->lexemes > whole->outcome.lexemes)
+    if (!is_kept(into, outcome) || outcome->lexemes > into.lexemes_cap
+        || outcome->values > into.values_cap || index + outcome->lexemes > whole->outcome.lexemes)
         return false;
     for (size_t at = 0; at < outcome->lexemes; at++)
         if (!is_same(whole, index + at, from, &into.lexemes[at], into.values))
@@ -351,25 +372,29 @@ static bool are_pieces(const lexed *whole, size_t lexemes, size_t values, size_t
     size_t index = 0;
     bool is_larger = false;
     for (;;) {
-        starlark_outcome outcome = lex((bytes){whole->source.at + from, whole->source.len - from}, into);
+        starlark_outcome outcome =
+            lex((bytes){whole->source.at + from, whole->source.len - from}, into);
         ++*calls;
         bool is_right = are_next(whole, index, from, &outcome, into);
         index += outcome.lexemes;
-        if (outcome.status != STARLARK_FULL) {
-            is_right = is_right && outcome.status == whole->outcome.status && index == whole->outcome.lexemes
-                && is_same_fault(whole, from, &outcome, into.values);
+        if (outcome.status != STARLARK_STATUS_FULL) {
+            is_right = is_right && outcome.status == whole->outcome.status
+                       && index == whole->outcome.lexemes
+                       && is_same_fault(whole, from, &outcome, into.values);
             release(into);
             return is_right;
         }
-        bool has_room = outcome.wanted_lexemes <= into.lexemes_cap && outcome.wanted_values <= into.values_cap;
+        bool has_room =
+            outcome.wanted_lexemes <= into.lexemes_cap && outcome.wanted_values <= into.values_cap;
         is_right = is_right && (outcome.next == 0) == !has_room && !(is_larger && outcome.next == 0)
-            && (outcome.next == 0 || whole->source.at[from + outcome.next - 1] == '\n');
+                   && (outcome.next == 0 || whole->source.at[from + outcome.next - 1] == '\n');
         is_larger = outcome.next == 0;
         from += outcome.next;
         release(into);
         if (!is_right)
             return false;
-        into = is_larger ? buffers_of(outcome.wanted_lexemes, outcome.wanted_values) : buffers_of(lexemes, values);
+        into = is_larger ? buffers_of(outcome.wanted_lexemes, outcome.wanted_values)
+                         : buffers_of(lexemes, values);
     }
 }
 
@@ -380,7 +405,8 @@ static bool are_all_pieces(const lexed *whole, size_t *calls)
         if (!are_pieces(whole, lexemes, whole->outcome.values, calls))
             return false;
     for (size_t values = 0; values <= whole->outcome.values; values++)
-        if (!are_pieces(whole, whole->outcome.lexemes, values, calls) || !are_pieces(whole, values + 1, values, calls))
+        if (!are_pieces(whole, whole->outcome.lexemes, values, calls)
+            || !are_pieces(whole, values + 1, values, calls))
             return false;
     return true;
 }
@@ -408,14 +434,17 @@ static bool are_fronts(const lexed *whole, size_t len, size_t *calls, size_t *cu
         buffers into = buffers_of(2 * front.len + 1, 2 * front.len);
         starlark_outcome outcome = lex_by(starlark_lex_front, front, into);
         ++*calls;
-        bool is_cut = outcome.status == STARLARK_FULL;
+        bool is_cut = outcome.status == STARLARK_STATUS_FULL;
         bool is_last = !is_cut && front.len == rest.len;
-        bool is_right = is_cut || is_last ? are_next(whole, index, from, &outcome, into) : is_kept(into, &outcome);
+        bool is_right = is_cut || is_last ? are_next(whole, index, from, &outcome, into)
+                                          : is_kept(into, &outcome);
         if (is_cut)
-            is_right = is_right && outcome.next > 0 && outcome.next < front.len && front.at[outcome.next - 1] == '\n';
+            is_right = is_right && outcome.next > 0 && outcome.next < front.len
+                       && front.at[outcome.next - 1] == '\n';
         if (is_last)
             is_right = is_right && outcome.status == whole->outcome.status
-                && index + outcome.lexemes == whole->outcome.lexemes && is_same_fault(whole, from, &outcome, into.values);
+                       && index + outcome.lexemes == whole->outcome.lexemes
+                       && is_same_fault(whole, from, &outcome, into.values);
         release(into);
         if (!is_right || is_last)
             return is_right;
@@ -455,10 +484,13 @@ typedef struct recovery {
 static recovery recover(bytes source, sizes room)
 {
     size_t faults_len = (room.faults + GUARD) * sizeof(starlark_found_fault);
-    recovery call = {.into = buffers_of(room.lexemes, room.values), .faults = room_for(faults_len), .faults_cap = room.faults};
+    recovery call = {.into = buffers_of(room.lexemes, room.values),
+                     .faults = room_for(faults_len),
+                     .faults_cap = room.faults};
     memset(call.faults, UNTOUCHED, faults_len);
     memset(&call.outcome, UNTOUCHED, sizeof call.outcome);
-    uint32_t status = starlark_lex_recovering(source.at, source.len, call.into.lexemes, room.lexemes, call.into.values, room.values,
+    uint32_t status = starlark_lex_recovering(source.at, source.len, call.into.lexemes,
+                                              room.lexemes, call.into.values, room.values,
                                               call.faults, room.faults, &call.outcome);
     if (status != call.outcome.status)
         stop("another status was returned than told");
@@ -474,23 +506,31 @@ static void release_recovery(recovery call)
 /* Whether nothing is written after the first records and bytes of the buffers. */
 static bool is_written_up_to(const recovery *call, sizes written)
 {
-    return written.lexemes <= call->into.lexemes_cap && written.values <= call->into.values_cap && written.faults <= call->faults_cap
-        && is_untouched(call->into.lexemes + written.lexemes, (call->into.lexemes_cap + GUARD - written.lexemes) * sizeof(starlark_lexeme))
-        && is_untouched(call->into.values + written.values, call->into.values_cap + GUARD - written.values)
-        && is_untouched(call->faults + written.faults, (call->faults_cap + GUARD - written.faults) * sizeof(starlark_found_fault));
+    return written.lexemes <= call->into.lexemes_cap && written.values <= call->into.values_cap
+           && written.faults <= call->faults_cap
+           && is_untouched(call->into.lexemes + written.lexemes,
+                           (call->into.lexemes_cap + GUARD - written.lexemes)
+                               * sizeof(starlark_lexeme))
+           && is_untouched(call->into.values + written.values,
+                           call->into.values_cap + GUARD - written.values)
+           && is_untouched(call->faults + written.faults,
+                           (call->faults_cap + GUARD - written.faults)
+                               * sizeof(starlark_found_fault));
 }
 
 /* Whether nothing is written after the buffers. */
 static bool is_guarded(const recovery *call)
 {
-    return is_written_up_to(call, (sizes){call->into.lexemes_cap, call->into.values_cap, call->faults_cap});
+    return is_written_up_to(
+        call, (sizes){call->into.lexemes_cap, call->into.values_cap, call->faults_cap});
 }
 
 /* Whether a call tells these counts, and that it wants so much. */
 static bool tells(const starlark_recovered *outcome, sizes counts, sizes wanted)
 {
-    return outcome->lexemes == counts.lexemes && outcome->values == counts.values && outcome->faults == counts.faults
-        && outcome->wanted_lexemes == wanted.lexemes && outcome->wanted_values == wanted.values && outcome->wanted_faults == wanted.faults;
+    return outcome->lexemes == counts.lexemes && outcome->values == counts.values
+           && outcome->faults == counts.faults && outcome->wanted_lexemes == wanted.lexemes
+           && outcome->wanted_values == wanted.values && outcome->wanted_faults == wanted.faults;
 }
 
 static const sizes nothing = {0, 0, 0};
@@ -500,8 +540,8 @@ static const sizes nothing = {0, 0, 0};
 static bool is_whole(const recovery *call, bytes source, sizes counts)
 {
     const starlark_recovered *outcome = &call->outcome;
-    if (outcome->status != STARLARK_WHOLE || outcome->next != source.len || !tells(outcome, counts, nothing)
-        || !is_written_up_to(call, counts))
+    if (outcome->status != STARLARK_STATUS_WHOLE || outcome->next != source.len
+        || !tells(outcome, counts, nothing) || !is_written_up_to(call, counts))
         return false;
     size_t value = 0;
     size_t fault = 0;
@@ -522,8 +562,8 @@ static bool is_whole(const recovery *call, bytes source, sizes counts)
 static bool is_full(bytes source, sizes room, sizes wanted)
 {
     recovery call = recover(source, room);
-    bool is_right = call.outcome.status == STARLARK_FULL && call.outcome.next == 0 && tells(&call.outcome, nothing, wanted)
-        && is_guarded(&call);
+    bool is_right = call.outcome.status == STARLARK_STATUS_FULL && call.outcome.next == 0
+                    && tells(&call.outcome, nothing, wanted) && is_guarded(&call);
     release_recovery(call);
     return is_right;
 }
@@ -535,18 +575,21 @@ static bool are_all_full(bytes source, sizes wanted)
     for (size_t less = 0; less < wanted.lexemes; less++)
         is_right = is_right && is_full(source, (sizes){less, wanted.values, wanted.faults}, wanted);
     for (size_t less = 0; less < wanted.values; less++)
-        is_right = is_right && is_full(source, (sizes){wanted.lexemes, less, wanted.faults}, wanted);
+        is_right =
+            is_right && is_full(source, (sizes){wanted.lexemes, less, wanted.faults}, wanted);
     for (size_t less = 0; less < wanted.faults; less++)
-        is_right = is_right && is_full(source, (sizes){wanted.lexemes, wanted.values, less}, wanted);
+        is_right =
+            is_right && is_full(source, (sizes){wanted.lexemes, wanted.values, less}, wanted);
     return is_right;
 }
 
-/* Whether a call tells of bytes that are not UTF-8 where the first of them is, and writes nothing. */
+/* Whether a call tells of bytes that are not UTF-8 where the first of them is, and writes nothing.
+ */
 static bool is_not_utf8(bytes source, size_t first)
 {
     recovery call = recover(source, (sizes){source.len + 1, source.len, source.len});
-    bool is_right = call.outcome.status == STARLARK_NOT_UTF8 && call.outcome.next == first && tells(&call.outcome, nothing, nothing)
-        && is_written_up_to(&call, nothing);
+    bool is_right = call.outcome.status == STARLARK_STATUS_NOT_UTF8 && call.outcome.next == first
+                    && tells(&call.outcome, nothing, nothing) && is_written_up_to(&call, nothing);
     release_recovery(call);
     return is_right;
 }
@@ -555,7 +598,8 @@ static bool is_not_utf8(bytes source, size_t first)
 static sizes wanted_by(bytes source)
 {
     recovery call = recover(source, nothing);
-    sizes wanted = {call.outcome.wanted_lexemes, call.outcome.wanted_values, call.outcome.wanted_faults};
+    sizes wanted = {call.outcome.wanted_lexemes, call.outcome.wanted_values,
+                    call.outcome.wanted_faults};
     release_recovery(call);
     return wanted;
 }
@@ -564,26 +608,31 @@ static sizes wanted_by(bytes source)
 static bool is_fault(const starlark_found_fault *one, const starlark_found_fault *other)
 {
     return one->kind == other->kind && one->begin == other->begin && one->end == other->end
-        && one->lexemes_before == other->lexemes_before && one->value_begin == other->value_begin
-        && one->value_len == other->value_len;
+           && one->lexemes_before == other->lexemes_before && one->value_begin == other->value_begin
+           && one->value_len == other->value_len;
 }
 
-/* Whether starlark_lex_recovering finds of a text what starlark_lex found, and then what comes after
- * the fault, if there is one. */
+/* Whether starlark_lex_recovering finds of a text what starlark_lex found, and then what comes
+ * after the fault, if there is one. */
 static bool is_recovered(const lexed *whole)
 {
     const starlark_outcome *found = &whole->outcome;
-    if (found->status == STARLARK_NOT_UTF8)
+    if (found->status == STARLARK_STATUS_NOT_UTF8)
         return is_not_utf8(whole->source, found->next);
     sizes wanted = wanted_by(whole->source);
     recovery call = recover(whole->source, wanted);
-    bool has_fault = found->status == STARLARK_FAULT;
+    bool has_fault = found->status == STARLARK_STATUS_FAULT;
     starlark_found_fault fault = fault_of(found);
-    bool is_right = is_whole(&call, whole->source, wanted)
-        && (has_fault ? wanted.faults > 0 && wanted.lexemes >= found->lexemes && wanted.values >= found->values
-                      : wanted.faults == 0 && wanted.lexemes == found->lexemes && wanted.values == found->values)
-        && memcmp(call.into.lexemes, whole->into.lexemes, found->lexemes * sizeof(starlark_lexeme)) == 0
-        && memcmp(call.into.values, whole->into.values, found->values) == 0 && (!has_fault || is_fault(&call.faults[0], &fault));
+    bool is_right =
+        is_whole(&call, whole->source, wanted)
+        && (has_fault ? wanted.faults > 0 && wanted.lexemes >= found->lexemes
+                            && wanted.values >= found->values
+                      : wanted.faults == 0 && wanted.lexemes == found->lexemes
+                            && wanted.values == found->values)
+        && memcmp(call.into.lexemes, whole->into.lexemes, found->lexemes * sizeof(starlark_lexeme))
+               == 0
+        && memcmp(call.into.values, whole->into.values, found->values) == 0
+        && (!has_fault || is_fault(&call.faults[0], &fault));
     release_recovery(call);
     return is_right;
 }
@@ -602,26 +651,33 @@ static size_t compare(bytes source, size_t number, bytes printed, size_t at, tal
     buffers into = buffers_of(2 * source.len + 1, 2 * source.len);
     starlark_outcome outcome = lex(source, into);
     text line = {NULL, 0, 0};
-    if (outcome.status == STARLARK_FULL || outcome.status == STARLARK_MEMORY || !is_kept(into, &outcome))
+    if (outcome.status == STARLARK_STATUS_FULL || outcome.status == STARLARK_STATUS_MEMORY
+        || !is_kept(into, &outcome))
         stop("a call didn't do what it has to");
     add_lines(&line, number, source, &outcome, into.lexemes, into.values);
     if (printed.len - at < line.len || memcmp(printed.at + at, line.at, line.len) != 0) {
-        fprintf(stderr, "stored_texts: text %zu is lexed otherwise:\n%.*s", number, (int)line.len, line.at);
+        fprintf(stderr, "stored_texts: text %zu is lexed otherwise:\n%.*s", number, (int)line.len,
+                line.at);
         exit(1);
     }
     counts->texts++;
     counts->lexemes += outcome.lexemes;
     lexed whole = {source, into, outcome};
-    if (source.len <= SMALL_TEXT && outcome.status <= STARLARK_FAULT && !are_all_pieces(&whole, &counts->calls)) {
-        fprintf(stderr, "stored_texts: the pieces of text %zu, with small buffers, are not the whole\n", number);
+    if (source.len <= SMALL_TEXT && outcome.status <= STARLARK_STATUS_FAULT
+        && !are_all_pieces(&whole, &counts->calls)) {
+        fprintf(stderr,
+                "stored_texts: the pieces of text %zu, with small buffers, are not the whole\n",
+                number);
         exit(1);
     }
-    if (outcome.status <= STARLARK_FAULT && !are_all_fronts(&whole, &counts->calls, &counts->cuts)) {
+    if (outcome.status <= STARLARK_STATUS_FAULT
+        && !are_all_fronts(&whole, &counts->calls, &counts->cuts)) {
         fprintf(stderr, "stored_texts: the fronts of text %zu are not the whole\n", number);
         exit(1);
     }
     if (!is_recovered(&whole)) {
-        fprintf(stderr, "stored_texts: text %zu is lexed otherwise by starlark_lex_recovering\n", number);
+        fprintf(stderr, "stored_texts: text %zu is lexed otherwise by starlark_lex_recovering\n",
+                number);
         exit(1);
     }
     release(into);
@@ -653,9 +709,10 @@ static size_t skip_record(bytes printed, size_t at, size_t number)
 /* Where the call after an outcome begins, counted from where the call itself began. */
 static size_t next_call(bytes rest, const starlark_outcome *outcome)
 {
-    if (outcome->status != STARLARK_FAULT)
+    if (outcome->status != STARLARK_STATUS_FAULT)
         return outcome->next;
-    size_t next = starlark_restart(rest.at, rest.len, outcome->fault_begin, outcome->fault_end, outcome->fault_kind);
+    size_t next = starlark_restart(rest.at, rest.len, outcome->fault_begin, outcome->fault_end,
+                                   outcome->fault_kind);
     if (next > rest.len || next == 0)
         stop("lexing doesn't begin again after a fault");
     return next;
@@ -667,21 +724,22 @@ static size_t add_recovered(text *line, bytes source, size_t lexemes, size_t val
 {
     size_t from = 0;
     size_t calls = 0;
-    uint32_t status = STARLARK_FAULT;
+    uint32_t status = STARLARK_STATUS_FAULT;
     buffers into = buffers_of(lexemes, values);
-    while (status == STARLARK_FAULT || status == STARLARK_FULL) {
+    while (status == STARLARK_STATUS_FAULT || status == STARLARK_STATUS_FULL) {
         bytes rest = {source.at + from, source.len - from};
         starlark_outcome outcome = lex(rest, into);
         status = outcome.status;
         calls++;
         add_found(line, source, from, &outcome, into.lexemes, into.values);
         from += next_call(rest, &outcome);
-        bool is_larger = status == STARLARK_FULL && outcome.next == 0;
+        bool is_larger = status == STARLARK_STATUS_FULL && outcome.next == 0;
         release(into);
-        into = is_larger ? buffers_of(outcome.wanted_lexemes, outcome.wanted_values) : buffers_of(lexemes, values);
+        into = is_larger ? buffers_of(outcome.wanted_lexemes, outcome.wanted_values)
+                         : buffers_of(lexemes, values);
     }
     release(into);
-    if (status != STARLARK_WHOLE)
+    if (status != STARLARK_STATUS_WHOLE)
         stop("a text is lexed to no end");
     return calls;
 }
@@ -700,16 +758,18 @@ static text numbered(size_t number)
 static size_t compare_lines(text line, size_t number, bytes printed, size_t at)
 {
     if (printed.len - at < line.len || memcmp(printed.at + at, line.at, line.len) != 0) {
-        fprintf(stderr, "stored_texts: text %zu is lexed on otherwise:\n%.*s", number, (int)line.len, line.at);
+        fprintf(stderr, "stored_texts: text %zu is lexed on otherwise:\n%.*s", number,
+                (int)line.len, line.at);
         exit(1);
     }
     free(line.at);
     return at + line.len;
 }
 
-/* Lexes a text on after its faults by buffers of a size, and returns the end of its lines in what has
- * to be printed. */
-static size_t compare_recovered(bytes source, size_t number, bytes printed, size_t at, size_t lexemes, size_t values, tally *counts)
+/* Lexes a text on after its faults by buffers of a size, and returns the end of its lines in what
+ * has to be printed. */
+static size_t compare_recovered(bytes source, size_t number, bytes printed, size_t at,
+                                size_t lexemes, size_t values, tally *counts)
 {
     text line = numbered(number);
     counts->calls += add_recovered(&line, source, lexemes, values);
@@ -728,9 +788,10 @@ static void add_all(text *line, bytes source, const recovery *call)
     }
 }
 
-/* Lexes a text on after its faults by one call with buffers of some sizes, and returns the end of its
- * lines in what has to be printed. */
-static size_t compare_one_call(bytes source, size_t number, bytes printed, size_t at, sizes room, sizes wanted)
+/* Lexes a text on after its faults by one call with buffers of some sizes, and returns the end of
+ * its lines in what has to be printed. */
+static size_t compare_one_call(bytes source, size_t number, bytes printed, size_t at, sizes room,
+                               sizes wanted)
 {
     recovery call = recover(source, room);
     text line = numbered(number);
@@ -743,9 +804,9 @@ static size_t compare_one_call(bytes source, size_t number, bytes printed, size_
     return compare_lines(line, number, printed, at);
 }
 
-/* Lexes a text on after its faults by starlark_lex_recovering: with the room that it wants, with more
- * and with less, and with bytes after it that are not UTF-8. Returns the end of its lines in what has
- * to be printed. */
+/* Lexes a text on after its faults by starlark_lex_recovering: with the room that it wants, with
+ * more and with less, and with bytes after it that are not UTF-8. Returns the end of its lines in
+ * what has to be printed. */
 static size_t compare_recovering(bytes source, size_t number, bytes printed, size_t at)
 {
     sizes wanted = wanted_by(source);
@@ -756,7 +817,10 @@ static size_t compare_recovering(bytes source, size_t number, bytes printed, siz
     memcpy(longer.at, source.at, source.len);
     memcpy(longer.at + source.len, "\xe2\x82", 2);
     if (!is_right || !are_all_full(source, wanted) || !is_not_utf8(longer, source.len)) {
-        fprintf(stderr, "stored_texts: a call tells something wrong of text %zu, with small buffers or not UTF-8\n", number);
+        fprintf(stderr,
+                "stored_texts: a call tells something wrong of text %zu, with small buffers or not "
+                "UTF-8\n",
+                number);
         exit(1);
     }
     free(longer.at);
@@ -773,8 +837,12 @@ static void compare_all_recovered(bytes stored, bytes printed)
         bytes source = {stored.at + begin, strtoul((char *)stored.at + at, NULL, 10)};
         size_t end = compare_recovering(source, counts.texts + 1, printed, out);
         for (size_t room = 0; room <= 2 * source.len + 1; room++)
-            if (compare_recovered(source, counts.texts + 1, printed, out, room, 2 * source.len, &counts) != end
-                || compare_recovered(source, counts.texts + 1, printed, out, 2 * source.len + 1, room, &counts) != end)
+            if (compare_recovered(source, counts.texts + 1, printed, out, room, 2 * source.len,
+                                  &counts)
+                    != end
+                || compare_recovered(source, counts.texts + 1, printed, out, 2 * source.len + 1,
+                                     room, &counts)
+                       != end)
                 stop("a text has more lines with other buffers");
         out = end;
         at = begin + source.len + 1;
@@ -787,22 +855,26 @@ static void compare_all_recovered(bytes stored, bytes printed)
 /* Whether there is nowhere to begin again after a fault of these numbers. */
 static bool is_no_restart(const char *source, uint32_t begin, uint32_t end, uint32_t kind)
 {
-    return starlark_restart((const uint8_t *)source, strlen(source), begin, end, kind) == STARLARK_NO_RESTART;
+    return starlark_restart((const uint8_t *)source, strlen(source), begin, end, kind)
+           == STARLARK_NO_RESTART;
 }
 
 /* Calls with numbers of no fault. */
 static void refuse_numbers(void)
 {
     const char *source = "\xc3\xa9 ?\nx\n";
-    bool is_right = starlark_restart((const uint8_t *)source, strlen(source), 3, 4, STARLARK_FAULT_INVALID_INPUT) == 5
-        && is_no_restart(source, 3, 4, 0) && is_no_restart(source, 3, 4, 10) && is_no_restart(source, 3, 4, UINT32_MAX)
-        && is_no_restart(source, 4, 3, STARLARK_FAULT_INVALID_INPUT)
-        && is_no_restart(source, 1, 4, STARLARK_FAULT_INVALID_INPUT)
-        && is_no_restart(source, 0, 1, STARLARK_FAULT_INVALID_INPUT)
-        && is_no_restart(source, 3, 8, STARLARK_FAULT_INVALID_INPUT)
-        && is_no_restart(source, UINT32_MAX, UINT32_MAX, STARLARK_FAULT_INVALID_INPUT)
-        && is_no_restart("?\xff", 0, 1, STARLARK_FAULT_INVALID_INPUT)
-        && is_no_restart("", 0, 1, STARLARK_FAULT_INVALID_INPUT);
+    bool is_right = starlark_restart((const uint8_t *)source, strlen(source), 3, 4,
+                                     STARLARK_FAULT_INVALID_INPUT)
+                        == 5
+                    && is_no_restart(source, 3, 4, 0) && is_no_restart(source, 3, 4, 10)
+                    && is_no_restart(source, 3, 4, UINT32_MAX)
+                    && is_no_restart(source, 4, 3, STARLARK_FAULT_INVALID_INPUT)
+                    && is_no_restart(source, 1, 4, STARLARK_FAULT_INVALID_INPUT)
+                    && is_no_restart(source, 0, 1, STARLARK_FAULT_INVALID_INPUT)
+                    && is_no_restart(source, 3, 8, STARLARK_FAULT_INVALID_INPUT)
+                    && is_no_restart(source, UINT32_MAX, UINT32_MAX, STARLARK_FAULT_INVALID_INPUT)
+                    && is_no_restart("?\xff", 0, 1, STARLARK_FAULT_INVALID_INPUT)
+                    && is_no_restart("", 0, 1, STARLARK_FAULT_INVALID_INPUT);
     if (!is_right)
         stop("numbers of no fault have a place to begin again");
 }
@@ -814,7 +886,7 @@ static size_t cut_of(const char *front)
     buffers into = buffers_of(2 * source.len + 1, 2 * source.len);
     starlark_outcome outcome = lex_by(starlark_lex_front, source, into);
     release(into);
-    return outcome.status == STARLARK_FULL ? outcome.next : 0;
+    return outcome.status == STARLARK_STATUS_FULL ? outcome.next : 0;
 }
 
 /* Calls with fronts of which the last cut is known. */
@@ -839,7 +911,8 @@ static void cut_fronts(void)
     };
     for (size_t at = 0; at < sizeof fronts / sizeof fronts[0]; at++)
         if (cut_of(fronts[at].front) != fronts[at].cut) {
-            fprintf(stderr, "stored_texts: front %zu is cut at %zu\n", at, cut_of(fronts[at].front));
+            fprintf(stderr, "stored_texts: front %zu is cut at %zu\n", at,
+                    cut_of(fronts[at].front));
             exit(1);
         }
 }
@@ -862,8 +935,8 @@ static void compare_all(bytes stored, bytes printed)
     }
     if (out != printed.len)
         stop("there are more lines than texts");
-    printf("%zu texts, %zu lexemes, %zu calls with small buffers and fronts, %zu cuts\n", counts.texts, counts.lexemes, counts.calls,
-           counts.cuts);
+    printf("%zu texts, %zu lexemes, %zu calls with small buffers and fronts, %zu cuts\n",
+           counts.texts, counts.lexemes, counts.calls, counts.cuts);
 }
 
 /* The part of a name in a file, which is a list of parts: a line `part NAME LEN`, and LEN bytes. */
@@ -874,7 +947,8 @@ static bytes part_of(bytes file, const char *name)
         size_t begin = line_end(file, at);
         char found[16];
         size_t len;
-        if (sscanf((const char *)file.at + at, "part %15s %zu", found, &len) != 2 || len > file.len - begin)
+        if (sscanf((const char *)file.at + at, "part %15s %zu", found, &len) != 2
+            || len > file.len - begin)
             stop("a file that is no list of parts");
         if (strcmp(found, name) == 0)
             return (bytes){file.at + begin, len};

@@ -1,37 +1,46 @@
-//! Tells rustc where the archive `libstarlark_lex.a` is, and makes it where nobody says so.
+//! Tells rustc where the library `libstarlark_lex.a` is: in the folder that `STARLARK_LEX_DIR` names,
+//! or in that of the target in this crate.
 
 use std::env;
-use std::path::{Path, PathBuf};
-use std::process::Command;
+use std::path::PathBuf;
+use std::process::exit;
 
 const FOLDER: &str = "STARLARK_LEX_DIR";
 const ARCHIVE: &str = "libstarlark_lex.a";
 
+/// The targets of which a released crate has the library.
+const TARGETS: [&str; 2] = ["x86_64-unknown-linux-gnu", "aarch64-unknown-linux-gnu"];
+
 fn main() {
     println!("cargo:rerun-if-env-changed={FOLDER}");
     println!("cargo:rerun-if-changed=build.rs");
-    let folder = env::var_os(FOLDER).map_or_else(made_folder, PathBuf::from);
+    let folder = env::var_os(FOLDER).map_or_else(folder_of_target, PathBuf::from);
     let archive = folder.join(ARCHIVE);
-    assert!(archive.is_file(), "there is no {}", archive.display());
+    if !archive.is_file() {
+        fail(&archive.display().to_string());
+    }
     println!("cargo:rerun-if-changed={}", archive.display());
     println!("cargo:rustc-link-search=native={}", folder.display());
     println!("cargo:rustc-link-lib=static=starlark_lex");
 }
 
-/// The folder in which the script of the repository makes the archive. It runs the script.
-fn made_folder() -> PathBuf {
-    let top = Path::new(env!("CARGO_MANIFEST_DIR")).join("../..");
-    let script = top.join("scripts/bindings.sh");
-    assert!(
-        script.is_file(),
-        "{FOLDER} names no folder with {ARCHIVE}, and there is no {}",
-        script.display()
+/// The folder of the crate with the library of the target.
+fn folder_of_target() -> PathBuf {
+    let top = PathBuf::from(variable("CARGO_MANIFEST_DIR"));
+    top.join("lib").join(variable("TARGET"))
+}
+
+/// A variable that cargo sets.
+fn variable(name: &str) -> String {
+    env::var(name).unwrap_or_else(|_| fail(name))
+}
+
+/// Ends the build with one sentence.
+fn fail(missing: &str) -> ! {
+    eprintln!(
+        "starlark_lexer: there is no {missing}; the released crate has the library for {}, and {FOLDER} \
+         may name a folder with {ARCHIVE} for another target",
+        TARGETS.join(" and ")
     );
-    let status = Command::new(&script).arg("library").status();
-    assert!(
-        status.is_ok_and(|status| status.success()),
-        "{} made no {ARCHIVE}",
-        script.display()
-    );
-    top.join("out/bindings")
+    exit(1);
 }

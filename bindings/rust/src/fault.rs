@@ -4,8 +4,9 @@ use crate::Span;
 use std::error::Error;
 use std::fmt;
 
-/// The kind of a fault.
+/// The kind of a fault. It prints its code.
 #[derive(Clone, Copy, Debug, PartialEq, Eq, Hash)]
+#[non_exhaustive]
 pub enum FaultKind {
     /// A line closes a block, and is as wide as no open one.
     Indentation,
@@ -42,6 +43,35 @@ impl FaultKind {
             9 => FaultKind::UnfinishedFStringExpression,
             _ => return None,
         })
+    }
+
+    /// The code of the kind, which no later version changes.
+    ///
+    /// ```
+    /// use starlark_lexer::{FaultKind, Lexer};
+    ///
+    /// let fault = Lexer::new("x = 01")?.find_map(Result::err).unwrap();
+    /// assert_eq!((fault.kind(), fault.kind().code()), (FaultKind::StartsZero, "SL008"));
+    /// # Ok::<(), starlark_lexer::TooLong>(())
+    /// ```
+    pub fn code(self) -> &'static str {
+        match self {
+            FaultKind::Indentation => "SL001",
+            FaultKind::InvalidInput => "SL002",
+            FaultKind::InvalidTab => "SL003",
+            FaultKind::UnfinishedStringLiteral => "SL004",
+            FaultKind::InvalidEscapeSequence => "SL005",
+            FaultKind::EmptyEscapeSequence => "SL006",
+            FaultKind::ReservedKeyword => "SL007",
+            FaultKind::StartsZero => "SL008",
+            FaultKind::UnfinishedFStringExpression => "SL009",
+        }
+    }
+}
+
+impl fmt::Display for FaultKind {
+    fn fmt(&self, f: &mut fmt::Formatter<'_>) -> fmt::Result {
+        f.pad(self.code())
     }
 }
 
@@ -113,3 +143,21 @@ impl fmt::Display for TooLong {
 }
 
 impl Error for TooLong {}
+
+#[cfg(test)]
+mod tests {
+    use super::*;
+    use crate::ffi::fault_code;
+
+    #[test]
+    fn codes_are_those_of_the_library() {
+        for number in 0..1000 {
+            let kind = FaultKind::of_number(number);
+            assert_eq!(
+                kind.map_or("", FaultKind::code),
+                fault_code(number),
+                "{number}"
+            );
+        }
+    }
+}

@@ -145,6 +145,12 @@ extern "C" {
 
     #[cfg(test)]
     fn starlark_kind_name(kind: u32, name: *mut u8, name_cap: usize) -> usize;
+
+    #[cfg(test)]
+    fn starlark_fault_code(kind: u32, code: *mut u8, code_cap: usize) -> usize;
+
+    #[cfg(test)]
+    fn starlark_lex_version() -> u32;
 }
 
 /// `starlark_lex` or `starlark_lex_front`.
@@ -440,7 +446,32 @@ pub(crate) fn place(text: &str, at: usize) -> Option<Place> {
 #[cfg(test)]
 pub(crate) fn kind_name(kind: u32) -> String {
     let mut name = [0; 64];
-    // SAFETY: `name` is writable for its length, and its pointer isn't null.
+    // SAFETY: `name` is writable for its length.
     let len = unsafe { starlark_kind_name(kind, name.as_mut_ptr(), name.len()) };
     String::from_utf8(name[..len].to_vec()).expect("a name is UTF-8")
+}
+
+/// The code of a fault, which is empty where no fault has the number.
+#[cfg(test)]
+pub(crate) fn fault_code(kind: u32) -> String {
+    let mut code = [0; 16];
+    // SAFETY: `code` is writable for its length.
+    let len = unsafe { starlark_fault_code(kind, code.as_mut_ptr(), code.len()) };
+    String::from_utf8(code[..len].to_vec()).expect("a code is UTF-8")
+}
+
+#[cfg(test)]
+mod tests {
+    use super::*;
+
+    #[test]
+    fn the_library_has_the_version_of_the_crate() {
+        // SAFETY: the call takes nothing.
+        let number = unsafe { starlark_lex_version() };
+        let parts = [number / 1_000_000, number / 1_000 % 1_000, number % 1_000];
+        assert_eq!(
+            parts.map(|part| part.to_string()).join("."),
+            env!("CARGO_PKG_VERSION")
+        );
+    }
 }

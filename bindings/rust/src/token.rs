@@ -2,6 +2,7 @@
 
 use crate::ffi::LexemeHead;
 use std::borrow::Cow;
+use std::fmt;
 use std::ops::RangeInclusive;
 
 /// An integer literal's value. It isn't negative, since a sign is a token of its own.
@@ -82,7 +83,8 @@ macro_rules! tokens {
     ) => {
         /// The kind of a token. Its variants have the names of those of [`Token`].
         ///
-        /// As a number it is the kind in the header of the library for C, which never changes.
+        /// As a number it is the kind in the header of the library for C, which never changes. It prints
+        /// its name, as the program `starlark_lex` does.
         ///
         /// ```
         /// use starlark_lexer::{Lexer, TokenKind};
@@ -95,6 +97,7 @@ macro_rules! tokens {
         /// ```
         #[derive(Clone, Copy, Debug, PartialEq, Eq, Hash)]
         #[repr(u8)]
+        #[non_exhaustive]
         pub enum TokenKind {
             $($(#[$value_doc])* $value_name = $value_number,)*
             $($(#[$layout_doc])* $layout = $layout_number,)*
@@ -125,6 +128,7 @@ macro_rules! tokens {
         /// A token. What it has is borrowed from the text where it is there byte for byte, as a
         /// name is; else, as for a string with escapes, it is owned.
         #[derive(Clone, Debug, PartialEq, Eq, Hash)]
+        #[non_exhaustive]
         // The tags are the numbers of the kinds in the library, as wide as all that is copied: so a
         // kind becomes its token without a table.
         #[repr(u64)]
@@ -358,6 +362,12 @@ tokens! {
     }
 }
 
+impl fmt::Display for TokenKind {
+    fn fmt(&self, f: &mut fmt::Formatter<'_>) -> fmt::Result {
+        fmt::Debug::fmt(self, f)
+    }
+}
+
 impl<'a> Token<'a> {
     /// The token of a lexeme's head, of a kind with a value, with a text for it.
     #[inline(never)]
@@ -410,7 +420,7 @@ mod tests {
                 continue;
             }
             let kind = TokenKind::of_number(number);
-            assert_eq!((format!("{kind:?}"), kind as u16), (library, number));
+            assert_eq!((kind.to_string(), kind as u16), (library, number));
             assert!(TokenKind::ALL.contains(&kind));
             let head = LexemeHead {
                 kind: number,

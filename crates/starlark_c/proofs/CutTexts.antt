@@ -10,7 +10,8 @@ use Rattle.starlark_c.specs.Inner.Filling.{is_without_margin}
 use Rattle.starlark_grammar.specs.Cuts.{is_clean_cut, is_kept_cut, without_closing}
 use Rattle.starlark_grammar.specs.Margins.{blanks_len, has_tab, is_blank, is_comment_only, is_lf, lines, margin_of}
 use Rattle.starlark_grammar.specs.Pieces.{Fails}
-use Rattle.starlark_grammar.specs.Reading.{IsLongestReading, nothing, outcome, pieces_len, read}
+use Rattle.starlark_grammar.specs.Reading.{nothing, outcome, pieces_len, read}
+use Rattle.starlark_grammar.specs.Longest.{IsLongestReading}
 use Rattle.starlark_grammar.specs.TextLaws.{HasFirstMargin, Join}
 use Rattle.starlark_grammar.specs.Tokens.{Lexeme, Outcome, moved}
 use Rattle.starlark_grammar.specs.Words.{Text, language}
@@ -19,7 +20,7 @@ use Rattle.starlark_grammar.proofs.Joining.LineCuts.{kept_parts}
 use Rattle.starlark_grammar.proofs.Joining.Tabs.{HasTab, behind_tab, first_margin_is, tab}
 use Rattle.starlark_grammar.proofs.Reading.Readings.{one_longest, read_is}
 use Rattle.starlark_syntax.proofs.LexedTexts.HeldCuts.{kept_some}
-use Rattle.starlark_syntax.specs.Lexer.{IsCutAfter}
+use Rattle.starlark_syntax.specs.CutAfter.{IsCutAfter}
 use Rattle.starlark_token.specs.Lexemes.{shown_lexeme}
 
 -- a text is what is before a kept cut of it, joined with the rest

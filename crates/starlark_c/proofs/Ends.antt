@@ -67,6 +67,9 @@ ends_fault text before now values_after n fault filled end is has all held count
         first = inr (refl, refl);
         lacks = inr (omega (arith, ends.0, long, (same_sizes before now (lexemes_of text) held_all).1));
         needs = ends.2 ∙ ap (λ k. wanted_by k (filled.values + length (fault_bytes fault.node))) count ∙ ap (wanted_by (length (lexemes_of text))) long;
+        count = n;
+        few = omega (arith, all);
+        hold = rw ends.1 held;
       },
     )
     go (ending.Whole more) ends = absurd ends

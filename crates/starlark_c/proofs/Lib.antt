@@ -1,3 +1,21 @@
+-- Where each proof is. What belongs to one function is in a folder that has its name.
+-- Items: what a lexer yields, by the lexemes and the fault of its text.
+-- Filled: records and values of one lexeme more.
+-- CutTexts: a piece of a text: what is before a kept cut. Also of one that begins with the text.
+-- Ends: how lexing ends after all lexemes of a text.
+-- Stops: where a text may be cut, and how lexing ends.
+-- Wanted: how much is wanted for the first lexemes of a text.
+-- NextLexemes: the buffers after the next lexeme of a text, and the lexer after it.
+-- KindNames: the names of the grammar's tokens, found by their numbers.
+-- ErrorMessages: the messages of errors, found by the numbers of their faults.
+-- FaultNumbers: where lexing begins again, by the numbers of a fault.
+-- AddedItems: what belongs to items, one after another.
+-- Recovered: how lexing a text on after its faults ends, by the items that are done and left.
+-- MovedPlaces: places that are moved along a text.
+-- FinalFaults: faults of fronts that are final.
+-- ItemBounds: what an item of a literal denotes has no more bytes than the item.
+-- ValueBounds: a text's values have no more bytes than the text.
+-- Bounds: what an outcome tells of a text is bounded by the text's length.
 pub mod Items
 pub mod Filled
 pub mod CutTexts
@@ -5,9 +23,13 @@ pub mod Ends
 pub mod Stops
 pub mod Wanted
 pub mod NextLexemes
-pub mod Lines
 pub mod KindNames
 pub mod ErrorMessages
 pub mod FaultNumbers
 pub mod AddedItems
 pub mod Recovered
+pub mod MovedPlaces
+pub mod FinalFaults
+pub mod ItemBounds
+pub mod ValueBounds
+pub mod Bounds

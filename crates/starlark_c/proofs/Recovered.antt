@@ -1,12 +1,12 @@
 -- How lexing a text on after its faults ends, by the items that are done and left.
-use Rattle.std.proofs.Common.{◌≡◌, ℕ, ◌≤◌, List, [], ◌∷◌, ◌++◌, length, take, drop, refl, ap, sym, ◌∙◌, arith, None, Some, inl, inr, append-nil, append_assoc, length-append, slice_get}
+use Rattle.std.proofs.Common.{◌≡◌, ℕ, ◌+◌, ◌≤◌, List, [], ◌∷◌, ◌++◌, length, take, drop, refl, ap, sym, ◌∙◌, arith, None, Some, inl, inr, append-nil, append_assoc, length-append, slice_get}
 use Rattle.std.specs.Prelude.{Result, Ok, Err}
 use Rattle.std.proofs.lemmas.List.{take_at}
 use Rattle.starlark_base.specs.Diagnostics.{Diagnosed}
 use Rattle.starlark_base.specs.Sources.{SourceFile}
 use Rattle.starlark_c.specs.Endings.{IsText}
 use Rattle.starlark_c.specs.Inner.Recovering.{EndsFull, GoesOn, Takes, counts_with, wanted_on}
-use Rattle.starlark_c.specs.RecoveredTexts.{AreFilled, Begins, Contents, LackRoom, Recovers, capped_counts, contents, counts_of}
+use Rattle.starlark_c.specs.RecoveredTexts.{AreFilled, Begins, Contents, HoldFitting, LackRoom, Recovers, capped_counts, contents, counts_of}
 use Rattle.starlark_c.specs.declared.recovered_endings.Counts.{Counts}
 use Rattle.starlark_c.specs.declared.recovered_endings.RecoveredEnding.{RecoveredEnding}
 use Rattle.starlark_c.specs.declared.recovered_endings.RecoveredEnding.TheVariants as ending
@@ -112,6 +112,19 @@ lacking all xs before now filled least wanted needs held (inl short) = inl (omeg
 lacking all xs before now filled least wanted needs held (inr (inl short)) = inr (inl (omega (arith, short, needs.values, begun_len (contents xs).values before.values now.values held.values)))
 lacking all xs before now filled least wanted needs held (inr (inr short)) = inr (inr (omega (arith, short, needs.faults, begun_len (contents xs).faults before.faults now.faults held.faults)))
 
+-- the items before one that has no room
+held_before : (all xs : List LexerItem) (x : LexerItem) (rest : List LexerItem) (before now : Contents) (filled : Counts) → all ≡ xs ++ x ∷ rest → AreFilled (contents xs) before now filled → LackRoom (counts_with filled x) now → HoldFitting all before now
+held_before all xs x rest before now filled is held lack =
+    let front : take (length xs) all ≡ xs = ap (take (length xs)) is ∙ take_at xs (x ∷ rest) (length xs) refl in
+    let more : take (length xs + 1) all ≡ xs ++ x ∷ [] =
+    ap (take (length xs + 1)) (is ∙ sym (append_assoc xs (x ∷ []) rest)) ∙ take_at (xs ++ x ∷ []) rest (length xs + 1) (omega (arith, length-append xs (x ∷ []))) in
+    record {
+      count = length xs;
+      filled = filled;
+      have = rw front held;
+      next = rw more (lacking (xs ++ x ∷ []) xs before now filled (counts_with filled x) _ (need xs x [] filled held.counts) held lack);
+    }
+
 -- an item has no room
 pub recovers_full : (file : SourceFile) (text : Text) (left later : List LexerItem) (answer : Result (ℕ × Token × ℕ) (OrMemory (Diagnosed ErrorKind))) (before now after : Contents) (filled wanted : Counts) (end : RecoveredEnding) → IsText text
     → IsDone (all_items text) left before now filled → (first : IsFirst file left answer) → Takes first.item filled now after (taken.NoRoom wanted) → later ≡ drop 1 left → EndsFull (wanted_on wanted later) filled end
@@ -122,8 +135,11 @@ recovers_full file text left later answer before now after filled wanted (ending
     let rest = drop 1 left in
     let all : all_items text ≡ inv.done ++ x ∷ rest = inv.is ∙ ap (λ xs. inv.done ++ xs) first.is in
     let needs = need inv.done x rest filled held.counts in
-    let told_is : told ≡ wanted_on (capped_counts (counts_with filled x)) rest = ends ∙ ap (wanted_on wanted) goes ∙ ap (λ k. wanted_on k rest) takes.2 in
-    (is, rw all (record { lack = lacking _ inv.done before now filled _ _ needs held takes.0; needs = told_is ∙ needs.is }))
+    let told_is : told ≡ wanted_on (capped_counts (counts_with filled x)) rest = ends ∙ ap (wanted_on wanted) goes ∙ ap (λ k. wanted_on k rest) takes.2 in (
+      is,
+      rw all (record { lack = lacking _ inv.done before now filled _ _ needs held takes.0; needs = told_is ∙ needs.is }),
+      rw takes.1 (held_before (all_items text) inv.done x rest before now filled all held takes.0),
+    )
 recovers_full file text left later answer before now after filled wanted (ending.Memory told) is inv first takes goes ends = rw (takes.1, ends) (recovers_memory text left before now filled is inv)
 recovers_full file text left later answer before now after filled wanted (ending.Whole told) is inv first takes goes ends = absurd ends
 recovers_full file text left later answer before now after filled wanted (ending.NotUtf8 valid) is inv first takes goes ends = absurd ends

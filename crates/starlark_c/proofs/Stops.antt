@@ -1,6 +1,6 @@
 -- Where a text may be cut, and how lexing ends.
 use Rattle.std.proofs.Common.{◌≡◌, ℕ, ◌+◌, ◌≤◌, ◌<◌, length, take, drop, refl, ap, sym, ◌∙◌, arith, Some, true, inl, inr, subst, ◌++◌, ◌⊎◌, length-append}
-use Rattle.std.proofs.lemmas.List.{length-take-le, take-take}
+use Rattle.std.proofs.lemmas.List.{length-take, length-take-le, take-take}
 use Rattle.starlark_c.specs.Endings.{Buffers, Ends, EndsFront, Hold, IsCut, IsText, all_values, lexemes_of, named}
 use Rattle.starlark_c.specs.Inner.Filling.{EndsAtFault, EndsWithStop, HasNoRoom, IsCutIn, IsFilledTo, IsOverflow, IsStop, IsStopIn, IsStopped, MayStop, filled_by, has_stop}
 use Rattle.starlark_c.specs.Records.{records, value_bytes, values}
@@ -61,7 +61,7 @@ stopped text before now after n progress (ending.Piece filled next) is few held 
     let lexemes : take count after.lexemes ≡ records (take count (take n all)) = ap (take count) same_lexemes ∙ front_lexemes before now (take n all) count held less in
     let bytes : take (length (values (take count (take n all)))) after.values ≡ values (take count (take n all)) = ap (take (length (values (take count (take n all))))) same_values ∙ front_values before now (take n all) count held in
     let same : filled ≡ record { lexemes = count; values = length (values (take count all)) } = over.1 ∙ ap (λ v. record { lexemes = count; values = v }) here.values in
-    (is, record { count = count; piece = rw over.0 (piece_at text progress.stop.at count here.cut.cut); all_lexemes = rw front at lexemes; all_values = rw front at bytes; counts = same })
+    (is, record { count = count; few = omega (arith, here.few, few); piece = rw over.0 (piece_at text progress.stop.at count here.cut.cut); all_lexemes = rw front at lexemes; all_values = rw front at bytes; counts = same })
 stopped text before now after n progress (ending.Memory told) is few held counted stop same_lexemes same_values over =
     (is, record { count = n; few = few; hold = rw (same_lexemes, same_values) held; counts = over ∙ counted ∙ ap (λ k. record { lexemes = k; values = length (values (take n (lexemes_of text))) }) (length-take-le n (lexemes_of text) few) })
 stopped text before now after n progress (ending.Full wanted) is few held counted stop same_lexemes same_values over = absurd over
@@ -75,7 +75,7 @@ pub overflows : (text : Text) (before now after : Buffers) (n : ℕ) (x : Spanne
     → Hold (records (take n (lexemes_of text))) (values (take n (lexemes_of text))) before now → progress.filled ≡ filled_by (take n (lexemes_of text)) → IsStop text n progress.stop
     → HasNoRoom x progress.filled now after → IsOverflow text (n + 1) progress end → Ends text before after end
 overflows text before now after n x progress (ending.Full wanted) is one few held counted stop none over =
-    (is, record { lexemes = over.all_lexemes; bytes = over.all_bytes; first = over.first; lacks = lacking none.lacks; needs = over.needs })
+    (is, record { lexemes = over.all_lexemes; bytes = over.all_bytes; first = over.first; lacks = lacking none.lacks; needs = over.needs; count = n; few = few; hold = rw (none.lexemes, none.values) held })
   where
     lacking : (length now.lexemes < progress.filled.lexemes + 1) ⊎ (length now.values < progress.filled.values + length (value_bytes x.node)) → (length before.lexemes < over.all_lexemes) ⊎ (length before.values < over.all_bytes)
     lacking (inl short) = inl (omega (arith, short, (all_but text n x progress.filled one few counted).0, (same_sizes before now (take n (lexemes_of text)) held).0, over.more_lexemes))
@@ -119,12 +119,13 @@ fault_filled text fault progress before after (ending.Memory filled) ends = tt
 fault_filled text fault progress before after ending.TooLong ends = tt
 
 -- How lexing the front of a longer text ends, at its last stop.
-cut_there : (text : Text) (after : Buffers) (n : ℕ) (stop : Stop) → IsStopIn text n stop → stop.is_front ≡ true → take stop.filled.lexemes after.lexemes ≡ records (take stop.filled.lexemes (lexemes_of text))
+cut_there : (text : Text) (after : Buffers) (n : ℕ) (stop : Stop) → IsStopIn text n stop → n ≤ length (lexemes_of text) → stop.is_front ≡ true → take stop.filled.lexemes after.lexemes ≡ records (take stop.filled.lexemes (lexemes_of text))
     → take (length (values (take stop.filled.lexemes (lexemes_of text)))) after.values ≡ values (take stop.filled.lexemes (lexemes_of text)) → (rest : Text) → IsCut (text ++ rest) after stop.filled stop.at
-cut_there text after n stop here front lexemes bytes rest =
+cut_there text after n stop here inside front lexemes bytes rest =
     let both = piece_followed text rest stop.at stop.filled.lexemes here.cut.cut (here.cut.stays front) in
     record {
       count = stop.filled.lexemes;
+      few = omega (arith, ap length both.1, length-take stop.filled.lexemes (lexemes_of (text ++ rest)), length-take stop.filled.lexemes (lexemes_of text), here.few, inside);
       piece = both.0;
       all_lexemes = rw both.1 lexemes;
       all_values = rw both.1 bytes;
@@ -140,18 +141,18 @@ front_cut text before after end stop ends some over = by_stop ends.3
     by_end : IsStopIn text ends.1 stop → (end : Ending) → Ends text before after end → IsFilledTo stop end → has_stop end ≡ true → EndsFront text before after (ending.Piece stop.filled stop.at)
     by_end here (ending.Whole filled) is filling over =
         let few : c ≤ length (lexemes_of text) = omega (arith, here.few, ends.2) in
-        (is.0, cut_there text after ends.1 stop here ends.4 (front_lexemes before after (lexemes_of text) c is.1.hold few) (front_values before after (lexemes_of text) c is.1.hold))
+        (is.0, cut_there text after ends.1 stop here ends.2 ends.4 (front_lexemes before after (lexemes_of text) c is.1.hold few) (front_values before after (lexemes_of text) c is.1.hold))
     by_end here (ending.Fault filled fault) is filling over =
         let few : c ≤ length (lexemes_of text) = omega (arith, here.few, ends.2) in
         let held = is.1.hold in (
           is.0,
-          cut_there text after ends.1 stop here ends.4 (ap (take c) held.lexemes ∙ front_records (lexemes_of text) (drop (length (records (lexemes_of text))) before.lexemes) c few)
+          cut_there text after ends.1 stop here ends.2 ends.4 (ap (take c) held.lexemes ∙ front_records (lexemes_of text) (drop (length (records (lexemes_of text))) before.lexemes) c few)
               (front_values_more (drop (length (all_values text)) before.values) after.values (named (outcome text).fault) (lexemes_of text) c held.values),
         )
     by_end here (ending.Piece filled next) is filling over =
         let same : is.1.count ≡ c = sym (ap (λ (f : Filled). f.lexemes) is.1.counts) ∙ ap (λ (f : Filled). f.lexemes) filling.0 in (
           is.0,
-          cut_there text after ends.1 stop here ends.4 (subst (λ k. take k after.lexemes ≡ records (take k (lexemes_of text))) same is.1.all_lexemes)
+          cut_there text after ends.1 stop here ends.2 ends.4 (subst (λ k. take k after.lexemes ≡ records (take k (lexemes_of text))) same is.1.all_lexemes)
               (subst (λ k. take (length (values (take k (lexemes_of text)))) after.values ≡ values (take k (lexemes_of text))) same is.1.all_values),
         )
     by_end here (ending.Full wanted) is filling over = cc

@@ -71,6 +71,7 @@ pub record IsPiece (text : Text) (at count : ℕ) : Type 0 where
 -- the buffers begin with the lexemes of the text up to a cut after `next` bytes
 pub record IsCut (text : Text) (after : Buffers) (filled : Filled) (next : ℕ) : Type 0 where
   pub count : ℕ
+  pub few : count ≤ length (lexemes_of text)
   pub piece : IsPiece text next count
   pub all_lexemes : take count after.lexemes ≡ records (take count (lexemes_of text))
   pub all_values : take (length (values (take count (lexemes_of text)))) after.values ≡ values (take count (lexemes_of text))
@@ -86,13 +87,17 @@ AreFirst text lexemes bytes =
 abbrev pub capped : ℕ → ℕ
 capped n = min n (2 ^ 64 - 1)
 
--- the buffers have no room for the first lexemes of the text, which need this much
-pub record IsFull (text : Text) (before : Buffers) (wanted : Filled) : Type 0 where
+-- the buffers have no room for the first lexemes of the text, which need this much; they have some of them, and are as they
+-- were after these
+pub record IsFull (text : Text) (before after : Buffers) (wanted : Filled) : Type 0 where
   pub lexemes : ℕ
   pub bytes : ℕ
   pub first : AreFirst text lexemes bytes
   pub lacks : (length before.lexemes < lexemes) ⊎ (length before.values < bytes)
   pub needs : wanted ≡ record { lexemes = capped lexemes; values = capped bytes }
+  pub count : ℕ
+  pub few : count ≤ length (lexemes_of text)
+  pub hold : Hold (records (take count (lexemes_of text))) (values (take count (lexemes_of text))) before after
 
 -- the buffers have the first lexemes of the text, or all
 pub record IsBegun (text : Text) (before after : Buffers) (filled : Filled) : Type 0 where
@@ -106,7 +111,7 @@ abbrev pub Ends : Text → Buffers → Buffers → Ending → Type 0
 Ends text before after (ending.Whole filled) = IsText text × IsWhole text before after filled
 Ends text before after (ending.Fault filled fault) = IsText text × IsFaulty text before after filled fault
 Ends text before after (ending.Piece filled next) = IsText text × IsCut text after filled next
-Ends text before after (ending.Full wanted) = IsText text × IsFull text before wanted
+Ends text before after (ending.Full wanted) = IsText text × IsFull text before after wanted
 Ends text before after (ending.Memory filled) = IsText text × IsBegun text before after filled
 Ends text before after (ending.NotUtf8 valid) = (length text < 2 ^ 32) × (¬ IsUtf8 text) × IsValidUpTo text valid × (after ≡ before)
 Ends text before after ending.TooLong = (2 ^ 32 ≤ length text) × (after ≡ before)

@@ -6,6 +6,9 @@ pub mod Written
 pub mod Messages
 pub mod Places
 pub mod Restarts
+pub mod FinalFaults
+pub mod FaultCodes
+pub mod Versions
 pub mod RecoveredTexts
 pub mod RecoveredOutcomes
 pub mod Inner

@@ -1,5 +1,5 @@
 -- The outcome of a call as a plain record.
-use Rattle.std.specs.Prelude.{ℕ}
+use Rattle.std.specs.Prelude.{◌≤◌, ◌+◌, ◌*◌, ℕ}
 use Rattle.starlark_c.specs.declared.endings.Ending.{Ending}
 use Rattle.starlark_c.specs.declared.endings.Ending.TheVariants as ending
 use Rattle.starlark_c.specs.declared.outcomes.LexOutcome.{LexOutcome}
@@ -39,3 +39,10 @@ outcome_record len (ending.Full wanted) = let none = nothing FULL in record none
 outcome_record len (ending.NotUtf8 valid) = let none = nothing NOT_UTF8 in record none { next = valid }
 outcome_record len ending.TooLong = nothing TOO_LONG
 outcome_record len (ending.Memory filled) = let none = nothing MEMORY in record none { lexemes = filled.lexemes; values = filled.values }
+
+-- an outcome counts and wants no more lexemes and bytes of values than a text of `len` bytes can have
+pub record AreBounded (len : ℕ) (outcome : LexOutcome) : Type 0 where
+  pub lexemes : outcome.lexemes ≤ 2 * len + 1
+  pub values : outcome.values ≤ len
+  pub wanted_lexemes : outcome.wanted_lexemes ≤ 2 * len + 1
+  pub wanted_values : outcome.wanted_values ≤ len

@@ -86,6 +86,13 @@ pub record LackItems (items : List LexerItem) (before : Contents) (wanted : Coun
   pub lack : LackRoom (counts_of (contents items)) before
   pub needs : wanted ≡ capped_counts (counts_of (contents items))
 
+-- the buffers have the items before the first that has no room, and are as they were after these
+pub record HoldFitting (items : List LexerItem) (before after : Contents) : Type 0 where
+  pub count : ℕ
+  pub filled : Counts
+  pub have : AreFilled (contents (take count items)) before after filled
+  pub next : LackRoom (counts_of (contents (take (count + 1) items))) before
+
 -- the buffers have the first of these items, or all
 pub record HaveFirst (items : List LexerItem) (before after : Contents) (filled : Counts) : Type 0 where
   pub count : ℕ
@@ -95,7 +102,7 @@ pub record HaveFirst (items : List LexerItem) (before after : Contents) (filled 
 -- how lexing some bytes into buffers, on after all faults, ends
 abbrev pub Recovers : Text → Contents → Contents → RecoveredEnding → Type 0
 Recovers text before after (ending.Whole filled) = IsText text × AreFilled (contents (all_items text)) before after filled
-Recovers text before after (ending.Full wanted) = IsText text × LackItems (all_items text) before wanted
+Recovers text before after (ending.Full wanted) = IsText text × LackItems (all_items text) before wanted × HoldFitting (all_items text) before after
 Recovers text before after (ending.Memory filled) = IsText text × HaveFirst (all_items text) before after filled
 Recovers text before after (ending.NotUtf8 valid) = (length text < 2 ^ 32) × (¬ IsUtf8 text) × IsValidUpTo text valid × (after ≡ before)
 Recovers text before after ending.TooLong = (2 ^ 32 ≤ length text) × (after ≡ before)

@@ -6,19 +6,24 @@
 
 ghost use Rattle.std.specs.Prelude.{◌≡◌, length};
 ghost use Rattle.starlark_c.specs.Endings.{Ends, EndsFront};
+ghost use Rattle.starlark_c.specs.FaultCodes.{code_at};
+ghost use Rattle.starlark_c.specs.FinalFaults.{IsFinal};
 ghost use Rattle.starlark_c.specs.Kinds.{NamesTokens, kind_name};
 ghost use Rattle.starlark_c.specs.Messages.{TellsErrors, fault_message};
-ghost use Rattle.starlark_c.specs.Outcomes.{outcome_record};
-ghost use Rattle.starlark_c.specs.Places.{TellsPlace};
+ghost use Rattle.starlark_c.specs.Outcomes.{AreBounded, outcome_record};
+ghost use Rattle.starlark_c.specs.Places.{MovesPlace, TellsPlace};
 ghost use Rattle.starlark_c.specs.RecoveredOutcomes.{recovered_record};
 ghost use Rattle.starlark_c.specs.RecoveredTexts.{Recovers};
 ghost use Rattle.starlark_c.specs.Restarts.{IsRestart};
+ghost use Rattle.starlark_c.specs.Versions.{version_number};
 ghost use Rattle.starlark_c.specs.Written.{IsWritten};
 ghost use Rattle.starlark_c.specs.declared.endings.Ending.{Ending};
 ghost use Rattle.starlark_c.specs.declared.recovered_endings.RecoveredEnding.{RecoveredEnding};
 
 mod endings;
+mod fault_codes;
 mod filling;
+mod final_faults;
 mod kinds;
 mod lexing;
 mod outcomes;
@@ -30,17 +35,29 @@ mod recovered_outcomes;
 mod recovering;
 mod restarts;
 mod texts;
+mod versions;
 
+use crate::fault_codes::code_of_fault;
+use crate::final_faults::is_final;
 use crate::kinds::name_of_kind;
 use crate::lexing::{lex_front, lex_into};
 use crate::outcomes::{LexOutcome, outcome_of};
-use crate::places::{PlaceRecord, tell_place};
+use crate::places::{PlaceRecord, move_place, tell_place};
 use crate::records::LexemeRecord;
 use crate::recovered_outcomes::{FoundFault, RecoveredOutcome, recovered_outcome};
 use crate::recovering::recover_into;
 use crate::restarts::restart_of;
 use crate::texts::{write_message, write_text};
+use crate::versions::{MAJOR, MINOR, PATCH, version};
 use std::alloc::Global;
+
+/// The version of the library as one number: `1_000_000 * major + 1_000 * minor + patch`.
+#[unsafe(no_mangle)]
+pub extern "C" fn starlark_lex_version() -> u32
+    ensures { result ≡ version_number MAJOR MINOR PATCH }
+{
+    version()
+}
 
 /// Lexes a text into two buffers: a record for each lexeme, and the values, one after another.
 ///
@@ -57,6 +74,7 @@ pub extern "C" fn starlark_lex(
     outcome: &mut LexOutcome,
 ) -> u32
     ensures lexed { (ending : Ending) × (outcome.new ≡ outcome_record (length text.now) ending) × Ends text.now (record { lexemes = lexemes.old; values = values.old }) (record { lexemes = lexemes.new; values = values.new }) ending }
+    ensures bounded { AreBounded (length text.now) outcome.new }
     ensures status { result ≡ outcome.new.status }
 {
     *outcome = outcome_of(text.len(), lex_into(alloc, text, lexemes, values));
@@ -78,6 +96,7 @@ pub extern "C" fn starlark_lex_front(
     outcome: &mut LexOutcome,
 ) -> u32
     ensures lexed { (ending : Ending) × (outcome.new ≡ outcome_record (length front.now) ending) × EndsFront front.now (record { lexemes = lexemes.old; values = values.old }) (record { lexemes = lexemes.new; values = values.new }) ending }
+    ensures bounded { AreBounded (length front.now) outcome.new }
     ensures status { result ≡ outcome.new.status }
 {
     *outcome = outcome_of(front.len(), lex_front(alloc, front, lexemes, values));
@@ -131,6 +150,28 @@ pub extern "C" fn starlark_fault_message(kind: u32, named: &[u8], message: &mut 
     write_message(kind, named, message)
 }
 
+/// Writes the code of a fault, as `SL008`, into a buffer, if it has room for it.
+///
+/// The fault is given by the number of its kind. Returns the length of the code, which is 0 where no
+/// fault has the number.
+#[unsafe(no_mangle)]
+pub extern "C" fn starlark_fault_code(kind: u32, code: &mut [u8]) -> usize
+    ensures { IsWritten (code_at kind) code.old code.new result }
+{
+    write_text(code_of_fault(kind), code)
+}
+
+/// Whether the fault of the front of a text that ends at an offset is final: then it and all lexemes
+/// before it stay as they are, whatever follows the front.
+///
+/// It is, if the front goes on after the fault, and ends with LF.
+#[unsafe(no_mangle)]
+pub extern "C" fn starlark_fault_is_final(front: &[u8], fault_end: u32) -> bool
+    ensures { IsFinal front.now fault_end result }
+{
+    is_final(front, fault_end as usize)
+}
+
 /// Tells the line and columns of an offset in a text, and returns whether it could.
 ///
 /// It couldn't, and the record is as it was, where the offset is past the end of the text, or the
@@ -140,6 +181,23 @@ pub extern "C" fn starlark_place(text: &[u8], at: usize, place: &mut PlaceRecord
     ensures { TellsPlace text.now at place.old place.new result }
 {
     tell_place(text, at, place)
+}
+
+/// Moves the place of an offset in a text to a later offset, and returns whether it could.
+///
+/// Where the record was the place of the first offset, it is that of the later one then. It couldn't,
+/// and the record is as it was, where the offsets are out of order or past the end of the text, or
+/// the bytes between aren't UTF-8. It reads these bytes alone.
+#[unsafe(no_mangle)]
+pub extern "C" fn starlark_move_place(
+    text: &[u8],
+    from: usize,
+    to: usize,
+    place: &mut PlaceRecord,
+) -> bool
+    ensures { MovesPlace text.now from to place.old place.new result }
+{
+    move_place(text, from, to, place)
 }
 
 /// Offset where lexing begins again after a fault of a text: at the start of a later line, or at

@@ -1,11 +1,15 @@
 //! The line and columns of an offset in a text.
 
-ghost use Rattle.std.specs.Prelude.{◌≡◌, ◌≤◌, ◌+◌, count_by, length, not};
-ghost use Rattle.std.specs.List.{after_last, suffix_len};
+ghost use Rattle.std.specs.Prelude.{◌≡◌, ◌<◌, ◌≤◌, ◌+◌, ◌^◌, ◌++◌, IfNone, IfSome, count_by, length};
+ghost use Rattle.std.specs.List.{slice_range};
+ghost use Rattle.std.specs.Str.{IsUtf8};
 ghost use Rattle.starlark_base.specs.Places.{is_lf};
-ghost use Rattle.starlark_c.specs.Places.{TellsPlace, is_wide, place_record};
+ghost use Rattle.starlark_base.specs.Positions.{starts_pair};
+ghost use Rattle.starlark_c.specs.Places.{AreCharacters, MovesPlace, TellsPlace, place_record};
+ghost use Rattle.starlark_c.specs.Inner.Places.{place_on_line};
+ghost use Rattle.starlark_grammar.specs.Words.{Text};
 
-use starlark_text::character_starts::count_starts;
+use starlark_text::character_starts::count_characters;
 
 /// The line and columns of an offset in a text. Each counts from 0.
 #[repr(C)]
@@ -19,59 +23,91 @@ pub struct PlaceRecord {
     pub utf16_column: usize,
 }
 
-/// Number of bytes of a text after its last LF.
-fn line_len(text: &[u8]) -> usize
-    ensures value { result ≡ suffix_len (λ byte. not (is_lf byte)) text.now }
-    ensures within { result ≤ length text.now }
-{
-    text.iter().rev().take_while(|b| **b != b'\n').count()
+impl PlaceRecord {
+    /// The start of a line.
+    const fn line_start(line: usize) -> PlaceRecord
+        ensures { result ≡ record { line = line; column = 0; utf16_column = 0 } }
+    {
+        PlaceRecord {
+            line,
+            column: 0,
+            utf16_column: 0,
+        }
+    }
 }
 
-/// The bytes of a text after its last LF.
-fn last_line(text: &[u8]) -> &[u8]
-    ensures { result.now ≡ after_last is_lf text.now }
-{
-    &text[text.len() - line_len(text)..]
-}
-
-/// Number of LF in some bytes.
-fn newline_count(text: &[u8]) -> usize
+/// Number of LF in a text.
+fn newline_count(text: &str) -> usize
     ensures { result ≡ count_by is_lf text.now }
 {
-    text.iter().filter(|b| **b == b'\n').count()
+    text.as_bytes().iter().filter(|b| **b == b'\n').count()
 }
 
-/// Number of characters in some bytes that take two units of UTF-16.
-fn wide_count(text: &[u8]) -> usize
-    ensures value { result ≡ count_by is_wide text.now }
+/// Number of characters in a text that take two units of UTF-16.
+fn pair_count(text: &str) -> usize
+    ensures value { result ≡ count_by starts_pair text.now }
     ensures within { result ≤ length text.now }
 {
-    text.iter().filter(|b| **b >= 0xF0).count()
+    text.as_bytes().iter().filter(|b| 240 <= **b).count()
 }
 
-/// The line and columns after a text.
-fn place_after_all(front: &str) -> PlaceRecord
-    ensures { result ≡ place_record front.now }
+/// The place after a text that begins at a place, and that is of one line.
+fn place_after_line(begin: PlaceRecord, line: &str) -> PlaceRecord
+    ensures { result ≡ place_on_line begin line.now }
 {
-    let line = last_line(front.as_bytes());
-    let column = count_starts(line);
+    let column = count_characters(line);
     PlaceRecord {
-        line: newline_count(front.as_bytes()),
-        column,
-        utf16_column: column + wide_count(line),
+        line: begin.line,
+        column: begin.column.saturating_add(column),
+        utf16_column: begin.utf16_column.saturating_add(column + pair_count(line)),
     }
+}
+
+/// The place after a text that begins at a place.
+fn place_after(begin: PlaceRecord, passed: &str) -> PlaceRecord
+    ensures { (front : Text) → IsUtf8 front → length front + length passed.now < 2 ^ 63 → begin ≡ place_record front → result ≡ place_record (front ++ passed.now) }
+{
+    match passed.rfind('\n') {
+        None => place_after_line(begin, passed),
+        Some(last) => {
+            let line = begin.line.saturating_add(newline_count(passed));
+            place_after_line(PlaceRecord::line_start(line), &passed[last + 1..])
+        }
+    }
+}
+
+/// The bytes from one offset to another, if a text has both in order, and they are characters.
+fn characters_between(text: &[u8], from: usize, to: usize) -> Option<&str>
+    ensures some { IfSome result (λ passed. (passed.now ≡ slice_range text.now from to) × AreCharacters text.now from to) }
+    ensures none { IfNone result (¬ AreCharacters text.now from to) }
+{
+    if to < from || text.len() < to {
+        return None;
+    }
+    str::from_utf8(&text[from..to]).ok()
 }
 
 /// Tells the line and columns of an offset, if the text has it and is UTF-8 up to there.
 pub fn tell_place(text: &[u8], at: usize, place: &mut PlaceRecord) -> bool
     ensures { TellsPlace text.now at place.old place.new result }
 {
-    if at > text.len() {
-        return false;
+    let mut told = PlaceRecord::line_start(0);
+    let is_told = move_place(text, 0, at, &mut told);
+    if is_told {
+        *place = told;
     }
-    let Ok(front) = str::from_utf8(&text[..at]) else {
-        return false;
-    };
-    *place = place_after_all(front);
-    true
+    is_told
+}
+
+/// Moves the place of an offset to a later one, if the bytes between are characters of the text.
+pub fn move_place(text: &[u8], from: usize, to: usize, place: &mut PlaceRecord) -> bool
+    ensures { MovesPlace text.now from to place.old place.new result }
+{
+    match characters_between(text, from, to) {
+        Some(passed) => {
+            *place = place_after(*place, passed);
+            true
+        }
+        None => false,
+    }
 }

@@ -11,7 +11,7 @@ use Rattle.starlark_c.specs.declared.progress.Stop.{Stop}
 use Rattle.starlark_grammar.specs.Margins.{is_blank}
 use Rattle.starlark_grammar.specs.Tokens as grammar
 use Rattle.starlark_grammar.specs.Words.{Text}
-use Rattle.starlark_syntax.specs.Lexer.{IsCutAfter}
+use Rattle.starlark_syntax.specs.CutAfter.{IsCutAfter}
 use Rattle.starlark_token.specs.TokenViews.{TokenView}
 
 -- a list with some items in place of those from `at` on
