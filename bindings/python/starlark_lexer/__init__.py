@@ -10,14 +10,25 @@ A text is a `str`, or `bytes` in UTF-8. `tokenize` yields its tokens, and raises
     >>> [token.string for token in tokenize("x = 'a\\ny\\n", recover=True)]
     ['x', '=', 'y', '\\n', '']
 
-`faults` returns all faults, and `lex_all` both. Nothing is shared between two calls, so they may run
-in any number of threads.
+`faults` returns all faults, and `lex_all` both. `lex_columns` makes no object for each token. Nothing
+is shared between two calls, so they may run in any number of threads.
 """
 
 from .kinds import FaultKind, Kind, Quotes
-from .tokens import Fault, StarlarkFault, Token, Value, faults, lex, lex_all, tokenize
+from .tokens import Fault, StarlarkFault, Token, Value
+
+try:
+    from .library import Columns, faults, lex, lex_all, lex_columns, tokenize
+except ImportError as error:
+    raise ImportError(
+        "starlark_lexer lacks its extension module for this system: install the package's wheel, or "
+        f"build it with STARLARK_LEX_DIR naming the folder of libstarlark_lex.a ({error})"
+    ) from error
+
+__version__ = "0.2.0"
 
 __all__ = [
+    "Columns",
     "Fault",
     "FaultKind",
     "Kind",
@@ -28,5 +39,6 @@ __all__ = [
     "faults",
     "lex",
     "lex_all",
+    "lex_columns",
     "tokenize",
 ]

@@ -1,83 +1,156 @@
-"""Prints the tokens of a file.
+"""Prints the tokens of files.
 
-usage: python -m starlark_lexer [--json | --html] [FILE]
+usage: python -m starlark_lexer [--json | --html] [FILE]..
 
-Without FILE it reads standard input. A token is printed as `python -m tokenize` does. --json prints
-tokens and faults as objects, --html a page with the text in colours and its faults marked. After a
-fault it goes on at the next line. Each fault has a line on standard error. The exit status is 0
-without a fault, 1 with one or more, and 2 where the text can't be read.
+Without FILE, or for `-`, it reads standard input. A token is printed as `python -m tokenize` does.
+--json prints what the program `starlark_tokens --json` prints, --html a page with the text in colours
+and its faults marked. After a fault it goes on at a later line. Each fault has a line on standard
+error. The exit status is 0 without a fault, 1 with one or more, and 2 where a file can't be read or
+the output can't be written. It is 141 where nobody reads the output any more.
 """
 
 from __future__ import annotations
 
 import argparse
-import json
+import io
+import os
 import sys
-from typing import Any, Dict, List, Optional
+from typing import List, NamedTuple, Optional, Union
 
-from .page import page
-from .tokens import Fault, Token, lex_all
+from . import __version__, json_lines
+from .library import lex_items
+from .page import File, page
+from .tokens import Fault, Token
+
+TROUBLE = 2
+CLOSED_PIPE = 141
 
 
-def _read(name: Optional[str]) -> bytes:
+class Totals(NamedTuple):
+    """What was found in all files."""
+
+    files: int = 0
+    faulty_files: int = 0
+    faults: int = 0
+    unreadable: int = 0
+
+    def with_file(self, faults: int) -> Totals:
+        """The totals with one more file."""
+        return self._replace(
+            files=self.files + 1, faulty_files=self.faulty_files + (faults > 0), faults=self.faults + faults
+        )
+
+    def status(self) -> int:
+        """The exit status."""
+        return TROUBLE if self.unreadable else int(self.faults > 0)
+
+
+def _read(name: str) -> bytes:
     """The bytes of a file, or of standard input."""
-    if name is None:
+    if name == "-":
+        if sys.stdin is None:
+            raise OSError("it is closed")
         return sys.stdin.buffer.read()
     with open(name, "rb") as file:
         return file.read()
 
 
-def _line(token: Token) -> str:
+def _read_file(name: str) -> Optional[File]:
+    """A file with its tokens and faults, or None where it can't be read. Standard error says so."""
+    shown = "<stdin>" if name == "-" else name
+    try:
+        shown.encode()
+        source = _read(name)
+        return File(shown, source, lex_items(source))
+    except (OSError, ValueError) as error:
+        _say(f"{shown}: {error}")
+        return None
+
+
+def _say(line: str) -> None:
+    """Prints a line on standard error, after all that was printed before."""
+    sys.stdout.flush()
+    print(line, file=sys.stderr)
+
+
+def _line(prefix: str, token: Token) -> str:
     """The line that is printed for a token."""
     place = f"{token.start[0]},{token.start[1]}-{token.end[0]},{token.end[1]}:"
-    return f"{place:20}{token.type.name:15}{token.string!r:15}".rstrip()
+    return f"{prefix}{place:20}{token.type.name:15}{token.string!r:15}".rstrip() + "\n"
 
 
-def _token(token: Token) -> Dict[str, Any]:
-    """A token as an object of JSON. The value of a bytes literal is a list of numbers."""
-    fields = token._asdict()
-    fields["type"] = token.type.name
-    if isinstance(token.value, bytes):
-        fields["value"] = list(token.value)
-    return fields
+def _print_file(form: str, prefix: str, file: File) -> None:
+    """Prints a file's tokens in a form, and its faults on standard error."""
+    if form == "json":
+        sys.stdout.writelines(json_lines.lines(file.name, file.items))
+    elif form == "lines":
+        sys.stdout.writelines(_line(prefix, token) for token in file.tokens())
+    for fault in file.faults():
+        _say(f"{file.name}:{fault.start[0]}:{fault.start[1] + 1}: {fault.message}")
 
 
-def _fault(fault: Fault) -> Dict[str, Any]:
-    """A fault as an object of JSON."""
-    return {**fault._asdict(), "type": fault.type.name}
+def _run(form: str, names: List[str]) -> int:
+    """Prints all files, and returns the exit status."""
+    totals = Totals()
+    shown: List[File] = []
+    if form == "json":
+        sys.stdout.write(json_lines.HEAD)
+    for name in names or ["-"]:
+        file = _read_file(name)
+        if file is None:
+            totals = totals._replace(unreadable=totals.unreadable + 1)
+            continue
+        totals = totals.with_file(len(file.faults()))
+        shown += [file] if form == "html" else []
+        _print_file(form, f"{file.name}:" if len(names) > 1 else "", file)
+    if form == "json":
+        sys.stdout.write(json_lines.summary(*totals))
+    elif form == "html" and shown:
+        print(page(shown))
+    sys.stdout.flush()
+    return totals.status()
 
 
-def _json(tokens: List[Token], faults: List[Fault]) -> str:
-    """The tokens and faults as JSON."""
-    found = {"tokens": [_token(token) for token in tokens], "faults": [_fault(fault) for fault in faults]}
-    return json.dumps(found, indent=1, ensure_ascii=False)
+def _prepare_output(form: str) -> None:
+    """Makes standard output take any text: lines as the terminal can show them, else UTF-8."""
+    if isinstance(sys.stdout, io.TextIOWrapper):
+        encoding = sys.stdout.encoding if form == "lines" else "utf-8"
+        sys.stdout.reconfigure(encoding=encoding, errors="backslashreplace", newline="\n")
+
+
+def _drop_output() -> None:
+    """Gives up standard output, so that the interpreter doesn't write to it at its end."""
+    os.dup2(os.open(os.devnull, os.O_WRONLY), sys.stdout.fileno())
+
+
+def _asked(words: Optional[List[str]]) -> argparse.Namespace:
+    """What the arguments ask for."""
+    parser = argparse.ArgumentParser(prog="python -m starlark_lexer", description="prints the tokens of files")
+    form = parser.add_mutually_exclusive_group()
+    form.add_argument("--json", dest="form", action="store_const", const="json", help="as lines of JSON")
+    form.add_argument("--html", dest="form", action="store_const", const="html", help="as a page in colours")
+    parser.add_argument("--version", action="version", version=f"starlark_lexer {__version__}")
+    parser.add_argument("files", nargs="*", metavar="FILE", help="default, and for -: standard input")
+    parser.set_defaults(form="lines")
+    return parser.parse_args(words)
 
 
 def main(words: Optional[List[str]] = None) -> int:
-    """Prints the tokens of a file, and returns the exit status."""
-    parser = argparse.ArgumentParser(prog="python -m starlark_lexer", description="prints the tokens of a file")
-    form = parser.add_mutually_exclusive_group()
-    form.add_argument("--json", action="store_true", help="as JSON")
-    form.add_argument("--html", action="store_true", help="as a page with the text in colours")
-    parser.add_argument("file", nargs="?", metavar="FILE", help="default: standard input")
-    given = parser.parse_args(words)
-    name = given.file or "<stdin>"
+    """Prints the tokens of files, and returns the exit status."""
+    asked = _asked(words)
+    if sys.stdout is None:
+        print("starlark_lexer: standard output is closed", file=sys.stderr)
+        return TROUBLE
     try:
-        source = _read(given.file)
-        tokens, faults = lex_all(source)
-    except (OSError, ValueError) as error:
-        print(f"{name}: {error}", file=sys.stderr)
-        return 2
-    if given.json:
-        print(_json(tokens, faults))
-    elif given.html:
-        print(page(name, source, tokens, faults))
-    else:
-        for token in tokens:
-            print(_line(token))
-    for fault in faults:
-        print(f"{name}:{fault.start[0]}:{fault.start[1] + 1}: {fault.message}", file=sys.stderr)
-    return 1 if faults else 0
+        _prepare_output(asked.form)
+        return _run(asked.form, asked.files)
+    except BrokenPipeError:
+        _drop_output()
+        return CLOSED_PIPE
+    except (OSError, MemoryError) as error:
+        _drop_output()
+        print(f"starlark_lexer: {str(error) or 'out of memory'}", file=sys.stderr)
+        return TROUBLE
 
 
 if __name__ == "__main__":

@@ -3,7 +3,7 @@
 from __future__ import annotations
 
 from html import escape
-from typing import List, Tuple
+from typing import List, NamedTuple, Sequence, Tuple, Union
 
 from .kinds import Kind
 from .tokens import Fault, Token
@@ -24,6 +24,7 @@ _STYLE = """
 }
 body { background: var(--paper); color: var(--ink); font: 15px/1.5 system-ui, sans-serif; margin: 2rem; }
 h1 { font-size: 1.1rem; font-weight: 600; margin: 0 0 .25rem; }
+pre + h1 { margin-top: 2rem; }
 p { color: var(--faint); margin: 0 0 1rem; }
 ul { color: var(--fault); margin: 0 0 1rem; padding-left: 1.25rem; }
 a { color: inherit; }
@@ -51,6 +52,24 @@ _STRINGS = frozenset(
         Kind.FSTRING_END,
     }
 )
+
+
+
+class File(NamedTuple):
+    """A file that was lexed: its tokens and faults, in order."""
+
+    name: str
+    source: bytes
+    items: List[Union[Token, Fault]]
+
+    def tokens(self) -> List[Token]:
+        """The tokens."""
+        return [item for item in self.items if isinstance(item, Token)]
+
+    def faults(self) -> List[Fault]:
+        """The faults."""
+        return [item for item in self.items if isinstance(item, Fault)]
+
 
 # Where a part of the text begins and ends in bytes, its colour, and the message of its fault.
 Part = Tuple[int, int, str, str]
@@ -102,22 +121,22 @@ def _lines_of(fault: Fault) -> range:
     return range(fault.start[0], max(last, fault.start[0]) + 1)
 
 
-def _lines(text: str, faults: List[Fault]) -> str:
+def _lines(text: str, faults: List[Fault], anchor: str) -> str:
     """The lines of a text in colours, each with its number, and with a name if a fault begins there."""
     named = {fault.start[0] for fault in faults}
     at_fault = {number for fault in faults for number in _lines_of(fault)}
     attributes = {number: ' class="at-fault"' for number in at_fault}
-    attributes.update({number: f' id="line-{number}" class="at-fault"' for number in named})
+    attributes.update({number: f' id="{anchor}{number}" class="at-fault"' for number in named})
     return "".join(
         f'<span data-line="{number}"{attributes.get(number, "")}>{line}</span>'
         for number, line in enumerate(text.split("\n"), 1)
     )
 
 
-def _list(faults: List[Fault]) -> str:
+def _list(faults: List[Fault], anchor: str) -> str:
     """The list of faults, each with a link to its line."""
     rows = "".join(
-        f'\n<li><a href="#line-{fault.start[0]}">line {fault.start[0]}, column {fault.start[1] + 1}</a>: '
+        f'\n<li><a href="#{anchor}{fault.start[0]}">line {fault.start[0]}, column {fault.start[1] + 1}</a>: '
         f"{escape(fault.message)}</li>"
         for fault in faults
     )
@@ -129,13 +148,23 @@ def _count(number: int, noun: str) -> str:
     return f"{number} {noun}" if number == 1 else f"{number} {noun}s"
 
 
-def page(name: str, source: bytes, tokens: List[Token], faults: List[Fault]) -> str:
-    """The page of a text with these tokens and these faults."""
-    parts = _parts(len(source), tokens, faults)
-    text = "".join(_pieces(source[begin:end].decode(), style, message) for begin, end, style, message in parts)
-    said = f"<p>{_count(len(tokens), 'token')}, {_count(len(faults), 'fault')}</p>{_list(faults)}"
+def _section(file: File, anchor: str) -> str:
+    """The part of the page that a file has. The names of its lines begin with the anchor."""
+    tokens, faults = file.tokens(), file.faults()
+    parts = _parts(len(file.source), tokens, faults)
+    text = "".join(_pieces(file.source[begin:end].decode(), style, message) for begin, end, style, message in parts)
+    said = f"<p>{_count(len(tokens), 'token')}, {_count(len(faults), 'fault')}</p>{_list(faults, anchor)}"
+    return f"<h1>{escape(file.name)}</h1>\n{said}\n<pre>{_lines(text, faults, anchor)}</pre>\n"
+
+
+def page(files: Sequence[File]) -> str:
+    """The page of files."""
+    title = escape(", ".join(file.name for file in files))
+    sections = "".join(
+        _section(file, "line-" if number == 1 else f"file-{number}-line-") for number, file in enumerate(files, 1)
+    )
     return (
-        f'<!doctype html>\n<html lang="en">\n<meta charset="utf-8">\n<title>{escape(name)}</title>\n'
+        f'<!doctype html>\n<html lang="en">\n<meta charset="utf-8">\n<title>{title}</title>\n'
         f'<meta name="viewport" content="width=device-width, initial-scale=1">\n<style>{_STYLE}</style>\n'
-        f"<h1>{escape(name)}</h1>\n{said}\n<pre>{_lines(text, faults)}</pre>\n</html>"
+        f"{sections}</html>"
     )

@@ -7,8 +7,9 @@ Pygments finds the class by itself; elsewhere by `pygmentize -x -l FILE:Starlark
 from __future__ import annotations
 
 import re
+from itertools import chain
 from operator import itemgetter
-from typing import Any, Dict, Iterator, List, Optional, Tuple
+from typing import Any, Iterable, Iterator, List, Tuple
 
 from pygments.lexer import Lexer
 from pygments.token import (
@@ -26,15 +27,22 @@ from pygments.token import (
 
 # `pygmentize -x` runs this file outside of its package, where no relative import works.
 from starlark_lexer.kinds import FaultKind, Kind
-from starlark_lexer.tokens import Fault, Token, lex_all
+from starlark_lexer.library import Columns, lex_columns
+from starlark_lexer.tokens import Fault
 
 __all__ = ["StarlarkLexer"]
 
 # One of the types of `pygments.token`.
 TokenType = Any
 
-# Where a part of the text begins and ends in bytes, and its type.
-Part = Tuple[int, int, TokenType]
+# Where a part of the text begins and ends, the number of its kind, and that of the next part.
+Part = Tuple[int, int, int, int]
+
+# A fault's number among the kinds.
+_FAULT = 0
+
+# How many tokens are taken from the columns at once.
+_AT_ONCE = 4096
 
 _KINDS: List[Tuple[TokenType, List[Kind]]] = [
     (Keyword, [kind for kind in Kind if Kind.AND <= kind <= Kind.RETURN]),
@@ -50,81 +58,95 @@ _KINDS: List[Tuple[TokenType, List[Kind]]] = [
     (Punctuation, [kind for kind in Kind if kind >= Kind.OPENING_SQUARE]),
 ]
 
-# The types of all kinds but names and integers. A later row of the list counts more.
-_TYPES: Dict[Kind, TokenType] = {kind: type_ for type_, kinds in _KINDS for kind in kinds}
+# The types of all kinds by number; None where the text tells it. A later row of the list counts more.
+_TYPES: List[TokenType] = [Error, *[None] * max(Kind)]
+for _type, _kinds in _KINDS:
+    for _kind in _kinds:
+        _TYPES[_kind] = _type
+
+# Members of `Kind` as plain numbers, which compare faster.
+_NAME, _DEF, _DOT, _EQUAL, _BANG = map(
+    int, (Kind.IDENTIFIER, Kind.DEF, Kind.DOT, Kind.EQUAL, Kind.FSTRING_BANG)
+)
+
+_BUILTIN = Name.Builtin
 
 _BASES = {"x": Number.Hex, "o": Number.Oct, "b": Number.Bin}
 
-_CONSTANTS = frozenset({"False", "None", "True"})
-
-# The functions that the specification of Starlark has in each file.
-_BUILTINS = frozenset(
-    "abs all any bool bytes dict dir enumerate fail float getattr hasattr hash int len list max "
-    "min print range repr reversed set sorted str tuple type zip".split()
-)
+# The names with a type of their own: constants, and the functions that each file has.
+_NAMES = {
+    **dict.fromkeys(["False", "None", "True"], Keyword.Constant),
+    **dict.fromkeys(
+        "abs all any bool bytes dict dir enumerate fail float getattr hasattr hash int len list max "
+        "min print range repr reversed set sorted str tuple type zip".split(),
+        _BUILTIN,
+    ),
+}
 
 # A line end, and the lines of comments up to an indentation.
 _BEFORE_INDENTATION = re.compile(rb"(?:\r?\n)?(?:[ \t]*#[^\n]*\n)*")
 
 
-def _name_type(name: str, before: Optional[Kind], after: Optional[Kind]) -> TokenType:
-    """The type of a name between tokens of two kinds."""
-    if before == Kind.DEF:
+def _word_type(text: str, kind: int, before: int, after: int) -> TokenType:
+    """The type of a name or an integer between parts of two kinds."""
+    if kind != _NAME:
+        return _BASES.get(text[1:2].lower(), Number.Integer)
+    if before == _DEF:
         return Name.Function
-    if before == Kind.FSTRING_BANG:
+    if before == _BANG:
         return String.Interpol
-    if name in _CONSTANTS:
-        return Keyword.Constant
-    if name in _BUILTINS and before != Kind.DOT and after != Kind.EQUAL:
-        return Name.Builtin
-    return Name
+    found = _NAMES.get(text, Name)
+    if found is _BUILTIN and (before == _DOT or after == _EQUAL):
+        return Name
+    return found
 
 
-def _type_of(token: Token, before: Optional[Kind], after: Optional[Kind]) -> TokenType:
-    """The type of a token between tokens of two kinds."""
-    if token.type == Kind.IDENTIFIER:
-        return _name_type(token.string, before, after)
-    if token.type == Kind.INT:
-        return _BASES.get(token.string[1:2].lower(), Number.Integer)
-    return _TYPES[token.type]
-
-
-def _token_parts(tokens: List[Token]) -> Iterator[Part]:
-    """The parts of the tokens that have characters."""
-    kinds = [None, *(token.type for token in tokens), None]
-    for token, before, after in zip(tokens, kinds, kinds[2:]):
-        if token.string:
-            yield (*token.span, _type_of(token, before, after))
-
-
-def _fault_part(source: bytes, fault: Fault) -> Part:
-    """The part of a fault: its characters. That of a tab has none, and gets the tab."""
+def _fault_span(source: bytes, fault: Fault) -> Tuple[int, int]:
+    """The bytes of a fault. That of a tab has none, and gets the tab."""
     begin, end = fault.span
     if fault.type == FaultKind.INVALID_TAB:
         if source[begin : begin + 1] != b"\t":
             before = _BEFORE_INDENTATION.match(source, begin)
             begin = source.find(b"\t", before.end() if before else begin)
         end = begin + 1
-    return begin, end, Error
+    return begin, end
 
 
-def _gap(source: bytes, begin: int, end: int) -> Iterator[Part]:
-    """The part between two others, if there is one: blanks, or what lexing skips after a fault."""
-    if begin < end:
-        yield begin, end, Whitespace if source[begin:end].isspace() else Text
+def _fault_parts(source: bytes, faults: Iterable[Fault]) -> Iterator[Part]:
+    """The parts of the faults, which are in order."""
+    at = characters = 0
+    for fault in faults:
+        begin, end = _fault_span(source, fault)
+        if begin < at:
+            at = characters = 0
+        characters += len(source[at:begin].decode())
+        at = begin
+        yield characters, characters + len(source[begin:end].decode()), _FAULT, _FAULT
 
 
-def _parts(source: bytes) -> Iterator[Part]:
-    """The parts of a text in order, without gaps. A fault at its end may have no characters."""
-    tokens, faults = lex_all(source)
-    parts = [*(_fault_part(source, fault) for fault in faults), *_token_parts(tokens)]
-    at = 0
-    for begin, end, type_ in sorted(parts, key=itemgetter(0)):
-        if begin >= at:
-            yield from _gap(source, at, begin)
-            yield begin, end, type_
-            at = end
-    yield from _gap(source, at, len(source))
+def _token_parts(columns: Columns) -> Iterator[Part]:
+    """The parts of the tokens, made a few thousand at a time."""
+    begins, ends = columns.characters()
+
+    def some(first: int) -> Iterator[Part]:
+        last = first + _AT_ONCE
+        kinds = columns.kind[first : last + 1].tolist()
+        return zip(begins[first:last].tolist(), ends[first:last].tolist(), kinds, [*kinds[1:], _FAULT])
+
+    return chain.from_iterable(map(some, range(0, len(columns), _AT_ONCE)))
+
+
+def _parts(source: bytes, columns: Columns) -> Iterable[Part]:
+    """The parts of the tokens and faults of a text, in order of their begins in characters."""
+    parts = _token_parts(columns)
+    if not columns.faults:
+        return parts
+    return sorted([*_fault_parts(source, columns.faults), *parts], key=itemgetter(0))
+
+
+def _gap_type(gap: str) -> TokenType:
+    """The type of what is between two parts: blanks, or what lexing skips after a fault."""
+    return Whitespace if gap.isspace() and gap.isascii() else Text
 
 
 class StarlarkLexer(Lexer):
@@ -163,8 +185,15 @@ class StarlarkLexer(Lexer):
         """
         # A lone surrogate has no UTF-8. It is lexed as `?`, which is one character as well.
         source = text.encode(errors="replace")
-        at = 0
-        for begin, end, type_ in _parts(source):
-            next_at = at + len(source[begin:end].decode())
-            yield at, type_, text[at:next_at]
-            at = next_at
+        at = before = 0
+        for begin, end, kind, after in _parts(source, lex_columns(source, recover=True)):
+            if begin >= at and (begin < end or kind == _FAULT):
+                if begin > at:
+                    gap = text[at:begin]
+                    yield at, _gap_type(gap), gap
+                word = text[begin:end]
+                yield begin, _TYPES[kind] or _word_type(word, kind, before, after), word
+                at = end
+            before = kind
+        if at < len(text):
+            yield at, _gap_type(text[at:]), text[at:]

@@ -333,12 +333,12 @@ class Printed(unittest.TestCase):
 
     def test_json(self) -> None:
         status, out, _ = self.run_main(b"b'\\xff' 01\n?", "--json")
-        found = json.loads(out)
+        _, *found, _ = [json.loads(line) for line in out.splitlines()]
         self.assertEqual(status, 1)
-        values = [(token["type"], token["value"]) for token in found["tokens"]]
-        self.assertEqual(values, [("BYTES", [255]), ("NEWLINE", None)])
-        spans = [(fault["type"], fault["span"]) for fault in found["faults"]]
-        self.assertEqual(spans, [("STARTS_ZERO", [8, 10]), ("INVALID_INPUT", [11, 12])])
+        values = [(item["kind"], item["value"]) for item in found if item["kind"] != "Fault"]
+        self.assertEqual(values, [("Bytes", "ff"), ("Newline", None)])
+        spans = [(item["code"], item["begin"], item["end"]) for item in found if item["kind"] == "Fault"]
+        self.assertEqual(spans, [("SL008", 8, 10), ("SL002", 11, 12)])
 
     def test_page_has_the_text(self) -> None:
         status, out, _ = self.run_main(b"x = '<a>'\ny = 01\n", "--html")
