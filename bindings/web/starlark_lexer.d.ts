@@ -1,0 +1,15 @@
+import { Fault, Lexed, Source } from "./lexer.js";
+
+export * from "./lexer.js";
+
+/** The tokens of a text up to its first fault, and that fault if there is one. */
+export declare function lex(text: Source): Lexed;
+
+/**
+ * All tokens and all faults of a text. After each fault lexing begins again at a later line, as if
+ * that began a text of its own.
+ */
+export declare function lexRecovering(text: Source): Lexed;
+
+/** All faults of a text, as `lexRecovering` finds them. */
+export declare function faults(text: Source): Fault[];

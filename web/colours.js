@@ -1,0 +1,99 @@
+// Colours of the tokens and faults that are shown, by highlights of ranges: no element is made.
+
+const GROUPS = {
+    Comment: "comment",
+    Indent: "layout",
+    Dedent: "layout",
+    Newline: "layout",
+    Identifier: "name",
+    Int: "number",
+    Float: "number",
+    String: "string",
+    Bytes: "string",
+    FStringStart: "string",
+    FStringText: "string",
+    FStringEnd: "string",
+    FStringExprStart: "insert",
+    FStringExprEnd: "insert",
+    FStringBang: "insert",
+};
+const KEYWORDS = "And Break Continue Def Elif Else For If In Lambda Load Not Or Pass Return".split(" ");
+const PUNCTUATION = (
+    "Comma Semicolon Colon Dot Ellipsis OpeningSquare OpeningCurly OpeningRound ClosingSquare ClosingCurly ClosingRound"
+).split(" ");
+KEYWORDS.forEach((kind) => (GROUPS[kind] = "keyword"));
+PUNCTUATION.forEach((kind) => (GROUPS[kind] = "punctuation"));
+
+// A line end, and the lines of comments before an indentation.
+const BEFORE_MARGIN = /(?:\r?\n)?(?:[ \t\r]*#[^\n]*\n)*/y;
+
+/** The group of a kind, which names its colour. */
+export function groupOf(kind) {
+    return GROUPS[kind] ?? "operator";
+}
+
+/** The number of the first token that ends after an offset. */
+export function tokenAfter(tokens, offset) {
+    let low = 0;
+    let high = tokens.length;
+    while (low < high) {
+        const middle = (low + high) >> 1;
+        if (tokens.end(middle) <= offset) {
+            low = middle + 1;
+        } else {
+            high = middle;
+        }
+    }
+    return low;
+}
+
+function rangeOf(text, start, end) {
+    const [startContainer, startOffset] = text.pointAt(start);
+    const [endContainer, endOffset] = text.pointAt(end);
+    return new StaticRange({ startContainer, startOffset, endContainer, endOffset });
+}
+
+/** The ranges of the tokens between two offsets, by group. Tokens count offsets from `base`. A name has
+ * the colour of the text, and no range. */
+export function tokenRanges(text, tokens, base, start, end) {
+    const ranges = new Map();
+    for (let index = tokenAfter(tokens, start - base); index < tokens.length; index++) {
+        const from = tokens.start(index) + base;
+        if (from >= end) {
+            break;
+        }
+        const to = tokens.end(index) + base;
+        const group = groupOf(tokens.kind(index));
+        if (from < to && group !== "name") {
+            ranges.set(group, ranges.get(group) ?? []);
+            ranges.get(group).push(rangeOf(text, from, to));
+        }
+    }
+    return ranges;
+}
+
+/** The characters of a fault to mark. The tab of a fault is after its place, and a wrong indentation
+ * is marked on its own line. A fault without characters gets the next one. */
+export function markOf(whole, { kind, start, end }) {
+    if (kind === "InvalidTab") {
+        BEFORE_MARGIN.lastIndex = start;
+        const tab = whole.indexOf("\t", whole[start] === "\t" ? start : start + BEFORE_MARGIN.exec(whole)[0].length);
+        return { start: tab, end: tab + 1 };
+    }
+    if (kind === "Indentation") {
+        return { start: whole.lastIndexOf("\n", end - 1) + 1, end };
+    }
+    return { start, end: Math.max(end, Math.min(start + 1, whole.length)) };
+}
+
+/** The ranges of marks between two offsets. */
+export function markRanges(text, marks, start, end) {
+    return marks.filter((mark) => mark.start < end && mark.end >= start).map((mark) => rangeOf(text, mark.start, mark.end));
+}
+
+/** Shows ranges in the colour of a name, in place of those that it had. */
+export function highlight(name, ranges) {
+    if (globalThis.CSS?.highlights) {
+        CSS.highlights.set(name, new Highlight(...ranges));
+    }
+}
