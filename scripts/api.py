@@ -4,47 +4,61 @@
     scripts/api.py            says whether the page differs from the sources; status 1 where it does
     scripts/api.py --write    writes the page
 
-An item stands with its signature, the first sentence of its doc comment, and a link to its line. It is listed where it is
-defined or re-exported one by one; a module that another crate lists is named there, and not listed twice.
+An item has its signature and the first sentence of its doc comment; an enum has its variants in its signature. It is listed
+where it is defined or re-exported one by one; a module that another crate lists is named there, and not listed twice. The
+page has no line numbers, so it changes only with the items.
 """
 
 import re
 import sys
-from pathlib import Path
+import textwrap
 
-TOP = Path(__file__).resolve().parent.parent
+from shared.programs import TOP
+
 PAGE = TOP / "docs/API.md"
 CRATES = ["starlark_text", "starlark_base", "starlark_syntax", "starlark_document", "starlark_run"]
 HEAD = """# Public items
 
-Made by `scripts/api.py` from the sources; `.ci/run` compares it with them. Each item links to its
-line, where its whole doc comment and its contract are. [The pages for users](use/README.md) have
-examples. A row with `·` is a method of the type above it.
+Made by `scripts/api.py` from the sources; `.ci/run` compares it with them. Whole comments and
+contracts are in the sources. [The pages for users](use/README.md) have examples;
+[PROOFS.md](PROOFS.md) says what the functions in the modules `laws` state.
 """
+# An enum with more variants has them in a block of their own.
+MOST_VARIANTS = 12
 ITEM = re.compile(r"pub (?:const |unsafe |final )*(fn|struct|enum|trait|const|type) (\w+)")
 USE = re.compile(r"pub use ([\w:]+?)(?:::)?(?:\{([^}]*)\})?;", re.DOTALL)
 MODULE = re.compile(r"^(pub )?mod (\w+);$", re.MULTILINE)
 CLAUSE = re.compile(r"\s*(requires|ensures|decreases|where|ghost|aborts|writes|reads)\b")
-VARIANT = re.compile(r"    (\w+)(\([^)]*\))?( \{.*?\})?,")
+VARIANT = re.compile(r"    (\w+)(\([^)]*\))?( \{(.*?\},)?|,)")
+
+
+def wrapped(text, margin):
+    """A text in lines of at most 100 characters."""
+    return textwrap.fill(text, 100, subsequent_indent=margin, break_long_words=False, break_on_hyphens=False)
 
 
 class Item:
-    """A public item: what it is, where it is, what is said of it, and what belongs to it."""
+    """A public item: its signature, what is said of it, and what belongs to it."""
 
-    def __init__(self, name, signature, docs, place):
+    def __init__(self, name, signature, docs, crate=""):
         self.name = name
+        self.key = (crate, name, docs)
         self.signature = signature
         self.docs = docs
-        self.place = place
         self.members = []
 
-    def rows(self, owner=""):
-        """The item's rows of the page."""
-        path, number = self.place
-        name = f"{owner}{self.signature}".replace("|", "\\|")
-        yield f"| [`{name}`](../{path}#L{number}) | {self.docs} |"
+    def rows(self, margin=""):
+        """The item's lines of the page."""
+        variants = [it.signature for it in self.members if not it.signature.startswith(("fn ", "const "))]
+        is_long = len(variants) > MOST_VARIANTS
+        shown = self.signature if is_long or not variants else f"{self.signature} {{ {', '.join(variants)} }}"
+        said = f": {self.docs}" if self.docs else ""
+        yield wrapped(f"{margin}- `{shown.removeprefix('fn ')}`{said}", f"{margin}  ")
+        if is_long:
+            yield "\n" + wrapped(f"{margin}      {', '.join(variants)}", f"{margin}      ") + "\n"
         for member in self.members:
-            yield from member.rows(f"{self.name}::" if not member.signature.startswith(("fn ", "const ")) else "· ")
+            if member.signature not in variants:
+                yield from member.rows(f"{margin}  ")
 
 
 class Source:
@@ -87,20 +101,16 @@ class Source:
         variant = VARIANT.fullmatch(row)
         function = re.match(r"    fn (\w+)", row)
         if variant and owner.signature.startswith("enum"):
-            owner.members.append(Item(variant.group(1), row.strip().rstrip(","), self.docs(number), self.place(number)))
+            owner.members.append(Item(variant.group(1), re.sub(r" \{$", " { .. }", row.strip().rstrip(",")), self.docs(number)))
         elif function and owner.signature.startswith("trait"):
-            owner.members.append(Item(function.group(1), self.signature(number), self.docs(number), self.place(number)))
+            owner.members.append(Item(function.group(1), self.signature(number), self.docs(number)))
 
     def item(self, number, found):
         """The item that a row begins."""
-        return Item(found.group(2), self.signature(number), self.docs(number), self.place(number))
-
-    def place(self, number):
-        """The path from the top, and the line from 1."""
-        return self.path.relative_to(TOP).as_posix(), number + 1
+        return Item(found.group(2), self.signature(number), self.docs(number), self.path.relative_to(TOP / "crates").parts[0])
 
     def signature(self, number):
-        """What stands before the clauses and the body."""
+        """What is before the clauses and the body."""
         parts = []
         for row in self.rows[number:]:
             if CLAUSE.match(row) and parts:
@@ -181,23 +191,29 @@ class Crate:
         sys.exit(f"api.py: {self.name} has no {'::'.join([*path, name])}")
 
 
-def section(crate, path):
-    """The lines of a module and the modules in it."""
+def section(crate, path, listed):
+    """The lines of a module and the modules in it. An item that is listed already is named as re-exported."""
     items, modules, others = crate.public(path)
     yield f"\n{'##' if not path else '###'} `{'::'.join([crate.name, *path])}`\n"
-    if items or others:
-        yield "| Item | What it is |\n|---|---|"
-    for item in items:
+    known = [item for item in items if item.key in listed]
+    others += [f"{item.key[0]}::{item.name}" for item in known]
+    new = [item for item in items if item not in known]
+    if path[-1:] == ["laws"]:
+        yield wrapped(f"{', '.join(f'`{item.name}`' for item in new)}.", "")
+        new = []
+    for item in new:
+        listed.add(item.key)
         yield from item.rows()
-    for other in others:
-        yield f"| `{other}` | re-exported |"
+    if others:
+        yield wrapped(f"Re-exported: {', '.join(f'`{other}`' for other in others)}.", "")
     for name in modules:
-        yield from section(crate, [*path, name])
+        yield from section(crate, [*path, name], listed)
 
 
 def page():
     """The whole page."""
-    lines = [line for name in CRATES for line in section(Crate(name), [])]
+    listed = set()
+    lines = [line for name in CRATES for line in section(Crate(name), [], listed)]
     return HEAD + "\n".join(lines) + "\n"
 
 
@@ -205,6 +221,7 @@ def main():
     """Compares or writes the page."""
     wanted = page()
     if PAGE.exists() and PAGE.read_text(encoding="utf-8") == wanted:
+        print("docs/API.md: it has the public items of the sources")
         return
     if "--write" in sys.argv[1:]:
         PAGE.write_text(wanted, encoding="utf-8")

@@ -1,21 +1,21 @@
 #!/bin/sh
-# Makes the lexer's library for C, Rust and Python, and tests it from each.
+# Makes the lexer's library for C, Rust, Python and browsers, and tests it from each.
 #
-#     scripts/bindings.sh [c | rust | python | library]
+#     scripts/bindings.sh [c | rust | python | web | library]
 #
-# It proves and builds the archive of crates/starlark_c where that is missing or older than a
-# source. That took 16 and 21 minutes in clones where only `rt ci` had run, and 41 seconds where a
-# check of the same sources had left built libraries. Then out/bindings has
+# It lets scripts/build_archive.py prove and build the archive of crates/starlark_c, where that is
+# missing or older than a source. Then out/bindings has
 #
-#     libstarlark_lex.a, starlark_lex.h       for C: the archive, with the kit's allocator in it
-#     python/                                 for Python: the package, with the shared object in it
+#     libstarlark_lex.a, libstarlark_lex.so, starlark_lex.h       for C
+#     python/                                                     for Python: the package
+#     web/                                                        for browsers and Node
 #
-# and the tests of the part that is named, or of all, were run; of `library` none. The crate for Rust
-# is built where it is, in bindings/rust, with the archive. Where there is no C compiler, no cargo, or
-# no python3, it says that this part was left out.
+# and the tests of the part that is named, or of all, were run; of `library` none. The crate for
+# Rust is built where it is, in bindings/rust, with the archive. Where there is no C compiler with
+# its binary tools, no cargo, or no python3, it says what was left out.
 set -eu
 
-top=$(CDPATH= cd -- "$(dirname -- "$0")/.." && pwd)
+top=$(CDPATH='' cd -- "$(dirname -- "$0")/.." && pwd)
 crate="$top/crates/starlark_c"
 archive="$crate/out/libstarlark_c.a"
 made="$top/out/bindings"
@@ -26,45 +26,14 @@ fail() {
     exit 1
 }
 
-# Whether the archive is newer than each source of its crate and of those below it.
-is_current() {
-    [ -e "$archive" ] || return 1
-    newer=$(find "$top/crates" "$top/crates.txt" "$top/HANDLES" \
-        -name out -prune -o -type f -newer "$archive" -print)
-    [ -z "$newer" ]
-}
-
-# Proves and builds the archive.
-build_archive() {
-    echo 'proving and building the archive of starlark_c' >&2
-    mkdir -p "$made"
-    (cd "$crate" && rt lib </dev/null >"$made/rt.log" 2>&1) || {
-        cat "$made/rt.log" >&2
-        fail 'the archive of starlark_c is not proved'
-    }
-}
-
-# Makes the archive and the shared object with the kit's tools. Nothing but the calls of the header
-# is visible in the shared object.
+# Makes the static and the shared library.
 link_libraries() {
     kit=$(dirname "$(rt doc)")
-    mkdir -p "$made"
-    rm -f "$made/libstarlark_lex.a"
-    "$kit/toolchain/bin/llvm-ar" -M <<END
-create $made/libstarlark_lex.a
-addlib $archive
-addlib $kit/c/liblibc_c.a
-save
-end
-END
-    echo '{ global: starlark_*; local: *; };' >"$made/exports"
-    "$kit/toolchain/bin/ld.lld" -shared --gc-sections -z noexecstack -z relro -z now \
-        -soname libstarlark_lex.so --version-script "$made/exports" \
-        --whole-archive "$made/libstarlark_lex.a" -o "$made/libstarlark_lex.so"
-    cp "$top/bindings/c/starlark_lex.h" "$made"
+    CC=$cc "$top/scripts/link_library.sh" '' "$archive" "$kit/c/liblibc_c.a" "$made"
 }
 
-# Compares the numbers that cross to the header, the crate and the package, where there is a python3.
+# Compares the numbers that cross to the header, the crate and the package, where there is a
+# python3.
 compare_numbers() {
     if command -v python3 >/dev/null; then
         python3 "$top/scripts/binding_numbers.py"
@@ -92,18 +61,40 @@ compile() {
         "$cc" $flags -I "$made" $inputs -o "$made/$1"
 }
 
+# Compiles the header by itself as C of three standards, and as C++ where the compiler takes it.
+compile_header() {
+    header="$made/starlark_lex.h"
+    for standard in c99 c11 c17; do
+        "$cc" -std=$standard -Wall -Wextra -Wpedantic -Werror -fsyntax-only -x c "$header"
+    done
+    echo 'int main() {}' | "$cc" -x c++ -fsyntax-only - 2>/dev/null || return 0
+    for standard in c++98 c++11 c++17; do
+        "$cc" -std=$standard -Wall -Wextra -Werror -fsyntax-only -x c++ "$header"
+    done
+}
+
 test_c() {
-    cc=$(compiler) || {
-        echo 'C was left out: there is no C compiler'
-        return 0
-    }
-    compile stored_texts ''
+    compile_header
+    for test in stored_texts small_calls print_tokens; do
+        compile $test ''
+    done
     compile refused_memory '-Wl,--wrap=malloc,--wrap=realloc'
-    compile print_tokens ''
     printf 'C: '
     "$made/stored_texts" "$stored/stdin" "$stored/stdout"
     printf 'C: '
+    "$made/small_calls"
+    printf 'C: '
     "$made/refused_memory"
+}
+
+# Lints the crate for Rust, where clippy and rustfmt are there.
+lint_rust() {
+    if cargo clippy --version >/dev/null 2>&1; then
+        cargo clippy --offline --quiet --all-targets -- -D warnings
+    fi
+    if cargo fmt --version >/dev/null 2>&1; then
+        cargo fmt --check
+    fi
 }
 
 test_rust() {
@@ -115,9 +106,18 @@ test_rust() {
         echo 'Rust was left out: there is no cc, with which rustc links'
         return 0
     }
-    (cd "$top/bindings/rust" && STARLARK_LEX_DIR="$made" CARGO_TARGET_DIR="$made/cargo" \
-        cargo test --offline --quiet)
+    export STARLARK_LEX_DIR="$made" CARGO_TARGET_DIR="$made/cargo"
+    cd "$top/bindings/rust"
+    cargo test --offline --quiet
+    lint_rust
+    cd "$top"
     echo 'Rust: the tests of the crate passed'
+}
+
+# Whether python3 can build an extension module.
+can_build_python() {
+    python3 -c 'import os, setuptools, sysconfig
+assert os.path.exists(sysconfig.get_path("include") + "/Python.h")' 2>/dev/null
 }
 
 test_python() {
@@ -125,9 +125,17 @@ test_python() {
         echo 'Python was left out: there is no python3'
         return 0
     }
-    rm -rf "$made/python"
-    cp -R "$top/bindings/python" "$made/python"
-    cp "$made/libstarlark_lex.so" "$made/python/starlark_lexer"
+    can_build_python || {
+        echo 'Python was left out: python3 has no setuptools, or not its headers'
+        return 0
+    }
+    rm -rf "$made/python" "$made/python_sources"
+    cp -R "$top/bindings/python" "$made/python_sources"
+    (cd "$made/python_sources" && STARLARK_LEX_DIR="$made" python3 -W ignore setup.py --quiet build \
+        --build-lib "$made/python")
+    if command -v mypy >/dev/null; then
+        (cd "$top/bindings/python" && mypy --no-error-summary --cache-dir "$made/mypy" starlark_lexer)
+    fi
     (cd "$top" && PYTHONPATH="$made/python" PYTHONDONTWRITEBYTECODE=1 \
         python3 -W error -m unittest discover -s bindings/python/tests)
 }
@@ -135,15 +143,22 @@ test_python() {
 part=${1:-all}
 case $part in
 c | rust | python | library | all) ;;
+web) exec "$top/scripts/web.sh" ;;
 *)
-    echo 'usage: scripts/bindings.sh [c | rust | python | library]' >&2
+    echo 'usage: scripts/bindings.sh [c | rust | python | web | library]' >&2
     exit 2
     ;;
 esac
 command -v rt >/dev/null || fail "the Rattle kit's rt is not on the path"
-is_current || build_archive
+if ! cc=$(compiler) || ! command -v objcopy >/dev/null; then
+    echo 'C, Rust and Python were left out: there is no C compiler with its binary tools'
+    case $part in all) exec "$top/scripts/web.sh" ;; esac
+    exit 0
+fi
+"$top/scripts/build_archive.py" || fail 'the archive of starlark_c is not proved'
 link_libraries
 case $part in c | all) test_c ;; esac
 case $part in rust | all) test_rust ;; esac
 case $part in python | all) test_python ;; esac
 case $part in rust | python | all) compare_numbers ;; esac
+case $part in all) "$top/scripts/web.sh" ;; esac

@@ -6,12 +6,13 @@
 # `rt try` compiles a program, runs it, and keeps nothing. Here it runs as part of a copy of the
 # kit, made of links, whose clang compiles at -O2 and without the address sanitizer, and whose
 # linker keeps the program. What `rt try` checks while a program runs is checked by it too.
+# The sources are a copy, in which src/build.rt of the program says that it isn't proved.
 # Where the build fails, what `rt try` said is on standard error, and OUTPUT isn't touched.
 set -eu
 
 crate=$1
 output=$2
-top=$(CDPATH= cd -- "$(dirname -- "$0")/.." && pwd)
+top=$(CDPATH='' cd -- "$(dirname -- "$0")/.." && pwd)
 if ! command -v rt >/dev/null; then
     echo "build_unproved.sh: the Rattle kit's rt is not on the path" >&2
     exit 1
@@ -54,7 +55,13 @@ done
 
 # A source that is changed while this runs is newer than the program.
 touch "$work/begun"
-if ! (cd "$top/crates/$crate" && "$work/kit/bin/rt" try </dev/null >"$work/said" 2>&1) ||
+mkdir "$work/sources"
+(cd "$top" && tar cf - --exclude='crates/*/out' crates crates.txt HANDLES) | tar xf - -C "$work/sources"
+build=$work/sources/crates/$crate/src/build.rt
+if [ -e "$build" ]; then
+    sed -i 's/"proved"/"unproved build"/; s/"true"/"false"/' "$build"
+fi
+if ! (cd "$work/sources/crates/$crate" && "$work/kit/bin/rt" try </dev/null >"$work/said" 2>&1) ||
     [ ! -e "$work/program" ]; then
     cat "$work/said" >&2
     exit 1

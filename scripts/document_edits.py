@@ -1,5 +1,5 @@
 #!/usr/bin/env python3
-"""Edits random documents at random places, and compares what is found in them with what lexing their text finds.
+"""Compares what is found in edited documents with what lexing their whole text finds.
 
 usage: document_edits.py [--write] [--edits N] [--seed N]
 
@@ -11,7 +11,7 @@ Without options it compares the stored output of the part `documents` of crates/
 
 After each edit the program compares all lexemes and faults of the document with those of lexing its whole text on after its
 faults. This script applies the edits by itself, and compares what `show` prints with what the plain lexer finds. It also
-looks at what an edit says that it changed: outside of that all has to be as before, but for its place. It prints the first
+looks at what an edit says that it changed: outside of that all has to be as before, but moved. It prints the first
 command at which two of them differ, and exits with 1; else it says how many edits were tried.
 """
 
@@ -21,9 +21,9 @@ import random
 import re
 import sys
 
-from fuzz import INSERTIONS
-from recovered_texts import items_of, random_texts
-from stored_parts import printed_for, read_part, write_part
+from shared.plain_lexer import items_of
+from shared.random_texts import INSERTIONS, random_texts
+from shared.stored import printed_for, read_part, write_part
 
 PART = "documents"
 EDITS_OF_A_TEXT = 20
@@ -55,10 +55,6 @@ def new_command(least, text):
     return f"new {least} {len(text)}\n".encode() + text + b"\n"
 
 
-# What a call with one edit twice returns: the number of edits, or the index of the one that is refused.
-TWICE = {b"twice 0 1 2\n<<\n": b"2 same", b"twice 0 60 0\n\n": b"1 bad range same"}
-
-
 def edit_command(begin, end, text):
     return f"edit {begin} {end} {len(text)}\n".encode() + text + b"\n"
 
@@ -67,8 +63,42 @@ def twice_command(begin, end, text):
     return f"twice {begin} {end} {len(text)}\n".encode() + text + b"\n"
 
 
+# Lines of one length, in a document with segments of at least the length that `Document::new` gives them.
+LINE, LINES, SEGMENT_LEN = b"x = 1\n", 1000, 1280
+
+
+def line_segments():
+    """The range of each segment of a document of lines: as few lines as have the least length, where as much is left."""
+    begin, end = 0, LINES * len(LINE)
+    least = -(-SEGMENT_LEN // len(LINE)) * len(LINE)
+    while end - begin >= least + SEGMENT_LEN:
+        yield begin, begin + least
+        begin += least
+    yield begin, end
+
+
+def line_edits():
+    """The lines, put into an empty document, and a byte typed into each segment and deleted again, with what each edit returns."""
+    text = LINE * LINES
+    lexed = sum(len(text) - begin for begin, _ in line_segments())
+    yield edit_command(0, 0, text), text, f"0 0 {len(text)} {lexed} same".encode()
+    for begin, end in line_segments():
+        at, count = begin + len(LINE), end - begin
+        yield edit_command(at, at, b"y"), text[:at] + b"y" + text[at:], f"{begin} {end} {end + 1} {count + 1} same".encode()
+        yield edit_command(at, at + 1, b""), text, f"{begin} {end + 1} {end} {count} same".encode()
+
+
+# What some stored commands return: that each edit lexes a segment, and of one edit made twice how many were made, or which is refused.
+WANTED = {
+    b"twice 0 1 2\n<<\n": b"2 same",
+    b"twice 0 60 0\n\n": b"1 bad range same",
+    **{command: output for command, _, output in line_edits()},
+}
+
+
 def stored_commands():
-    """A document of many kinds of lines, into which each of a list of texts is typed at each line's start and deleted again."""
+    """Edits of lines, and then a document of many kinds of lines, into which each of a list of texts is typed at each line's start and deleted again."""
+    yield from ((command, text) for command, text, _ in line_edits())
     yield new_command(1, STORED), STORED
     text = STORED
     for at in [match.start() for match in re.finditer(rb"(?m)^", STORED)]:
@@ -180,13 +210,13 @@ def is_unchanged(change, before, after):
     return moved == inside[1]
 
 
-def fault_at(commands, texts, outputs):
-    """The number of the first command that doesn't return what it has to; None if all do."""
+def fault_at(commands, texts, outputs, wanted):
+    """The number of the first command that doesn't return what it has to, as some wanted outputs say; None if all do."""
     shown = {}
     for number, (command, text, output) in enumerate(zip(commands, texts, outputs)):
         if command.startswith((b"new", b"edit", b"twice")) and not output.endswith(b"same"):
             return number
-        if command.startswith(b"twice") and output != TWICE[command]:
+        if output != wanted.get(command, output):
             return number
         if command.startswith(b"slice") and output != slice_text(text, *map(int, command.split()[1:])):
             return number
@@ -211,7 +241,7 @@ def compare(what, runs):
     """Runs commands, and says whether what they return is right."""
     commands, texts = [run[0] for run in runs], [run[1] for run in runs]
     outputs = outputs_of(printed_for(PART, b"".join(commands)))
-    number = fault_at(commands, texts, outputs)
+    number = fault_at(commands, texts, outputs, {})
     edits = sum(command.startswith(b"edit") for command in commands)
     if number is None:
         print(f"{edits} {what} edits of documents, no difference")
@@ -232,7 +262,7 @@ def main():
         write_part("stdin", PART, commands)
         write_part("stdout", PART, printed_for(PART, commands))
     outputs = outputs_of(read_part("stdout", PART))
-    number = fault_at([command for command, _ in stored], [text for _, text in stored], outputs)
+    number = fault_at([command for command, _ in stored], [text for _, text in stored], outputs, WANTED)
     is_stored = read_part("stdin", PART) == commands
     if number is not None or not is_stored:
         print(f"stored command {number} differs" if is_stored else "the stored commands differ")

@@ -15,7 +15,7 @@ import subprocess
 import sys
 from typing import NamedTuple
 
-from refused_memory import built
+from shared.programs import built
 
 USAGE = b"usage: starlark_lex [NAME]\n"
 FOLDER = "/"

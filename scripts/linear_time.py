@@ -1,15 +1,20 @@
 #!/usr/bin/env python3
-"""Measures the built programs over hostile texts: that processor time and memory are linear in the text's bytes.
+"""Measures over hostile texts that the programs take time and memory linear in the text's bytes.
 
 Each shape of a text is made once and at twice its length. starlark_bench lexes both, and starlark_lex prints the lines of
 both, some times over in turn; the least time of each counts. A line says, in this order: the shorter text's length in
 megabytes; nanoseconds a byte for lexing the shorter and the longer one; how many times as long the longer one took to be
 lexed, and to be printed; and the most memory that starlark_lex held for the longer one, in bytes a byte of the text.
 
-    scripts/linear_time.py [--times N] [WORD..]     N runs of each text, 3 if it isn't given; only shapes named by a WORD
+    scripts/linear_time.py [--times N] [--divide N] [--most RATIO] [WORD..]
 
-The exit status is 1 where a longer text took more than 2.3 times as long, or where a program gave up. Beside other work
-the figures vary: a shape that comes out longer is measured on, twice at most. Programs that aren't built are proved and
+--times N   N runs of each text (3)
+--divide N  texts of an Nth of their length (1)
+--most R    how many times as long a text of twice the length may take (2.3)
+WORD        only shapes whose names have a WORD
+
+The exit status is 1 where a longer text took more than R times as long, or where a program gave up. Beside other work
+the figures vary: a shape that takes longer is measured on, twice at most. Programs that aren't built are proved and
 built first.
 """
 
@@ -20,15 +25,14 @@ import sys
 import tempfile
 from pathlib import Path
 
-from refused_memory import built
+from shared.programs import built
 
-MOST_RATIO = 2.3
 ATTEMPTS = 3
 MEGABYTE = 1_000_000
 
 
 def widths(count):
-    """So many lines, each one blank wider than the one before."""
+    """Lines of `count` widths, each one space wider than the one before."""
     return b"".join(b" " * width + b"if x:\n" for width in range(count))
 
 
@@ -52,7 +56,7 @@ SHAPES = [
     ("one comment", 8_000_000, lambda n: b"# " + b"a" * n),
     ("one comment of characters past ASCII", 4_000_000, lambda n: b"# " + "é".encode() * n),
     ("comment lines", 4_000_000, lambda n: b"#\n" * n),
-    ("comment lines behind a line", 2_000_000, lambda n: b"x\n" + b" #\n" * n),
+    ("comment lines after a line", 2_000_000, lambda n: b"x\n" + b" #\n" * n),
     ("one name", 8_000_000, lambda n: b"a" * n),
     ("one decimal number", 8_000_000, lambda n: b"9" * n),
     ("one hexadecimal number", 8_000_000, lambda n: b"0x" + b"f" * n),
@@ -62,7 +66,7 @@ SHAPES = [
     ("one float", 8_000_000, lambda n: b"1." + b"0" * n),
     ("one exponent", 8_000_000, lambda n: b"1e" + b"9" * n),
     ("points", 2_000_000, lambda n: b"." * n),
-    ("line feeds", 8_000_000, lambda n: b"\n" * n),
+    ("newlines", 8_000_000, lambda n: b"\n" * n),
     ("CR LF", 4_000_000, lambda n: b"\r\n" * n),
     ("blank lines", 2_000_000, lambda n: b"x\n" + b"   \n" * n),
     ("escaped line ends", 4_000_000, lambda n: b"\\\n" * n),
@@ -119,14 +123,14 @@ class Measured:
 class Shape:
     """One shape of a text at one length and at about twice that."""
 
-    def __init__(self, name, count, make, folder):
-        self.name = name
+    def __init__(self, name, count, make, folder, most):
+        self.name, self.most = name, most
         longer = 2 * count if make is not widths else round(count * 2**0.5)
         self.short = Measured(make, count, folder / "short")
         self.long = Measured(make, longer, folder / "long")
 
     def measure(self, bench, lex, times):
-        """Measures so many times, and again where that didn't come out linear."""
+        """Measures `times` times, and again where that isn't linear."""
         for _ in range(ATTEMPTS):
             for _ in range(times):
                 self.short.measure(bench, lex)
@@ -146,7 +150,7 @@ class Shape:
         return self.ratio(short.lexed, long.lexed), self.ratio(short.printed, long.printed)
 
     def is_linear(self):
-        return not self.failed() and max(self.ratios()) <= MOST_RATIO
+        return not self.failed() and max(self.ratios()) <= self.most
 
     def line(self):
         if self.failed():
@@ -162,6 +166,8 @@ class Shape:
 def main():
     arguments = argparse.ArgumentParser(description=__doc__.splitlines()[0])
     arguments.add_argument("--times", type=int, default=3, metavar="N")
+    arguments.add_argument("--divide", type=int, default=1, metavar="N")
+    arguments.add_argument("--most", type=float, default=2.3, metavar="R")
     arguments.add_argument("words", nargs="*", metavar="WORD")
     options = arguments.parse_args()
     bench, lex = built("starlark_bench"), built("starlark_lex")
@@ -171,11 +177,11 @@ def main():
         for name, count, make in SHAPES:
             if options.words and not any(word in name for word in options.words):
                 continue
-            shape = Shape(name, count, make, Path(folder))
+            shape = Shape(name, max(count // options.divide, 1), make, Path(folder), options.most)
             shape.measure(bench, lex, options.times)
             wrong += not shape.is_linear()
             print(shape.line(), flush=True)
-    print(f"{wrong} of these aren't linear" if wrong else "all of these are linear")
+    print(f"linear time: {wrong} of these texts aren't linear" if wrong else "linear time: all of these texts are linear")
     return 1 if wrong else 0
 
 

@@ -4,20 +4,20 @@
     scripts/pages.py            says where they differ
     scripts/pages.py --write    writes what the repository has into the pages
 
-Two things are compared. Behind a line `<!-- PATH -->` stands a block of code: the file of that path, but for the comment
-that it begins with. A line `    $ printf 'TEXT' | ./starlark_lex NAME` shows a run: the indented lines behind it are what the
-program prints. A line `    $ ./starlark_tokens ..` does so too, with what goes to standard error, unless it has `jq`, `git` or
+Two things are compared. After a line `<!-- PATH -->` comes a block of code: the file of that path, but for the comment that
+it begins with. After `<!-- PATH: fn NAME, struct NAME -->` it has these items alone, with `// ..` for what is left out. A
+line `    $ printf 'TEXT' | ./starlark_lex NAME` shows a run: the indented lines after it are what the program prints. A line `    $ ./starlark_tokens ..` does so too, with what goes to standard error, unless it has `jq`, `git` or
 a folder of the reader's. Runs are left out where the program isn't built; it isn't built here.
 """
 
 import re
 import subprocess
 import sys
-from pathlib import Path
 
-TOP = Path(__file__).resolve().parent.parent
+from shared.programs import TOP
+
 PROGRAM = TOP / "crates/starlark_lex/out/starlark_lex"
-FILE = re.compile(r"<!-- (crates/\S+) -->\n```(\w*)\n(.*?)```\n", re.DOTALL)
+FILE = re.compile(r"<!-- (crates/[^\s:]+)(:\s[^>]+)? -->\n```(\w*)\n(.*?)```\n", re.DOTALL)
 RUN = re.compile(r"^    \$ printf ('[^']*') \| \./starlark_lex( \w+)?\n((?:    (?!\$).*\n)*)", re.MULTILINE)
 
 TOKENS_PROGRAM = TOP / "crates/starlark_tokens/out/starlark_tokens"
@@ -32,10 +32,37 @@ def code_of(path):
     return "".join(lines)
 
 
+def item_lines(lines, item):
+    """The numbers of the lines of an item as `fn NAME`, with its doc comment and attributes."""
+    kind, name = item.split()
+    head = re.compile(rf"\s*(pub(\(crate\))? )?{kind} {name}\b")
+    at = next(number for number, line in enumerate(lines) if head.match(line))
+    first = last = at
+    while first and lines[first - 1].strip().startswith(("///", "#[")):
+        first -= 1
+    margin = lines[at][: len(lines[at]) - len(lines[at].lstrip())]
+    while not (lines[last].rstrip().endswith(";") if kind == "const" else lines[last].startswith(margin + "}")):
+        last += 1
+    return range(first, last + 1)
+
+
+def items_of(code, items):
+    """Some items of a file, in the order of the file."""
+    lines, shown, end = code.splitlines(keepends=True), "", 0
+    for found in sorted((item_lines(lines, item) for item in items), key=min):
+        margin = re.match(r"\s*", lines[found[0]]).group()
+        left_out = any(line.strip() for line in lines[end : found[0]])
+        shown += ("\n" if shown else "") + (f"{margin}// ..\n\n" if left_out and shown else "")
+        shown += "".join(lines[found[0] : found[-1] + 1])
+        end = found[-1] + 1
+    return shown
+
+
 def with_file(match):
     """A block of code as the file has it."""
-    path, language, _ = match.groups()
-    return f"<!-- {path} -->\n```{language}\n{code_of(path)}```\n"
+    path, items, language, _ = match.groups()
+    code = items_of(code_of(path), re.split(r",\s+", items.strip(": \n"))) if items else code_of(path)
+    return f"<!-- {path}{items or ''} -->\n```{language}\n{code}```\n"
 
 
 def with_run(match):
@@ -78,6 +105,8 @@ def main():
     for program in (PROGRAM, TOKENS_PROGRAM):
         if not program.exists():
             print(f"the runs of {program.name} were left out: it isn't built")
+    if not differing:
+        print("pages: they show what the repository has")
     return 1 if differing else 0
 
 

@@ -1,6 +1,5 @@
 #!/usr/bin/env python3
-"""Edits random texts at random places, and compares what the built program prints with what the plain lexer of fuzz.py
-prints of the edited text.
+"""Compares what `run_edits` prints for random edits of random texts with the plain lexer.
 
 usage: random_edits.py [--texts N] [--chains N] [--edits N] [--seed N]
 
@@ -9,18 +8,18 @@ usage: random_edits.py [--texts N] [--chains N] [--edits N] [--seed N]
 --edits N   edits of a list; its first edit alone is tried, too, and then the first two, and so on (10)
 --seed N    another seed gives other texts and edits (1)
 
-The built program crates/starlark_rows/out/starlark_rows hands the edits to `run_edits`. This script edits the texts by
-itself, and knows which edit doesn't fit. It prints the first list for which the two differ, and exits with 1; else it says
-how many were compared.
+The program starlark_rows gives the edits to `run_edits`; it is proved and built first where it isn't current. This script
+edits the texts by itself, and knows which edit doesn't fit. It prints the first list for which the two differ, and exits with
+1; else it says how many were compared.
 """
 
 import argparse
 import random
 import sys
 
-from fuzz import INSERTIONS, random_text
-from stored_parts import printed_for
-from stored_texts import PART, Edit, edited, edited_record, is_utf8, runs_of, stored_runs
+from shared.expected_runs import runs_of, stored_runs
+from shared.random_texts import INSERTIONS, is_utf8, random_text
+from shared.stored import TEXTS, Edit, edited, edited_record, printed_for
 
 
 def utf8_text(dice):
@@ -40,7 +39,7 @@ def random_edit(dice, text):
 
 
 def cases(options):
-    """Texts, each behind its edits, as the program reads them."""
+    """Texts, each after its edits, as the program reads them."""
     dice = random.Random(options.seed)
     for _ in range(options.texts):
         first = utf8_text(dice)
@@ -58,14 +57,14 @@ def main():
         parser.add_argument(f"--{name}", type=int, default=count, metavar="N")
     tried = list(cases(parser.parse_args()))
     stored = b"".join(tried)
-    printed = printed_for(PART, stored)
+    printed = printed_for(TEXTS, stored)
     wanted = [run for _, run in runs_of(stored)]
     for case, want, answer in zip(tried, wanted, stored_runs(printed), strict=True):
         if answer != want:
             print(f"{case}\n  prints {answer}\n  and not {want}")
             return 1
     refused = sum(b": edit " in want for want in wanted)
-    print(f"{len(tried)} lists of edits, {refused} of them refused, no difference")
+    print(f"random edits: {len(tried)} lists of edits, {refused} of them refused, no difference from the plain lexer")
     return 0
 
 

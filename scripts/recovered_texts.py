@@ -1,14 +1,14 @@
 #!/usr/bin/env python3
-"""Checks texts that are lexed on after their faults against the plain lexer of fuzz.py.
+"""Compares texts that are lexed on after their faults with the plain lexer.
 
 usage: recovered_texts.py [--write] [--count N] [--seed N] [--stored] [--reference FOLDER]
 
 Without options it compares the stored output of the part `recovered` of crates/starlark_rows with what the plain lexer finds.
 
 --write             store what the plain lexer finds
---count N           also compare the built program on N random texts (0)
+--count N           also compare the program starlark_rows on N random texts (0)
 --seed N            another seed gives other texts (1)
---stored            also compare the built program on the texts of the part `texts`
+--stored            also compare the program on the texts of the part `texts`
 --reference FOLDER  also compare the plain lexer with that of a folder: its recovery.py has `recovered(text)`, all lexemes and
                     all faults, each with its begin and end
 
@@ -16,85 +16,20 @@ It prints the first text for which two of them differ, and exits with 1; else it
 """
 
 import argparse
-import random
 import re
 import sys
 
-from fuzz import INSERTIONS, NAMES, fault_line, lexeme_line, outcome, random_text, several
-from stored_parts import printed_for, read_part, write_part
-from stored_texts import PART as TEXTS
-from stored_texts import is_utf8, records_of
+from shared.plain_lexer import fault_line, items_of, lexeme_line
+from shared.random_texts import LONGEST, is_utf8, random_texts
+from shared.stored import TEXTS, printed_for, read_part, records_of, write_part
 
 PART = "recovered"
-LONGEST = 4096
-LAYOUT = ["a", "if x:\n", "\n", "\n", "\n ", "\n  ", "\n   ", "\n\t", " ", "\t", "# c\n", "\t# c", "#", "\r\n", "\r", "\r\n  ", "x \t"]
-
-# Where lexing begins again
-
-LINE_END = re.compile(rb"\r?\n")
-COMMENT_LINES = re.compile(rb"([ \t\r]*#[^\n]*(\n|\Z))*")
-
-
-def next_line(text, place):
-    """The start of the line after the one that holds a place, or the end of the text."""
-    return text.find(b"\n", place) + 1 or len(text)
-
-
-def restart(text, fault):
-    """Where lexing begins again after a fault."""
-    line_end = LINE_END.match(text, fault.begin)
-    if fault.message.endswith("tabs are not allowed") and (line_end or fault.begin == 0):
-        margin = line_end.end() if line_end else fault.begin
-        return next_line(text, COMMENT_LINES.match(text, margin).end())
-    return next_line(text, max(fault.begin, fault.end - 1))
-
-
-# What is found in a text
-
-
-def moved_lexeme(lexeme, base):
-    """A lexeme so many bytes later."""
-    return lexeme._replace(begin=base + lexeme.begin, end=base + lexeme.end)
-
-
-def items_of(text):
-    """All lexemes and all faults of a text, in order, each with what it is."""
-    base = 0
-    while True:
-        lexemes, fault = outcome(text[base:])
-        yield from (("lexeme", moved_lexeme(lexeme, base)) for lexeme in lexemes)
-        if not fault:
-            return
-        later = restart(text[base:], fault)
-        fault.begin, fault.end = base + fault.begin, base + fault.end
-        yield "fault", fault
-        base += later
 
 
 def lines_of(text):
     """The lines of all that is found in a text."""
     lines = {"lexeme": lexeme_line, "fault": fault_line}
     return "".join(lines[what](text, item) for what, item in items_of(text)).encode()
-
-
-# What is compared
-
-
-def random_texts(count, seed):
-    """Random texts that are UTF-8: programs with a change or two, and rows of parts."""
-    dice = random.Random(seed)
-    while count:
-        match dice.randrange(4):
-            case 0:
-                text = several(dice, 16, lambda: dice.choice(LAYOUT)).encode()
-            case 1:
-                parts = [dice.choice(INSERTIONS), dice.choice(NAMES), " ", "\n", "\n"]
-                text = several(dice, 30, lambda: dice.choice(parts + [dice.choice(INSERTIONS)])).encode()
-            case _:
-                text = b"".join(random_text(dice) for _ in range(dice.randrange(1, 4)))
-        if is_utf8(text) and len(text) <= LONGEST:
-            count -= 1
-            yield text
 
 
 def stored_texts():
@@ -122,7 +57,7 @@ def printed_for_texts(texts):
 def compare(what, texts, runs, printed):
     """Says the first text whose lines differ, if there is one."""
     if printed == written(runs):
-        print(f"{len(texts)} {what} texts, no difference")
+        print(f"recovered texts: {len(texts)} {what} ones, no difference from the plain lexer")
         return True
     for text, run, found in zip(texts, runs, cut(printed) + [b""] * len(texts)):
         if run != found:
@@ -138,7 +73,7 @@ def spans(items):
 
 
 def agrees_with(folder, texts):
-    """Whether another plain lexer finds the same lexemes and faults, by their kinds and places."""
+    """Whether another plain lexer finds the same lexemes and faults, by their kinds and spans."""
     sys.path.insert(0, folder)
     import recovery
 

@@ -1,22 +1,21 @@
 #!/usr/bin/env python3
-"""Refuses each request for memory of the built programs in turn, and looks at what they answer.
+"""Refuses each allocation of the built programs in turn, and compares what they return.
 
-One run has one request refused: the first, then the second, and so on, until a run has no such request. `starlark_rows` gets
-stored rows of calls, one row a run, texts behind edits, and edits of documents; `starlark_lex` gets texts, and `starlark_tokens`
-texts and files in each form. For each run one of these has to hold:
+One run has one allocation refused: the first, then the second, and so on, until a run has no such allocation.
+`starlark_rows` gets stored rows of calls, one row a run, texts after edits, and edits of documents; `starlark_lex` gets texts,
+and `starlark_tokens` texts and files in each form. For each run one of these has to hold:
 
-- the answer is that of a run with no request refused;
-- the answer is want of memory. A row of the group `refusals` answers that only where the refused call left things as
+- the answer is that of a run with no allocation refused;
+- the answer is out of memory. A row of the group `refusals` answers that only where the refused call left things as
   they were, and a row of lexemes prints those before it, which have to be a beginning of all of them. What
-  `starlark_lex` has printed, and `starlark_rows` for a text behind edits, has to be a beginning of all its lines. `starlark_tokens`
-  ends with status 2 then, and leaves out at most the file for whose text there was no memory. A document whose edit wants
-  memory is as it was before.
+  `starlark_lex` has printed, and `starlark_rows` for a text after edits, has to be a beginning of all its lines. `starlark_tokens`
+  ends with status 2 then, and leaves out at most the file for whose text there was no memory. A document whose edit runs
+  out of memory is as it was before.
 
-With no request refused a row has the answer that is stored, a text behind edits prints what the plain lexer of fuzz.py does,
-and no run ends in want of memory. Two texts of many words
-are joined with few requests, so that none of them is lexed again.
+With no allocation refused a row has the answer that is stored, a text after edits prints what the plain lexer does,
+and no run runs out of memory. Two texts of many words are joined with few allocations, so that none of them is lexed again.
 
-    scripts/refused_memory.py [--rows N]    tries N rows of each call that takes no memory itself; 1 if it isn't given
+    scripts/refused_memory.py [--rows N]    tries N rows of each call that doesn't allocate itself (1)
 
 It needs a C compiler (`CC`, `cc`, `gcc` or `clang`) and the GNU C library: refusing_allocator.c is loaded into the programs.
 Programs that aren't built, or are older than a source, are proved and built first. The exit status is 0 where every run
@@ -33,25 +32,26 @@ import sys
 import tempfile
 from collections import Counter
 from concurrent.futures import ThreadPoolExecutor
+from itertools import product
 from pathlib import Path
 
-from stored_parts import list_of, parts_of, read_part
-from stored_texts import Edit, edited_record, runs_of
+from shared.expected_runs import runs_of
+from shared.programs import TOP, built, give_up
+from shared.stored import Edit, edited_record, list_of, parts_of, read_part
 
-TOP = Path(__file__).resolve().parent.parent
-WANT_OF_MEMORY = b"out of memory"
-WANT_OF_MEMORY_OF_AN_EDIT = b"memory same\n"
-MOST_REQUESTS = 100_000
+OUT_OF_MEMORY = b"out of memory"
+OUT_OF_MEMORY_OF_AN_EDIT = b"memory same\n"
+MOST_ALLOCATIONS = 100_000
 NO_COMPILER = 2
 
 # The groups of rows whose calls take memory themselves. Of the others a few rows are tried, which take it only to be
 # read and answered.
 WHOLE_GROUPS = {b"errors", b"files", b"refusals", b"words"}
 
-# A call that lexes thousands of texts, with too many requests to refuse each.
+# A call that lexes thousands of texts, with too many allocations to refuse each.
 LEFT_OUT = {(b"lexed_text", b"each_byte")}
 
-# A text of 200 words as a row has it, and how many requests a join may make.
+# A text of 200 words as a row has it, and how many allocations a join may make.
 MANY_WORDS = b"word\\n" * 200
 MOST_FOR_JOIN = 20
 
@@ -87,7 +87,9 @@ TOKEN_TEXTS = [
     b"if x:\n    y = 'a\\n'\n  z = 01  # c\n",
     'f"a{x!r}b" + b"\xff" + 12345678901234567890 "é\n!\n'.encode(),
 ]
-TOKEN_OPTIONS = [[], ["--json"], ["--check"], ["--check", "--json"], ["--check", "--quiet"]]
+TOKEN_OPTIONS = [
+    [], ["--json"], ["--check"], ["--check", "--json"], ["--check", "--quiet"], ["--format", "github"], ["--format", "sarif"],
+]
 TOKEN_FILES = [b"x = 'a'\ny = 01\n", b"!\n"]
 
 
@@ -100,20 +102,14 @@ DOCUMENT_EDITS = [
 ]
 
 
-def give_up(why, status=1):
-    """Ends where nothing could be tried."""
-    print(why, file=sys.stderr)
-    sys.exit(status)
-
-
 class Run:
-    """What a program answered with one request refused, and how many requests it made."""
+    """What a program answered with one allocation refused, and how many allocations it made."""
 
     def __init__(self, program, allocator, stdin, refused, arguments=()):
         count, write_end = os.pipe()
         environment = {
             "LD_PRELOAD": str(allocator),
-            "REFUSED_REQUEST": str(refused),
+            "REFUSED_ALLOCATION": str(refused),
             "COUNT_DESCRIPTOR": str(write_end),
         }
         ran = subprocess.run(
@@ -121,93 +117,68 @@ class Run:
         )
         os.close(write_end)
         self.status, self.output, self.message = ran.returncode, ran.stdout, ran.stderr
-        self.requests = int(os.read(count, 100) or -1)
+        self.allocations = int(os.read(count, 100) or -1)
         os.close(count)
 
 
 def is_all_or_nothing(run, whole):
-    """Whether a run answered as with ample memory, or ended in want of memory and printed nothing."""
+    """Whether a run answered as with ample memory, or ran out of memory and printed nothing."""
     if run.status == 0 and run.output == whole:
         return True
     return run.status == 1 and run.output == b"" and b"OutOfMemory" in run.message
 
 
 def is_row_kept(run, whole, row):
-    """Whether a run of one row answered as with ample memory, or want of memory."""
+    """Whether a run of one row answered as with ample memory, or out of memory."""
     if is_all_or_nothing(run, whole):
         return True
     if row.startswith((b"refusals\tlexemes\t", b"words\tlexemes")) and run.status == 0:
-        front = run.output.removesuffix(WANT_OF_MEMORY + b"\n")
+        front = run.output.removesuffix(OUT_OF_MEMORY + b"\n")
         return front != run.output and whole.startswith(front)
     return False
 
 
 def is_edited_kept(run, whole):
-    """Whether a run over a text behind edits printed all, or a beginning behind want of memory."""
+    """Whether a run over a text after edits printed all, or a beginning after out of memory."""
     if is_all_or_nothing(run, whole):
         return True
     number, _, _ = whole.partition(b": ")
     _, _, lines = whole.partition(b"\n")
-    front = number + b": " + WANT_OF_MEMORY + b"\n"
+    front = number + b": " + OUT_OF_MEMORY + b"\n"
     return run.status == 0 and run.output.startswith(front) and lines.startswith(run.output.removeprefix(front))
 
 
 def is_text_kept(run, whole):
-    """Whether a run over a text printed all, or a beginning and that it wants memory; nothing where that is wanted for
-    the arguments."""
+    """Whether a run over a text printed all, or a beginning and that it runs out of memory; nothing where memory ran out
+    for the arguments."""
     if run.status == whole.status and run.output == whole.output and run.message == whole.message:
         return True
     if run.status != 2 or not whole.output.startswith(run.output):
         return False
-    return WANT_OF_MEMORY in run.message or (run.output == b"" and run.message.startswith(b"usage: "))
+    return OUT_OF_MEMORY in run.message or (run.output == b"" and run.message.startswith(b"usage: "))
 
 
-def is_report_kept(run, whole, others=b""):
+def is_report_kept(run, whole, others):
     """Whether a run of starlark_tokens printed all, or said that memory ran out and printed a beginning: of all, or of what
-    there is without the first file."""
+    others have printed, without some file. Memory may also run out for the line that counts."""
     if (run.status, run.output, run.message) == (whole.status, whole.output, whole.message):
         return True
-    if run.status != 2 or WANT_OF_MEMORY not in run.message:
+    if OUT_OF_MEMORY not in run.message:
         return False
-    return whole.output.startswith(run.output) or others.startswith(run.output)
+    if (run.status, run.output) == (whole.status, whole.output):
+        return True
+    return run.status == 2 and any(printed.startswith(run.output) for printed in (whole.output, *others))
 
 
 def is_document_kept(run, whole):
-    """Whether a run over an edit of a document printed all, or a beginning and that it wants memory, or that the edit wanted
-    memory and the document is as before."""
+    """Whether a run over an edit of a document printed all, or a beginning and that it runs out of memory, or that the edit ran out
+    of memory and the document is as before."""
     if run.status == 1:
         return b"OutOfMemory" in run.message and whole.startswith(run.output)
     if run.output == whole:
         return run.status == 0
     made, shown, _, _ = document_parts(whole)
-    return run.status == 0 and document_parts(run.output) == [made, shown, WANT_OF_MEMORY_OF_AN_EDIT, shown]
-
-
-def is_current(program):
-    """Whether a program is there and no older than each file that it is built from."""
-    if not program.exists():
-        return False
-    sources = [TOP / "crates.txt"]
-    for folder, folders, files in os.walk(TOP / "crates"):
-        folders[:] = [name for name in folders if name != "out"]
-        sources += [Path(folder) / name for name in files if name.endswith((".rt", ".antt"))]
-    return max(source.stat().st_mtime for source in sources) <= program.stat().st_mtime
-
-
-def built(name):
-    """The program of a crate, which is proved and built where it isn't there or is older than a source."""
-    crate = TOP / "crates" / name
-    program = crate / "out" / name
-    if is_current(program):
-        return program
-    print(f"proving and building {name}", file=sys.stderr)
-    try:
-        ran = subprocess.run(["rt", "run"], cwd=crate, stdin=subprocess.DEVNULL, capture_output=True, check=False)
-    except FileNotFoundError:
-        give_up(f"{name} isn't built, and there is no rt on the path to build it")
-    if not program.exists() or b"not-proved" in ran.stdout + ran.stderr:
-        give_up(f"{name} isn't built: rt run in {crate} says why")
-    return program
+    return run.status == 0 and document_parts(run.output) == [made, shown, OUT_OF_MEMORY_OF_AN_EDIT, shown]
 
 
 def compiler():
@@ -219,7 +190,7 @@ def compiler():
 
 
 def built_allocator(folder):
-    """The library that refuses requests, built in a folder."""
+    """The library that refuses allocations, built in a folder."""
     allocator = Path(folder) / "refusing_allocator.so"
     source = TOP / "scripts" / "refusing_allocator.c"
     made = subprocess.run([compiler(), "-O1", "-shared", "-fPIC", "-o", allocator, source], capture_output=True, check=False)
@@ -241,7 +212,7 @@ def tried_rows(most):
 
 
 class Tries:
-    """Runs of a program over one input, with each of its requests refused in turn, and what was found."""
+    """Runs of a program over one input, with each of its allocations refused in turn, and what was found."""
 
     def __init__(self, allocator, program, stdin, arguments=()):
         self.allocator, self.program, self.stdin, self.arguments = allocator, program, stdin, arguments
@@ -253,23 +224,23 @@ class Tries:
 
     def report(self, number, run):
         self.wrong.append(
-            f"{[*self.arguments]} {self.stdin[:200]!r}, request {number} refused: status {run.status}, "
+            f"{[*self.arguments]} {self.stdin[:200]!r}, allocation {number} refused: status {run.status}, "
             f"printed {run.output[-200:]!r}, {run.message!r}"
         )
 
-    def each_request(self, whole, is_kept):
-        """Refuses the requests of a run one after another, up to a run that has no such request."""
-        for number in range(1, MOST_REQUESTS):
+    def each_allocation(self, whole, is_kept):
+        """Refuses the allocations of a run one after another, up to a run that has no such allocation."""
+        for number in range(1, MOST_ALLOCATIONS):
             run = self.run(number)
             self.runs += 1
             self.refused += (run.status, run.output) != (whole.status, whole.output)
             if not is_kept(run):
                 self.report(number, run)
-            if run.requests < number:
-                if run.requests < 1:
+            if run.allocations < number:
+                if run.allocations < 1:
                     self.report(number, run)
                 return
-        self.wrong.append(f"{self.stdin[:200]!r}: more than {MOST_REQUESTS} requests")
+        self.wrong.append(f"{self.stdin[:200]!r}: more than {MOST_ALLOCATIONS} allocations")
 
 
 class PartTries(Tries):
@@ -286,22 +257,22 @@ class PartTries(Tries):
 
 
 def tried_answer(tries, answer, is_kept):
-    """An input with each of the program's requests refused in turn. With none refused it has to have its answer."""
+    """An input with each of the program's allocations refused in turn. With none refused it has to have its answer."""
     whole = tries.run(0)
     if whole.status != 0 or whole.output != answer:
         tries.report(0, whole)
-    tries.each_request(whole, is_kept)
+    tries.each_allocation(whole, is_kept)
     return tries
 
 
 def tried_row(allocator, program, row, answer):
-    """A row with each of its requests refused in turn."""
+    """A row with each of its allocations refused in turn."""
     tries = PartTries(allocator, program, "calls", row + b"\n")
     return tried_answer(tries, answer, lambda run: is_row_kept(run, answer, row))
 
 
 def tried_edited(allocator, program, stored):
-    """A text behind edits with each of the program's requests refused in turn."""
+    """A text after edits with each of the program's allocations refused in turn."""
     [(_, lines)] = runs_of(stored)
     tries = PartTries(allocator, program, "texts", stored)
     return tried_answer(tries, lines, lambda run: is_edited_kept(run, lines))
@@ -313,14 +284,14 @@ def document_parts(output):
 
 
 def tried_document(allocator, program, text, edit):
-    """An edit of a document with each of the program's requests refused in turn."""
+    """An edit of a document with each of the program's allocations refused in turn."""
     commands = f"new 1 {len(text)}\n".encode() + text + b"\nshow\n" + edit + b"show\n"
     tries = PartTries(allocator, program, "documents", commands)
     answer = tries.run(0).output
     return tried_answer(tries, answer, lambda run: is_document_kept(run, answer))
 
 
-def requests_of_join(allocator, program, last):
+def allocations_of_join(allocator, program, last):
     """The run of a row that joins two texts of many words, with `last` at the end of the second."""
     row = b"lexed_text\tjoin_reads\t" + MANY_WORDS + b"\t" + MANY_WORDS + last + b"\n"
     tries = PartTries(allocator, program, "calls", row)
@@ -331,46 +302,48 @@ def requests_of_join(allocator, program, last):
 
 def tried_join(allocator, program):
     """Two texts of many words that are joined, compared with two that aren't, since the second has a
-    fault. A join makes few requests. If it lexed the words again, each would make one."""
-    tries, joined = requests_of_join(allocator, program, b"")
-    _, apart = requests_of_join(allocator, program, b"$")
+    fault. A join makes few allocations. If it lexed the words again, each would make one."""
+    tries, joined = allocations_of_join(allocator, program, b"")
+    _, apart = allocations_of_join(allocator, program, b"$")
     for run, answer in [(joined, b"0\n"), (apart, b"not joined\n")]:
-        if run.output != answer or run.requests < 1:
+        if run.output != answer or run.allocations < 1:
             tries.report(0, run)
-    if joined.requests > apart.requests + MOST_FOR_JOIN:
-        tries.wrong.append(f"a join made {joined.requests} requests, and the run without it {apart.requests}")
+    if joined.allocations > apart.allocations + MOST_FOR_JOIN:
+        tries.wrong.append(f"a join made {joined.allocations} allocations, and the run without it {apart.allocations}")
     return tries
 
 
 def tried_text(allocator, program, text):
-    """A text with each of the program's requests refused in turn. With none refused no memory may be wanting."""
+    """A text with each of the program's allocations refused in turn. With none refused memory may not run out."""
     tries = Tries(allocator, program, text)
     whole = tries.run(0)
-    if WANT_OF_MEMORY in whole.message or whole.status not in (0, 1, 2):
+    if OUT_OF_MEMORY in whole.message or whole.status not in (0, 1, 2):
         tries.report(0, whole)
-    tries.each_request(whole, lambda run: is_text_kept(run, whole))
+    tries.each_allocation(whole, lambda run: is_text_kept(run, whole))
     return tries
 
 
 def tried_report(allocator, program, arguments, text):
-    """A report of a text with each of the program's requests refused in turn. With none refused no memory may be wanting."""
+    """A report of a text with each of the program's allocations refused in turn. With none refused memory may not run out."""
     tries = Tries(allocator, program, text, arguments)
     whole = tries.run(0)
-    if WANT_OF_MEMORY in whole.message or whole.status not in (0, 1):
+    if OUT_OF_MEMORY in whole.message or whole.status not in (0, 1):
         tries.report(0, whole)
-    tries.each_request(whole, lambda run: is_report_kept(run, whole))
+    lost = Run(program, allocator, b"", 0, [*arguments, "/missing/file"])
+    tries.each_allocation(whole, lambda run: is_report_kept(run, whole, [lost.output]))
     return tries
 
 
 def tried_files(allocator, program, options, paths):
-    """Two files with each of the program's requests refused in turn. Where there is no memory for the first one, the other
+    """Two files with each of the program's allocations refused in turn. Where there is no memory for the first one, the other
     one is still reported, as where the first one is missing."""
     tries = Tries(allocator, program, b"", [*options, *paths])
     whole = tries.run(0)
-    if WANT_OF_MEMORY in whole.message or whole.status != 1:
+    if OUT_OF_MEMORY in whole.message or whole.status != 1:
         tries.report(0, whole)
-    last = Run(program, allocator, b"", 0, [*options, f"{paths[0]}.missing", paths[1]])
-    tries.each_request(whole, lambda run: is_report_kept(run, whole, last.output))
+    missing = f"{paths[0]}.missing"
+    others = [Run(program, allocator, b"", 0, [*options, *names]).output for names in product([missing, paths[0]], [missing, paths[1]])]
+    tries.each_allocation(whole, lambda run: is_report_kept(run, whole, others))
     return tries
 
 
@@ -406,7 +379,7 @@ def main():
     runs, refused = sum(tries.runs for tries in tried), sum(tries.refused for tries in tried)
     print(f"{len(tried)} inputs, {runs} runs, {refused} of them ended otherwise than with ample memory, {len(wrong)} wrong")
     if not refused:
-        give_up("no request was refused: the programs don't use the C library's allocator")
+        give_up("no allocation was refused: the programs don't use the C library's allocator")
     return 1 if wrong else 0
 
 

@@ -10,7 +10,7 @@ set -eu
 
 crate=$1
 shift
-top=$(CDPATH= cd -- "$(dirname -- "$0")/.." && pwd)
+top=$(dirname -- "$(dirname -- "$(readlink -f -- "$0")")")
 proved="$top/crates/$crate/out/$crate"
 unproved="$top/out/unproved/$crate"
 
@@ -34,5 +34,6 @@ if ! is_current "$unproved"; then
     tell 'building it without proof, once, in about half a minute'
     "$top/scripts/build_unproved.sh" "$crate" "$unproved" </dev/null || exit 2
 fi
+# shellcheck disable=SC2016
 tell 'not proved yet; `rt ci` proves it'
 exec "$unproved" "$@"

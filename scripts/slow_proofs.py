@@ -11,9 +11,9 @@ longest. `rt check --progress` has that time at a function that comes up to twen
 """
 
 import sys
-from pathlib import Path
 
-TOP = Path(__file__).resolve().parent.parent
+from shared.programs import TOP
+
 SHOWN = 20
 
 

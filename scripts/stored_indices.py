@@ -12,7 +12,7 @@ characters. The exit status is 0 where all agree, and 1 where one differs.
 
 import sys
 
-from stored_parts import read_part, write_part
+from shared.stored import read_part, write_part
 
 PART = "calls"
 GROUP = "index_grid"

@@ -4,15 +4,19 @@
     scripts/token_reports.py [--count N] [--seed N] [--program PROGRAM] [--write]
 
 It runs the stored runs of each form (crates/starlark_tokens/data has the files and what is wanted of them), margins with
-faults, N random texts in each form (300), rows of options and statuses, a thousand files in one call, a file of 10 MB, whose report may take at
-most three times as long as starlark_lex's lines, and what a shell does with a program: a closed pipe, a folder, a missing file,
-bytes that are not UTF-8, names with a line feed and with quotes, progress at a terminal. `--write` stores the plain reports. Programs that aren't
-built, or are older than a source, are proved and built first. The exit status is 1 where something is not as it has to be.
+faults, N random texts in each form (300), rows of options and statuses, folders with links, loops, and names of any bytes, a
+folder of 10,000 files, a thousand files in one call, a file of 10 MB, whose report may take at most three times as long as
+starlark_lex's lines, and what a shell does with a program: a closed pipe, a missing file, bytes that are not UTF-8, names with
+a line feed and with quotes, progress and colours at a terminal. Documents of JSON are compared with docs/use/lexemes.schema.json,
+and those of SARIF with what its schema says. `--write` stores the plain reports. Programs that aren't built, or are older than
+a source, are proved and built first. The exit status is 1 where something is not as it has to be.
 """
 
 import argparse
 import ast
+import io
 import json
+import keyword
 import os
 import pty
 import re
@@ -22,15 +26,20 @@ import sys
 import tempfile
 import threading
 import time
+import tokenize
+import unicodedata
+import urllib.parse
+import warnings
 from pathlib import Path
 from typing import NamedTuple
 
-from fuzz import line_and_column
-from recovered_texts import items_of, random_texts
-from refused_memory import built
+from shared.plain_lexer import items_of, line_and_column
+from shared.programs import built
+from shared.random_texts import random_texts
 
 TOP = Path(__file__).resolve().parent.parent
 DATA = TOP / "crates/starlark_tokens/data"
+SCHEMA = TOP / "docs/use/lexemes.schema.json"
 # A report of 10 MB takes at most twice as long as starlark_lex's lines, each by the least of three runs. On a busy machine
 # that was missed once, by a hundredth. So what fails is a report that takes three times as long.
 MOST_RATIO = 3.0
@@ -113,6 +122,30 @@ def items(text):
             yield item.begin, item.end, item.kind, readable(item), json_value(item)
 
 
+CODES = {
+    "incorrect indentation": "SL001", "invalid input": "SL002", "tabs are not allowed": "SL003", "unfinished string literal": "SL004",
+    "invalid string escape": "SL005", "missing string escape": "SL006", "cannot use reserved": "SL007",
+    "integer cannot have leading": "SL008", "f-string expression": "SL009",
+}
+
+
+def reason(message):
+    """A message without the words that all begin with."""
+    return message.removeprefix("Parse error: ")
+
+
+def code_of(message):
+    """The code of a fault with this message."""
+    return next(code for begin, code in CODES.items() if reason(message).startswith(begin))
+
+
+def json_written(fields):
+    """An object of JSON on one line."""
+    written = json.dumps(fields, ensure_ascii=False, separators=(",", ":"))
+    # These two controls have short forms too, which Python takes.
+    return re.sub(r"\\([bf\\])", lambda match: {"b": "\\u0008", "f": "\\u000c"}.get(match[1], match[0]), written)
+
+
 def json_line(name, text, item):
     """The line of an item as JSON."""
     begin, end, kind, _, value = item
@@ -122,9 +155,7 @@ def json_line(name, text, item):
         "file": name, "kind": kind, "begin": begin, "end": end, "line": line, "column": column, "end_line": end_line,
         "end_column": end_column, "utf16_column": len(front.encode("utf-16-le")) // 2 + 1, "value": value,
     }
-    written = json.dumps(fields, ensure_ascii=False, separators=(",", ":"))
-    # These two controls have short forms too, which Python takes.
-    return re.sub(r"\\([bf\\])", lambda match: {"b": "\\u0008", "f": "\\u000c"}.get(match[1], match[0]), written)
+    return json_written({**fields, "code": code_of(value)} if kind == "Fault" else fields)
 
 
 def readable_line(prefix, text, item):
@@ -151,6 +182,15 @@ def shown_at(text, item):
     return text.index(b"\t", begin + comments.end())
 
 
+def width(character):
+    """How many columns a character of a line of the source takes."""
+    if is_hidden(character):
+        return 1
+    if unicodedata.category(character) in ("Mn", "Me"):
+        return 0
+    return 2 if unicodedata.east_asian_width(character) in ("W", "F") else 1
+
+
 def fault_lines(name, text, item):
     """The lines of a fault with its source."""
     _, end, _, _, message = item
@@ -158,30 +198,55 @@ def fault_lines(name, text, item):
     front = text[text.rfind(b"\n", 0, begin) + 1:begin].decode()
     stop = text.find(b"\n", begin)
     back = text[begin:stop if stop >= 0 else len(text)]
-    marked = len(back[:max(end - begin, 0)].decode())
+    marked = sum(map(width, back[:max(end - begin, 0)].decode()))
     source = front + back.decode().removesuffix("\r")
     line, column = line_and_column(text, begin)
-    said = "".join(shown(character) for character in message)
+    said = "".join(shown(character) for character in reason(message))
     seen = "".join("\ufffd" if character != "\t" and is_hidden(character) else character for character in source)
-    below = "".join("\t" if character == "\t" else " " for character in front)
-    return f"{name_text(name)}:{line}:{column}: {said}\n{seen}\n{below}{'^' * max(marked, 1)}"
+    below = "".join("\t" if character == "\t" else " " * width(character) for character in front)
+    return f"{name_text(name)}:{line}:{column}: error: {said} [{code_of(message)}]\n{seen}\n{below}{'^' * max(marked, 1)}"
+
+
+def github_line(name, text, item):
+    """The annotation of a fault."""
+    line, column = line_and_column(text, shown_at(text, item))
+    escaped = {"%": "%25", "\r": "%0D", "\n": "%0A"}
+    file = "".join({**escaped, ":": "%3A", ",": "%2C"}.get(c, c) for c in name)
+    said = "".join(escaped.get(c, c) for c in reason(item[4]))
+    return f"::error file={file},line={line},col={column},title={code_of(item[4])}::{said}"
+
+
+def sarif_result(name, text, item):
+    """The result of a fault, as an object."""
+    line, column = line_and_column(text, shown_at(text, item))
+    uri = ("file://" if name.startswith("/") else "") + urllib.parse.quote(name, safe="/-._~").replace("%", "%")
+    place = {"artifactLocation": {"uri": uri}, "region": {"startLine": line, "startColumn": column}}
+    said = {"text": reason(item[4])}
+    return {"ruleId": code_of(item[4]), "level": "error", "message": said, "locations": [{"physicalLocation": place}]}
 
 
 def report(form, name, text):
     """The plain report of a text in a form, and how many faults it has."""
     found = list(items(text))
     faults = [item for item in found if item[2] == "Fault"]
-    if form == "check":
-        lines = [fault_lines(name, text, item) for item in faults]
-    elif form in ("json", "check json"):
-        lines = [json_line(name, text, item) for item in (found if form == "json" else faults)]
+    of_faults = {"check": fault_lines, "check json": json_line, "github": github_line}
+    if form in of_faults:
+        lines = [of_faults[form](name, text, item) for item in faults]
+    elif form == "json":
+        lines = [json_line(name, text, item) for item in found]
     else:
         prefix = name_text(name) + ":" if form == "named" else ""
         lines = [readable_line(prefix, text, item) for item in found]
     return "".join(line + "\n" for line in lines), len(faults)
 
 
-OPTIONS = {"tokens": [], "named": [], "json": ["--json"], "check": ["--check"], "check json": ["--check", "--json"]}
+OPTIONS = {
+    "tokens": [], "named": [], "json": ["--json"], "check": ["--check"], "check json": ["--check", "--json"],
+    "github": ["--format", "github"],
+}
+FORMS = ["tokens", "json", "check", "check json", "github"]
+# What editors read the lines of gcc by, from VS Code's problem matcher $gcc.
+GCC_LINE = re.compile(r"^(.*):(\d+):(\d+):\s+(?:fatal\s+)?(warning|error):\s+(.*)$")
 
 # -- Runs
 
@@ -200,9 +265,10 @@ class Tester:
     def __init__(self, program):
         self.program = program
         self.runs = self.wrong = 0
+        self.build = self.run(["--version"]).stdout.partition("(")[2].rstrip(")\n")
 
     def run(self, arguments, stdin=b"", **options):
-        """Runs the program."""
+        """Runs the program, with its output neither painted nor at a terminal."""
         made = subprocess.run([self.program, *arguments], input=stdin, capture_output=True, check=False, timeout=300, **options)
         return Ended(made.returncode, made.stdout.decode(), made.stderr.decode())
 
@@ -218,34 +284,53 @@ class Tester:
         print(f"{what}\nwanted: {wanted!r}\nfound:  {found!r}")
 
 
-def summary(form, counts):
-    """What a run of --check says at its end, by the faults of its files."""
+def plural(count, word):
+    """A number of things."""
+    return f"{count} {word}" if count == 1 else f"{count} {word}s"
+
+
+def summary(form, counts, unreadable):
+    """What a run of --check says at its end, by the faults of its files, and how many others couldn't be read."""
     if not form.startswith("check"):
         return ""
-    return f"{sum(counts)} faults in {sum(count > 0 for count in counts)} of {len(counts)} files\n"
+    lost = f"; {unreadable} couldn't be read" if unreadable else ""
+    return f"{plural(sum(counts), 'fault')} in {sum(count > 0 for count in counts)} of {plural(len(counts), 'file')}{lost}\n"
 
 
-def ended(form, named_texts):
-    """How a run over texts has to end."""
+def document(form, lines, counts, unreadable, build):
+    """The reports of all files, with what is before and after them."""
+    if "json" not in form:
+        return lines
+    head = json_written({"format": "starlark_lexemes", "version": 1, "proved": build == "proved"})
+    found = {"files": len(counts), "faulty_files": sum(count > 0 for count in counts), "faults": sum(counts), "unreadable": unreadable}
+    return f"{head}\n{lines}{json_written({'kind': 'Summary', **found})}\n"
+
+
+def ended(tester, form, named_texts, said="", unreadable=0):
+    """How a run over texts has to end, with what is said of others, which couldn't be read."""
     reports = [report(form, name, text) for name, text in named_texts]
     counts = [count for _, count in reports]
-    return Ended(1 if any(counts) else 0, "".join(lines for lines, _ in reports), summary(form, counts))
+    lines = document(form, "".join(lines for lines, _ in reports), counts, unreadable, tester.build)
+    status = 2 if unreadable else 1 if any(counts) else 0
+    return Ended(status, lines, said + summary(form, counts, unreadable))
 
 
+CHECKED = ["BUILD", "faults.bzl", "margins.bzl", "quotes.bzl", "wide.bzl", "zero.bzl"]
 STORED = [
     ("tokens", "tokens", ["values.star"]), ("named", "named", ["BUILD", "faults.bzl"]), ("json", "json", ["values.star"]),
-    ("check", "check", ["BUILD", "faults.bzl", "margins.bzl", "quotes.bzl", "zero.bzl"]), ("check_json", "check json", ["faults.bzl"]),
+    ("check", "check", CHECKED), ("check_json", "check json", ["faults.bzl"]), ("github", "github", CHECKED),
 ]
 
 
 def stored_runs(tester, is_written):
     """The stored runs of each form: the plain report, what is stored, and what the program prints are the same."""
     for stored, form, names in STORED:
-        wanted = ended(form, [(name, (DATA / name).read_bytes()) for name in names])
+        wanted = ended(tester, form, [(name, (DATA / name).read_bytes()) for name in names])
         path = DATA / f"{stored}.wanted"
+        proved = wanted.stdout.replace('"proved":false', '"proved":true', 1)
         if is_written:
-            path.write_text(wanted.stdout)
-        tester.compare(f"what is stored of {stored}", path.read_text(), wanted.stdout)
+            path.write_text(proved)
+        tester.compare(f"what is stored of {stored}", path.read_text(), proved)
         tester.compare(f"the run {stored}", tester.run([*OPTIONS[form], *names], cwd=DATA), wanted)
 
 
@@ -262,8 +347,8 @@ MARGINS = [
 def margin_runs(tester):
     """Faults of margins are shown on the line that has to be changed."""
     for text in MARGINS:
-        for form in ("tokens", "json", "check"):
-            tester.compare(f"{form} of {text!r}", tester.run(OPTIONS[form], text), ended(form, [("<stdin>", text)]))
+        for form in FORMS:
+            tester.compare(f"{form} of {text!r}", tester.run(OPTIONS[form], text), ended(tester, form, [("<stdin>", text)]))
 
 
 def is_read_back(line, lexeme):
@@ -277,47 +362,171 @@ def is_read_back(line, lexeme):
 def random_runs(tester, count, seed):
     """Random texts in each form; each line of JSON is read by Python, and each value for people too."""
     for text in random_texts(count, seed):
-        for form in ("tokens", "json", "check", "check json"):
+        for form in FORMS:
             found = tester.run(OPTIONS[form], text)
-            tester.compare(f"{form} of {text!r}", found, ended(form, [("<stdin>", text)]))
+            tester.compare(f"{form} of {text!r}", found, ended(tester, form, [("<stdin>", text)]))
             if form == "tokens":
                 pairs = zip(found.stdout.splitlines(), items_of(text))
                 values = [is_read_back(line, item) for line, (what, item) in pairs if what == "lexeme"]
                 tester.compare(f"values of {text!r}", all(values), True)
             if "json" in form:
-                for line in found.stdout.split("\n")[:-1]:
-                    json.loads(line)
+                tester.compare(f"schema of {form} of {text!r}", wrong_objects(found.stdout), [])
+            if form == "check":
+                firsts = [line for line in found.stdout.split("\n") if line.startswith("<stdin>:")]
+                tester.compare(f"lines of {text!r} that editors read", all(map(GCC_LINE.match, firsts)), True)
+
+
+# -- Documents
+
+TYPES = {"string": str, "integer": int, "boolean": bool, "null": type(None)}
+
+
+def is_of_type(value, name):
+    """Whether a value has a type of JSON Schema."""
+    return isinstance(value, TYPES[name]) and (name != "integer" or not isinstance(value, bool))
+
+
+def fits_schema(fields, schema):
+    """Whether an object fits a schema of one object, by the words that docs/use/lexemes.schema.json has."""
+    properties = schema["properties"]
+    if not set(schema["required"]) <= set(fields) or not set(fields) <= set(properties):
+        return False
+    for name, value in fields.items():
+        rule = properties[name]
+        types = [rule["type"]] if isinstance(rule.get("type"), str) else rule.get("type", [])
+        if types and not any(is_of_type(value, name) for name in types):
+            return False
+        if "const" in rule and value != rule["const"] or "not" in rule and value == rule["not"]["const"]:
+            return False
+        if "pattern" in rule and not re.search(rule["pattern"], value) or "minimum" in rule and value < rule["minimum"]:
+            return False
+    return True
+
+
+def wrong_objects(printed):
+    """The lines of a document of JSON that don't fit their schema: a head, then tokens and faults, and a summary."""
+    schemas = json.loads(SCHEMA.read_text())["$defs"]
+    lines = printed.split("\n")[:-1]
+    kinds = ["head", *["item"] * (len(lines) - 2), "summary"]
+    wanted = [schema["oneOf"] if "oneOf" in schema else [schema] for schema in (schemas[kind] for kind in kinds)]
+    resolved = [[schemas[s["$ref"].rpartition("/")[2]] if "$ref" in s else s for s in choices] for choices in wanted]
+    return [line for line, choices in zip(lines, resolved, strict=True) if sum(fits_schema(json.loads(line), s) for s in choices) != 1]
+
+
+def wrong_sarif(printed, build):
+    """What of a document isn't as SARIF 2.1.0 has it, in words of our own; the document may have no other properties."""
+    document = json.loads(printed)
+    [run] = document["runs"]
+    driver = run["tool"]["driver"]
+    rules = [rule["id"] for rule in driver["rules"]]
+    facts = {
+        "the top": set(document) == {"$schema", "version", "runs"} and document["version"] == "2.1.0",
+        "the run": set(run) == {"tool", "columnKind", "results", "invocations"},
+        "its columns": run["columnKind"] in ("utf16CodeUnits", "unicodeCodePoints"),
+        "the driver": set(driver) == {"name", "version", "rules", "properties"} and driver["properties"] == {"proved": build == "proved"},
+        "its version": driver["version"] == (TOP / "VERSION").read_text().strip(),
+        "rules": rules == [f"SL{number:03}" for number in range(1, 10)],
+        "their words": all(set(rule) == {"id", "name", "shortDescription"} and set(rule["shortDescription"]) == {"text"} for rule in driver["rules"]),
+        "invocations": [set(one) for one in run["invocations"]] == [{"executionSuccessful"}],
+    }
+    for result in run["results"]:
+        [place] = result["locations"]
+        physical = place["physicalLocation"]
+        region, uri = physical["region"], physical["artifactLocation"]["uri"]
+        facts[f"the result {result}"] = (
+            set(result) == {"ruleId", "level", "message", "locations"} and result["ruleId"] in rules and set(result["message"]) == {"text"}
+            and result["level"] in ("none", "note", "warning", "error") and set(physical) == {"artifactLocation", "region"}
+            and min(region["startLine"], region["startColumn"]) >= 1 and re.fullmatch(r"(file://)?([\w.~/-]|%[0-9a-fA-F]{2})*", uri, re.ASCII)
+        )
+    return [what for what, is_right in facts.items() if not is_right]
+
+
+def compare_sarif(tester, what, found, named_texts, said="", unreadable=0):
+    """Compares a run in SARIF with the plain results."""
+    wanted = [sarif_result(name, text, item) for name, text in named_texts for item in items(text) if item[2] == "Fault"]
+    tester.compare(f"sarif of {what}", wrong_sarif(found.stdout, tester.build), [])
+    [run] = json.loads(found.stdout)["runs"]
+    urls = [result["locations"][0]["physicalLocation"]["artifactLocation"] for result in run["results"]]
+    for url in urls:
+        url["uri"] = re.sub("%..", lambda match: match[0].upper(), url["uri"])
+    tester.compare(f"results of {what}", run["results"], wanted)
+    tester.compare(f"invocations of {what}", run["invocations"], [{"executionSuccessful": unreadable == 0}])
+    tester.compare(f"status of {what}", (found.status, found.stderr), (2 if unreadable else 1 if wanted else 0, said))
+
+
+def sarif_runs(tester, count, seed):
+    """Documents of SARIF over texts and files."""
+    for text in [b"", b"x\n", *MARGINS, *random_texts(count // 3, seed + 1)]:
+        compare_sarif(tester, repr(text), tester.run(["--format", "sarif"], text), [("<stdin>", text)])
+    texts = [(name, (DATA / name).read_bytes()) for name in CHECKED]
+    compare_sarif(tester, "files", tester.run(["--format=sarif", *CHECKED], cwd=DATA), texts)
+
+
+# -- Options
 
 
 def option_runs(tester):
     """Rows of options and statuses."""
     usage = tester.run(["--help"])
     tester.compare("--help", (usage.status, usage.stderr, usage.stdout.startswith("usage: starlark_tokens ")), (0, "", True))
-    version = f"starlark_tokens {(TOP / 'VERSION').read_text().strip()}\n"
+    tester.compare("lines of --help", usage.stdout.count("\n") <= 24, True)
+    tester.compare("build", tester.build in ("proved", "unproved build"), True)
+    version = f"starlark_tokens {(TOP / 'VERSION').read_text().strip()} ({tester.build})\n"
     tester.compare("--version", tester.run(["--version"]), Ended(0, version, ""))
     x_line = "1:1-1:2 Identifier 'x'\n1:2-2:1 Newline\n2:1-2:1 Newline\n"
     fault = "1:1-1:2 Fault 'Parse error: invalid input `!`'\n1:2-1:2 Newline\n"
-    shown_fault = "<stdin>:%d:1: Parse error: invalid input `!`\n!\n^\n"
+    shown_fault = "%s:%d:1: error: invalid input `!` [SL002]\n!\n^\n"
+    of_stdin = shown_fault % ("<stdin>", 1)
+    unknown = "starlark_tokens: %s: unknown option; --help lists them\n"
+    no_value = "starlark_tokens: %s: needs a value; --help lists the options\n"
+    annotation = "::error file=<stdin>,line=1,col=1,title=SL002::invalid input `!`\n"
     rows = [
         ([], b"x\n", 0, x_line, ""),
         (["-"], b"x\n", 0, x_line, ""),
         (["--"], b"x\n", 0, x_line, ""),
         (["--", "-"], b"x\n", 0, x_line, ""),
         (["--quiet"], b"x\n", 0, x_line, ""),
+        (["--format", "text"], b"x\n", 0, x_line, ""),
+        (["--format=text"], b"x\n", 0, x_line, ""),
         ([], b"", 0, "1:1-1:1 Newline\n", ""),
         ([], b"!", 1, fault, ""),
-        (["--check"], b"x\n", 0, "", "0 faults in 0 of 1 files\n"),
+        (["--check"], b"x\n", 0, "", "0 faults in 0 of 1 file\n"),
         (["--check", "--quiet"], b"x\n", 0, "", ""),
-        (["--quiet", "--check"], b"!", 1, shown_fault % 1, ""),
-        (["--check"], b"!\n!", 1, shown_fault % 1 + shown_fault % 2, "2 faults in 1 of 1 files\n"),
-        (["--chekc"], b"x\n", 2, "", "starlark_tokens: --chekc: unknown option; --help lists them\n"),
-        (["-x", "--help"], b"x\n", 2, "", "starlark_tokens: -x: unknown option; --help lists them\n"),
-        (["--check", "--json="], b"x\n", 2, "", "starlark_tokens: --json=: unknown option; --help lists them\n"),
-        (["--\n"], b"x\n", 2, "", "starlark_tokens: '--\\n': unknown option; --help lists them\n"),
+        (["-q", "--check"], b"!", 1, of_stdin, ""),
+        (["--check"], b"!", 1, of_stdin, "1 fault in 1 of 1 file\n"),
+        (["--check"], b"!\n!", 1, of_stdin + shown_fault % ("<stdin>", 2), "2 faults in 1 of 1 file\n"),
+        (["--check", "-q", "--stdin-filename", "a b.bzl"], b"!", 1, shown_fault % ("a b.bzl", 1), ""),
+        (["--check", "-q", "--stdin-filename=--check", "-"], b"!", 1, shown_fault % ("--check", 1), ""),
+        (["--check", "-q", "--stdin-filename", b"\xff"], b"!", 1, shown_fault % ("\ufffd", 1), ""),
+        (["--check", "-q", "--exclude", "--", "-"], b"!", 2, "", no_value % "--exclude"),
+        (["--format", "github"], b"!", 1, annotation, ""),
+        (["--format", "github", "--check"], b"!", 1, annotation, "1 fault in 1 of 1 file\n"),
+        (["--format", "xml"], b"x\n", 2, "", unknown % "--format=xml"),
+        (["--format"], b"x\n", 2, "", no_value % "--format"),
+        (["--chekc"], b"x\n", 2, "", unknown % "--chekc"),
+        (["-x", "--help"], b"x\n", 2, "", unknown % "-x"),
+        (["--check", "--json="], b"x\n", 2, "", unknown % "--json="),
+        (["--\n"], b"x\n", 2, "", unknown % "'--\\n'"),
+        ([b"--\xff"], b"x\n", 2, "", unknown % "b'--\\xff'"),
         (["--version", "--help"], b"x\n", 0, usage.stdout, ""),
+        (["-h"], b"x\n", 0, usage.stdout, ""),
+        (["-V"], b"x\n", 0, version, ""),
+        (["--explain", "SL010"], b"", 2, "", "starlark_tokens: SL010: no fault has this code; they are SL001 to SL009\n"),
+        (["--explain", b"SL\xff"], b"", 2, "", "starlark_tokens: b'SL\\xff': no fault has this code; they are SL001 to SL009\n"),
     ]
     for arguments, stdin, *wanted in rows:
         tester.compare(f"{arguments} over {stdin!r}", tester.run(arguments, stdin), Ended(*wanted))
+
+
+def explained_faults(tester):
+    """What --explain prints of each code: its example has a fault of this code, and no other."""
+    for code in CODES.values():
+        explained = tester.run(["--explain", code])
+        tester.compare(f"--explain {code}", (explained.status, explained.stderr, explained.stdout.startswith(f"{code}: ")), (0, "", True))
+        example = "".join(f"{line[4:]}\n" for line in explained.stdout.split("\n") if line.startswith("    "))
+        example = example.replace("<tab>", "\t").removesuffix("\n").encode()
+        found = {code_of(message) for *_, kind, _, message in items(example) if kind == "Fault"}
+        tester.compare(f"the example of {code}", found, {code})
 
 
 ODD_NAMES = ["a\nb.star", "it's \"a\" test.star", "--check", "a b.star", "é.star", "\u202e.star"]
@@ -333,9 +542,10 @@ def file_runs(tester, folder):
     rows = [
         (["empty.star"], 0, "1:1-1:1 Newline\n", ""),
         (["missing.star", "x.star"], 2, named, "starlark_tokens: missing.star: No such file or directory (os error 2)\n"),
-        (["folder", "x.star"], 2, named, "starlark_tokens: folder: Is a directory (os error 21)\n"),
+        (["folder", "x.star"], 0, named, ""),
         (["bad.star", "x.star"], 2, named, "starlark_tokens: bad.star: not UTF-8: byte 0xff at 3:4\n"),
-        (["--check", "bad.star", "x.star"], 2, "", "starlark_tokens: bad.star: not UTF-8: byte 0xff at 3:4\n0 faults in 0 of 1 files\n"),
+        (["--check", "bad.star", "x.star"], 2, "", "starlark_tokens: bad.star: not UTF-8: byte 0xff at 3:4\n0 faults in 0 of 1 file; 1 couldn't be read\n"),
+        ([b"\xff.star", "x.star"], 2, named, "starlark_tokens: b'\\xff.star': the name is not UTF-8\n"),
         (["no\nsuch"], 2, "", "starlark_tokens: 'no\\nsuch': No such file or directory (os error 2)\n"),
     ]
     for arguments, *wanted in rows:
@@ -345,7 +555,7 @@ def file_runs(tester, folder):
     for form in ("named", "json", "check"):
         texts = [(name, b"x = 01\n") for name in ODD_NAMES]
         found = tester.run([*OPTIONS[form], "--", *ODD_NAMES], cwd=folder)
-        tester.compare(f"{form} of odd names", found, ended(form, texts))
+        tester.compare(f"{form} of odd names", found, ended(tester, form, texts))
 
 
 def shell_runs(tester, folder):
@@ -355,11 +565,242 @@ def shell_runs(tester, folder):
         (folder / name).write_bytes(text)
     for form in ("named", "check"):
         found = tester.run([*OPTIONS[form], *[name for name, _ in texts]], cwd=folder)
-        tester.compare(f"{form} of a thousand files", found, ended(form, texts))
+        tester.compare(f"{form} of a thousand files", found, ended(tester, form, texts))
     (folder / "long.star").write_bytes(b"x = 1\n" * 200_000)
     command = '"$0" long.star | head -1; echo "${PIPESTATUS[0]}"'
     made = subprocess.run(["bash", "-c", command, tester.program], cwd=folder, capture_output=True, check=False)
     tester.compare("| head -1", (made.stdout, made.stderr), (b"1:1-1:2 Identifier 'x'\n141\n", b""))
+
+
+# -- Folders
+
+TREE = {
+    "BUILD": b"x = 01\n", "BUILD.bazel": b"x\n", "WORKSPACE": b"!\n", "WORKSPACE.bzlmod": b"", "MODULE.bazel": b"x\n", "BUCK": b"x\n",
+    "a.bzl": b"!", "a.star": b"!", "a.sky": b"!", "a.bxl": b"!", "build": b"!", "BUILD.txt": b"!", "a.bzl.orig": b"!", "notes.txt": b"!",
+    ".hidden/BUILD": b"!", ".hidden.bzl": b"!", "b/c/BUILD": b"!", "b/c.bzl": b"!", "b/d/e/BUCK": b"\tx\n", "b.bzl": b"x\n",
+    "third_party/x/BUILD": b"!", "third_party/y.bzl": b"!", "it's/a,b:c%.bzl": b"!", "e\u0301/\u4e2d.bzl": b"!", "z/BUILD": b"x\n",
+}
+TAKEN = re.compile(r"(BUILD|BUILD\.bazel|WORKSPACE.*|MODULE\.bazel|BUCK|.*\.(bzl|star|sky|bxl))")
+
+
+def walked(folder, prefix="", is_taken=TAKEN.fullmatch, is_left_out=lambda name, path: False):
+    """The files of a folder that are read, in order, as names and texts."""
+    for name in sorted(os.listdir(folder), key=os.fsencode):
+        path = prefix + name
+        if name.startswith(".") or is_left_out(name, path):
+            continue
+        here = folder / name
+        if here.is_dir() and not here.is_symlink():
+            yield from walked(here, path + "/", is_taken, is_left_out)
+        elif is_taken(name) and here.is_file():
+            yield path, here.read_bytes()
+
+
+def made_tree(folder):
+    """A tree of files with links, loops, a pipe and empty folders."""
+    for name, text in TREE.items():
+        (folder / name).parent.mkdir(parents=True, exist_ok=True)
+        (folder / name).write_bytes(text)
+    (folder / "empty").mkdir()
+    (folder / "b/loop").symlink_to("..")
+    (folder / "b/BUILD").symlink_to("BUILD")
+    (folder / "bazel-out").symlink_to("third_party")
+    (folder / "b/linked.bzl").symlink_to("../a.bzl")
+    (folder / "b/folder.bzl").mkdir()
+    (folder / "b/folder.bzl/x.star").write_bytes(b"!")
+    (folder / "b/linked_folder.bzl").symlink_to("folder.bzl")
+    (folder / "b/itself").symlink_to("itself")
+    os.mkfifo(folder / "b/pipe.bzl")
+
+
+def folder_runs(tester, folder):
+    """Runs over a tree: what is read, in which order, and what is left out."""
+    made_tree(folder)
+    loop = "starlark_tokens: b/BUILD: Too many levels of symbolic links (os error 40)\n"
+    everything = list(walked(folder))
+    for form in ("named", "json", "check", "check json", "github"):
+        tester.compare(f"{form} of a tree", tester.run([*OPTIONS[form], "."], cwd=folder), ended(tester, form, everything, loop, 1))
+    compare_sarif(tester, "a tree", tester.run(["--format", "sarif", "."], cwd=folder), everything, loop, 1)
+    (folder / "b/BUILD").unlink()
+    everything = list(walked(folder))
+    globs = {
+        ("--exclude", "third_party"): lambda name, path: name == "third_party",
+        ("--exclude=*party/x/*",): lambda name, path: path.startswith("third_party/x/"),
+        ("--exclude", "b/*", "--exclude=*.star"): lambda name, path: path.startswith("b/") or name.endswith(".star"),
+        ("--exclude", "*"): lambda name, path: True,
+        ("--exclude", "*B*I*L*D*"): lambda name, path: re.search("B.*I.*L.*D", path, re.DOTALL),
+        ("--exclude", ""): lambda name, path: False,
+        ("--exclude", "ird_party"): lambda name, path: False,
+    }
+    for options, is_left_out in globs.items():
+        wanted = ended(tester, "check", walked(folder, is_left_out=is_left_out))
+        tester.compare(f"{options} of a tree", tester.run(["--check", *options, "."], cwd=folder), wanted)
+    included = walked(folder, is_taken=lambda name: TAKEN.fullmatch(name) or name == "build" or name.endswith(".txt"))
+    found = tester.run(["--check", "--include", "*.txt", "--include=build", "."], cwd=folder)
+    tester.compare("--include of a tree", found, ended(tester, "check", included))
+    named = [
+        (["b"], [("b/" + name, text) for name, text in walked(folder / "b")]),
+        (["b/"], [("b/" + name, text) for name, text in walked(folder / "b")]),
+        (["./b"], [("./b/" + name, text) for name, text in walked(folder / "b")]),
+        (["bazel-out"], [("bazel-out/" + name, text) for name, text in walked(folder / "third_party")]),
+        ([".hidden", ".hidden.bzl", "notes.txt"], [(".hidden/BUILD", b"!"), (".hidden.bzl", b"!"), ("notes.txt", b"!")]),
+        (["b", "a.bzl", "b"], [*[("b/" + n, t) for n, t in walked(folder / "b")], ("a.bzl", b"!"), *[("b/" + n, t) for n, t in walked(folder / "b")]]),
+        (["empty"], []),
+        ([str(folder)], [(f"{folder}/{name}", text) for name, text in everything]),
+    ]
+    for arguments, texts in named:
+        tester.compare(f"{arguments} of a tree", tester.run(["--check", *arguments], cwd=folder), ended(tester, "check", texts))
+    tester.compare("tokens of one file of a folder", tester.run(["z"], cwd=folder), ended(tester, "named", [("z/BUILD", b"x\n")]))
+    (folder / "gone.bzl").symlink_to("nowhere")
+    said = "starlark_tokens: gone.bzl: No such file or directory (os error 2)\n"
+    tester.compare("a link that leads nowhere", tester.run(["--check", "."], cwd=folder), ended(tester, "check", everything, said, 1))
+    (folder / "gone.bzl").unlink()
+
+
+def list_runs(tester, folder):
+    """Names in files: ended by zero bytes or by line feeds, of any bytes."""
+    texts = {name.encode(): text for name, text in walked(folder)}
+    wanted = ended(tester, "check", [(name.decode(), text) for name, text in texts.items()])
+    for separator in (b"\0", b"\n"):
+        for list_text in (separator.join(texts), separator.join(texts) + separator, separator * 2 + separator.join(texts) + separator * 3):
+            tester.compare(f"a list by {separator}", tester.run(["--check", "--files-from", "-"], list_text, cwd=folder), wanted)
+    (folder / "list").write_bytes(b"BUILD\0z\0a\nb\0\xff\0")
+    (folder / "a\nb").write_bytes(b"!")
+    named = [("notes.txt", b"!"), ("BUILD", b"x = 01\n"), ("z/BUILD", b"x\n"), ("a\nb", b"!")]
+    said = "starlark_tokens: b'\\xff': the name is not UTF-8\n"
+    found = tester.run(["--check", "--files-from=list", "notes.txt"], cwd=folder)
+    tester.compare("a list with odd names", found, ended(tester, "check", named, said, 1))
+    tester.compare("an empty list", tester.run(["--check", "--files-from", "/dev/null"]), ended(tester, "check", []))
+    said = "starlark_tokens: no: No such file or directory (os error 2)\n"
+    tester.compare("no list", tester.run(["--json", "--files-from", "no"], cwd=folder), ended(tester, "json", [], said, 1))
+    for name in ("list", "a\nb"):
+        (folder / name).unlink()
+
+
+def any_bytes_runs(tester, folder):
+    """Names that aren't UTF-8 are named and counted, and all others are checked. `--exclude` leaves them out."""
+    bytes_of = os.fsencode(folder)
+    for name in (b"\xe9.bzl", b"\xe9.txt", b"b\xff/BUILD"):
+        os.makedirs(os.path.dirname(os.path.join(bytes_of, name)), exist_ok=True)
+        with open(os.path.join(bytes_of, name), "wb") as file:
+            file.write(b"!")
+    (folder / "x.bzl").write_bytes(b"!")
+    lost = ["b'b\\xff'", "b'\\xe9.bzl'", "b'\\xe9.txt'"]
+    said = "".join(f"starlark_tokens: {name}: the name is not UTF-8\n" for name in reversed(lost))
+    found = tester.run(["--check", "."], cwd=folder)
+    tester.compare("names of any bytes", found, ended(tester, "check", [("x.bzl", b"!")], said, 3))
+    found = tester.run(["--check", "--exclude", b"*\xe9*", b"--exclude=b\xff", "."], cwd=folder)
+    tester.compare("names of any bytes left out", found, ended(tester, "check", [("x.bzl", b"!")]))
+
+
+def locked_runs(tester, folder):
+    """Folders that can't be listed and files that can't be read, as a user who isn't root."""
+    (folder / "locked").mkdir()
+    (folder / "x.bzl").write_bytes(b"!")
+    (folder / "y.bzl").write_bytes(b"!")
+    for name in ("locked", "y.bzl"):
+        (folder / name).chmod(0)
+    folder.chmod(0o755)
+    options = {"cwd": folder}
+    if os.geteuid() == 0:
+        options["user"] = 65534
+    if not os.access(tester.program, os.X_OK) or any(not parent.stat().st_mode & 0o001 for parent in tester.program.parents):
+        print("no other user can run the program: unreadable folders weren't tried")
+        return
+    said = "".join(f"starlark_tokens: {name}: Permission denied (os error 13)\n" for name in ("locked", "y.bzl"))
+    tester.compare("an unreadable folder", tester.run(["--check", "."], **options), ended(tester, "check", [("x.bzl", b"!")], said, 2))
+
+
+# Literals of docs/use/compatible.md: the value here and in Python; None is a fault or no single literal.
+LITERALS = [
+    (rb'r"\""', '"', '\\"'), (rb'"\N{BULLET}"', "\\N{BULLET}", "\u2022"), (rb'"\400"', "\u0100", "\u0100"), (rb'b"\400"', None, b"\0"),
+    (rb'b"\u00e9"', "\u00e9".encode(), rb"\u00e9"), ('b"\u00e9"'.encode(), "\u00e9".encode(), None), (b'"""a\rb"""', "ab", "a\nb"),
+    (b"0777", None, None), (b"00", None, 0), (b"1_000", None, 1000), (b"1j", None, 1j), (b'u"x"', None, "x"), (b'Rb"x"', None, b"x"),
+    (b"'a' 'b'", None, "ab"), (rb'"\w"', "\\w", "\\w"), (rb'"\377"', "\u00ff", "\u00ff"), (b"0o17", 15, 15), (b'"a\\\nb"', "ab", "ab"),
+    (b'"""a\r\nb"""', "a\nb", "a\nb"), (rb'rb"\n"', rb"\n", rb"\n"),
+]
+# Texts of that page that Python's tokenizer takes: whether the program does.
+TOKENIZED = [
+    ("\u00e9 = 1".encode(), False), (b"\xef\xbb\xbfx\n", False), (b"if x:\n\ty\n", False), (b"x\t= 1\n", False), (b"x\x0cy\n", False),
+    (b"x @ y\n", False), (b"x := 1\n", True), (b'f"{x}"\n', True), (b'rf"{x}"\n', True),
+]
+
+
+def value_here(tester, text):
+    """The value of a literal that is a whole text, in the program; None where it isn't one."""
+    objects = [json.loads(line) for line in tester.run(["--json"], text).stdout.splitlines()[1:-1]]
+    if [found["kind"] for found in objects[1:]] != ["Newline"] or objects[0]["kind"] == "Fault":
+        return None
+    value = objects[0]["value"]
+    return bytes.fromhex(value) if objects[0]["kind"] == "Bytes" else value
+
+
+def value_in_python(text):
+    """The value of a literal in Python; None where it isn't one."""
+    with warnings.catch_warnings():
+        warnings.simplefilter("ignore")
+        try:
+            return ast.literal_eval(text.decode())
+        except (SyntaxError, ValueError):
+            return None
+
+
+def python_runs(tester):
+    """What docs/use/compatible.md says of Python."""
+    for text, here, in_python in LITERALS:
+        tester.compare(f"the literal {text!r}", (value_here(tester, text), value_in_python(text)), (here, in_python))
+    for text, is_taken in TOKENIZED:
+        tester.compare(f"the text {text!r}", tester.run(["--check", "-q"], text).status, 0 if is_taken else 1)
+        kinds = [token.type for token in tokenize.tokenize(io.BytesIO(text).readline)]
+        tester.compare(f"the text {text!r} in Python", tokenize.ERRORTOKEN in kinds, False)
+    words = {word for word in keyword.kwlist if tester.run(["-q"], word.encode()).stdout.splitlines()[0].split(" ")[1] == "Identifier"}
+    tester.compare("keywords of Python that are names", words, {"False", "None", "True"})
+
+
+MANY = 10_000
+
+
+def many_runs(tester, folder):
+    """A folder of 10,000 files, and the time that it takes beside the same files by their names."""
+    for number in range(MANY):
+        inner = folder / f"d{number % 100}"
+        inner.mkdir(exist_ok=True)
+        (inner / f"f{number}.bzl").write_bytes((DATA / "BUILD").read_bytes() if number % 7 else b"!")
+    texts = list(walked(folder))
+    wanted = ended(tester, "check", [(name, text) for name, text in texts if text == b"!"])
+    begun = time.monotonic()
+    found = tester.run(["--check", "-q", "."], cwd=folder)
+    of_folder = time.monotonic() - begun
+    tester.compare("10,000 files", found, wanted._replace(stderr=""))
+    begun = time.monotonic()
+    found = tester.run(["--check", "-q", *[name for name, _ in texts]], cwd=folder)
+    by_names = time.monotonic() - begun
+    tester.compare("10,000 files by their names", found, wanted._replace(stderr=""))
+    print(f"{MANY} files in a folder: {of_folder:.2f} s; by their names {by_names:.2f} s")
+
+
+def git_runs(tester, folder):
+    """The hook of docs/use/tokens.md reads the index, not the working tree."""
+    page = (TOP / "docs/use/tokens.md").read_text()
+    hook = "".join(line[4:] + "\n" for line in re.search(r"((?:    .*\n)*    #!/bin/sh\n(?:    .*\n)*)", page)[1].splitlines())
+    git = ["git", "-c", "user.name=a", "-c", "user.email=a"]
+    (folder / "bin").mkdir()
+    (folder / "bin/starlark_tokens").symlink_to(tester.program)
+    environment = {**os.environ, "PATH": f"{folder}/bin:{os.environ['PATH']}"}
+    tree = folder / "tree"
+    subprocess.run([*git, "init", "-q", tree], check=True)
+    (tree / ".git/hooks/pre-commit").write_text(hook)
+    (tree / ".git/hooks/pre-commit").chmod(0o755)
+    rows = [(b"x = 01\n", b"x = 1\n", 1), (b"x = 1\n", b"x = 01\n", 0), (b"x = 2\n", None, 0), (b"!\n", b"!\n", 1)]
+    for number, (staged, present, status) in enumerate(rows):
+        (tree / "a b.bzl").write_bytes(staged)
+        subprocess.run([*git, "add", "-A"], cwd=tree, check=True)
+        if present is None:
+            (tree / "a b.bzl").unlink()
+        else:
+            (tree / "a b.bzl").write_bytes(present)
+        made = subprocess.run([*git, "commit", "-qm", "x"], cwd=tree, env=environment, capture_output=True, check=False)
+        tester.compare(f"the hook, row {number}", (made.returncode, made.stderr if not status else b""), (status, b""))
 
 
 SEVERAL = 400
@@ -381,10 +822,10 @@ def fed_slowly(path, text):
         return
 
 
-def at_terminal(command, folder):
+def at_terminal(command, folder, environment):
     """What a program writes where standard output and standard error are a terminal."""
     terminal, inner = pty.openpty()
-    with subprocess.Popen(command, cwd=folder, stdin=subprocess.DEVNULL, stdout=inner, stderr=inner) as running:
+    with subprocess.Popen(command, cwd=folder, env=environment, stdin=subprocess.DEVNULL, stdout=inner, stderr=inner) as running:
         os.close(inner)
         seen = b""
         try:
@@ -403,14 +844,15 @@ def progress_runs(tester, folder):
     names = [f"f{number}.star" for number in range(SEVERAL)]
     names.insert(SEVERAL // 2, "slow.star")
     texts = [(name, b"z = 01\n" if name == "slow.star" else (folder / name).read_bytes()) for name in names]
-    wanted = ended("check", texts)
-    said = "starlark_tokens: missing.star: No such file or directory (os error 2)\n" + wanted.stderr
+    missing = "starlark_tokens: missing.star: No such file or directory (os error 2)\n"
+    wanted = ended(tester, "check", texts, missing, 1)
+    said = wanted.stderr
     arguments = ["--check", *names, "missing.star"]
     for is_terminal in (False, True):
         feeder = threading.Thread(target=fed_slowly, args=(folder / "slow.star", b"z = 01\n"), daemon=True)
         feeder.start()
         if is_terminal:
-            status, seen = at_terminal([tester.program, *arguments], folder)
+            status, seen = at_terminal([tester.program, *arguments], folder, {**os.environ, "NO_COLOR": "1"})
             counts = [int(count) for shown_counts in PROGRESS.findall(seen) for count in re.findall(r"\r(\d+)", shown_counts)]
             is_shown = counts != [] and counts[0] == SEVERAL // 2 + 1 and counts == sorted(set(counts))
             tester.compare("progress at a terminal", (status, is_shown), (2, True))
@@ -420,13 +862,28 @@ def progress_runs(tester, folder):
         feeder.join(60)
 
 
+PAINT = re.compile("\x1b\\[[0-9;]*m")
+
+
+def painted_runs(tester, folder):
+    """At a terminal the lines of faults are painted, unless NO_COLOR is set; without the paint they are as ever."""
+    (folder / "painted.star").write_bytes(b"x = 01\n")
+    environment = {name: value for name, value in os.environ.items() if name != "NO_COLOR"}
+    wanted = ended(tester, "check", [("painted.star", b"x = 01\n")])
+    for paint, is_painted in (({}, True), ({"NO_COLOR": ""}, True), ({"NO_COLOR": "1"}, False)):
+        _, seen = at_terminal([tester.program, "--check", "painted.star"], folder, {**environment, **paint})
+        tester.compare(f"paint with {paint}", (PAINT.sub("", seen), PAINT.sub("", seen) != seen), (wanted.stdout + wanted.stderr, is_painted))
+    _, seen = at_terminal([tester.program, "painted.star"], folder, environment)
+    tester.compare("paint of tokens", PAINT.sub("", seen), seen)
+
+
 def seconds(program, arguments, folder):
     """The least processor time of three runs of a program over the long file."""
     least = None
     for _ in range(3):
         before = resource.getrusage(resource.RUSAGE_CHILDREN)
         with open(folder / "ten.star", "rb") as stdin:
-            subprocess.run([program, *arguments], stdin=stdin, stdout=subprocess.DEVNULL, check=False)
+            subprocess.run([program, *arguments], stdin=stdin, stdout=subprocess.DEVNULL, stderr=subprocess.DEVNULL, check=False)
         after = resource.getrusage(resource.RUSAGE_CHILDREN)
         took = after.ru_utime + after.ru_stime - before.ru_utime - before.ru_stime
         least = took if least is None else min(least, took)
@@ -458,12 +915,26 @@ def main():
     stored_runs(tester, options.write)
     option_runs(tester)
     margin_runs(tester)
+    explained_faults(tester)
+    python_runs(tester)
     random_runs(tester, options.count, options.seed)
-    with tempfile.TemporaryDirectory() as folder:
-        file_runs(tester, Path(folder))
-        shell_runs(tester, Path(folder))
-        progress_runs(tester, Path(folder))
-        timed_runs(tester, lexer, Path(folder))
+    sarif_runs(tester, options.count, options.seed)
+    with tempfile.TemporaryDirectory() as top:
+        top = Path(top)
+        top.chmod(0o755)
+        for name in ("files", "tree", "bytes", "locked", "many", "git"):
+            (top / name).mkdir()
+        file_runs(tester, top / "files")
+        shell_runs(tester, top / "files")
+        progress_runs(tester, top / "files")
+        painted_runs(tester, top / "files")
+        folder_runs(tester, top / "tree")
+        list_runs(tester, top / "tree")
+        any_bytes_runs(tester, top / "bytes")
+        locked_runs(tester, top / "locked")
+        git_runs(tester, top / "git")
+        many_runs(tester, top / "many")
+        timed_runs(tester, lexer, top / "files")
     print(f"{tester.runs} comparisons, {tester.wrong} of them failed")
     return 1 if tester.wrong else 0
 

@@ -2,19 +2,19 @@
 # Copies the library's crates and their lines of crates.txt into another repository, or brings the
 # copies there up to date.
 #
-#     scripts/vendor.sh [--run] DIR
+#     scripts/vendor.sh DIR
 #
-# The crates are `starlark_document`, `starlark_syntax` and those below them, with --run also
-# `starlark_run`. Edits, tests and what checks left are no part of a copy.
+# The crates are `starlark_document` and those below it. Edits, tests and what checks left are no part
+# of a copy.
 # Crates and lines of DIR/crates.txt that this script didn't write stay as they are.
 set -eu
 
-top=$(CDPATH= cd -- "$(dirname -- "$0")/.." && pwd)
+top=$(CDPATH='' cd -- "$(dirname -- "$0")/.." && pwd)
 begin='# Copies, by vendor.sh: the lines up to the next comment.'
 end='# End of the copies.'
 
 usage() {
-    echo 'usage: scripts/vendor.sh [--run] DIR' >&2
+    echo 'usage: scripts/vendor.sh DIR' >&2
     exit 2
 }
 
@@ -70,20 +70,14 @@ copy_crate() {
     done
 }
 
-roots='starlark_document starlark_syntax'
-if [ "${1-}" = --run ]; then
-    roots='starlark_document starlark_syntax starlark_run'
-    shift
+if [ $# != 1 ] || [ ! -d "$1" ]; then
+    usage
 fi
-[ $# = 1 ] && [ -d "$1" ] || usage
-target=$(CDPATH= cd -- "$1" && pwd)
+target=$(CDPATH='' cd -- "$1" && pwd)
 [ "$target" != "$top" ] || usage
 
 copied=$(crates_copied)
-case " $(echo $copied) " in
-*' starlark_run '*) roots='starlark_document starlark_syntax starlark_run' ;;
-esac
-names=$(crates_and_below $roots)
+names=$(crates_and_below starlark_document)
 
 for crate in $copied; do
     rm -rf "$target/crates/$crate/src" "$target/crates/$crate/specs" "$target/crates/$crate/proofs"
